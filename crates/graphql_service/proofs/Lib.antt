@@ -1,0 +1,17 @@
+pub mod Lookups
+pub mod Values
+pub mod Cuts
+pub mod Scans
+pub mod Readings
+pub mod Evaluations
+pub mod Spelling
+pub mod Lines
+pub mod Fields
+pub mod Documents
+pub mod Repeats
+pub mod Views
+pub mod Turns
+pub mod Fittings
+pub mod Writings
+pub mod Requests
+pub mod Accepting

@@ -1,0 +1,16 @@
+pub mod Table
+pub mod Names
+pub mod Faults
+pub mod Tokens
+pub mod Texts
+pub mod Selections
+pub mod Reading
+pub mod Evaluation
+pub mod Told
+pub mod Json
+pub mod Request
+pub mod Requests
+pub mod Service
+pub mod Messages
+pub mod Answers
+pub mod Laws

@@ -1,0 +1,61 @@
+//! Writes the data of a selection set.
+
+ghost use Rattle.std.specs.Prelude.{◌≡◌, ◌++◌, [], map, OnOk};
+ghost use Rattle.graphql_service.specs.Table.{record_of, value_at};
+ghost use Rattle.graphql_service.specs.declared.selection.Selection.{out-Selection};
+ghost use Rattle.graphql_service.specs.Selections.{tree_of, has_set};
+ghost use Rattle.graphql_service.specs.Evaluation.{object};
+ghost use Rattle.graphql_service.specs.Told.{told, told_value};
+ghost use Rattle.graphql_service.specs.Json.{json};
+
+use crate::json::push_text;
+use crate::selection::Selection;
+use crate::table::{ThinRecord, record_with};
+use std::alloc::AllocError;
+
+/// Writes what a set gives on a record, as a JSON object at the end of `out`.
+#[cycle(data)]
+pub fn push_object(
+    out: &mut Vec<u8>,
+    records: &[ThinRecord],
+    record: &ThinRecord,
+    set: &[Selection],
+) -> Result<(), AllocError>
+    ensures { OnOk result (out.new.items ≡ out.old.items ++ json (object (told (map record_of records.now) (tree_of set.now) (record_of record.now)))) }
+{
+    out.push(b'{')?;
+    'members: for (i, selection) in set.iter().enumerate() {
+        if i > 0 {
+            out.push(b',')?;
+        }
+        push_text(out, selection.name)?;
+        out.push(b':')?;
+        push_value(out, records, record, selection)?;
+    }
+    out.push(b'}')?;
+    Ok(())
+}
+
+/// Writes what one field of a set gives on a record.
+#[cycle(data)]
+fn push_value(
+    out: &mut Vec<u8>,
+    records: &[ThinRecord],
+    record: &ThinRecord,
+    selection: &Selection,
+) -> Result<(), AllocError>
+    ensures { let s = out-Selection selection.now in let rs = map record_of records.now in
+        OnOk result (out.new.items ≡ out.old.items
+        ++ json (told_value rs (told rs (tree_of s.set.items)) (has_set (tree_of s.set.items)) (value_at (record_of record.now) s.name.now))) }
+{
+    let Some(value) = record.value_of(selection.name) else {
+        return out.extend_from_slice(b"null");
+    };
+    if selection.set.is_empty() {
+        return push_text(out, value);
+    }
+    match record_with(records, value) {
+        Some(next) => push_object(out, records, next, selection.set.as_slice()),
+        None => out.extend_from_slice(b"null"),
+    }
+}

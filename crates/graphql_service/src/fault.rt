@@ -1,0 +1,212 @@
+//! What is wrong with types and records.
+
+ghost use Rattle.std.specs.Prelude.{◌≡◌, not, map, is_some, option_map, string_bytes, IfOk};
+ghost use Rattle.std.specs.List.{list_any};
+ghost use Rattle.graphql_service.specs.Table.{kind_of, type_of, record_of, type_named, at_name, value_at, kind_at};
+ghost use Rattle.graphql_service.specs.Names.{repeats};
+ghost use Rattle.graphql_service.specs.Faults as spec;
+
+use crate::names::repeats;
+use crate::table::{ThinKind, ThinRecord, ThinType, record_with, type_named};
+use std::alloc::{AllocError, Global};
+
+/// Why a service can't be made of these types and records: the first that stands, in this order.
+#[derive(Clone, Copy, Debug, PartialEq, Eq)]
+pub enum ThinFault {
+    /// Two types of one name, two fields of one name in a type, two records of one id, or two
+    /// fields of one name in a record.
+    DuplicateName,
+    /// A link or a record names a type that is not there.
+    UnknownType,
+    /// A record has a field that its type does not declare.
+    UnknownField,
+    /// A link of a record leads to no record of the link's type.
+    BadLink,
+    /// There is no record of the root's id.
+    BadRoot,
+    /// Memory ran out.
+    Memory,
+}
+
+/// Whether two of the fields have one name.
+fn fields_repeat<A>(alloc: Global, fields: &[(String, A)]) -> Result<bool, AllocError>
+    ensures { IfOk result (λ b. b ≡ repeats (map (λ f. string_bytes f.0) fields.now)) }
+{
+    let names: Vec<&str> = fields.iter().map(|f| f.0.as_str()).collect(alloc)?;
+    repeats(alloc, names.as_slice())
+}
+
+/// Whether a type has two fields of one name.
+fn some_type_repeats(alloc: Global, types: &[ThinType]) -> Result<bool, AllocError>
+    ensures { IfOk result (λ b. b ≡ list_any (λ t. repeats (map (λ f. f.0) t.fields)) (map type_of types.now)) }
+{
+    'types: for t in types {
+        if fields_repeat(alloc, t.fields.as_slice())? {
+            return Ok(true);
+        }
+    }
+    Ok(false)
+}
+
+/// Whether a record has two fields of one name.
+fn some_record_repeats(alloc: Global, records: &[ThinRecord]) -> Result<bool, AllocError>
+    ensures { IfOk result (λ b. b ≡ list_any (λ r. repeats (map (λ f. f.0) r.fields)) (map record_of records.now)) }
+{
+    'records: for r in records {
+        if fields_repeat(alloc, r.fields.as_slice())? {
+            return Ok(true);
+        }
+    }
+    Ok(false)
+}
+
+fn type_names_repeat(alloc: Global, types: &[ThinType]) -> Result<bool, AllocError>
+    ensures { IfOk result (λ b. b ≡ repeats (map (λ t. t.name) (map type_of types.now))) }
+{
+    let names: Vec<&str> = types.iter().map(|t| t.name.as_str()).collect(alloc)?;
+    repeats(alloc, names.as_slice())
+}
+
+fn ids_repeat(alloc: Global, records: &[ThinRecord]) -> Result<bool, AllocError>
+    ensures { IfOk result (λ b. b ≡ repeats (map (λ r. r.id) (map record_of records.now))) }
+{
+    let ids: Vec<&str> = records.iter().map(|r| r.id.as_str()).collect(alloc)?;
+    repeats(alloc, ids.as_slice())
+}
+
+fn has_duplicate_name(
+    alloc: Global,
+    types: &[ThinType],
+    records: &[ThinRecord],
+) -> Result<bool, AllocError>
+    ensures { IfOk result (λ b. b ≡ spec.has_duplicate_name (map type_of types.now) (map record_of records.now)) }
+{
+    Ok(
+        type_names_repeat(alloc, types)?
+            || some_type_repeats(alloc, types)?
+            || ids_repeat(alloc, records)?
+            || some_record_repeats(alloc, records)?,
+    )
+}
+
+fn is_type(types: &[ThinType], name: &str) -> bool
+    ensures { result ≡ spec.is_type (map type_of types.now) name.now }
+{
+    type_named(types, name).is_some()
+}
+
+fn names_type(types: &[ThinType], kind: &ThinKind) -> bool
+    ensures { result ≡ spec.names_type (map type_of types.now) (kind_of kind.now) }
+{
+    match kind {
+        ThinKind::Text => true,
+        ThinKind::Link(name) => is_type(types, name.as_str()),
+    }
+}
+
+/// Whether a link of the type names a type that is not there.
+fn links_nowhere(types: &[ThinType], t: &ThinType) -> bool
+    ensures { result ≡ list_any (λ f. not (spec.names_type (map type_of types.now) f.1)) (type_of t.now).fields }
+{
+    t.fields.iter().any(|f| !names_type(types, &f.1))
+}
+
+fn has_unknown_type(types: &[ThinType], records: &[ThinRecord]) -> bool
+    ensures { result ≡ spec.has_unknown_type (map type_of types.now) (map record_of records.now) }
+{
+    types.iter().any(|t| links_nowhere(types, t))
+        || records
+            .iter()
+            .any(|r| !is_type(types, r.type_name.as_str()))
+}
+
+fn declares(t: &ThinType, field: &str) -> bool
+    ensures { result ≡ is_some (at_name (type_of t.now).fields field.now) }
+{
+    t.kind_of(field).is_some()
+}
+
+/// Whether a record has a field that its type does not declare.
+fn strays(types: &[ThinType], record: &ThinRecord) -> bool
+    ensures { let r = record_of record.now in
+        result ≡ list_any (λ f. not (is_some (kind_at (map type_of types.now) r.type_name f.0))) r.fields }
+{
+    match type_named(types, record.type_name.as_str()) {
+        None => !record.fields.is_empty(),
+        Some(t) => record.fields.iter().any(|f| !declares(t, f.0.as_str())),
+    }
+}
+
+fn has_unknown_field(types: &[ThinType], records: &[ThinRecord]) -> bool
+    ensures { result ≡ spec.has_unknown_field (map type_of types.now) (map record_of records.now) }
+{
+    records.iter().any(|r| strays(types, r))
+}
+
+/// Whether an id is that of a record of the type named.
+fn leads_to(records: &[ThinRecord], type_name: &str, id: &str) -> bool
+    ensures { result ≡ spec.leads_to (map record_of records.now) type_name.now (Some id.now) }
+{
+    match record_with(records, id) {
+        Some(target) => target.type_name.as_str() == type_name,
+        None => false,
+    }
+}
+
+/// Whether a field's value is one that its kind allows.
+fn keeps_kind(records: &[ThinRecord], kind: &ThinKind, value: Option<&str>) -> bool
+    ensures { result ≡ spec.keeps_kind (map record_of records.now) (kind_of kind.now) (option_map (λ v. v.now) value.entry) }
+{
+    match (kind, value) {
+        (ThinKind::Link(name), Some(id)) => leads_to(records, name.as_str(), id),
+        _ => true,
+    }
+}
+
+/// Whether a link of the record leads to no record of the link's type.
+fn misleads(types: &[ThinType], records: &[ThinRecord], record: &ThinRecord) -> bool
+    ensures { let r = record_of record.now in let ts = map type_of types.now in
+        result ≡ list_any (λ f. not (spec.keeps_kind (map record_of records.now) f.1 (value_at r f.0))) (spec.fields_declared (type_named ts r.type_name)) }
+{
+    match type_named(types, record.type_name.as_str()) {
+        None => false,
+        Some(t) => t.fields.iter().any(|f| !keeps_kind(
+            records,
+            &f.1,
+            record.value_of(f.0.as_str()),
+        )),
+    }
+}
+
+fn has_bad_link(types: &[ThinType], records: &[ThinRecord]) -> bool
+    ensures { result ≡ spec.has_bad_link (map type_of types.now) (map record_of records.now) }
+{
+    records.iter().any(|r| misleads(types, records, r))
+}
+
+/// The first fault of types and records, in the order of [`ThinFault`].
+pub fn first_fault(
+    alloc: Global,
+    types: &[ThinType],
+    records: &[ThinRecord],
+    root_id: &str,
+) -> Result<Option<ThinFault>, AllocError>
+    ensures { IfOk result (λ f. f ≡ spec.first_fault (map type_of types.now) (map record_of records.now) root_id.now) }
+{
+    if has_duplicate_name(alloc, types, records)? {
+        return Ok(Some(ThinFault::DuplicateName));
+    }
+    if has_unknown_type(types, records) {
+        return Ok(Some(ThinFault::UnknownType));
+    }
+    if has_unknown_field(types, records) {
+        return Ok(Some(ThinFault::UnknownField));
+    }
+    if has_bad_link(types, records) {
+        return Ok(Some(ThinFault::BadLink));
+    }
+    match record_with(records, root_id) {
+        None => Ok(Some(ThinFault::BadRoot)),
+        Some(_) => Ok(None),
+    }
+}
