@@ -1,0 +1,67 @@
+//! Why the program ended before the end of its input.
+
+ghost use Rattle.std.specs.Prelude.{◌≡◌};
+ghost use Rattle.graphql_service_program.specs.declared.failure.Failure.TheVariants.{Memory};
+
+use graphql_service::ThinFault;
+use std::alloc::AllocError;
+use std::error::Error;
+use std::fmt;
+
+/// Why the program ended before the end of its input.
+#[derive(Clone, Copy, Debug, PartialEq, Eq)]
+pub enum Failure {
+    /// There were arguments.
+    Usage,
+    /// The sample has a fault.
+    Sample(ThinFault),
+    /// A read of standard input failed.
+    Read,
+    /// A write to standard output failed, or took nothing.
+    Write,
+    /// Memory ran out.
+    Memory,
+}
+
+impl Failure {
+    /// The exit status.
+    pub fn status(self) -> u8 {
+        match self {
+            Failure::Sample(_) => 1,
+            Failure::Usage => 2,
+            Failure::Read | Failure::Write => 3,
+            Failure::Memory => 4,
+        }
+    }
+}
+
+impl fmt::Display for Failure {
+    fn fmt<W: fmt::Write>(&self, f: &mut fmt::Formatter<W>) -> fmt::Result {
+        match self {
+            Failure::Usage => write!(f, "usage: graphql_service"),
+            Failure::Sample(fault) => write!(f, "sample: {fault:?}"),
+            Failure::Read => write!(f, "read failed"),
+            Failure::Write => write!(f, "write failed"),
+            Failure::Memory => write!(f, "out of memory"),
+        }
+    }
+}
+
+impl Error for Failure {}
+
+impl From<AllocError> for Failure {
+    ghost from_gives = { λ _ e. e ≡ Memory };
+
+    fn from(_e: AllocError) -> Failure {
+        Failure::Memory
+    }
+}
+
+impl From<ThinFault> for Failure {
+    fn from(fault: ThinFault) -> Failure {
+        match fault {
+            ThinFault::Memory => Failure::Memory,
+            fault => Failure::Sample(fault),
+        }
+    }
+}

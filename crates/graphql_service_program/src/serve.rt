@@ -1,0 +1,85 @@
+//! Answers each line of what is read.
+
+ghost use Rattle.std.specs.Prelude.{◌≡◌, ◌+◌, ◌≤◌, ◌<◌, ◌^◌, ◌++◌, OnOk, take, vec_len};
+
+use crate::failure::Failure;
+use graphql_service::ThinService;
+use std::alloc::{AllocError, Global};
+use std::io::{self, Read, Write};
+
+/// Adds bytes to a line that has begun. One byte more than the limit makes it too long, so no more
+/// of it is kept.
+fn keep(line: &mut Vec<u8>, bytes: &[u8], limit: usize) -> Result<(), AllocError>
+    requires fits { limit + 1 < 2 ^ 64 }
+    requires begun { vec_len line.old ≤ limit + 1 }
+    ensures kept { OnOk result (line.new.items ≡ take (limit + 1) (line.old.items ++ bytes.now)) }
+    ensures bounded { vec_len line.new ≤ limit + 1 }
+{
+    let room = limit + 1 - line.len();
+    line.extend_from_slice(&bytes[..room.min(bytes.len())])
+}
+
+/// Answers a line, unless it is empty.
+fn answer<W: Write>(
+    alloc: Global,
+    service: &ThinService,
+    line: &[u8],
+    writer: &mut W,
+) -> Result<(), Failure> {
+    if line.is_empty() {
+        return Ok(());
+    }
+    let answer = service.answer(alloc, line)?;
+    match writer.write_all(answer.as_slice()) {
+        Ok(()) => Ok(()),
+        Err(_) => Err(Failure::Write),
+    }
+}
+
+/// Takes a piece of the input: answers each line that ends in it, and keeps what comes of the next.
+fn feed<W: Write>(
+    alloc: Global,
+    service: &ThinService,
+    limit: usize,
+    line: &mut Vec<u8>,
+    piece: &[u8],
+    writer: &mut W,
+) -> Result<(), Failure>
+    requires fits { limit + 1 < 2 ^ 64 }
+    requires begun { vec_len line.old ≤ limit + 1 }
+    ensures { vec_len line.new ≤ limit + 1 }
+{
+    let mut rest = piece;
+    'lines: while let Some(end) = rest.iter().position(|byte| *byte == b'\n') {
+        keep(line, &rest[..end], limit)?;
+        answer(alloc, service, line.as_slice(), writer)?;
+        line.clear();
+        rest = &rest[end + 1..];
+    }
+    keep(line, rest, limit)?;
+    Ok(())
+}
+
+/// Answers each line that is not empty, as it comes, until the input ends. A line ends at a line
+/// feed or at the end of the input, and has at most `limit` bytes.
+pub fn serve<R: Read, W: Write>(
+    alloc: Global,
+    service: &ThinService,
+    limit: usize,
+    reader: &mut R,
+    writer: &mut W,
+) -> Result<(), Failure>
+    requires { limit + 1 < 2 ^ 64 }
+{
+    let mut line = Vec::new(alloc);
+    let mut piece = [0u8; 4096];
+    'pieces: for _ in 0..u64::MAX {
+        match reader.read(&mut piece) {
+            Ok(0) => return answer(alloc, service, line.as_slice(), writer),
+            Ok(n) => feed(alloc, service, limit, &mut line, &piece[..n], writer)?,
+            Err(e) if e.kind() == io::ErrorKind::Interrupted => {}
+            Err(_) => return Err(Failure::Read),
+        }
+    }
+    Err(Failure::Read)
+}
