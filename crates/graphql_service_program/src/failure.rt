@@ -1,6 +1,7 @@
 //! Why the program ended before the end of its input.
 
 ghost use Rattle.std.specs.Prelude.{◌≡◌};
+ghost use Rattle.graphql_service_program.specs.Status.{status_of};
 ghost use Rattle.graphql_service_program.specs.declared.failure.Failure.TheVariants.{Memory};
 
 use graphql_service::ThinFault;
@@ -25,7 +26,9 @@ pub enum Failure {
 
 impl Failure {
     /// The exit status.
-    pub fn status(self) -> u8 {
+    pub fn status(self) -> u8
+        ensures { result ≡ status_of self }
+    {
         match self {
             Failure::Sample(_) => 1,
             Failure::Usage => 2,
