@@ -1,0 +1,16 @@
+pub mod TextLemmas
+pub mod Leading
+pub mod StringTurns
+pub mod Falls
+pub mod Readings
+pub mod SoundNumbers
+pub mod SoundStrings
+pub mod SoundTokens
+pub mod SoundTexts
+pub mod OneReading
+pub mod DividedLaws
+pub mod OneByOneLaws
+pub mod CompleteNumbers
+pub mod CompleteTokens
+pub mod CompleteFaults
+pub mod GrammarLaws

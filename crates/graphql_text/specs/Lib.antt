@@ -1,0 +1,11 @@
+pub mod Position
+pub mod Refusals
+pub mod Spelling
+pub mod Reading
+pub mod Numbers
+pub mod Strings
+pub mod Modes
+pub mod Tokens
+pub mod Grammar
+pub mod OneByOne
+pub mod Laws

@@ -1,0 +1,92 @@
+-- Reading a text of characters, from one place to the next.
+use Rattle.std.specs.Prelude.{◌≡◌, ℕ, nat_le, false, ◌-◌, ◌||◌, Bool, List, [], ◌∷◌, ◌++◌, length, take, if◌then◌else◌, ◌==◌, Result, Ok, Err, ⊤}
+use Rattle.std.specs.Char.{is_ascii_digit, is_ascii_alphabetic, is_ascii_alphanumeric}
+use Rattle.std.specs.Str.{chars}
+use Rattle.graphql_text.specs.declared.position.SourcePosition.{SourcePosition}
+use Rattle.graphql_text.specs.declared.position.Span.{Span}
+use Rattle.graphql_text.specs.declared.spanning.Spanning.{Spanning}
+use Rattle.graphql_text.specs.declared.token.LexerError.{LexerError}
+use Rattle.graphql_text.specs.declared.token.LexerError.TheVariants.{Memory}
+use Rattle.graphql_text.specs.declared.cursor.Cursor.{Cursor}
+use Rattle.graphql_text.specs.declared.scan.Class.{Class}
+use Rattle.graphql_text.specs.declared.scan.Class.TheVariants as class
+use Rattle.graphql_text.specs.Position.{step, origin}
+
+-- a place in a text, and the characters from there on
+pub record Place : Type 0 where
+  pub at : SourcePosition
+  pub rest : List ℕ
+
+abbrev pub place_of : Cursor → Place
+place_of c = record { at = c.at; rest = chars c.rest.now }
+
+-- the start of a text
+abbrev pub start_of : List ℕ → Place
+start_of cs = record { at = origin; rest = cs }
+
+-- the characters of each kind (2.1.1 White Space to 2.1.9 Names)
+abbrev pub is_in : Class → ℕ → Bool
+is_in class.NameStart c = c == 95 || is_ascii_alphabetic c
+is_in class.NameContinue c = c == 95 || is_ascii_alphanumeric c
+is_in class.Digit c = is_ascii_digit c
+is_in class.Minus c = c == 45
+is_in class.Quote c = c == 34
+is_in class.Point c = c == 46
+is_in class.Exponent c = c == 101 || c == 69
+is_in class.Sign c = c == 43 || c == 45
+is_in class.Ignored c = c == 32 || c == 9 || c == 10 || c == 13 || c == 44 || c == 0xFEFF
+is_in class.Comment c = nat_le 32 c || c == 9
+
+-- whether a character of a kind comes next
+unfoldable pub begins : Class → Place → Bool
+begins k p = begins_with p.rest
+  where
+    begins_with : List ℕ → Bool
+    begins_with [] = false
+    begins_with (c ∷ cs) = is_in k c
+
+-- the place behind one character of a kind, if it comes next
+unfoldable pub past_one : Class → Place → Place
+past_one k p = past_at p.at p.rest
+  where
+    past_at : SourcePosition → List ℕ → Place
+    past_at at [] = record { at = at; rest = [] }
+    past_at at (c ∷ cs) = if is_in k c then record { at = step at c; rest = cs } else record { at = at; rest = c ∷ cs }
+
+-- the place behind the characters of a kind
+abbrev pub past : Class → SourcePosition → List ℕ → Place
+past k at [] = record { at = at; rest = [] }
+past k at (c ∷ cs) = if is_in k c then past k (step at c) cs else record { at = at; rest = c ∷ cs }
+
+pub record IsTail (whole rest : List ℕ) : Type 0 where
+  pub front : List ℕ
+  pub is : whole ≡ front ++ rest
+
+-- what stands in a text before its tail
+unfoldable pub between : List ℕ → List ℕ → List ℕ
+between whole rest = take (length whole - length rest) whole
+
+-- ---- what reading answers
+
+-- a fault, and where it is
+abbrev pub Refusal : Type 0
+Refusal = Spanning LexerError Span
+
+-- a fault at a place
+abbrev pub refused : {A : Type 0} → LexerError → SourcePosition → Result A Refusal
+refused e at = Err (record { item = e; span = record { start = at; end = at } })
+
+infixl 10 ◌>>=◌
+abbrev pub ◌>>=◌ : {A B : Type 0} → Result A Refusal → (A → Result B Refusal) → Result B Refusal
+(Ok x) >>= f = f x
+(Err e) >>= f = Err e
+
+-- a fact that want of memory does not tell
+abbrev pub UnlessMemory : LexerError → Type 0 → Type 0
+UnlessMemory Memory P = ⊤
+UnlessMemory _ P = P
+
+-- what the code answers, under view, is what the rules give, want of memory aside
+abbrev pub Gives : {X A : Type 0} → (X → A) → Result X Refusal → Result A Refusal → Type 0
+Gives view (Ok x) wanted = wanted ≡ Ok (view x)
+Gives view (Err e) wanted = UnlessMemory e.item (wanted ≡ Err e)

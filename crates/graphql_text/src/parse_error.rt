@@ -1,0 +1,80 @@
+//! Why a text is not what was to be read from it.
+
+ghost use Rattle.std.specs.Prelude.{◌≡◌, IfOk};
+
+use crate::spanning::Spanning;
+use crate::text_ref::TextRef;
+use crate::token::{LexerError, Token};
+use graphql_items::Text;
+use std::alloc::{AllocError, Global};
+use thiserror::Error;
+
+/// Why a text is not what was to be read from it, or want of memory.
+#[derive(Debug, Drop, Error)]
+pub enum ParseError {
+    /// A token that can't stand where it does, by its source text.
+    #[error("Unexpected \"{0}\"")]
+    UnexpectedToken(Text),
+
+    /// The end of the text where more had to come.
+    #[error("Unexpected end of input")]
+    UnexpectedEndOfFile,
+
+    /// What is wrong with the text's characters.
+    #[error("{0}")]
+    LexerError(LexerError),
+
+    /// A literal that the scalar type refuses, in its words.
+    #[error("{0}")]
+    ExpectedScalarError(TextRef<'static>),
+
+    /// Memory ran out. It says nothing about the text.
+    #[error("Out of memory")]
+    Memory,
+}
+
+impl ParseError {
+    ghost use Rattle.graphql_text.specs.declared.parse_error.ParseError.TheVariants.{UnexpectedToken};
+    ghost use Rattle.graphql_text.specs.Spelling.{source_of};
+
+    /// The refusal of a token, with its source text: a string's with its quotes, and escapes as they
+    /// are written. An error is want of memory.
+    pub fn unexpected_token(alloc: Global, token: &Token) -> Result<ParseError, AllocError>
+        ensures { IfOk result (λ refusal. refusal ≡ UnexpectedToken (source_of token.now)) }
+    {
+        let source = token.to_string(alloc)?;
+        Ok(ParseError::UnexpectedToken(Text::from_string(source)))
+    }
+}
+
+impl From<AllocError> for ParseError {
+    ghost use Rattle.graphql_text.specs.declared.parse_error.ParseError.TheVariants.{Memory};
+
+    ghost from_gives = { λ _ e. e ≡ Memory };
+
+    fn from(_error: AllocError) -> ParseError {
+        ParseError::Memory
+    }
+}
+
+impl From<LexerError> for ParseError {
+    ghost use Rattle.graphql_text.specs.Refusals.{parse_error_of};
+
+    ghost from_gives = { λ fault e. e ≡ parse_error_of fault };
+
+    fn from(fault: LexerError) -> ParseError {
+        match fault {
+            LexerError::Memory => ParseError::Memory,
+            fault => ParseError::LexerError(fault),
+        }
+    }
+}
+
+/// A value at its place, or why there is none, at its place.
+pub type ParseResult<T> = Result<Spanning<T>, Spanning<ParseError>>;
+
+/// A value, or why there is none, at its place.
+pub type UnlocatedParseResult<T> = Result<T, Spanning<ParseError>>;
+
+/// A value at its place where one stands, or why there is none, at its place.
+pub type OptionParseResult<T> = Result<Option<Spanning<T>>, Spanning<ParseError>>;

@@ -1,0 +1,166 @@
+//! The tokens of a text, and what can be wrong with its characters.
+
+ghost use Rattle.std.specs.Prelude.{◌≡◌, Some};
+
+use crate::spanning::Spanning;
+use crate::text_ref::TextRef;
+use graphql_items::Text;
+use std::alloc::AllocError;
+use std::fmt;
+use thiserror::Error;
+
+/// A literal of a scalar, as the text spells it (GraphQL October 2021, 2.9 Input Values).
+#[derive(Debug, Drop, PartialEq, Eq)]
+pub enum ScalarToken<'a> {
+    /// What stands between the quotes of a string, its escapes as they are written.
+    String(TextRef<'a>),
+
+    /// A number with a fraction, an exponent or both.
+    Float(TextRef<'a>),
+
+    /// A number with neither.
+    Int(TextRef<'a>),
+}
+
+/// A lexical token (GraphQL October 2021, 2.1.6 Lexical Tokens).
+#[derive(Debug, Drop, PartialEq, Eq)]
+pub enum Token<'a> {
+    /// A name.
+    Name(TextRef<'a>),
+
+    /// A number or a string.
+    Scalar(ScalarToken<'a>),
+
+    /// `!`
+    ExclamationMark,
+
+    /// `$`
+    Dollar,
+
+    /// `(`
+    ParenOpen,
+
+    /// `)`
+    ParenClose,
+
+    /// `[`
+    BracketOpen,
+
+    /// `]`
+    BracketClose,
+
+    /// `{`
+    CurlyOpen,
+
+    /// `}`
+    CurlyClose,
+
+    /// `...`
+    Ellipsis,
+
+    /// `:`
+    Colon,
+
+    /// `=`
+    Equals,
+
+    /// `@`
+    At,
+
+    /// `|`
+    Pipe,
+
+    /// The end of the text.
+    EndOfFile,
+}
+
+/// The source text: a string's with its quotes, and escapes as they are written.
+impl fmt::Display for ScalarToken<'_> {
+    ghost use Rattle.graphql_text.specs.Spelling.{scalar_source};
+
+    ghost output = { λ token. Some (scalar_source token) };
+
+    fn fmt<W: fmt::Write>(&self, f: &mut fmt::Formatter<W>) -> fmt::Result {
+        match self {
+            ScalarToken::String(text) => write!(f, "\"{text}\""),
+            ScalarToken::Float(text) | ScalarToken::Int(text) => write!(f, "{text}"),
+        }
+    }
+}
+
+/// The source text; the end has none.
+impl fmt::Display for Token<'_> {
+    ghost use Rattle.graphql_text.specs.Spelling.{source_of};
+
+    ghost output = { λ token. Some (source_of token) };
+
+    fn fmt<W: fmt::Write>(&self, f: &mut fmt::Formatter<W>) -> fmt::Result {
+        match self {
+            Token::Name(text) => write!(f, "{text}"),
+            Token::Scalar(scalar) => write!(f, "{scalar}"),
+            Token::ExclamationMark => write!(f, "!"),
+            Token::Dollar => write!(f, "$"),
+            Token::ParenOpen => write!(f, "("),
+            Token::ParenClose => write!(f, ")"),
+            Token::BracketOpen => write!(f, "["),
+            Token::BracketClose => write!(f, "]"),
+            Token::CurlyOpen => write!(f, "{{"),
+            Token::CurlyClose => write!(f, "}}"),
+            Token::Ellipsis => write!(f, "..."),
+            Token::Colon => write!(f, ":"),
+            Token::Equals => write!(f, "="),
+            Token::At => write!(f, "@"),
+            Token::Pipe => write!(f, "|"),
+            Token::EndOfFile => write!(f, ""),
+        }
+    }
+}
+
+/// What is wrong with a text's characters, or want of memory.
+#[derive(Debug, Drop, Error)]
+pub enum LexerError {
+    /// A character that begins no token.
+    #[error("Unknown character \"{0}\"")]
+    UnknownCharacter(char),
+
+    /// A character where a token that was begun can't go on with it.
+    #[error("Unexpected character \"{0}\"")]
+    UnexpectedCharacter(char),
+
+    /// A string that its line, or the text, ends before its closing quote.
+    #[error("Unterminated string literal")]
+    UnterminatedString,
+
+    /// A control character in a string.
+    #[error("Unknown character \"{0}\" in string literal")]
+    UnknownCharacterInString(char),
+
+    /// An escape that stands for no character, from its backslash on.
+    #[error("Unknown escape sequence \"{0}\" in string")]
+    UnknownEscapeSequence(Text),
+
+    /// The end of the text in a token that was begun.
+    #[error("Unexpected end of input")]
+    UnexpectedEndOfFile,
+
+    /// A number that can't be read. The lexer never gives it.
+    #[error("Invalid number literal")]
+    InvalidNumber,
+
+    /// Memory ran out. It says nothing about the text.
+    #[error("Out of memory")]
+    Memory,
+}
+
+impl From<AllocError> for LexerError {
+    ghost use Rattle.graphql_text.specs.declared.token.LexerError.TheVariants.{Memory};
+
+    ghost from_gives = { λ _ e. e ≡ Memory };
+
+    fn from(_error: AllocError) -> LexerError {
+        LexerError::Memory
+    }
+}
+
+/// A token with its part of the text, or the fault at its place.
+pub type LexerResult<'a> = Result<Spanning<Token<'a>>, Spanning<LexerError>>;
