@@ -9,6 +9,7 @@ pub mod Lines
 pub mod Fields
 pub mod Documents
 pub mod Repeats
+pub mod Places
 pub mod Views
 pub mod Turns
 pub mod Fittings

@@ -41,14 +41,12 @@ named_shown {K} {L} {A} {B} k f p xs o e =
     through None = refl
     through (Some x) = refl
 
--- the record of an id, found in a slice
-pub record_found : (rs items : List ThinRecord) (id key : List ℕ) (o : Option (Bor ThinRecord)) → rs ≡ items → id ≡ key → option_copied o ≡ find (λ r. bytes_eq (string_bytes r.id) id) rs
-    → option_map (λ b. record_of b.now) o ≡ record_with (map record_of items) key
-record_found rs items id key o same_list same_id e =
-    find_shown record_of (λ r. bytes_eq r.id id) rs o e ∙ ap (λ xs. record_with (map record_of xs) id) same_list ∙ ap (record_with (map record_of items)) same_id
+-- the record of an id
+pub record_found : (rs : List ThinRecord) (id key : List ℕ) (o : Option (Bor ThinRecord)) → id ≡ key → option_copied o ≡ find (λ r. bytes_eq (string_bytes r.id) id) rs
+    → option_map (λ b. record_of b.now) o ≡ record_with (map record_of rs) key
+record_found rs id key o same e = find_shown record_of (λ r. bytes_eq r.id id) rs o e ∙ ap (record_with (map record_of rs)) same
 
--- the type of a name, found in a slice
-pub type_found : (ts items : List ThinType) (name key : List ℕ) (o : Option (Bor ThinType)) → ts ≡ items → name ≡ key → option_copied o ≡ find (λ t. bytes_eq (string_bytes t.name) name) ts
-    → option_map (λ b. type_of b.now) o ≡ type_named (map type_of items) key
-type_found ts items name key o same_list same_name e =
-    find_shown type_of (λ t. bytes_eq t.name name) ts o e ∙ ap (λ xs. type_named (map type_of xs) name) same_list ∙ ap (type_named (map type_of items)) same_name
+-- the type of a name
+pub type_found : (ts : List ThinType) (name key : List ℕ) (o : Option (Bor ThinType)) → name ≡ key → option_copied o ≡ find (λ t. bytes_eq (string_bytes t.name) name) ts
+    → option_map (λ b. type_of b.now) o ≡ type_named (map type_of ts) key
+type_found ts name key o same e = find_shown type_of (λ t. bytes_eq t.name name) ts o e ∙ ap (type_named (map type_of ts)) same

@@ -1,5 +1,6 @@
 pub mod Table
 pub mod Names
+pub mod Places
 pub mod Faults
 pub mod Tokens
 pub mod Texts

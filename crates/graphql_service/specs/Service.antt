@@ -13,7 +13,7 @@ pub record Service : Type 0 where
   pub line_limit : ℕ
 
 abbrev pub service_of : ThinService → Service
-service_of s = record { types = map type_of s.types.items; records = map record_of s.records.items; root_id = string_bytes s.root_id; line_limit = s.line_limit }
+service_of s = record { types = map type_of s.types; records = map record_of s.records; root_id = string_bytes s.root_id; line_limit = s.line_limit }
 
 -- the record on which requests are answered
 abbrev pub root_of : Service → Option Record

@@ -8,16 +8,17 @@ ghost use Rattle.graphql_service.specs.Evaluation.{object};
 ghost use Rattle.graphql_service.specs.Told.{told, told_value};
 ghost use Rattle.graphql_service.specs.Json.{json};
 
+use crate::index::ByName;
 use crate::json::push_text;
 use crate::selection::Selection;
-use crate::table::{ThinRecord, record_with};
+use crate::table::ThinRecord;
 use std::alloc::AllocError;
 
 /// Writes what a set gives on a record, as a JSON object at the end of `out`.
 #[cycle(data)]
 pub fn push_object(
     out: &mut Vec<u8>,
-    records: &[ThinRecord],
+    records: &ByName<ThinRecord>,
     record: &ThinRecord,
     set: &[Selection],
 ) -> Result<(), AllocError>
@@ -40,7 +41,7 @@ pub fn push_object(
 #[cycle(data)]
 fn push_value(
     out: &mut Vec<u8>,
-    records: &[ThinRecord],
+    records: &ByName<ThinRecord>,
     record: &ThinRecord,
     selection: &Selection,
 ) -> Result<(), AllocError>
@@ -54,7 +55,7 @@ fn push_value(
     if selection.set.is_empty() {
         return push_text(out, value);
     }
-    match record_with(records, value) {
+    match records.get(value) {
         Some(next) => push_object(out, records, next, selection.set.as_slice()),
         None => out.extend_from_slice(b"null"),
     }

@@ -6,8 +6,9 @@ ghost use Rattle.graphql_service.specs.Table.{kind_of, type_of, record_of, type_
 ghost use Rattle.graphql_service.specs.Names.{repeats};
 ghost use Rattle.graphql_service.specs.Faults as spec;
 
+use crate::index::ByName;
 use crate::names::repeats;
-use crate::table::{ThinKind, ThinRecord, ThinType, record_with, type_named};
+use crate::table::{ThinKind, ThinRecord, ThinType};
 use std::alloc::{AllocError, Global};
 
 /// Why a service can't be made of these types and records: the first that stands, in this order.
@@ -26,6 +27,16 @@ pub enum ThinFault {
     BadRoot,
     /// Memory ran out.
     Memory,
+}
+
+impl From<AllocError> for ThinFault {
+    ghost use Rattle.graphql_service.specs.declared.fault.ThinFault.TheVariants.{Memory};
+
+    ghost from_gives = { λ _ fault. fault ≡ Memory };
+
+    fn from(_: AllocError) -> ThinFault {
+        ThinFault::Memory
+    }
 }
 
 /// Whether two of the fields have one name.
@@ -76,26 +87,26 @@ fn ids_repeat(alloc: Global, records: &[ThinRecord]) -> Result<bool, AllocError>
 
 fn has_duplicate_name(
     alloc: Global,
-    types: &[ThinType],
-    records: &[ThinRecord],
+    types: &ByName<ThinType>,
+    records: &ByName<ThinRecord>,
 ) -> Result<bool, AllocError>
     ensures { IfOk result (λ b. b ≡ spec.has_duplicate_name (map type_of types.now) (map record_of records.now)) }
 {
     Ok(
-        type_names_repeat(alloc, types)?
-            || some_type_repeats(alloc, types)?
-            || ids_repeat(alloc, records)?
-            || some_record_repeats(alloc, records)?,
+        type_names_repeat(alloc, types.as_slice())?
+            || some_type_repeats(alloc, types.as_slice())?
+            || ids_repeat(alloc, records.as_slice())?
+            || some_record_repeats(alloc, records.as_slice())?,
     )
 }
 
-fn is_type(types: &[ThinType], name: &str) -> bool
+fn is_type(types: &ByName<ThinType>, name: &str) -> bool
     ensures { result ≡ spec.is_type (map type_of types.now) name.now }
 {
-    type_named(types, name).is_some()
+    types.get(name).is_some()
 }
 
-fn names_type(types: &[ThinType], kind: &ThinKind) -> bool
+fn names_type(types: &ByName<ThinType>, kind: &ThinKind) -> bool
     ensures { result ≡ spec.names_type (map type_of types.now) (kind_of kind.now) }
 {
     match kind {
@@ -105,17 +116,18 @@ fn names_type(types: &[ThinType], kind: &ThinKind) -> bool
 }
 
 /// Whether a link of the type names a type that is not there.
-fn links_nowhere(types: &[ThinType], t: &ThinType) -> bool
+fn links_nowhere(types: &ByName<ThinType>, t: &ThinType) -> bool
     ensures { result ≡ list_any (λ f. not (spec.names_type (map type_of types.now) f.1)) (type_of t.now).fields }
 {
     t.fields.iter().any(|f| !names_type(types, &f.1))
 }
 
-fn has_unknown_type(types: &[ThinType], records: &[ThinRecord]) -> bool
+fn has_unknown_type(types: &ByName<ThinType>, records: &ByName<ThinRecord>) -> bool
     ensures { result ≡ spec.has_unknown_type (map type_of types.now) (map record_of records.now) }
 {
-    types.iter().any(|t| links_nowhere(types, t))
+    types.as_slice().iter().any(|t| links_nowhere(types, t))
         || records
+            .as_slice()
             .iter()
             .any(|r| !is_type(types, r.type_name.as_str()))
 }
@@ -127,34 +139,34 @@ fn declares(t: &ThinType, field: &str) -> bool
 }
 
 /// Whether a record has a field that its type does not declare.
-fn strays(types: &[ThinType], record: &ThinRecord) -> bool
+fn strays(types: &ByName<ThinType>, record: &ThinRecord) -> bool
     ensures { let r = record_of record.now in
         result ≡ list_any (λ f. not (is_some (kind_at (map type_of types.now) r.type_name f.0))) r.fields }
 {
-    match type_named(types, record.type_name.as_str()) {
+    match types.get(record.type_name.as_str()) {
         None => !record.fields.is_empty(),
         Some(t) => record.fields.iter().any(|f| !declares(t, f.0.as_str())),
     }
 }
 
-fn has_unknown_field(types: &[ThinType], records: &[ThinRecord]) -> bool
+fn has_unknown_field(types: &ByName<ThinType>, records: &ByName<ThinRecord>) -> bool
     ensures { result ≡ spec.has_unknown_field (map type_of types.now) (map record_of records.now) }
 {
-    records.iter().any(|r| strays(types, r))
+    records.as_slice().iter().any(|r| strays(types, r))
 }
 
 /// Whether an id is that of a record of the type named.
-fn leads_to(records: &[ThinRecord], type_name: &str, id: &str) -> bool
+fn leads_to(records: &ByName<ThinRecord>, type_name: &str, id: &str) -> bool
     ensures { result ≡ spec.leads_to (map record_of records.now) type_name.now (Some id.now) }
 {
-    match record_with(records, id) {
+    match records.get(id) {
         Some(target) => target.type_name.as_str() == type_name,
         None => false,
     }
 }
 
 /// Whether a field's value is one that its kind allows.
-fn keeps_kind(records: &[ThinRecord], kind: &ThinKind, value: Option<&str>) -> bool
+fn keeps_kind(records: &ByName<ThinRecord>, kind: &ThinKind, value: Option<&str>) -> bool
     ensures { result ≡ spec.keeps_kind (map record_of records.now) (kind_of kind.now) (option_map (λ v. v.now) value.entry) }
 {
     match (kind, value) {
@@ -164,11 +176,11 @@ fn keeps_kind(records: &[ThinRecord], kind: &ThinKind, value: Option<&str>) -> b
 }
 
 /// Whether a link of the record leads to no record of the link's type.
-fn misleads(types: &[ThinType], records: &[ThinRecord], record: &ThinRecord) -> bool
+fn misleads(types: &ByName<ThinType>, records: &ByName<ThinRecord>, record: &ThinRecord) -> bool
     ensures { let r = record_of record.now in let ts = map type_of types.now in
         result ≡ list_any (λ f. not (spec.keeps_kind (map record_of records.now) f.1 (value_at r f.0))) (spec.fields_declared (type_named ts r.type_name)) }
 {
-    match type_named(types, record.type_name.as_str()) {
+    match types.get(record.type_name.as_str()) {
         None => false,
         Some(t) => t.fields.iter().any(|f| !keeps_kind(
             records,
@@ -178,17 +190,20 @@ fn misleads(types: &[ThinType], records: &[ThinRecord], record: &ThinRecord) -> 
     }
 }
 
-fn has_bad_link(types: &[ThinType], records: &[ThinRecord]) -> bool
+fn has_bad_link(types: &ByName<ThinType>, records: &ByName<ThinRecord>) -> bool
     ensures { result ≡ spec.has_bad_link (map type_of types.now) (map record_of records.now) }
 {
-    records.iter().any(|r| misleads(types, records, r))
+    records
+        .as_slice()
+        .iter()
+        .any(|r| misleads(types, records, r))
 }
 
 /// The first fault of types and records, in the order of [`ThinFault`].
 pub fn first_fault(
     alloc: Global,
-    types: &[ThinType],
-    records: &[ThinRecord],
+    types: &ByName<ThinType>,
+    records: &ByName<ThinRecord>,
     root_id: &str,
 ) -> Result<Option<ThinFault>, AllocError>
     ensures { IfOk result (λ f. f ≡ spec.first_fault (map type_of types.now) (map record_of records.now) root_id.now) }
@@ -205,7 +220,7 @@ pub fn first_fault(
     if has_bad_link(types, records) {
         return Ok(Some(ThinFault::BadLink));
     }
-    match record_with(records, root_id) {
+    match records.get(root_id) {
         None => Ok(Some(ThinFault::BadRoot)),
         Some(_) => Ok(None),
     }

@@ -4,6 +4,7 @@
 mod data;
 mod fault;
 mod fits;
+mod index;
 mod json;
 mod laws;
 mod lexer;

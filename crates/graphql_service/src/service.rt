@@ -7,20 +7,21 @@ ghost use Rattle.graphql_service.specs.Faults.{first_fault};
 use crate::data::push_object;
 use crate::fault::{ThinFault, first_fault};
 use crate::fits::{fits, is_distinct};
+use crate::index::ByName;
 use crate::refusal::ThinRefusal;
 use crate::request::{Request, request_in, value_of};
 use crate::selection::{Selection, document};
-use crate::table::{ThinRecord, ThinType, record_with, type_named};
+use crate::table::{ThinRecord, ThinType};
 use std::alloc::{AllocError, Global};
 
 /// Types, and records of them, over which request lines are answered.
 #[derive(Debug, Drop)]
 pub struct ThinService {
-    types: Vec<ThinType>,
-    records: Vec<ThinRecord>,
+    types: ByName<ThinType>,
+    records: ByName<ThinRecord>,
     root_id: String,
     line_limit: usize,
-    ghost sound: { first_fault (map type_of types.items) (map record_of records.items) (string_bytes root_id) ≡ None },
+    ghost sound: { first_fault (map type_of types) (map record_of records) (string_bytes root_id) ≡ None },
 }
 
 impl ThinService {
@@ -45,15 +46,11 @@ impl ThinService {
     ) -> Result<ThinService, ThinFault>
         ensures { Makes (map type_of types.items) (map record_of records.items) (string_bytes root_id) line_limit result }
     {
-        match first_fault(
-            alloc,
-            types.as_slice(),
-            records.as_slice(),
-            root_id.as_str(),
-        ) {
-            Err(_) => Err(ThinFault::Memory),
-            Ok(Some(fault)) => Err(fault),
-            Ok(None) => Ok(ThinService {
+        let types = ByName::new(alloc, types)?;
+        let records = ByName::new(alloc, records)?;
+        match first_fault(alloc, &types, &records, root_id.as_str())? {
+            Some(fault) => Err(fault),
+            None => Ok(ThinService {
                 types,
                 records,
                 root_id,
@@ -98,8 +95,8 @@ impl ThinService {
     fn root_type(&self) -> Option<&ThinType>
         ensures { option_map (λ t. type_of t.now) result ≡ root_type_of (service_of self.now) }
     {
-        match record_with(self.records.as_slice(), self.root_id.as_str()) {
-            Some(root) => type_named(self.types.as_slice(), root.type_name.as_str()),
+        match self.records.get(self.root_id.as_str()) {
+            Some(root) => self.types.get(root.type_name.as_str()),
             None => None,
         }
     }
@@ -124,7 +121,7 @@ impl ThinService {
         if !is_distinct(alloc, set.as_slice())? {
             return Ok(None);
         }
-        if !fits(self.types.as_slice(), parent, set.as_slice()) {
+        if !fits(&self.types, parent, set.as_slice()) {
             return Ok(None);
         }
         Ok(Some(set))
@@ -146,9 +143,8 @@ impl ThinService {
         ensures { OnOk result (out.new.items ≡ out.old.items
             ++ json (object (told_root (service_of self.now).records (tree_of set.now) (root_of (service_of self.now))))) }
     {
-        let records = self.records.as_slice();
-        match record_with(records, self.root_id.as_str()) {
-            Some(root) => push_object(out, records, root, set),
+        match self.records.get(self.root_id.as_str()) {
+            Some(root) => push_object(out, &self.records, root, set),
             None => out.extend_from_slice(b"{}"),
         }
     }

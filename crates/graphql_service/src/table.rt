@@ -6,6 +6,8 @@ ghost use Rattle.std.specs.Option.{option_copied};
 ghost use Rattle.std.specs.Str.{bytes_eq};
 ghost use Rattle.graphql_service.specs.Table as spec;
 
+use crate::index::Named;
+
 /// What a field holds.
 #[derive(Debug, Drop)]
 pub enum ThinKind {
@@ -41,18 +43,21 @@ fn named<'t, A>(pairs: &'t [(String, A)], name: &str) -> Option<&'t A>
     pairs.iter().find(|p| p.0.as_str() == name).map(|p| &p.1)
 }
 
-/// The type of this name.
-pub fn type_named<'t>(types: &'t [ThinType], name: &str) -> Option<&'t ThinType>
-    ensures { option_copied result ≡ find (λ t. bytes_eq (string_bytes t.name) name.now) types.now }
-{
-    types.iter().find(|t| t.name.as_str() == name)
+impl Named for ThinType {
+    ghost name_of = { λ t. string_bytes t.name };
+
+    fn name(&self) -> &str {
+        self.name.as_str()
+    }
 }
 
-/// The record of this id.
-pub fn record_with<'t>(records: &'t [ThinRecord], id: &str) -> Option<&'t ThinRecord>
-    ensures { option_copied result ≡ find (λ r. bytes_eq (string_bytes r.id) id.now) records.now }
-{
-    records.iter().find(|r| r.id.as_str() == id)
+/// A record's name is its id.
+impl Named for ThinRecord {
+    ghost name_of = { λ r. string_bytes r.id };
+
+    fn name(&self) -> &str {
+        self.id.as_str()
+    }
 }
 
 impl ThinType {

@@ -34,15 +34,15 @@ push_object-members-preserved t c =
     ∙ ap (λ z. c.members.out.items ++ z) (sym (members_more rs r ss i s c.members-test.true c.index-set-i.is))
     ∙ c.members.invariant
 
-pub push_value-returns-in-Some-record_with : goal.push_value-returns-in-Some-record_with
-push_value-returns-in-Some-record_with t c =
+pub push_value-returns-in-Some-get : goal.push_value-returns-in-Some-get
+push_value-returns-in-Some-get t c =
     let rs = map record_of c.args.records.now in
     let s = out-Selection c.args.selection.now in
     let ss = s.set.items in
     let some : (vec_len s.set == 0) ≡ false = sym c.is_empty.ensures ∙ c.if-is_empty.false in
     let linked = has_set-tree_of ss (vec_len s.set) (omega (arith, s.set.ok.0)) ∙ ap not some in
-    let found = find_shown record_of (λ r. bytes_eq r.id c.in-Some.value.now) c.args.records.now (Some c.in-Some-record_with.next) c.in-Some-record_with.ensures in
-    let is = value_linked rs (told rs (tree_of ss)) (has_set (tree_of ss)) (value_at (record_of c.args.record.now) s.name.now) c.in-Some.value.now (sym c.in-Some.ensures) linked (record_of c.in-Some-record_with.next.now) (sym found) in
+    let found = find_shown record_of (λ r. bytes_eq r.id c.in-Some.value.now) c.args.records.now (Some c.in-Some-get.next) c.in-Some-get.ensures in
+    let is = value_linked rs (told rs (tree_of ss)) (has_set (tree_of ss)) (value_at (record_of c.args.record.now) s.name.now) c.in-Some.value.now (sym c.in-Some.ensures) linked (record_of c.in-Some-get.next.now) (sym found) in
     let P : Value → Type 0 = λ v. OnOk c.push_object.result (c.push_object.new.out.items ≡ c.args.out.now.items ++ json v) in
     subst P (sym is) (rw c.as_slice.ensures.value at c.push_object.ensures)
 

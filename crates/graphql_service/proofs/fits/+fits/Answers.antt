@@ -1,9 +1,8 @@
 use Rattle.std.proofs.Common.{◌≡◌, ◌+◌, ◌==◌, sym, ap, ◌∙◌, drop, map, Some, None, false, vec_len, string_bytes, arith}
-use Rattle.std.specs.Str.{bytes_eq}
 use Rattle.graphql_service.specs.declared.selection.Selection.{out-Selection}
-use Rattle.graphql_service.specs.Table.{text, type_of, kind_of, type_named}
+use Rattle.graphql_service.specs.Table.{text, type_of, kind_of}
 use Rattle.graphql_service.specs.Selections as spec
-use Rattle.graphql_service.proofs.Lookups.{find_shown}
+use Rattle.graphql_service.proofs.Lookups.{type_found}
 use Rattle.graphql_service.proofs.Fittings.{stops, passes, fits_turn, text_fits, link_misses, link_fits}
 use Rattle.graphql_service.proofs.fits.+fits.Goals as goal
 
@@ -32,22 +31,22 @@ field_fits-returns-in-Some-Text t c =
     let is_text : kind_of c.in-Some-Text.field-0.now ≡ text = ap kind_of c.in-Some-Text.field-0-is in
     c.is_empty.ensures ∙ text_fits ts v.items (λ p. spec.fits ts p (spec.tree_of v.items)) (vec_len v) (omega (arith, v.ok.0)) _ (sym c.in-Some-Text.ensures ∙ ap Some is_text)
 
-pub field_fits-returns-in-None-type_named : goal.field_fits-returns-in-None-type_named
-field_fits-returns-in-None-type_named t c =
+pub field_fits-returns-in-None-get : goal.field_fits-returns-in-None-get
+field_fits-returns-in-None-get t c =
     let ts = map type_of c.args.types.now in
     let v = (out-Selection c.args.selection.now).set in
     let name = string_bytes c.in-Some-Link.name in
-    let unknown = find_shown type_of (λ p. bytes_eq p.name c.as_str.result.now) c.args.types.now None c.in-None-type_named.ensures in
+    let unknown = type_found c.args.types.now c.as_str.result.now name None c.as_str.ensures.value c.in-None-get.ensures in
     link_misses ts v.items (λ p. spec.fits ts p (spec.tree_of v.items)) (vec_len v) (omega (arith, v.ok.0)) _ name
-    (sym c.in-Some-Link.ensures ∙ ap Some (ap kind_of c.in-Some-Link.field-0-is)) (ap (type_named ts) (sym c.as_str.ensures.value) ∙ sym unknown)
+    (sym c.in-Some-Link.ensures ∙ ap Some (ap kind_of c.in-Some-Link.field-0-is)) (sym unknown)
 
 pub field_fits-returns-in-Some : goal.field_fits-returns-in-Some
 field_fits-returns-in-Some t c =
     let ts = map type_of c.args.types.now in
     let v = (out-Selection c.args.selection.now).set in
     let name = string_bytes c.in-Some-Link.name in
-    let known = find_shown type_of (λ p. bytes_eq p.name c.as_str.result.now) c.args.types.now (Some c.in-Some.t) c.in-Some.ensures in
+    let known = type_found c.args.types.now c.as_str.result.now name (Some c.in-Some.t) c.as_str.ensures.value c.in-Some.ensures in
     let some : (vec_len v == 0) ≡ false = sym c.is_empty-in-Some-Link.ensures ∙ c.if-is_empty.false in
     c.fits.ensures ∙ ap (λ xs. spec.fits ts (type_of c.in-Some.t.now) (spec.tree_of xs)) c.as_slice.ensures.value
     ∙ link_fits ts v.items (λ p. spec.fits ts p (spec.tree_of v.items)) (vec_len v) (omega (arith, v.ok.0)) _ name (type_of c.in-Some.t.now)
-    (sym c.in-Some-Link.ensures ∙ ap Some (ap kind_of c.in-Some-Link.field-0-is)) (ap (type_named ts) (sym c.as_str.ensures.value) ∙ sym known) some
+    (sym c.in-Some-Link.ensures ∙ ap Some (ap kind_of c.in-Some-Link.field-0-is)) (sym known) some

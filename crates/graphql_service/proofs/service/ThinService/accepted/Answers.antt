@@ -15,6 +15,5 @@ pub returns-then-not-fits : goal.returns-then-not-fits
 returns-then-not-fits c = λ set a.
     refuted_fields (service_of c.args.self.now) (request_view c.args.request) (spec.tree_of c.in-Some.set.items) (rw c.in-Some.is at c.in_ok-set.ensures) set a
     (type_of c.in-Some-root_type.parent.now) c.in-Some-root_type.ensures
-    (ap (λ xs. spec.fits (map type_of xs) (type_of c.in-Some-root_type.parent.now) (spec.tree_of c.in-Some.set.items)) (sym c.as_slice-2.ensures.value)
-    ∙ ap (λ xs. spec.fits (map type_of c.as_slice-2.result.now) (type_of c.in-Some-root_type.parent.now) (spec.tree_of xs)) (sym c.as_slice-3.ensures.value)
+    (ap (λ xs. spec.fits (map type_of c.args.self.now.types) (type_of c.in-Some-root_type.parent.now) (spec.tree_of xs)) (sym c.as_slice-2.ensures.value)
     ∙ sym c.fits.ensures ∙ c.if-not-fits.true)

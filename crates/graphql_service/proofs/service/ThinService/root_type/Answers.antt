@@ -6,14 +6,14 @@ use Rattle.graphql_service.proofs.service.ThinService.root_type.Goals as goal
 pub returns-in-Some : goal.returns-in-Some
 returns-in-Some c =
     let s = c.args.self.now in
-    let of_root = λ (r : Record). type_named (map type_of s.types.items) r.type_name in
-    let root = record_found c.as_slice.result.now s.records.items c.as_str.result.now (string_bytes s.root_id) (Some c.in-Some.root) c.as_slice.ensures.value c.as_str.ensures.value c.in-Some.ensures in
-    type_found c.as_slice-in-Some.result.now s.types.items c.as_str-in-Some.result.now (string_bytes c.in-Some.root.now.type_name) c.type_named.result c.as_slice-in-Some.ensures.value c.as_str-in-Some.ensures.value c.type_named.ensures
+    let of_root = λ (r : Record). type_named (map type_of s.types) r.type_name in
+    let root = record_found s.records c.as_str.result.now (string_bytes s.root_id) (Some c.in-Some.root) c.as_str.ensures.value c.in-Some.ensures in
+    type_found s.types c.as_str-in-Some.result.now (string_bytes c.in-Some.root.now.type_name) c.get-in-Some.result c.as_str-in-Some.ensures.value c.get-in-Some.ensures
     ∙ ap (option_and_then of_root) root
 
 pub returns-in-None : goal.returns-in-None
 returns-in-None c =
     let s = c.args.self.now in
-    let of_root = λ (r : Record). type_named (map type_of s.types.items) r.type_name in
-    let root = record_found c.as_slice.result.now s.records.items c.as_str.result.now (string_bytes s.root_id) None c.as_slice.ensures.value c.as_str.ensures.value c.in-None.ensures in
+    let of_root = λ (r : Record). type_named (map type_of s.types) r.type_name in
+    let root = record_found s.records c.as_str.result.now (string_bytes s.root_id) None c.as_str.ensures.value c.in-None.ensures in
     ap (option_and_then of_root) root
