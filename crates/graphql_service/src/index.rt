@@ -77,38 +77,3 @@ fn first_places<T: Named>(alloc: Global, items: &[T]) -> Result<HashMap<String, 
     }
     Ok(places)
 }
-
-#[cfg(test)]
-mod tests {
-    use super::*;
-    use crate::table::ThinRecord;
-    use std::test::Fail;
-
-    #[test]
-    fn finds_the_first_of_each_name(rt: HostRuntime) -> Result<(), Fail> {
-        let alloc = rt.alloc();
-        let mut records = Vec::new(alloc);
-        for (id, type_name) in [("1", "Ship"), ("2", "Planet"), ("1", "Port")] {
-            records.push(ThinRecord {
-                id: String::from_str(alloc, id)?,
-                type_name: String::from_str(alloc, type_name)?,
-                fields: Vec::new(alloc),
-            })?;
-        }
-        let records = ByName::new(alloc, records)?;
-        assert_eq!(rt; records.as_slice().len(), 3);
-        for (id, want) in [
-            ("1", Some("Ship")),
-            ("2", Some("Planet")),
-            ("3", None),
-            ("", None),
-        ] {
-            assert_eq!(rt;
-                records.get(id).map(|r| r.type_name.as_str()),
-                want,
-                "at {id}"
-            );
-        }
-        Ok(())
-    }
-}

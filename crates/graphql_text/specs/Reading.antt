@@ -11,6 +11,7 @@ use Rattle.graphql_text.specs.declared.cursor.Cursor.{Cursor}
 use Rattle.graphql_text.specs.declared.scan.Class.{Class}
 use Rattle.graphql_text.specs.declared.scan.Class.TheVariants as class
 use Rattle.graphql_text.specs.Position.{step, origin}
+pub use Rattle.graphql_items.specs.Memory.{◌>>=◌}
 
 -- a place in a text, and the characters from there on
 pub record Place : Type 0 where
@@ -75,11 +76,6 @@ Refusal = Spanning LexerError Span
 -- a fault at a place
 abbrev pub refused : {A : Type 0} → LexerError → SourcePosition → Result A Refusal
 refused e at = Err (record { item = e; span = record { start = at; end = at } })
-
-infixl 10 ◌>>=◌
-abbrev pub ◌>>=◌ : {A B : Type 0} → Result A Refusal → (A → Result B Refusal) → Result B Refusal
-(Ok x) >>= f = f x
-(Err e) >>= f = Err e
 
 -- a fact that want of memory does not tell
 abbrev pub UnlessMemory : LexerError → Type 0 → Type 0
