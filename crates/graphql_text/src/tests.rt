@@ -1,6 +1,7 @@
 //! Tests of what no clause says: printed texts, and the rows of the lexical grammar by name.
 
 use crate::lexer::{Lexer, lex_all};
+use crate::parse_error::ParseError;
 use crate::position::{SourcePosition, Span};
 use crate::spanning::Spanning;
 use crate::text_ref::TextRef;
@@ -367,5 +368,47 @@ fn borrowed_texts(rt: HostRuntime) -> Result<(), Fail> {
     assert!(rt; text.copied() == text.clone()?);
     let shown = format!(in alloc; "{text} {text:?}")?;
     assert_eq!(rt; shown.as_str(), "aé \"aé\"");
+    Ok(())
+}
+
+const SOURCES: [(&str, &str); 6] = [
+    ("hero", "Unexpected \"hero\""),
+    ("...", "Unexpected \"...\""),
+    ("}", "Unexpected \"}\""),
+    ("-12.5e+3", "Unexpected \"-12.5e+3\""),
+    (r#""a\"b""#, r#"Unexpected ""a\"b"""#),
+    ("2147483648", "Unexpected \"2147483648\""),
+];
+
+#[test]
+fn texts_of_unexpected_tokens(rt: HostRuntime) -> Result<(), Fail> {
+    for (text, want) in SOURCES {
+        let tokens = lex_all(rt.alloc(), text).ok().ok_or("a fault")?;
+        let first = tokens.as_slice().first().ok_or("no token")?;
+        let refusal = ParseError::unexpected_token(rt.alloc(), &first.item)?;
+        let shown = format!(in rt.alloc(); "{refusal}")?;
+        assert_eq!(rt; shown.as_str(), want, "at {text}");
+    }
+    Ok(())
+}
+
+#[test]
+fn texts_of_refusals(rt: HostRuntime) -> Result<(), Fail> {
+    let rows = [
+        (ParseError::UnexpectedEndOfFile, "Unexpected end of input"),
+        (
+            ParseError::from(LexerError::UnterminatedString),
+            "Unterminated string literal",
+        ),
+        (ParseError::from(LexerError::Memory), "Out of memory"),
+        (
+            ParseError::ExpectedScalarError(TextRef::new("There needs to be a Float type")),
+            "There needs to be a Float type",
+        ),
+    ];
+    for (refusal, want) in rows {
+        let shown = format!(in rt.alloc(); "{refusal}")?;
+        assert_eq!(rt; shown.as_str(), want);
+    }
     Ok(())
 }
