@@ -145,6 +145,11 @@ impl<T> Spanning<T> {
 
 /// Writes the value, and where it starts.
 impl<T: fmt::Display> fmt::Display for Spanning<T> {
+    ghost use Rattle.std.specs.Prelude.{codes};
+    ghost use Rattle.std.specs.Fmt.{decimal};
+
+    ghost output = { λ s. option_map (λ item. item ++ codes ". At " ++ decimal s.span.start.line ++ codes ":" ++ decimal s.span.start.column) (T.output s.item) };
+
     fn fmt<W: fmt::Write>(&self, f: &mut fmt::Formatter<W>) -> fmt::Result {
         let item = &self.item;
         let start = self.span.start;
