@@ -19,10 +19,10 @@ use std::alloc::AllocError;
 pub fn push_object(
     out: &mut Vec<u8>,
     records: &ByName<ThinRecord>,
-    record: &ThinRecord,
+    row: &ThinRecord,
     set: &[Selection],
 ) -> Result<(), AllocError>
-    ensures { OnOk result (out.new.items ≡ out.old.items ++ json (object (told (map record_of records.now) (tree_of set.now) (record_of record.now)))) }
+    ensures { OnOk result (out.new.items ≡ out.old.items ++ json (object (told (map record_of records.now) (tree_of set.now) (record_of row.now)))) }
 {
     out.push(b'{')?;
     'members: for (i, selection) in set.iter().enumerate() {
@@ -31,7 +31,7 @@ pub fn push_object(
         }
         push_text(out, selection.name)?;
         out.push(b':')?;
-        push_value(out, records, record, selection)?;
+        push_value(out, records, row, selection)?;
     }
     out.push(b'}')?;
     Ok(())
@@ -42,14 +42,14 @@ pub fn push_object(
 fn push_value(
     out: &mut Vec<u8>,
     records: &ByName<ThinRecord>,
-    record: &ThinRecord,
+    row: &ThinRecord,
     selection: &Selection,
 ) -> Result<(), AllocError>
     ensures { let s = out-Selection selection.now in let rs = map record_of records.now in
         OnOk result (out.new.items ≡ out.old.items
-        ++ json (told_value rs (told rs (tree_of s.set.items)) (has_set (tree_of s.set.items)) (value_at (record_of record.now) s.name.now))) }
+        ++ json (told_value rs (told rs (tree_of s.set.items)) (has_set (tree_of s.set.items)) (value_at (record_of row.now) s.name.now))) }
 {
-    let Some(value) = record.value_of(selection.name) else {
+    let Some(value) = row.value_of(selection.name) else {
         return out.extend_from_slice(b"null");
     };
     if selection.set.is_empty() {

@@ -139,13 +139,13 @@ fn declares(t: &ThinType, field: &str) -> bool
 }
 
 /// Whether a record has a field that its type does not declare.
-fn strays(types: &ByName<ThinType>, record: &ThinRecord) -> bool
-    ensures { let r = record_of record.now in
+fn strays(types: &ByName<ThinType>, row: &ThinRecord) -> bool
+    ensures { let r = record_of row.now in
         result ≡ list_any (λ f. not (is_some (kind_at (map type_of types.now) r.type_name f.0))) r.fields }
 {
-    match types.get(record.type_name.as_str()) {
-        None => !record.fields.is_empty(),
-        Some(t) => record.fields.iter().any(|f| !declares(t, f.0.as_str())),
+    match types.get(row.type_name.as_str()) {
+        None => !row.fields.is_empty(),
+        Some(t) => row.fields.iter().any(|f| !declares(t, f.0.as_str())),
     }
 }
 
@@ -176,17 +176,16 @@ fn keeps_kind(records: &ByName<ThinRecord>, kind: &ThinKind, value: Option<&str>
 }
 
 /// Whether a link of the record leads to no record of the link's type.
-fn misleads(types: &ByName<ThinType>, records: &ByName<ThinRecord>, record: &ThinRecord) -> bool
-    ensures { let r = record_of record.now in let ts = map type_of types.now in
+fn misleads(types: &ByName<ThinType>, records: &ByName<ThinRecord>, row: &ThinRecord) -> bool
+    ensures { let r = record_of row.now in let ts = map type_of types.now in
         result ≡ list_any (λ f. not (spec.keeps_kind (map record_of records.now) f.1 (value_at r f.0))) (spec.fields_declared (type_named ts r.type_name)) }
 {
-    match types.get(record.type_name.as_str()) {
+    match types.get(row.type_name.as_str()) {
         None => false,
-        Some(t) => t.fields.iter().any(|f| !keeps_kind(
-            records,
-            &f.1,
-            record.value_of(f.0.as_str()),
-        )),
+        Some(t) => t
+            .fields
+            .iter()
+            .any(|f| !keeps_kind(records, &f.1, row.value_of(f.0.as_str()))),
     }
 }
 

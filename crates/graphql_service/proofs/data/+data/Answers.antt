@@ -16,7 +16,7 @@ use Rattle.graphql_service.proofs.data.+data.Goals.{push_object-then-i-gt0+in_ok
 pub push_object-members-preserved : goal.push_object-members-preserved
 push_object-members-preserved t c =
     let rs = map record_of c.args.records.now in
-    let r = record_of c.args.record.now in
+    let r = record_of c.args.row.now in
     let ss = c.args.set.now in
     let i = c.members.i in
     let s = c.index-set-i.result in
@@ -42,7 +42,7 @@ push_value-returns-in-Some-get t c =
     let some : (vec_len s.set == 0) ≡ false = sym c.is_empty.ensures ∙ c.if-is_empty.false in
     let linked = has_set-tree_of ss (vec_len s.set) (omega (arith, s.set.ok.0)) ∙ ap not some in
     let found = find_shown record_of (λ r. bytes_eq r.id c.in-Some.value.now) c.args.records.now (Some c.in-Some-get.next) c.in-Some-get.ensures in
-    let is = value_linked rs (told rs (tree_of ss)) (has_set (tree_of ss)) (value_at (record_of c.args.record.now) s.name.now) c.in-Some.value.now (sym c.in-Some.ensures) linked (record_of c.in-Some-get.next.now) (sym found) in
+    let is = value_linked rs (told rs (tree_of ss)) (has_set (tree_of ss)) (value_at (record_of c.args.row.now) s.name.now) c.in-Some.value.now (sym c.in-Some.ensures) linked (record_of c.in-Some-get.next.now) (sym found) in
     let P : Value → Type 0 = λ v. OnOk c.push_object.result (c.push_object.new.out.items ≡ c.args.out.now.items ++ json v) in
     subst P (sym is) (rw c.as_slice.ensures.value at c.push_object.ensures)
 
@@ -54,6 +54,6 @@ push_value-returns-in-None t c =
     let some : (vec_len s.set == 0) ≡ false = sym c.is_empty.ensures ∙ c.if-is_empty.false in
     let linked = has_set-tree_of ss (vec_len s.set) (omega (arith, s.set.ok.0)) ∙ ap not some in
     let lost = find_shown record_of (λ r. bytes_eq r.id c.in-Some.value.now) c.args.records.now None c.in-None.ensures in
-    let is = value_lost rs (told rs (tree_of ss)) (has_set (tree_of ss)) (value_at (record_of c.args.record.now) s.name.now) c.in-Some.value.now (sym c.in-Some.ensures) linked (sym lost) in
+    let is = value_lost rs (told rs (tree_of ss)) (has_set (tree_of ss)) (value_at (record_of c.args.row.now) s.name.now) c.in-Some.value.now (sym c.in-Some.ensures) linked (sym lost) in
     let P : Value → Type 0 = λ v. OnOk c.extend_from_slice-in-None.result (c.extend_from_slice-in-None.new.self.items ≡ c.args.out.now.items ++ json v) in
     subst P (sym is) (search rules)
