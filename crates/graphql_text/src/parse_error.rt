@@ -3,14 +3,13 @@
 ghost use Rattle.std.specs.Prelude.{◌≡◌, IfOk};
 
 use crate::spanning::Spanning;
-use crate::text_ref::TextRef;
 use crate::token::{LexerError, Token};
 use graphql_items::Text;
 use std::alloc::{AllocError, Global};
 use thiserror::Error;
 
 /// Why a text is not what was to be read from it, or want of memory.
-#[derive(Debug, Drop, Error)]
+#[derive(Clone, Debug, Drop, Error)]
 pub enum ParseError {
     /// A token that can't stand where it does, by its source text.
     #[error("Unexpected \"{0}\"")]
@@ -26,7 +25,7 @@ pub enum ParseError {
 
     /// A literal that the scalar type refuses, in its words.
     #[error("{0}")]
-    ExpectedScalarError(TextRef<'static>),
+    ExpectedScalarError(Text),
 
     /// Memory ran out. It says nothing about the text.
     #[error("Out of memory")]
@@ -67,6 +66,28 @@ impl From<LexerError> for ParseError {
             LexerError::Memory => ParseError::Memory,
             fault => ParseError::LexerError(fault),
         }
+    }
+}
+
+/// Want of memory, at the origin: it stands at no place of the text.
+impl From<AllocError> for Spanning<ParseError> {
+    ghost use Rattle.graphql_text.specs.declared.parse_error.ParseError.TheVariants.{Memory};
+
+    ghost from_gives = { λ _ e. e.item ≡ Memory };
+
+    fn from(_error: AllocError) -> Spanning<ParseError> {
+        Spanning::unlocated(ParseError::Memory)
+    }
+}
+
+/// The same fault at the same place.
+impl From<Spanning<LexerError>> for Spanning<ParseError> {
+    ghost use Rattle.graphql_text.specs.Refusals.{parse_error_of};
+
+    ghost from_gives = { λ fault e. e ≡ record { item = parse_error_of fault.item; span = fault.span } };
+
+    fn from(fault: Spanning<LexerError>) -> Spanning<ParseError> {
+        Spanning::new(fault.span, ParseError::from(fault.item))
     }
 }
 

@@ -6,6 +6,7 @@ use crate::position::{SourcePosition, Span};
 use crate::spanning::Spanning;
 use crate::text_ref::TextRef;
 use crate::token::{LexerError, Token};
+use graphql_items::Text;
 use std::alloc::{AllocError, Global};
 use std::process::Abort;
 use std::test::Fail;
@@ -402,7 +403,10 @@ fn texts_of_refusals(rt: HostRuntime) -> Result<(), Fail> {
         ),
         (ParseError::from(LexerError::Memory), "Out of memory"),
         (
-            ParseError::ExpectedScalarError(TextRef::new("There needs to be a Float type")),
+            ParseError::ExpectedScalarError(Text::from_str(
+                rt.alloc(),
+                "There needs to be a Float type",
+            )?),
             "There needs to be a Float type",
         ),
     ];

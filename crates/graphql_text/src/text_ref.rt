@@ -11,6 +11,7 @@ ghost use Rattle.std.proofs.Common.{rules};
 
 use std::alloc::AllocError;
 use std::cmp::Ordering;
+use std::convert::AsStr;
 use std::fmt;
 use std::hash::{Hash, Hasher};
 use std::marker::Model;
@@ -77,6 +78,14 @@ impl<'a> From<&'a str> for TextRef<'a> {
 
     fn from(text: &'a str) -> TextRef<'a> {
         TextRef { held: text }
+    }
+}
+
+impl<'a> AsStr for TextRef<'a> {
+    ghost text = { λ t. t };
+
+    fn as_str(&self) -> &str {
+        self.held
     }
 }
 

@@ -22,6 +22,19 @@ pub enum ScalarToken<'a> {
     Int(TextRef<'a>),
 }
 
+impl<'a> ScalarToken<'a> {
+    /// The same literal again, which borrows the same text. Takes no memory.
+    pub fn copied(&self) -> ScalarToken<'a>
+        ensures { result ≡ self.now }
+    {
+        match self {
+            ScalarToken::String(text) => ScalarToken::String(text.copied()),
+            ScalarToken::Float(text) => ScalarToken::Float(text.copied()),
+            ScalarToken::Int(text) => ScalarToken::Int(text.copied()),
+        }
+    }
+}
+
 /// A lexical token (GraphQL October 2021, 2.1.6 Lexical Tokens).
 #[derive(Debug, Drop, PartialEq, Eq)]
 pub enum Token<'a> {
@@ -74,6 +87,32 @@ pub enum Token<'a> {
     EndOfFile,
 }
 
+impl<'a> Token<'a> {
+    /// The same token again, which borrows the same text. Takes no memory.
+    pub fn copied(&self) -> Token<'a>
+        ensures { result ≡ self.now }
+    {
+        match self {
+            Token::Name(name) => Token::Name(name.copied()),
+            Token::Scalar(scalar) => Token::Scalar(scalar.copied()),
+            Token::ExclamationMark => Token::ExclamationMark,
+            Token::Dollar => Token::Dollar,
+            Token::ParenOpen => Token::ParenOpen,
+            Token::ParenClose => Token::ParenClose,
+            Token::BracketOpen => Token::BracketOpen,
+            Token::BracketClose => Token::BracketClose,
+            Token::CurlyOpen => Token::CurlyOpen,
+            Token::CurlyClose => Token::CurlyClose,
+            Token::Ellipsis => Token::Ellipsis,
+            Token::Colon => Token::Colon,
+            Token::Equals => Token::Equals,
+            Token::At => Token::At,
+            Token::Pipe => Token::Pipe,
+            Token::EndOfFile => Token::EndOfFile,
+        }
+    }
+}
+
 /// The source text: a string's with its quotes, and escapes as they are written.
 impl fmt::Display for ScalarToken<'_> {
     ghost use Rattle.graphql_text.specs.Spelling.{scalar_source};
@@ -117,7 +156,7 @@ impl fmt::Display for Token<'_> {
 }
 
 /// What is wrong with a text's characters, or want of memory.
-#[derive(Debug, Drop, Error)]
+#[derive(Clone, Debug, Drop, Error)]
 pub enum LexerError {
     /// A character that begins no token.
     #[error("Unknown character \"{0}\"")]
