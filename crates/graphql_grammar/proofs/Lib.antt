@@ -1,0 +1,14 @@
+pub mod Sets
+pub mod Stops
+pub mod Law
+pub mod Choices
+pub mod Loops
+pub mod Recursion
+pub mod FirstFaults
+pub mod Cursors
+pub mod Begins
+pub mod Ends
+pub mod Turns
+pub mod Parts
+pub mod Alike
+pub mod AlikeFaults

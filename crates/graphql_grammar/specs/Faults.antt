@@ -1,0 +1,88 @@
+-- The first faulty token, for any grammar: a relation between tokens and trees.
+use Rattle.std.specs.Prelude.{◌≡◌, ◌≤◌, List, [], ◌∷◌, ◌++◌, Result, Ok, Err}
+use Rattle.graphql_text.specs.declared.position.Span.{Span}
+use Rattle.graphql_text.specs.declared.parse_error.ParseError.{ParseError}
+use Rattle.graphql_text.specs.declared.token.Token.TheVariants as t
+use Rattle.graphql_text.specs.declared.token.ScalarToken.{ScalarToken}
+use Rattle.graphql_grammar.specs.Input.{Input, Located, Fault, Outcome, left}
+use Rattle.graphql_grammar.specs.Ahead.{refused_at, mk}
+use Rattle.graphql_grammar.specs.Relations.{end_of}
+
+-- a token whose meaning the scalar type decides
+pub record IsScalar (a : Located) : Type 0 where
+  pub token : ScalarToken
+  pub is : a.item ≡ t.Scalar token
+
+module _ {S : Type 0} (reads : ScalarToken → Result S ParseError) where
+  -- a scalar's token that the type refuses, and its fault
+  pub record BadScalar (a : Located) (e : Fault) : Type 0 where
+    pub token : ScalarToken
+    pub error : ParseError
+    pub is : a.item ≡ t.Scalar token
+    pub reads_not : reads token ≡ Err error
+    pub fault : e ≡ record { item = error; span = a.span }
+
+  -- one that it takes
+  pub record GoodScalar (a : Located) : Type 0 where
+    pub token : ScalarToken
+    pub scalar : S
+    pub is : a.item ≡ t.Scalar token
+    pub reads_it : reads token ≡ Ok scalar
+
+  -- a scalar's token, by what its type reads
+  pub record ScalarOf (ts : List Located) (s : S) : Type 0 where
+    pub at : Located
+    pub token : ScalarToken
+    pub alone : ts ≡ at ∷ []
+    pub is : at.item ≡ t.Scalar token
+    pub reads_it : reads token ≡ Ok s
+
+  module _ {A : Type 0} (Tree : List Located → A → Type 0) where
+    -- some tree begins with these tokens
+    pub record Begins (ts : List Located) : Type 0 where
+      pub more : List Located
+      pub tree : A
+      pub spells : Tree (ts ++ more) tree
+
+    -- where no tree can have the next token, its fault
+    pub data FaultOf (f : Span) (before rest : List Located) (e : Fault) : Type 0 where
+      -- No scalar can stand there, or none stands there: the token's source text, or the end of the text.
+      unexpected_token : e ≡ refused_at f rest → ((a b : Located) (more : List Located) → rest ≡ a ∷ more → IsScalar a → IsScalar b → Begins (before ++ b ∷ []) → ⊥) → FaultOf f before rest e
+      -- A scalar can stand there, and the type refuses this one: the type's own fault.
+      refused_scalar : (a : Located) (more : List Located) → rest ≡ a ∷ more → BadScalar a e → ((b : Located) → GoodScalar b → Begins (before ++ b ∷ [])) → FaultOf f before rest e
+
+    -- The fault of the first token that no tree could have there. With no such token the text ends too early.
+    pub record FirstFault (i : Input) (e : Fault) : Type 0 where
+      pub before : List Located
+      pub rest : List Located
+      pub front : i.ahead ≡ before ++ rest
+      pub possible : Begins before
+      pub impossible : (a : Located) (more : List Located) → rest ≡ a ∷ more → Begins (before ++ a ∷ []) → ⊥
+      pub too_short : rest ≡ [] → (x : A) → Tree before x → ⊥
+      pub fault : FaultOf i.finish before rest e
+
+    -- some tokens in front spell the tree
+    pub record Spelled (i : Input) (x : A) (j : Input) : Type 0 where
+      pub tokens : List Located
+      pub front : i.ahead ≡ tokens ++ j.ahead
+      pub spells : Tree tokens x
+      pub after : j ≡ mk j.ahead i.finish (end_of i.end tokens)
+
+    -- no more tokens in front spell a tree, and the same tokens no other
+    pub record Longest (i : Input) (x : A) (j : Input) : Type 0 where
+      pub most : (y : A) (k : Input) → Spelled i y k → left j ≤ left k
+      pub same : (y : A) (k : Input) → Spelled i y k → left k ≡ left j → y ≡ x
+
+    -- what is read where a tree is looked for: the longest front that spells one, else the first faulty token
+    abbrev pub Sought : Input → Outcome A → Type 0
+    Sought i (Ok p) = Spelled i p.0 p.1 × Longest i p.0 p.1
+    Sought i (Err e) = FirstFault i e
+
+    -- no other tree is spelled there
+    pub record OnlyTree (i : Input) (x : A) : Type 0 where
+      pub same : (y : A) (j : Input) → Spelled i y j → y ≡ x
+
+    -- the same where no other tree is spelled in front
+    abbrev pub Found : Input → Outcome A → Type 0
+    Found i (Ok p) = Spelled i p.0 p.1 × OnlyTree i p.0
+    Found i (Err e) = FirstFault i e
