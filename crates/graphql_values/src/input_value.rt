@@ -1,0 +1,121 @@
+//! Input values, as a document writes them.
+
+ghost use Rattle.std.specs.Prelude.{◌≡◌, ℕ, List, map, IsTrue, ◌↔◌};
+ghost use Rattle.graphql_items.specs.Memory.{Gives};
+ghost use Rattle.graphql_values.specs.InputValues.{unplaced, unplaced_pair};
+ghost use Rattle.graphql_values.specs.declared.input_value.InputValue.TheVariants as value;
+
+#[cfg(test)]
+mod tests;
+
+use crate::default_scalar::DefaultScalarValue;
+use graphql_text::{Items, Spanning, Text};
+use std::alloc::{AllocError, Global};
+
+/// A value that a document gives to an argument, a variable or an input field, before any type is
+/// known for it (GraphQL October 2021, 2.9 Input Values).
+#[derive(Debug, Drop)]
+pub enum InputValue<S = DefaultScalarValue> {
+    /// `null`
+    Null,
+
+    /// A number, a string or a boolean.
+    Scalar(S),
+
+    /// An enum value, by its name.
+    Enum(Text),
+
+    /// A variable, by its name without the `$`.
+    Variable(Text),
+
+    /// A list of values, in order.
+    List(Items<Spanning<InputValue<S>>>),
+
+    /// An input object: its fields' names and values, in order.
+    Object(Items<(Spanning<Text>, Spanning<InputValue<S>>)>),
+}
+
+impl<S> InputValue<S> {
+    /// The value `null`.
+    pub fn null() -> InputValue<S>
+        ensures { result ≡ value.Null }
+    {
+        InputValue::Null
+    }
+
+    /// The value of the scalar that `scalar` converts to, or is.
+    pub fn scalar<T: Into<S>>(scalar: T) -> InputValue<S>
+        ensures { (s : S) × T.converts scalar s × (result ≡ value.Scalar s) }
+    {
+        InputValue::Scalar(scalar.into())
+    }
+
+    /// The enum value of this name. An error is want of memory.
+    pub fn enum_value(alloc: Global, name: &str) -> Result<InputValue<S>, AllocError>
+        ensures { Gives result (value.Enum name.now) }
+    {
+        Ok(InputValue::Enum(Text::from_str(alloc, name)?))
+    }
+
+    /// The variable of this name, which is given without its `$`. An error is want of memory.
+    pub fn variable(alloc: Global, name: &str) -> Result<InputValue<S>, AllocError>
+        ensures { Gives result (value.Variable name.now) }
+    {
+        Ok(InputValue::Variable(Text::from_str(alloc, name)?))
+    }
+
+    /// The list of these values, which stand in no text. An error is want of memory.
+    pub fn list(alloc: Global, values: Vec<InputValue<S>>) -> Result<InputValue<S>, AllocError>
+    where
+        S: Drop,
+        ensures { Gives result (value.List (map unplaced values.items)) }
+    {
+        let mut items = Items::with_capacity(alloc, values.len())?;
+        for item in values {
+            items.push(Spanning::unlocated(item))?;
+        }
+        Ok(InputValue::List(items))
+    }
+
+    /// The list of these values, at their places. Takes no memory.
+    pub fn parsed_list(items: Items<Spanning<InputValue<S>>>) -> InputValue<S>
+        ensures { result ≡ value.List items }
+    {
+        InputValue::List(items)
+    }
+
+    /// The input object of these fields, in order, whose names and values stand in no text. An error
+    /// is want of memory.
+    pub fn object(
+        alloc: Global,
+        fields: Vec<(Text, InputValue<S>)>,
+    ) -> Result<InputValue<S>, AllocError>
+    where
+        S: Drop,
+        ensures { Gives result (value.Object (map unplaced_pair fields.items)) }
+    {
+        let mut pairs = Items::with_capacity(alloc, fields.len())?;
+        for field in fields {
+            let (name, item) = field;
+            pairs.push((Spanning::unlocated(name), Spanning::unlocated(item)))?;
+        }
+        Ok(InputValue::Object(pairs))
+    }
+
+    /// The input object of these fields, in order, at their places. Takes no memory.
+    pub fn parsed_object(pairs: Items<(Spanning<Text>, Spanning<InputValue<S>>)>) -> InputValue<S>
+        ensures { result ≡ value.Object pairs }
+    {
+        InputValue::Object(pairs)
+    }
+
+    /// Whether this is a variable. A list or an object that holds one is none itself.
+    pub fn is_variable(&self) -> bool
+        ensures { IsTrue result ↔ ((name : List ℕ) × (self.now ≡ value.Variable name)) }
+    {
+        match self {
+            InputValue::Variable(_) => true,
+            _ => false,
+        }
+    }
+}
