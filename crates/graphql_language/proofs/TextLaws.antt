@@ -1,0 +1,144 @@
+-- What a text is, by what is read of its tokens.
+use Rattle.std.proofs.Common.{◌≡◌, ◌≢◌, IfOk, IfErr, ◌⊎◌, ℕ, suc, ◌<◌, inl, inr, Bool, true, false, List, [], ◌∷◌, ◌++◌, length, Result, Ok, Err, ap, ◌∙◌, sym, refl, subst, append_assoc, arith}
+use Rattle.std.proofs.lemmas.List.{append-nil, same_from_push}
+use Rattle.graphql_text.specs.declared.position.Span.{Span}
+use Rattle.graphql_text.specs.declared.token.Token.{Token}
+use Rattle.graphql_text.specs.declared.token.Token.TheVariants as t
+use Rattle.graphql_text.specs.declared.token.ScalarToken.{ScalarToken}
+use Rattle.graphql_text.specs.declared.parse_error.ParseError.{ParseError}
+use Rattle.graphql_text.specs.declared.parse_error.ParseError.TheVariants.{Memory}
+use Rattle.graphql_text.specs.Position.{origin}
+use Rattle.graphql_text.specs.Tokens.{is_end}
+use Rattle.graphql_text.specs.Grammar.{IsDivided, IsBroken}
+use Rattle.graphql_text.specs.Reading.{Refusal}
+use Rattle.graphql_text.specs.Refusals.{parse_error_of}
+use Rattle.graphql_grammar.specs.declared.kind.Kind.{Kind}
+use Rattle.graphql_grammar.specs.declared.kind.Kind.TheVariants as k
+use Rattle.graphql_grammar.specs.Kinds.{kind, only, names}
+use Rattle.graphql_grammar.specs.Input.{Input, Located, Fault, Parser, Outcome, Reads, ◌>>=◌}
+use Rattle.graphql_grammar.specs.Steps.{finished, all}
+use Rattle.graphql_grammar.specs.Ahead.{mk, kind_ahead}
+use Rattle.graphql_grammar.specs.Faults.{Begins, FirstFault, Spelled}
+use Rattle.graphql_grammar.specs.Cursor.{NoEnd, IsStart, IsLexical}
+use Rattle.graphql_text.proofs.GrammarLaws as lexical
+use Rattle.graphql_grammar.proofs.Cursors.{starts}
+use Rattle.graphql_grammar.proofs.Stops.{ran_before}
+use Rattle.graphql_grammar.proofs.Choices.{word_is_name}
+use Rattle.graphql_grammar.proofs.Ends.{finished_end}
+use Rattle.graphql_grammar.proofs.FirstFaults.{spelled, first_fault, one_tree}
+use Rattle.graphql_language.specs.declared.tree.document.Definition.{Definition}
+use Rattle.graphql_language.specs.ReadDocuments.{definition_kinds, definition, document}
+use Rattle.graphql_language.specs.Documents.{DocumentOf}
+use Rattle.graphql_language.specs.Texts.{IsCut, IsDocument, IsUngrammatical, IsRefused, OnlyDocument, OneDocument, DocumentOrRefused, NotBoth}
+use Rattle.graphql_language.proofs.DocumentLaws.{law_document}
+
+end_name : (w : Kind) → names w ≡ true → only k.EndOfFile w ≡ true → ⊥
+end_name k.EndOfFile h is = cc
+end_name w h is = cc
+
+-- a token of the kind of the end is the end
+end_token : (x : Token) → only k.EndOfFile (kind x) ≡ true → is_end x ≡ true
+end_token t.EndOfFile h = refl
+end_token (t.Name n) h = absurd (end_name (kind (t.Name n)) (word_is_name n) h)
+end_token (t.Scalar s) h = cc
+end_token t.ExclamationMark h = cc
+end_token t.Dollar h = cc
+end_token t.ParenOpen h = cc
+end_token t.ParenClose h = cc
+end_token t.BracketOpen h = cc
+end_token t.BracketClose h = cc
+end_token t.CurlyOpen h = cc
+end_token t.CurlyClose h = cc
+end_token t.Ellipsis h = cc
+end_token t.Colon h = cc
+end_token t.Equals h = cc
+end_token t.At h = cc
+end_token t.Pipe h = cc
+
+no_end_behind : (ts us : List Located) → NoEnd (ts ++ us) → NoEnd us
+no_end_behind [] us h = h
+no_end_behind (a ∷ ts) us h = no_end_behind ts us h.1
+
+nothing_left : (us : List Located) → NoEnd us → only k.EndOfFile (kind_ahead us) ≡ true → us ≡ []
+nothing_left [] h is = refl
+nothing_left (a ∷ us) h is = absurd (let q = sym h.0 ∙ end_token a.item is in cc)
+
+-- the tokens before the last
+same_front : (ts us : List Located) (a b : Located) → ts ++ a ∷ [] ≡ us ++ b ∷ [] → ts ≡ us
+same_front ts us a b h = (same_from_push ts us a b h).0
+
+-- no tree is spelled by tokens of which one is the first faulty one
+module _ {S A : Type 0} (reads : ScalarToken → Result S ParseError) (Tree : List Located → A → Type 0) where
+  fits_by : (before rest : List Located) (x : A) → ((a : Located) (more : List Located) → rest ≡ a ∷ more → Begins reads Tree (before ++ a ∷ []) → ⊥) → (rest ≡ [] → (y : A) → Tree before y → ⊥) → Tree (before ++ rest) x → ⊥
+  fits_by before [] x no_more too_short d = too_short refl x (subst (λ us. Tree us x) (append-nil before) d)
+  fits_by before (a ∷ more) x no_more too_short d = no_more a more refl (record { more = more; tree = x; spells = subst (λ us. Tree us x) (sym (append_assoc before (a ∷ []) more)) d })
+
+  fits : (ts : List Located) (finish : Span) (x : A) (e : Fault) → FirstFault reads Tree (mk ts finish origin) e → Tree ts x → ⊥
+  fits ts finish x e f d = fits_by f.before f.rest x f.impossible f.too_short (subst (λ us. Tree us x) f.front d)
+
+module _ {S : Type 0} (reads : ScalarToken → Result S ParseError) (of_bool : Bool → S) where
+  abbrev Doc : List Located → List (Definition S) → Type 0
+  Doc = DocumentOf S reads of_bool
+
+  ends_there : (i j : Input) (tree : List (Definition S)) → document reads of_bool i ≡ Ok (tree, j) → only k.EndOfFile (kind_ahead j.ahead) ≡ true
+  unfolding document
+  ends_there i j tree r =
+      let u = ran_before (definition reads of_bool i) (λ x. all definition_kinds (definition reads of_bool) (x ∷ []) >>= (λ xs. finished xs)) (tree, j) r in
+      let w = ran_before (all definition_kinds (definition reads of_bool) (u.0.0 ∷ []) u.0.1) (λ xs. finished xs) (tree, j) u.2 in
+      finished_end w.0.0 w.0.1 j tree w.2
+
+  -- what is read of a text is its document
+  pub read_document : (text : List ℕ) (i j : Input) (tree : List (Definition S)) → IsStart text i → document reads of_bool i ≡ Ok (tree, j) → IsDocument S reads of_bool text tree
+  read_document text i j tree start r =
+      let s = spelled reads Doc (document reads of_bool) (law_document reads of_bool) refl i tree j r in
+      let none = nothing_left j.ahead (no_end_behind s.tokens j.ahead (subst (λ us. NoEnd us) s.front start.no_end)) (ends_there i j tree r) in
+      let whole : i.ahead ≡ s.tokens = s.front ∙ ap (λ us. s.tokens ++ us) none ∙ append-nil s.tokens in
+      record { tokens = i.ahead; finish = i.finish; cut = start.divided; spells = subst (λ us. Doc us tree) (sym whole) s.spells }
+
+  start_is : (text : List ℕ) (i : Input) → IsStart text i → i ≡ mk i.ahead i.finish origin
+  start_is text i start = ap (λ e. mk i.ahead i.finish e) start.end
+
+  -- where none is read, its first fault
+  pub read_fault : (text : List ℕ) (i : Input) (e : Fault) → IsStart text i → document reads of_bool i ≡ Err e → IsRefused S reads of_bool text e
+  read_fault text i e start r = inr (record {
+    tokens = i.ahead;
+    finish = i.finish;
+    cut = start.divided;
+    first = subst (λ (s : Input). FirstFault reads Doc s e) (start_is text i start) (first_fault reads Doc (document reads of_bool) (law_document reads of_bool) refl i e r);
+  })
+
+  -- ---- laws
+
+  pub one_document : OneDocument S reads of_bool
+  one_document text tree other a b =
+      let same = lexical.one_list text _ _ a.cut b.cut in
+      one_tree reads Doc (document reads of_bool) (law_document reads of_bool) refl a.tokens tree other a.spells (subst (λ us. Doc us other) (sym (same_front a.tokens b.tokens _ _ same)) b.spells)
+
+  pub not_both : NotBoth S reads of_bool
+  not_both text tree fault d (inl r) = lexical.not_both text _ r.0 d.cut r.1
+  not_both text tree fault d (inr r) = let same = lexical.one_list text _ _ r.cut d.cut in
+      fits reads Doc r.tokens r.finish tree fault r.first (subst (λ us. Doc us tree) (sym (same_front r.tokens d.tokens _ _ same)) d.spells)
+
+  of_start : (text : List ℕ) (i : Input) → IsStart text i → (o : Outcome (List (Definition S))) → document reads of_bool i ≡ o → ((tree : List (Definition S)) × IsDocument S reads of_bool text tree) ⊎ ((fault : Fault) × IsRefused S reads of_bool text fault)
+  of_start text i start (Ok p) r = inl (p.0, read_document text i p.1 p.0 start r)
+  of_start text i start (Err e) r = inr (e, read_fault text i e start r)
+
+  pub document_or_refused : DocumentOrRefused S reads of_bool
+  document_or_refused text = elim (lexical.either_way text) [
+    | inl d ↦ let i : Input = record { ahead = d.1.front; finish = d.1.last.span; end = origin } in of_start text i (starts text d.0 d.1.front d.1.last d.1 d.1.is) (document reads of_bool i) refl
+    | inr b ↦ inr (record { item = parse_error_of b.0.item; span = b.0.span }, inl (b.0, b.1, refl))
+  ]
+
+  -- ---- what a call that reads a text answers
+
+  pub told_document : (text : List ℕ) (i j : Input) (r : Result (List (Definition S)) Fault) → IsStart text i → Reads (document reads of_bool i) r j → IfOk r (λ tree. IsDocument S reads of_bool text tree)
+  told_document text i j (Ok tree) start read = read_document text i j tree start read
+  told_document text i j (Err e) start read = tt
+
+  pub told_only : (text : List ℕ) (i j : Input) (r : Result (List (Definition S)) Fault) → IsStart text i → Reads (document reads of_bool i) r j → IfOk r (λ tree. OnlyDocument S reads of_bool text tree)
+  told_only text i j (Ok tree) start read = λ other d. one_document text other tree d (read_document text i j tree start read)
+  told_only text i j (Err e) start read = tt
+
+  pub told_fault : (text : List ℕ) (i j : Input) (r : Result (List (Definition S)) Fault) → IsStart text i → Reads (document reads of_bool i) r j → IfErr r (λ e. e.item ≢ Memory → IsRefused S reads of_bool text e)
+  told_fault text i j (Ok tree) start read = tt
+  told_fault text i j (Err e) start read = λ told. read_fault text i e start (read told)

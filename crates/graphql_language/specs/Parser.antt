@@ -1,0 +1,83 @@
+-- A parser that users call: what is left of its text, and the refusal that it has given.
+use Rattle.std.specs.Prelude.{◌≡◌, ◌≢◌, Option, Some, None, Result, Ok, Err, MatchOption}
+use Rattle.graphql_text.specs.declared.token.Token.{Token}
+use Rattle.graphql_text.specs.declared.token.Token.TheVariants.{EndOfFile}
+use Rattle.graphql_text.specs.declared.parse_error.ParseError.TheVariants.{Memory}
+use Rattle.graphql_grammar.specs.Input as input
+use Rattle.graphql_grammar.specs.Input.{Input, Located, Fault, Outcome, IsFault, peek, next, refusal}
+
+pub record State : Type 0 where
+  pub input : Input
+  -- a parser that has refused has failed
+  pub refused : Option Fault
+
+-- ---- rules: what may be read at an input, with what is left then, or the fault
+
+abbrev pub Rule : Type 0 → Type 1
+Rule A = Input → Outcome A → Type 0
+
+-- what a parser of the grammar reads
+abbrev pub By : {A : Type 0} → input.Parser A → Rule A
+By p i o = p i ≡ o
+
+-- the next token, which the text has
+abbrev pub NextToken : Rule Located
+NextToken i (Ok p) = ((peek i).item ≢ EndOfFile) × (p ≡ (peek i, next i))
+NextToken i (Err e) = ((peek i).item ≡ EndOfFile) × (e ≡ refusal i)
+
+-- the next token, which is this one
+abbrev pub ThisToken : Token → Rule Located
+ThisToken wanted i (Ok p) = ((peek i).item ≡ wanted) × (p ≡ (peek i, next i))
+ThisToken wanted i (Err e) = ((peek i).item ≢ wanted) × (e ≡ refusal i)
+
+-- the next token, which is this one, and not the end of the text
+abbrev pub OpeningToken : Token → Rule Located
+OpeningToken wanted i (Ok p) = ((peek i).item ≡ wanted) × ((peek i).item ≢ EndOfFile) × (p ≡ (peek i, next i))
+OpeningToken wanted i (Err e) = ((peek i).item ≡ wanted → (peek i).item ≡ EndOfFile) × (e ≡ refusal i)
+
+-- the next token if it is this one, and else nothing, which the end of the text does not allow
+abbrev pub MaybeToken : Token → Rule (Option Located)
+MaybeToken wanted i (Ok (Some token, j)) = ((peek i).item ≡ wanted) × (token ≡ peek i) × (j ≡ next i)
+MaybeToken wanted i (Ok (None, j)) = ((peek i).item ≢ wanted) × ((peek i).item ≢ EndOfFile) × (j ≡ i)
+MaybeToken wanted i (Err e) = ((peek i).item ≢ wanted) × ((peek i).item ≡ EndOfFile) × (e ≡ refusal i)
+
+-- ---- what calls ensure, want of memory aside
+
+-- the fault that was given, once more
+abbrev pub Again : {A : Type 0} → Fault → Result A Fault → Type 0
+Again e (Ok x) = ⊥
+Again e (Err f) = IsFault e f
+
+-- it refuses by a fault, which the parser keeps, and stands at the token that the fault is about
+pub record Fails {A : Type 0} (rule : Rule A) (i : Input) (f : Fault) (new : State) : Type 0 where
+  pub fault : Fault
+  pub kept : new.refused ≡ Some fault
+  pub told : IsFault fault f
+  pub refuses : fault.item ≢ Memory → rule i (Err fault)
+  pub stands : fault.item ≢ Memory → (peek new.input).span ≡ fault.span
+
+-- of a parser that has not failed
+abbrev pub Gives : {A : Type 0} → Rule A → Input → Result A Fault → State → Type 0
+Gives rule i (Ok x) new = rule i (Ok (x, new.input)) × (new.refused ≡ None)
+Gives rule i (Err f) new = Fails rule i f new
+
+-- a parser that has failed answers its refusal again, and stays
+abbrev pub Calls : {A : Type 0} → Rule A → State → Result A Fault → State → Type 0
+Calls rule old result new = MatchOption old.refused (Gives rule old.input result new) (λ e. Again e result × (new ≡ old))
+
+-- ---- the parts of a call
+
+-- nothing where nothing was refused, else that refusal
+abbrev pub Ready : State → Result (Unit {0}) Fault → Type 0
+Ready s (Ok u) = s.refused ≡ None
+Ready s (Err f) = (e : Fault) × (s.refused ≡ Some e) × IsFault e f
+
+-- what was read of an input; a refusal is about the token that stands next
+abbrev pub Meets : {A : Type 0} → Rule A → Input → Result A Fault → Input → Type 0
+Meets rule i (Ok x) j = rule i (Ok (x, j))
+Meets rule i (Err e) j = e.item ≢ Memory → rule i (Err e) × ((peek j).span ≡ e.span)
+
+-- the same answer; of a fault the parser keeps that it has failed by it
+abbrev pub Keeps : {A : Type 0} → Result A Fault → State → Result A Fault → State → Type 0
+Keeps (Ok x) old result new = (result ≡ Ok x) × (new ≡ old)
+Keeps (Err e) old result new = Again e result × (new ≡ record { input = old.input; refused = Some e })

@@ -1,0 +1,69 @@
+-- How documents are read (GraphQL October 2021, 2.2 Document, 2.3 Operations, 2.8 Fragments).
+use Rattle.std.specs.Prelude.{ℕ, Bool, true, false, List, [], ◌∷◌, Option, None, Result}
+use Rattle.graphql_text.specs.declared.token.Token.{Token}
+use Rattle.graphql_text.specs.declared.token.ScalarToken.{ScalarToken}
+use Rattle.graphql_text.specs.declared.parse_error.ParseError.{ParseError}
+use Rattle.graphql_language.specs.declared.tree.document.OperationType.{OperationType}
+use Rattle.graphql_language.specs.declared.tree.document.OperationType.TheVariants as o
+use Rattle.graphql_language.specs.declared.tree.document.Operation.{Operation}
+use Rattle.graphql_language.specs.declared.tree.document.Fragment as fragments
+use Rattle.graphql_language.specs.declared.tree.document.Definition.{Definition}
+use Rattle.graphql_language.specs.declared.tree.document.Definition.TheVariants as d
+use Rattle.graphql_language.specs.declared.tree.selection.Selection.{Selection}
+use Rattle.graphql_grammar.specs.declared.kind.Kind.{Kind}
+use Rattle.graphql_grammar.specs.declared.kind.Kind.TheVariants as k
+use Rattle.graphql_grammar.specs.Kinds.{Kinds, kind, only, names, fragment_names}
+use Rattle.graphql_grammar.specs.Input.{At, Parser, ◌>>=◌, pure}
+use Rattle.graphql_grammar.specs.Steps.{when, token, expect, name, name_in, located, optional, all, finished}
+use Rattle.graphql_language.specs.ReadDirectives.{directives, variable_definitions}
+use Rattle.graphql_language.specs.ReadSelections.{selection, selection_set, type_condition}
+
+-- the words that begin an operation
+abbrev pub operation_words : Kinds
+operation_words k.Query = true
+operation_words k.Mutation = true
+operation_words k.Subscription = true
+operation_words w = false
+
+abbrev pub type_by : Kind → OperationType
+type_by k.Mutation = o.Mutation
+type_by k.Subscription = o.Subscription
+type_by w = o.Query
+
+abbrev pub operation_type_of : Token → OperationType
+operation_type_of x = type_by (kind x)
+
+-- what a definition begins with
+abbrev pub definition_kinds : Kinds
+definition_kinds k.CurlyOpen = true
+definition_kinds k.Query = true
+definition_kinds k.Mutation = true
+definition_kinds k.Subscription = true
+definition_kinds k.Fragment = true
+definition_kinds w = false
+
+-- a selection set alone is a query without name
+abbrev pub query_of : {S : Type 0} → List (Selection S) → Operation S
+query_of ss = record { operation_type = o.Query; name = None; variable_definitions = None; directives = None; selection_set = ss }
+
+module _ {S : Type 0} (reads : ScalarToken → Result S ParseError) (of_bool : Bool → S) where
+  abbrev pub set : Parser (List (Selection S))
+  set = selection_set reads of_bool (selection reads of_bool)
+
+  unfoldable pub full_operation : Parser (Operation S)
+  full_operation = token operation_words operation_type_of >>= (λ t. optional names (located name) >>= (λ n. optional (only k.ParenOpen) (variable_definitions reads of_bool) >>= (λ vs. directives reads of_bool false >>= (λ ds. set >>= (λ ss.
+      pure (record { operation_type = t; name = n; variable_definitions = vs; directives = ds; selection_set = ss }))))))
+
+  unfoldable pub operation : Parser (At (Operation S))
+  operation = located (when (only k.CurlyOpen) (set >>= (λ ss. pure (query_of ss))) full_operation)
+
+  unfoldable pub fragment : Parser (At (fragments.Fragment S))
+  fragment = located (expect k.Fragment >>= (λ u. located (name_in fragment_names) >>= (λ n. type_condition >>= (λ c. directives reads of_bool false >>= (λ ds. set >>= (λ ss.
+      pure (record { name = n; type_condition = c; directives = ds; selection_set = ss })))))))
+
+  unfoldable pub definition : Parser (Definition S)
+  definition = when (only k.Fragment) (fragment >>= (λ x. pure (d.Fragment x))) (operation >>= (λ x. pure (d.Operation x)))
+
+  -- one definition at least, and then the end of the text
+  unfoldable pub document : Parser (List (Definition S))
+  document = definition >>= (λ x. all definition_kinds definition (x ∷ []) >>= (λ xs. finished xs))

@@ -1,0 +1,93 @@
+-- How a selection begins: all of it, or what stands before its selection set (GraphQL October 2021, 2.4 Selection Sets, 2.5 Fields, 2.8 Fragments).
+use Rattle.std.specs.Prelude.{◌≡◌, ◌≢◌, Bool, false, List, [], ◌∷◌, ◌++◌, Option, Some, None, Result, Ok, Err}
+use Rattle.std.specs.Global.{Box}
+use Rattle.graphql_text.specs.declared.position.SourcePosition.{SourcePosition}
+use Rattle.graphql_text.specs.declared.token.ScalarToken.{ScalarToken}
+use Rattle.graphql_text.specs.declared.parse_error.ParseError.{ParseError}
+use Rattle.graphql_text.specs.declared.parse_error.ParseError.TheVariants.{Memory}
+use Rattle.graphql_language.specs.declared.tree.directive.Arguments.{Arguments}
+use Rattle.graphql_language.specs.declared.tree.directive.Directive.{Directive}
+use Rattle.graphql_language.specs.declared.tree.selection.FragmentSpread.{FragmentSpread}
+use Rattle.graphql_language.specs.declared.tree.selection.Selection.{Selection}
+use Rattle.graphql_language.specs.declared.tree.selection.Selection.TheVariants as s
+use Rattle.graphql_language.specs.declared.parse.selection.FieldHead.{FieldHead}
+use Rattle.graphql_language.specs.declared.parse.selection.InlineHead.{InlineHead}
+use Rattle.graphql_language.specs.declared.parse.selection.Head.{Head}
+use Rattle.graphql_language.specs.declared.parse.selection.Head.TheVariants as h
+use Rattle.graphql_grammar.specs.declared.kind.Kind.TheVariants as k
+use Rattle.graphql_grammar.specs.Kinds.{only, fragment_names}
+use Rattle.graphql_grammar.specs.Input.{At, Input, Fault, Outcome, Parser, ◌>>=◌, pure, peek}
+use Rattle.graphql_grammar.specs.Steps.{when, expect, name_in, located, optional}
+use Rattle.graphql_language.specs.ReadDirectives.{arguments, directives}
+use Rattle.graphql_language.specs.ReadSelections.{Names, field_names, type_condition, made_field, selection_set}
+
+-- a selection with no selection set, or what stands before one
+pub data Begun (S : Type 0) : Type 0 where
+  whole : Selection S → Begun S
+  opens : Head S → Begun S
+
+module _ {S : Type 0} where
+  abbrev pub head_of : SourcePosition → Names → Option (At (Arguments S)) → Option (List (At (Directive S))) → FieldHead S
+  head_of p ns args ds = record { start = p; alias = ns.0; name = ns.1; arguments = args; directives = ds }
+
+  -- a field that ends there
+  abbrev pub field_with : FieldHead S → Option (List (Selection S)) → SourcePosition → Selection S
+  field_with x ss e = s.Field (record { item = made_field (x.alias, x.name) x.arguments x.directives ss; span = record { start = x.start; end = e } })
+
+  abbrev pub inline_with : InlineHead S → List (Selection S) → SourcePosition → Selection S
+  inline_with x ss e = s.InlineFragment (record { item = record { type_condition = x.type_condition; directives = x.directives; selection_set = ss }; span = record { start = x.start; end = e } })
+
+  abbrev pub spread_of : FragmentSpread S → SourcePosition → SourcePosition → Selection S
+  spread_of x p e = s.FragmentSpread (record { item = x; span = record { start = p; end = e } })
+
+  -- the selection that begins so, with this selection set, which ends there
+  abbrev pub completed : Head S → List (Selection S) → SourcePosition → Selection S
+  completed (h.Field x) ss e = field_with x (Some ss) e
+  completed (h.InlineFragment x) ss e = inline_with x ss e
+
+  abbrev pub ending : (SourcePosition → Selection S) → Parser (Selection S)
+  ending make = λ i. Ok (make i.end, i)
+
+  abbrev pub whole_ending : (SourcePosition → Selection S) → Parser (Begun S)
+  whole_ending make = λ i. Ok (whole (make i.end), i)
+
+module _ {S : Type 0} (reads : ScalarToken → Result S ParseError) (of_bool : Bool → S) where
+  unfoldable pub field_parts : SourcePosition → Parser (FieldHead S)
+  field_parts p = field_names >>= (λ ns. optional (only k.ParenOpen) (arguments reads of_bool false) >>= (λ args. directives reads of_bool false >>= (λ ds. pure (head_of p ns args ds))))
+
+  unfoldable pub field_head : Parser (FieldHead S)
+  field_head = λ i. field_parts (peek i).span.start i
+
+  unfoldable pub spread_parts : Parser (FragmentSpread S)
+  spread_parts = located (name_in fragment_names) >>= (λ n. directives reads of_bool false >>= (λ ds. pure (record { name = n; directives = ds })))
+
+  unfoldable pub inline_head : SourcePosition → Parser (InlineHead S)
+  inline_head p = optional (only k.On) type_condition >>= (λ c. directives reads of_bool false >>= (λ ds. pure (record { start = p; type_condition = c; directives = ds })))
+
+  -- what stands behind three points, which stand there
+  unfoldable pub spread_begun : SourcePosition → Parser (Begun S)
+  spread_begun p = expect k.Ellipsis >>= (λ u. when fragment_names (spread_parts >>= (λ x. whole_ending (spread_of x p))) (inline_head p >>= (λ x. pure (opens (h.InlineFragment x)))))
+
+  unfoldable pub field_begun : Parser (Begun S)
+  field_begun = field_head >>= (λ x. when (only k.CurlyOpen) (pure (opens (h.Field x))) (whole_ending (field_with x None)))
+
+  unfoldable pub begun : Parser (Begun S)
+  begun = when (only k.Ellipsis) (λ i. spread_begun (peek i).span.start i) field_begun
+
+  -- the rest of a selection
+  abbrev pub rest_of : Parser (Selection S) → Begun S → Parser (Selection S)
+  rest_of inner (whole x) = pure x
+  rest_of inner (opens x) = selection_set reads of_bool inner >>= (λ ss. ending (completed x ss))
+
+-- ---- what functions that add to a list ensure
+
+-- the item that was read stands at the end of the list, want of memory aside
+abbrev pub Adds : {A : Type 0} → Outcome A → Result (Unit {0}) Fault → List A → List A → Input → Type 0
+Adds {A} outcome (Ok u) old new i = (x : A) × (outcome ≡ Ok (x, i)) × (new ≡ old ++ x ∷ [])
+Adds outcome (Err e) old new i = e.item ≢ Memory → outcome ≡ Err e
+
+-- a whole selection stands at the end of the list; what stands before a selection set is handed out
+abbrev pub Begins : {S : Type 0} → Outcome (Begun S) → Result (Option (Box (Head S))) Fault → List (Selection S) → List (Selection S) → Input → Type 0
+Begins outcome (Ok (Some x)) old new i = (outcome ≡ Ok (opens x.value, i)) × (new ≡ old)
+Begins {S} outcome (Ok None) old new i = (x : Selection S) × (outcome ≡ Ok (whole x, i)) × (new ≡ old ++ x ∷ [])
+Begins outcome (Err e) old new i = e.item ≢ Memory → outcome ≡ Err e

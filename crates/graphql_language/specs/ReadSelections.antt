@@ -1,0 +1,71 @@
+-- How selections are read (GraphQL October 2021, 2.4 Selection Sets, 2.5 Fields, 2.8 Fragments).
+use Rattle.std.specs.Prelude.{ℕ, zero, suc, Bool, false, List, [], ◌∷◌, Option, Some, None, Result}
+use Rattle.graphql_text.specs.declared.token.ScalarToken.{ScalarToken}
+use Rattle.graphql_text.specs.declared.parse_error.ParseError.{ParseError}
+use Rattle.graphql_language.specs.declared.tree.directive.Arguments.{Arguments}
+use Rattle.graphql_language.specs.declared.tree.directive.Directive.{Directive}
+use Rattle.graphql_language.specs.declared.tree.selection.Field.{Field}
+use Rattle.graphql_language.specs.declared.tree.selection.FragmentSpread.{FragmentSpread}
+use Rattle.graphql_language.specs.declared.tree.selection.InlineFragment.{InlineFragment}
+use Rattle.graphql_language.specs.declared.tree.selection.Selection.{Selection}
+use Rattle.graphql_language.specs.declared.tree.selection.Selection.TheVariants as s
+use Rattle.graphql_grammar.specs.declared.kind.Kind.TheVariants as k
+use Rattle.graphql_grammar.specs.Kinds.{only, fragment_names}
+use Rattle.graphql_grammar.specs.Input.{At, Parser, ◌>>=◌, pure, refuse, left}
+use Rattle.graphql_grammar.specs.Steps.{when, expect, name, name_in, located, optional, some_between}
+use Rattle.graphql_language.specs.ReadDirectives.{arguments, directives}
+
+-- an alias and a name, or a name alone
+abbrev pub Names : Type 0
+Names = Option (At (List ℕ)) × At (List ℕ)
+
+unfoldable pub field_names : Parser Names
+field_names = located name >>= (λ a. when (only k.Colon) (expect k.Colon >>= (λ u. located name >>= (λ b. pure (Some a, b)))) (pure (None, a)))
+
+-- the type to which a fragment applies
+unfoldable pub type_condition : Parser (At (List ℕ))
+type_condition = expect k.On >>= (λ u. located name)
+
+-- what stands behind three points: the spread of a fragment, or an inline fragment
+pub data Spread (S : Type 0) : Type 0 where
+  spreads : FragmentSpread S → Spread S
+  inlines : InlineFragment S → Spread S
+
+module _ {S : Type 0} where
+  abbrev pub made_spread : Spread S → At (Spread S) → Selection S
+  made_spread (spreads x) at = s.FragmentSpread (record { item = x; span = at.span })
+  made_spread (inlines x) at = s.InlineFragment (record { item = x; span = at.span })
+
+  abbrev pub selection_of : At (Spread S) → Selection S
+  selection_of at = made_spread at.item at
+
+  abbrev pub made_field : Names → Option (At (Arguments S)) → Option (List (At (Directive S))) → Option (List (Selection S)) → Field S
+  made_field ns args ds ss = record { alias = ns.0; name = ns.1; arguments = args; directives = ds; selection_set = ss }
+
+module _ {S : Type 0} (reads : ScalarToken → Result S ParseError) (of_bool : Bool → S) where
+  unfoldable pub fragment_spread : Parser (Spread S)
+  fragment_spread = located (name_in fragment_names) >>= (λ n. directives reads of_bool false >>= (λ ds. pure (spreads (record { name = n; directives = ds }))))
+
+  module _ (inner : Parser (Selection S)) where
+    unfoldable pub selection_set : Parser (List (Selection S))
+    selection_set = some_between k.CurlyOpen k.CurlyClose inner
+
+    unfoldable pub inline_fragment : Parser (Spread S)
+    inline_fragment = optional (only k.On) type_condition >>= (λ c. directives reads of_bool false >>= (λ ds. selection_set >>= (λ ss. pure (inlines (record { type_condition = c; directives = ds; selection_set = ss })))))
+
+    unfoldable pub spread : Parser (At (Spread S))
+    spread = located (expect k.Ellipsis >>= (λ u. when fragment_names fragment_spread inline_fragment))
+
+    unfoldable pub field : Parser (Field S)
+    field = field_names >>= (λ ns. optional (only k.ParenOpen) (arguments reads of_bool false) >>= (λ args. directives reads of_bool false >>= (λ ds. optional (only k.CurlyOpen) selection_set >>= (λ ss. pure (made_field ns args ds ss)))))
+
+    unfoldable pub selection_layer : Parser (Selection S)
+    selection_layer = when (only k.Ellipsis) (spread >>= (λ x. pure (selection_of x))) (located field >>= (λ x. pure (s.Field x)))
+
+  unfoldable pub selection_from : ℕ → Parser (Selection S)
+  selection_from zero = refuse
+  selection_from (suc n) = selection_layer (selection_from n)
+
+  -- each level takes a token, so the count of those that are left is enough
+  unfoldable pub selection : Parser (Selection S)
+  selection = λ i. selection_from (suc (left i)) i

@@ -1,0 +1,20 @@
+//! The language layer of GraphQL: syntax trees and the parser of documents.
+//!
+//! [`parse_document_source`] gives the tree of a text, or the text's first fault. What a document is,
+//! production by production, is said by the relations in `specs/Documents.antt` and the files that it
+//! names, in the words of the standard's grammar.
+#![tactic(auto)]
+
+pub mod laws;
+mod parse;
+mod parser;
+mod source;
+mod tree;
+
+pub use parser::{Parser, parse_type, parse_value_literal};
+pub use source::parse_document_source;
+pub use tree::{
+    Arguments, Definition, Directive, Field, Fragment, FragmentSpread, InlineFragment, Operation,
+    OperationType, OwnedDocument, Selection, VariableDefinition, VariableDefinitions,
+    release_document,
+};

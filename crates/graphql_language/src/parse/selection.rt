@@ -1,0 +1,337 @@
+//! Selections (GraphQL October 2021, 2.4 Selection Sets, 2.5 Fields, 2.8 Fragments).
+//!
+//! Selection sets nest as deep as a text has tokens. So the two functions that call each other,
+//! `selection_set` and `selection`, keep little on the stack: what stands before a selection set
+//! is read by functions that return first, and is kept in a box.
+
+ghost use Rattle.std.specs.Prelude.{◌≡◌, ◌≤◌, ◌<◌, IfOk, IfErr, OnOk, OnErr, ◌++◌, ◌∷◌, []};
+ghost use Rattle.graphql_grammar.specs.declared.kind.Kind.TheVariants as k;
+ghost use Rattle.graphql_grammar.specs.Kinds.{only, fragment_names};
+ghost use Rattle.graphql_grammar.specs.Input.{Reads, left};
+ghost use Rattle.graphql_grammar.specs.Input as input;
+ghost use Rattle.graphql_grammar.specs.Steps as steps;
+ghost use Rattle.graphql_language.specs.ReadSelections as spec;
+ghost use Rattle.graphql_language.specs.ReadHeads as heads;
+ghost use Rattle.graphql_language.specs.ReadHeads.{Adds, Begins, completed};
+
+use crate::parse::directive::{arguments, directives, located_name};
+use crate::tree::{Arguments, Directive, Field, FragmentSpread, InlineFragment, Selection};
+use graphql_grammar::{Cursor, Fault, Kind, keep};
+use graphql_text::{Items, SourcePosition, Spanning, TextRef};
+use graphql_values::ScalarValue;
+use std::alloc::{AllocError, Global};
+
+/// What stands of a field before its selection set.
+#[derive(Drop)]
+struct FieldHead<'a, S> {
+    start: SourcePosition,
+    alias: Option<Spanning<TextRef<'a>>>,
+    name: Spanning<TextRef<'a>>,
+    arguments: Option<Spanning<Arguments<'a, S>>>,
+    directives: Option<Items<Spanning<Directive<'a, S>>>>,
+}
+
+/// What stands of an inline fragment before its selection set.
+#[derive(Drop)]
+struct InlineHead<'a, S> {
+    start: SourcePosition,
+    type_condition: Option<Spanning<TextRef<'a>>>,
+    directives: Option<Items<Spanning<Directive<'a, S>>>>,
+}
+
+/// What stands of a selection before its selection set, which must follow.
+#[derive(Drop)]
+enum Head<'a, S> {
+    Field(FieldHead<'a, S>),
+    InlineFragment(InlineHead<'a, S>),
+}
+
+/// Reads a selection set (2.4 Selection Sets).
+///
+/// An error is the fault of the first token that can't stand where it does, or what the scalar type
+/// says of a literal that it refuses, or `ParseError::Memory` where memory ran out.
+#[cycle(selection_sets)]
+pub(crate) fn selection_set<'a, S: ScalarValue>(
+    alloc: Global,
+    cursor: &mut Cursor<'a>,
+) -> Result<Items<Selection<'a, S>>, Fault>
+    ensures reads { Reads (spec.selection_set S.reads S.of_bool (spec.selection S.reads S.of_bool) cursor.old) result cursor.new }
+    ensures no_more { left cursor.new ≤ left cursor.old }
+    ensures fewer { OnOk result (left cursor.new < left cursor.old) }
+{
+    cursor.expect(alloc, Kind::CurlyOpen)?;
+    let mut found = Items::new(alloc);
+    selection(alloc, cursor, &mut found)?;
+    'items: for _turn in 0..cursor.left() {
+        if cursor.eat(Kind::CurlyClose) {
+            return Ok(found);
+        }
+        selection(alloc, cursor, &mut found)?;
+    }
+    Err(cursor.refuse(alloc))
+}
+
+/// Reads a selection, and adds it to those that were found.
+#[cycle(selection_sets)]
+fn selection<'a, S: ScalarValue>(
+    alloc: Global,
+    cursor: &mut Cursor<'a>,
+    found: &mut Items<Selection<'a, S>>,
+) -> Result<(), Fault>
+    ensures reads { Adds (spec.selection S.reads S.of_bool cursor.old) result found.old found.new cursor.new }
+    ensures no_more { left cursor.new ≤ left cursor.old }
+{
+    match begin(alloc, cursor, found)? {
+        Some(head) => {
+            let set = selection_set(alloc, cursor)?;
+            complete(found, head, set, cursor.end())?;
+            Ok(())
+        }
+        None => Ok(()),
+    }
+}
+
+/// Reads a selection as far as its selection set. One that has none is added to those that were
+/// found.
+#[inline(never)]
+fn begin<'a, S: ScalarValue>(
+    alloc: Global,
+    cursor: &mut Cursor<'a>,
+    found: &mut Items<Selection<'a, S>>,
+) -> Result<Option<Box<Head<'a, S>>>, Fault>
+    ensures reads { Begins (heads.begun S.reads S.of_bool cursor.old) result found.old found.new cursor.new }
+    ensures no_more { left cursor.new ≤ left cursor.old }
+{
+    if cursor.kind() == Kind::Ellipsis {
+        begin_spread(alloc, cursor, found)
+    } else {
+        begin_field(alloc, cursor, found)
+    }
+}
+
+/// Adds a selection to those that were found, of what stands before its selection set, and the
+/// set, which ends there.
+#[inline(never)]
+fn complete<'a, S: ScalarValue>(
+    found: &mut Items<Selection<'a, S>>,
+    head: Box<Head<'a, S>>,
+    set: Items<Selection<'a, S>>,
+    end: SourcePosition,
+) -> Result<(), AllocError>
+    ensures ok { OnOk result (found.new ≡ found.old ++ completed head.entry.value set.entry end ∷ []) }
+{
+    match Box::into_inner(head) {
+        Head::Field(head) => keep(found, field(head, Some(set), end)),
+        Head::InlineFragment(head) => keep(found, inline_fragment(head, set, end)),
+    }
+}
+
+fn field<'a, S>(
+    head: FieldHead<'a, S>,
+    set: Option<Items<Selection<'a, S>>>,
+    end: SourcePosition,
+) -> Selection<'a, S>
+    ensures { result ≡ heads.field_with head.entry set.entry end }
+{
+    let item = Field {
+        alias: head.alias,
+        name: head.name,
+        arguments: head.arguments,
+        directives: head.directives,
+        selection_set: set,
+    };
+    Selection::Field(Spanning::start_end(head.start, end, item))
+}
+
+fn inline_fragment<'a, S>(
+    head: InlineHead<'a, S>,
+    set: Items<Selection<'a, S>>,
+    end: SourcePosition,
+) -> Selection<'a, S>
+    ensures { result ≡ heads.inline_with head.entry set.entry end }
+{
+    let item = InlineFragment {
+        type_condition: head.type_condition,
+        directives: head.directives,
+        selection_set: set,
+    };
+    Selection::InlineFragment(Spanning::start_end(head.start, end, item))
+}
+
+fn boxed<'a, S: ScalarValue>(
+    alloc: Global,
+    head: Head<'a, S>,
+) -> Result<Box<Head<'a, S>>, AllocError>
+    ensures { IfOk result (λ x. x.value ≡ head.entry) }
+{
+    match Box::new(alloc, head) {
+        Ok(head) => Ok(head),
+        Err(refused) => Err(AllocError::from(refused)),
+    }
+}
+
+/// Reads a field as far as its selection set.
+fn begin_field<'a, S: ScalarValue>(
+    alloc: Global,
+    cursor: &mut Cursor<'a>,
+    found: &mut Items<Selection<'a, S>>,
+) -> Result<Option<Box<Head<'a, S>>>, Fault>
+    ensures reads { Begins (heads.field_begun S.reads S.of_bool cursor.old) result found.old found.new cursor.new }
+    ensures no_more { left cursor.new ≤ left cursor.old }
+{
+    let head = field_head(alloc, cursor)?;
+    if cursor.kind() == Kind::CurlyOpen {
+        Ok(Some(boxed(alloc, Head::Field(head))?))
+    } else {
+        keep(found, field(head, None, cursor.end()))?;
+        Ok(None)
+    }
+}
+
+/// Reads a fragment's spread, or an inline fragment as far as its selection set.
+fn begin_spread<'a, S: ScalarValue>(
+    alloc: Global,
+    cursor: &mut Cursor<'a>,
+    found: &mut Items<Selection<'a, S>>,
+) -> Result<Option<Box<Head<'a, S>>>, Fault>
+    ensures reads { Begins (heads.spread_begun S.reads S.of_bool (input.peek cursor.old).span.start cursor.old) result found.old found.new cursor.new }
+    ensures no_more { left cursor.new ≤ left cursor.old }
+{
+    let start = cursor.start();
+    cursor.expect(alloc, Kind::Ellipsis)?;
+    if is_fragment_name(cursor.kind()) {
+        let spread = fragment_spread(alloc, cursor)?;
+        let spread = Spanning::start_end(start, cursor.end(), spread);
+        keep(found, Selection::FragmentSpread(spread))?;
+        Ok(None)
+    } else {
+        let head = inline_head(alloc, cursor, start)?;
+        Ok(Some(boxed(alloc, Head::InlineFragment(head))?))
+    }
+}
+
+fn is_fragment_name(kind: Kind) -> bool
+    ensures { result ≡ fragment_names kind }
+{
+    matches!(
+        kind,
+        Kind::Name
+            | Kind::Query
+            | Kind::Mutation
+            | Kind::Subscription
+            | Kind::Fragment
+            | Kind::True
+            | Kind::False
+            | Kind::Null
+    )
+}
+
+/// Reads a field (2.5 Fields) as far as its selection set.
+fn field_head<'a, S: ScalarValue>(
+    alloc: Global,
+    cursor: &mut Cursor<'a>,
+) -> Result<FieldHead<'a, S>, Fault>
+    ensures reads { Reads (heads.field_head S.reads S.of_bool cursor.old) result cursor.new }
+    ensures no_more { left cursor.new ≤ left cursor.old }
+{
+    let start = cursor.start();
+    let (alias, name) = field_names(alloc, cursor)?;
+    let arguments = arguments(alloc, cursor, false)?;
+    let directives = directives(alloc, cursor, false)?;
+    Ok(FieldHead {
+        start,
+        alias,
+        name,
+        arguments,
+        directives,
+    })
+}
+
+/// Reads what stands behind the three points of a fragment's spread (2.8 Fragments).
+fn fragment_spread<'a, S: ScalarValue>(
+    alloc: Global,
+    cursor: &mut Cursor<'a>,
+) -> Result<FragmentSpread<'a, S>, Fault>
+    ensures reads { Reads (heads.spread_parts S.reads S.of_bool cursor.old) result cursor.new }
+    ensures no_more { left cursor.new ≤ left cursor.old }
+{
+    let name = fragment_name(alloc, cursor)?;
+    let directives = directives(alloc, cursor, false)?;
+    Ok(FragmentSpread { name, directives })
+}
+
+/// Reads an inline fragment (2.8.2 Inline Fragments) from behind its three points, where it
+/// starts, as far as its selection set.
+fn inline_head<'a, S: ScalarValue>(
+    alloc: Global,
+    cursor: &mut Cursor<'a>,
+    start: SourcePosition,
+) -> Result<InlineHead<'a, S>, Fault>
+    ensures reads { Reads (heads.inline_head S.reads S.of_bool start cursor.old) result cursor.new }
+    ensures no_more { left cursor.new ≤ left cursor.old }
+{
+    let type_condition = optional_type_condition(alloc, cursor)?;
+    let directives = directives(alloc, cursor, false)?;
+    Ok(InlineHead {
+        start,
+        type_condition,
+        directives,
+    })
+}
+
+fn optional_type_condition<'a>(
+    alloc: Global,
+    cursor: &mut Cursor<'a>,
+) -> Result<Option<Spanning<TextRef<'a>>>, Fault>
+    ensures reads { Reads (steps.optional (only k.On) spec.type_condition cursor.old) result cursor.new }
+    ensures no_more { left cursor.new ≤ left cursor.old }
+{
+    if cursor.kind() == Kind::On {
+        let name = type_condition(alloc, cursor)?;
+        Ok(Some(name))
+    } else {
+        Ok(None)
+    }
+}
+
+/// Reads the type to which a fragment applies (2.8.1 Type Conditions).
+pub(crate) fn type_condition<'a>(
+    alloc: Global,
+    cursor: &mut Cursor<'a>,
+) -> Result<Spanning<TextRef<'a>>, Fault>
+    ensures reads { Reads (spec.type_condition cursor.old) result cursor.new }
+    ensures no_more { left cursor.new ≤ left cursor.old }
+{
+    cursor.expect(alloc, Kind::On)?;
+    located_name(alloc, cursor)
+}
+
+/// Reads a field's alias, if it has one, and its name (2.7 Field Alias).
+fn field_names<'a>(
+    alloc: Global,
+    cursor: &mut Cursor<'a>,
+) -> Result<(Option<Spanning<TextRef<'a>>>, Spanning<TextRef<'a>>), Fault>
+    ensures reads { Reads (spec.field_names cursor.old) result cursor.new }
+    ensures no_more { left cursor.new ≤ left cursor.old }
+{
+    let first = located_name(alloc, cursor)?;
+    if cursor.eat(Kind::Colon) {
+        let name = located_name(alloc, cursor)?;
+        Ok((Some(first), name))
+    } else {
+        Ok((None, first))
+    }
+}
+
+/// Reads a fragment's name, with its place.
+pub(crate) fn fragment_name<'a>(
+    alloc: Global,
+    cursor: &mut Cursor<'a>,
+) -> Result<Spanning<TextRef<'a>>, Fault>
+    ensures reads { Reads (steps.located (steps.name_in fragment_names) cursor.old) result cursor.new }
+    ensures no_more { left cursor.new ≤ left cursor.old }
+{
+    let start = cursor.start();
+    let name = cursor.fragment_name(alloc)?;
+    Ok(cursor.closed(start, name))
+}

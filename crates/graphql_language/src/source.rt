@@ -1,0 +1,42 @@
+//! Whole texts.
+
+ghost use Rattle.std.specs.Prelude.{◌≢◌, IfOk, IfErr};
+ghost use Rattle.std.specs.Str.{chars};
+ghost use Rattle.graphql_text.specs.declared.parse_error.ParseError.TheVariants.{Memory};
+ghost use Rattle.graphql_language.specs.Texts.{IsDocument, OnlyDocument, IsRefused};
+
+#[cfg(test)]
+mod tests;
+
+use crate::parse::document;
+use crate::tree::OwnedDocument;
+use graphql_grammar::Cursor;
+use graphql_text::UnlocatedParseResult;
+use graphql_values::ScalarValue;
+use std::alloc::Global;
+
+/// The document that a text is (GraphQL October 2021, 2.2 Document). Its names are borrowed from the
+/// text. Takes time by the number of tokens, and recurses as deep as the text nests.
+///
+/// An error is the first fault of the text, at its place: characters, lines and columns from zero.
+/// A lexical fault anywhere comes before every other: `ParseError::LexerError`. Else it is about the
+/// first token that no document could have there: `ParseError::UnexpectedEndOfFile` at the end of
+/// the text; what the scalar type says of a literal that it refuses; `ParseError::UnexpectedToken`
+/// with the token's source text. `ParseError::Memory` comes only where memory ran out, and says
+/// nothing about the text.
+pub fn parse_document_source<'a, S: ScalarValue>(
+    alloc: Global,
+    source: &'a str,
+) -> UnlocatedParseResult<OwnedDocument<'a, S>>
+    // The tokens of the text spell the document, each part at the place of its tokens.
+    ensures document { IfOk result (λ tree. IsDocument S S.reads S.of_bool (chars source.now) tree) }
+    // They spell no other.
+    ensures only { IfOk result (λ tree. OnlyDocument S S.reads S.of_bool (chars source.now) tree) }
+    // The text is no document, and this is its first fault.
+    ensures fault { IfErr result (λ e. e.item ≢ Memory → IsRefused S S.reads S.of_bool (chars source.now) e) }
+{
+    match Cursor::new(alloc, source) {
+        Ok(mut cursor) => document(alloc, &mut cursor),
+        Err(fault) => Err(fault),
+    }
+}

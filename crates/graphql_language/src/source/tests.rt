@@ -1,0 +1,159 @@
+use super::parse_document_source;
+use crate::tree::{Definition, Operation, OwnedDocument, Selection, release_document};
+use graphql_text::{SourcePosition, Span, Spanning};
+use graphql_values::DefaultScalarValue;
+use std::alloc::{AllocError, Global};
+use std::test::Fail;
+
+/// Texts that are no documents, each with its first fault.
+const REFUSED: [(&str, &str); 26] = [
+    ("", "Unexpected end of input. At 0:0"),
+    ("{ hero {", "Unexpected end of input. At 0:8"),
+    ("{ } %", "Unknown character \"%\". At 0:4"),
+    ("{ }", "Unexpected \"}\". At 0:2"),
+    ("{ a }\n  }", "Unexpected \"}\". At 1:2"),
+    ("{ a } b", "Unexpected \"b\". At 0:6"),
+    ("{ a: }", "Unexpected \"}\". At 0:5"),
+    ("{ a \"s\" }", "Unexpected \"\"s\"\". At 0:4"),
+    ("{ a() }", "Unexpected \")\". At 0:4"),
+    ("{ a(b 1) }", "Unexpected \"1\". At 0:6"),
+    ("{ a(b: [1 ", "Unexpected end of input. At 0:10"),
+    ("{ a(b: {c: 1, d}) }", "Unexpected \"}\". At 0:15"),
+    (
+        "{ hero(first: 2147483648) { id } }",
+        "Unexpected \"2147483648\". At 0:14",
+    ),
+    (
+        "{ hero(first: 1.5) { id } }",
+        "There needs to be a Float type. At 0:14",
+    ),
+    ("{ a @ }", "Unexpected \"}\". At 0:6"),
+    ("{ ... }", "Unexpected \"}\". At 0:6"),
+    ("{ ... on }", "Unexpected \"}\". At 0:9"),
+    ("query", "Unexpected end of input. At 0:5"),
+    ("query () { a }", "Unexpected \")\". At 0:7"),
+    ("query ($x Int) { a }", "Unexpected \"Int\". At 0:10"),
+    ("query ($x: [Int) { a }", "Unexpected \")\". At 0:15"),
+    ("query ($x: Int = $y) { a }", "Unexpected \"$\". At 0:17"),
+    (
+        "query ($x: Int @d(y: $z)) { a }",
+        "Unexpected \"$\". At 0:21",
+    ),
+    (
+        "mutation M { a } subscription",
+        "Unexpected end of input. At 0:29",
+    ),
+    ("fragment on on T { a }", "Unexpected \"on\". At 0:9"),
+    ("fragment F T { a }", "Unexpected \"T\". At 0:11"),
+];
+
+/// Documents, each with the number of its definitions.
+const DOCUMENTS: [(&str, usize); 8] = [
+    ("{ a }", 1),
+    ("# a comment\n,{a,b}", 1),
+    ("query query { on fragment true: null }", 1),
+    ("fragment fragment on on { on }", 1),
+    ("{ a(b: []) c(d: {}) }", 1),
+    (
+        "query($x: [[Int!]]!, $y: T = [{a: null}] @d(e: false)) { a }",
+        1,
+    ),
+    (
+        "query Q @a(b: -1) { a: b(c: $x, d: {e: E}) @i { ...F ... on T { x } ... @i(j: $x) { y } ... { z } } }",
+        1,
+    ),
+    (
+        "query { a } mutation { b } subscription { c } fragment F on T { d }",
+        4,
+    ),
+];
+
+fn parsed(alloc: Global, text: &str) -> Result<OwnedDocument<'_>, Fail> {
+    Ok(parse_document_source::<DefaultScalarValue>(alloc, text)?)
+}
+
+/// The refusal of a text, printed; none where it is a document.
+fn refusal(alloc: Global, text: &str) -> Result<Option<String>, AllocError> {
+    match parse_document_source::<DefaultScalarValue>(alloc, text) {
+        Ok(_) => Ok(None),
+        Err(fault) => Ok(Some(format!(in alloc; "{fault}")?)),
+    }
+}
+
+#[test]
+fn first_fault_of_a_text(rt: HostRuntime) -> Result<(), Fail> {
+    for (text, wanted) in REFUSED {
+        let told = refusal(rt.alloc(), text)?.ok_or("a refusal")?;
+        assert_eq!(rt; told.as_str(), wanted);
+    }
+    Ok(())
+}
+
+#[test]
+fn documents_of_the_grammar(rt: HostRuntime) -> Result<(), Fail> {
+    for (text, wanted) in DOCUMENTS {
+        let document = parsed(rt.alloc(), text)?;
+        assert_eq!(rt; document.len(), wanted);
+    }
+    Ok(())
+}
+
+fn span(start: (usize, usize, usize), end: (usize, usize, usize)) -> Span {
+    Span {
+        start: SourcePosition::new(start.0, start.1, start.2),
+        end: SourcePosition::new(end.0, end.1, end.2),
+    }
+}
+
+/// The places of an operation, its variables, the first of these, its first field and the value of
+/// that field's first argument.
+fn places(operation: &Spanning<Operation<'_>>) -> Option<[Span; 5]> {
+    let variables = operation.item.variable_definitions.as_ref()?;
+    let variable = variables.item.items.first()?;
+    let Selection::Field(field) = operation.item.selection_set.first()? else {
+        return None;
+    };
+    let arguments = field.item.arguments.as_ref()?;
+    let argument = arguments.item.items.first()?;
+    Some([
+        operation.span,
+        variables.span,
+        variable.0.span,
+        field.span,
+        argument.1.span,
+    ])
+}
+
+#[test]
+fn places_run_from_the_first_token_to_the_last(rt: HostRuntime) -> Result<(), Fail> {
+    let text = "query Q($x: Int) {\n  a: b(c: 1)\n} # end";
+    let document = parsed(rt.alloc(), text)?;
+    let Definition::Operation(operation) = document.first().ok_or("a definition")? else {
+        return Err(Fail::from("an operation"));
+    };
+    let told = places(operation).ok_or("places")?;
+    let wanted = [
+        span((0, 0, 0), (33, 2, 1)),
+        span((7, 0, 7), (16, 0, 16)),
+        span((8, 0, 8), (10, 0, 10)),
+        span((21, 1, 2), (31, 1, 12)),
+        span((29, 1, 10), (30, 1, 11)),
+    ];
+    assert!(rt; told == wanted);
+    Ok(())
+}
+
+#[test]
+fn sets_nested_deep(rt: HostRuntime) -> Result<(), Fail> {
+    let mut text = String::new(rt.alloc());
+    for _ in 0..1_000 {
+        text.push_str("{a")?;
+    }
+    for _ in 0..1_000 {
+        text.push_str("}")?;
+    }
+    let document = parsed(rt.alloc(), text.as_str())?;
+    assert_eq!(rt; document.len(), 1);
+    release_document(document);
+    Ok(())
+}
