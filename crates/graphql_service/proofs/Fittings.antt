@@ -4,9 +4,9 @@ use Rattle.std.proofs.lemmas.Bool.Decides.{nat_tests}
 use Rattle.graphql_service.specs.declared.selection.Selection.{Selection}
 use Rattle.graphql_service.specs.Table.{Bytes, Kind, text, link, ObjectType, at_name, type_named}
 use Rattle.graphql_service.specs.Selections.{Tree, tree_of, has_set, is_distinct, is_distinct_below, on_type, kind_fits, fits}
-use Rattle.graphql_service.specs.Reading.{field_of}
+use Rattle.graphql_service.specs.Selections.{field_of}
 use Rattle.graphql_service.proofs.Turns.{left_more}
-use Rattle.graphql_service.proofs.Readings.{before_is}
+use Rattle.graphql_service.proofs.Trees.{before_is}
 
 and_false : (a b : Bool) → b ≡ false → a && b ≡ false
 and_false true b e = e

@@ -1,13 +1,11 @@
 pub mod Lookups
 pub mod Values
-pub mod Cuts
-pub mod Scans
-pub mod Readings
+pub mod Trees
+pub mod Thin
+pub mod OneFault
 pub mod Evaluations
-pub mod Spelling
+pub mod ErrorWritings
 pub mod Lines
-pub mod Fields
-pub mod Documents
 pub mod Repeats
 pub mod Places
 pub mod Views

@@ -1,13 +1,15 @@
 -- An answer is one line.
-use Rattle.std.proofs.Common.{◌≡◌, ℕ, ◌/◌, ◌%◌, Bool, true, false, cond, nat_lt, ◌==◌, [], ◌∷◌, ◌++◌, codes, refl, sym, ◌∙◌, arith}
+use Rattle.std.proofs.Common.{◌≡◌, ℕ, zero, suc, ◌+◌, ◌/◌, ◌%◌, Bool, true, false, cond, nat_lt, ◌==◌, [], ◌∷◌, ◌++◌, Option, Some, None, codes, refl, sym, ◌∙◌, arith}
+use Rattle.std.specs.Fmt.{decimal, digits, digits_onto, digit_glyph}
 use Rattle.std.specs.List.{list_any, flat_map}
 use Rattle.std.proofs.lemmas.Bool.{or_from}
 use Rattle.std.proofs.lemmas.Bool.Decides.{nat_tests}
 use Rattle.std.proofs.lemmas.List.{append_assoc}
 use Rattle.std.proofs.lemmas.List.Folds.{list_any-append}
+use Rattle.graphql_text.specs.declared.position.SourcePosition.{SourcePosition}
 use Rattle.graphql_service.specs.Table.{Bytes}
 use Rattle.graphql_service.specs.Evaluation.{Value, Members, null, string, object, no_members, member}
-use Rattle.graphql_service.specs.Json.{hex_digit, escaped, json_text, json, json_members, data_line, error_line}
+use Rattle.graphql_service.specs.Json.{hex_digit, escaped, json_text, json, json_members, data_line, locations, error_line}
 use Rattle.graphql_service.specs.Answers.{IsLine}
 
 abbrev has_feed : Bytes → Bool
@@ -68,5 +70,31 @@ line_of begins middle ends b m e = record {
 pub data_line-is_line : (ms : Members) → IsLine (data_line ms)
 data_line-is_line ms = line_of (codes "{\"data\":") (json (object ms)) (codes "}") refl (no_feed-json (object ms)) refl
 
-pub error_line-is_line : (message : Bytes) → IsLine (error_line message)
-error_line-is_line message = line_of (codes "{\"errors\":[{\"message\":") (json_text message) (codes "}]}") refl (no_feed-json_text message) refl
+no_feed-glyph : (d : ℕ) → (digit_glyph false d == 10) ≡ false
+no_feed-glyph d = grind (arith, nat_tests)
+
+no_feed-digits : (k n : ℕ) (acc : Bytes) → has_feed acc ≡ false → has_feed (digits_onto k 10 false n acc) ≡ false
+no_feed-digits zero n acc e = e
+no_feed-digits (suc k) n acc e = no_feed-cond (n / 10 == 0) _ _ digit (λ more. no_feed-digits k (n / 10) (digit_glyph false (n % 10) ∷ acc) digit)
+  where
+    digit : has_feed (digit_glyph false (n % 10) ∷ acc) ≡ false
+    digit = or_from (digit_glyph false (n % 10) == 10) (has_feed acc) (no_feed-glyph (n % 10)) e
+
+no_feed-decimal : (n : ℕ) → has_feed (decimal n) ≡ false
+unfolding digits
+no_feed-decimal n = no_feed-digits 64 n [] refl
+
+no_feed-locations : (place : Option SourcePosition) → has_feed (locations place) ≡ false
+no_feed-locations None = refl
+no_feed-locations (Some p) =
+    let a = codes ",\"locations\":[{\"line\":" in
+    let l = decimal (p.line + 1) in
+    let b = codes ",\"column\":" in
+    let n = decimal (p.column + 1) in
+    no_feed-append (((a ++ l) ++ b) ++ n) (codes "}]")
+    (no_feed-append ((a ++ l) ++ b) n (no_feed-append (a ++ l) b (no_feed-append a l refl (no_feed-decimal (p.line + 1))) refl) (no_feed-decimal (p.column + 1))) refl
+
+pub error_line-is_line : (message : Bytes) (place : Option SourcePosition) → IsLine (error_line message place)
+error_line-is_line message place =
+    line_of (codes "{\"errors\":[{\"message\":" ++ json_text message) (locations place) (codes "}]}")
+    (no_feed-append (codes "{\"errors\":[{\"message\":") (json_text message) refl (no_feed-json_text message)) (no_feed-locations place) refl

@@ -3,8 +3,8 @@ use Rattle.std.proofs.Common.{◌≡◌, ℕ, ◌+◌, ◌<◌, ◌≤◌, List,
 use Rattle.std.proofs.lemmas.List.{at_drop_more, at_drop_all}
 use Rattle.graphql_service.specs.declared.selection.Selection.{Selection, out-Selection}
 use Rattle.graphql_service.specs.Selections.{none, field, field_names, tree_of}
-use Rattle.graphql_service.specs.Reading.{field_of}
-use Rattle.graphql_service.proofs.Readings.{before_is}
+use Rattle.graphql_service.specs.Selections.{field_of}
+use Rattle.graphql_service.proofs.Trees.{before_is}
 
 -- the selections that are left, as a tree
 pub left_more : (ss : List Selection) (i : ℕ) (s : Selection) → i < length ss → s ≡ get_or ss i s

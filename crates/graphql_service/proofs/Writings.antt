@@ -3,7 +3,7 @@ use Rattle.std.proofs.Common.{◌≡◌, ℕ, ◌+◌, ◌<◌, ◌≤◌, zero,
 use Rattle.graphql_service.specs.declared.selection.Selection.{Selection}
 use Rattle.graphql_service.specs.Table.{Bytes, Record, record_with, value_at}
 use Rattle.graphql_service.specs.Selections.{tree_of, has_set}
-use Rattle.graphql_service.specs.Reading.{field_of}
+use Rattle.graphql_service.specs.Selections.{field_of}
 use Rattle.graphql_service.specs.Evaluation.{Value, Members, null, object}
 use Rattle.graphql_service.specs.Told.{told, told_object, told_value}
 use Rattle.graphql_service.specs.Json.{json, json_text, json_members}

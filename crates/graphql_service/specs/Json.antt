@@ -1,6 +1,8 @@
 -- Answers as JSON texts (RFC 8259), byte by byte.
-use Rattle.std.specs.Prelude.{ℕ, ◌+◌, ◌-◌, ◌/◌, ◌%◌, nat_lt, [], ◌∷◌, ◌++◌, if◌then◌else◌, ◌==◌, codes}
+use Rattle.std.specs.Prelude.{ℕ, ◌+◌, ◌-◌, ◌/◌, ◌%◌, nat_lt, [], ◌∷◌, ◌++◌, if◌then◌else◌, ◌==◌, codes, Option, Some, None}
+use Rattle.std.specs.Fmt.{decimal}
 use Rattle.std.specs.List.{flat_map}
+use Rattle.graphql_text.specs.declared.position.SourcePosition.{SourcePosition}
 use Rattle.graphql_service.specs.Table.{Bytes}
 use Rattle.graphql_service.specs.Evaluation.{Value, Members, null, string, object, no_members, member}
 
@@ -33,6 +35,11 @@ abbrev mutual
 abbrev pub data_line : Members → Bytes
 data_line ms = codes "{\"data\":" ++ json (object ms) ++ codes "}\n"
 
--- the answer line of a refusal
-abbrev pub error_line : Bytes → Bytes
-error_line message = codes "{\"errors\":[{\"message\":" ++ json_text message ++ codes "}]}\n"
+-- where a refusal points (7.1.2): places count from zero, lines and columns here from one
+abbrev pub locations : Option SourcePosition → Bytes
+locations None = []
+locations (Some place) = codes ",\"locations\":[{\"line\":" ++ decimal (place.line + 1) ++ codes ",\"column\":" ++ decimal (place.column + 1) ++ codes "}]"
+
+-- the answer line of a refusal, by its text and where it points
+abbrev pub error_line : Bytes → Option SourcePosition → Bytes
+error_line message place = codes "{\"errors\":[{\"message\":" ++ json_text message ++ locations place ++ codes "}]}\n"

@@ -2,10 +2,8 @@ pub mod Table
 pub mod Names
 pub mod Places
 pub mod Faults
-pub mod Tokens
-pub mod Texts
 pub mod Selections
-pub mod Reading
+pub mod Documents
 pub mod Evaluation
 pub mod Told
 pub mod Json

@@ -1,10 +1,9 @@
 -- Selection sets of a thin document.
-use Rattle.std.specs.Prelude.{◌≢◌, ℕ, Bool, true, false, not, ◌&&◌, List, [], ◌∷◌, ◌++◌, Option, Some, None}
-use Rattle.graphql_service.specs.declared.selection.Selection.{Selection, fold-Selection}
+use Rattle.std.specs.Prelude.{Bool, true, false, not, ◌&&◌, List, [], ◌∷◌, Option, Some, None}
+use Rattle.graphql_service.specs.declared.selection.Selection.{Selection, fold-Selection, out-Selection}
 use Rattle.graphql_service.specs.declared.selection.Selection.TheOpen.{Selection-F}
 use Rattle.graphql_service.specs.Names.{repeats}
 use Rattle.graphql_service.specs.Table.{Bytes, Kind, text, link, ObjectType, at_name, type_named}
-use Rattle.graphql_service.specs.Tokens.{Lexeme, name, curly_open, curly_close, HasTokens}
 
 -- a selection set (2.4): a field by its name, its own set, and the rest of the set; none where there is no set
 pub data Tree : Type 0 where
@@ -26,20 +25,12 @@ abbrev pub tree_of : List Selection → Tree
 tree_of [] = none
 tree_of (s ∷ ss) = before s (tree_of ss)
 
--- a set in its brackets; nothing where there is none
-abbrev pub bracketed : Tree → List Lexeme → List Lexeme
-bracketed none ls = []
-bracketed (field n below rest) ls = curly_open ∷ ls ++ curly_close ∷ []
+-- a field by its name and its own set
+abbrev pub Field : Type 0
+Field = Bytes × Tree
 
--- the tokens of a set within its brackets (2.4, 2.5)
-abbrev pub spelled : Tree → List Lexeme
-spelled none = []
-spelled (field n below rest) = name n ∷ bracketed below (spelled below) ++ spelled rest
-
--- a text that is one selection set, in which no set is empty (2.2, the short form of a query in 2.3)
-pub record IsDocument (source : List ℕ) (set : Tree) : Type 0 where
-  pub some : set ≢ none
-  pub tokens : HasTokens source (bracketed set (spelled set))
+abbrev pub field_of : Selection → Field
+field_of s = ((out-Selection s).name.now, tree_of (out-Selection s).set.items)
 
 -- the fields of a set, in order
 abbrev pub field_names : Tree → List Bytes

@@ -2,19 +2,20 @@
 #![tactic(auto)]
 
 mod data;
+mod document;
 mod fault;
 mod fits;
 mod index;
 mod json;
 mod laws;
-mod lexer;
+mod message;
 mod names;
+mod place;
 mod refusal;
 mod request;
 mod selection;
 mod service;
 mod table;
-mod token;
 
 pub use fault::ThinFault;
 pub use refusal::ThinRefusal;

@@ -5,13 +5,15 @@ ghost use Rattle.graphql_service.specs.Table.{type_of, record_of};
 ghost use Rattle.graphql_service.specs.Faults.{first_fault};
 
 use crate::data::push_object;
+use crate::document::{parse, thin_document};
 use crate::fault::{ThinFault, first_fault};
 use crate::fits::{fits, is_distinct};
 use crate::index::ByName;
 use crate::refusal::ThinRefusal;
 use crate::request::{Request, request_in, value_of};
-use crate::selection::{Selection, document};
+use crate::selection::Selection;
 use crate::table::{ThinRecord, ThinType};
+use graphql_language::Definition;
 use std::alloc::{AllocError, Global};
 
 /// Types, and records of them, over which request lines are answered.
@@ -60,7 +62,8 @@ impl ThinService {
     }
 
     /// The answer line of a request line, the line feed included: the refusal that comes first, in
-    /// the order of [`ThinRefusal`], or data.
+    /// the order of [`ThinRefusal`], or data. Of a query that is no document the first fault is told,
+    /// whatever else the request asks.
     ///
     /// The line is `{"query": ..}` as JSON, and is given without its line feed. The only error is
     /// want of memory, after which nothing has changed.
@@ -77,7 +80,11 @@ impl ThinService {
         let Some(request) = request_in(&value) else {
             return self.refused(alloc, ThinRefusal::NotARequest);
         };
-        match self.accepted(alloc, request)? {
+        let document = match parse(alloc, request.query)? {
+            Ok(document) => document,
+            Err(fault) => return self.refused(alloc, ThinRefusal::ParseError(fault)),
+        };
+        match self.accepted(alloc, request, document.as_slice())? {
             Some(set) => self.data(alloc, set.as_slice()),
             None => self.refused(alloc, ThinRefusal::NotThin),
         }
@@ -101,18 +108,20 @@ impl ThinService {
         }
     }
 
-    /// The selection set of a request, or None where that is outside the first path.
+    /// The selection set of a request, by the document of its query, or None where that is outside
+    /// the first path.
     fn accepted<'v>(
         &self,
         alloc: Global,
         request: Request<'v>,
+        document: &[Definition<'v>],
     ) -> Result<Option<Vec<Selection<'v>>>, AllocError>
-        ensures { IfOk result (λ o. AcceptsOrNone (service_of self.now) (request_view request.entry) (option_map (λ v. tree_of v.items) o)) }
+        ensures { IfOk result (λ o. AcceptsOrNone (service_of self.now) (request_view request.entry) document.now (option_map (λ v. tree_of v.items) o)) }
     {
         if !request.is_bare {
             return Ok(None);
         }
-        let Some(set) = document(alloc, request.query)? else {
+        let Some(set) = thin_document(alloc, request.query, document)? else {
             return Ok(None);
         };
         let Some(parent) = self.root_type() else {

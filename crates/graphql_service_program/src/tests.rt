@@ -34,7 +34,6 @@ fn answers_worked_requests(rt: HostRuntime) -> Result<(), Fail> {
         ),
         (r#"{"query":"{ hero { name name } }"}"#, NOT_THIN),
         (r#"{"query":"{ hero }"}"#, NOT_THIN),
-        (r#"{"query":"{ }"}"#, NOT_THIN),
         (r#"{"query":5}"#, NOT_A_REQUEST),
         (
             r#"{"query":"{hero{id,name}}# end"}"#,
@@ -46,13 +45,78 @@ fn answers_worked_requests(rt: HostRuntime) -> Result<(), Fail> {
         ),
         (r#"{"query":"{ hero { name { id } } }"}"#, NOT_THIN),
         (r#"{"query":"{ hero { age } }"}"#, NOT_THIN),
-        (r#"{"query":"{ hero { name } } x"}"#, NOT_THIN),
-        (r#"{"query":"{ hero { ñame } }"}"#, NOT_THIN),
-        (r#"{"query":""}"#, NOT_THIN),
+        (r#"{"query":"{ hero { x: name } }"}"#, NOT_THIN),
+        (r#"{"query":"query { hero { name } }"}"#, NOT_THIN),
+        (r#"{"query":"{ hero(first: 1) { id } }"}"#, NOT_THIN),
+        (r#"{"query":"{ hero { ... on Human { id } } }"}"#, NOT_THIN),
+        (r#"{"query":"{ hero { id @skip(if: true) } }"}"#, NOT_THIN),
+        (r#"{"query":"{ hero { id } } { hero { id } }"}"#, NOT_THIN),
     ];
     for (line, want) in rows {
         let got = answer(rt.alloc(), &service, line)?;
         assert_eq!(rt; got.as_str(), want, "at {line}");
+    }
+    Ok(())
+}
+
+#[test]
+fn tells_the_first_fault_of_a_query(rt: HostRuntime) -> Result<(), Fail> {
+    let service = sample::service(rt.alloc(), LINE_LIMIT)
+        .ok()
+        .ok_or("no sample")?;
+    let rows = [
+        (r#""""#, "Unexpected end of input", 1, 1),
+        (r#""{ hero {""#, "Unexpected end of input", 1, 9),
+        (r#""{ }""#, r#"Unexpected \"}\""#, 1, 3),
+        (r#""{ } %""#, r#"Unknown character \"%\""#, 1, 5),
+        (r#""{ hero { name } } x""#, r#"Unexpected \"x\""#, 1, 19),
+        (
+            r#""{ hero { ñame } }""#,
+            r#"Unknown character \"ñ\""#,
+            1,
+            10,
+        ),
+        (r#""{\n  hero\n{ %""#, r#"Unknown character \"%\""#, 3, 3),
+        (
+            r#""{ hero(first: 2147483648) { id } }""#,
+            r#"Unexpected \"2147483648\""#,
+            1,
+            15,
+        ),
+        (
+            r#""{ hero(name: -) }""#,
+            r#"Unexpected character \")\""#,
+            1,
+            15,
+        ),
+        (r#""{ hero(name: \"""#, "Unterminated string literal", 1, 15),
+        (
+            r#""{ hero(name: \"\u0001\") }""#,
+            r#"Unknown character \"\u0001\" in string literal"#,
+            1,
+            15,
+        ),
+        (
+            r#""{ hero(name: \"\\q\") }""#,
+            r#"Unknown escape sequence \"\\q\" in string"#,
+            1,
+            16,
+        ),
+        (
+            r#""{","operationName":"A""#,
+            "Unexpected end of input",
+            1,
+            2,
+        ),
+        (r#""{","variables":{}"#, "Unexpected end of input", 1, 2),
+    ];
+    for (query, message, line, column) in rows {
+        let request = format!(in rt.alloc(); "{{\"query\":{query}}}")?;
+        let got = answer(rt.alloc(), &service, request.as_str())?;
+        let want = format!(in rt.alloc();
+            "{{\"errors\":[{{\"message\":\"{message}\",\"locations\":[{{\"line\":{line},\"column\":{column}}}]}}]}}"
+        )?;
+        assert_eq!(rt; got.as_str(), want.as_str(), "at {query}");
     }
     Ok(())
 }

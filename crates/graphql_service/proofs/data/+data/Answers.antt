@@ -6,7 +6,7 @@ use Rattle.graphql_service.specs.Selections.{tree_of, has_set}
 use Rattle.graphql_service.specs.Evaluation.{Value}
 use Rattle.graphql_service.specs.Told.{told}
 use Rattle.graphql_service.specs.Json.{json, json_text}
-use Rattle.graphql_service.specs.Reading.{field_of}
+use Rattle.graphql_service.specs.Selections.{field_of}
 use Rattle.graphql_service.proofs.Lookups.{find_shown}
 use Rattle.graphql_service.proofs.Fittings.{has_set-tree_of}
 use Rattle.graphql_service.proofs.Writings.{parting, parting_none, parting_some, member_value, members_more, member_written, value_linked, value_lost}

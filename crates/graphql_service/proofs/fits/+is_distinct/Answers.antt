@@ -1,6 +1,6 @@
 use Rattle.std.proofs.Common.{◌+◌, sym, ap, ◌∙◌, drop}
 use Rattle.graphql_service.specs.Selections as spec
-use Rattle.graphql_service.specs.Reading.{field_of}
+use Rattle.graphql_service.specs.Selections.{field_of}
 use Rattle.graphql_service.proofs.Fittings.{stops, passes, distinct_turn, not_distinct}
 use Rattle.graphql_service.proofs.fits.+is_distinct.Goals as goal
 
