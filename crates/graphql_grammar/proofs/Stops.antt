@@ -64,24 +64,24 @@ module _ (Bad : Located → Fault → Type 0) (Good : Located → Type 0) where
   }
 
   -- p goes on as q once it has read some tokens
-  pub stop_prefix : {A : Type 0} (k m : ℕ) (F C : List Located → Type 0) (R R2 : List Located → A → Type 0) (p q : Parser A) (f : Span) (e : SourcePosition) (seen rest : List Located)
-      → Starts F q C → m ≤ length seen + k → ((us : List Located) (x : A) → R2 us x → R (seen ++ us) x)
+  pub stop_prefix : {A : Type 0} (k m : ℕ) (F C : List Located → Type 0) (R Rest : List Located → A → Type 0) (p q : Parser A) (f : Span) (e : SourcePosition) (seen rest : List Located)
+      → Starts F q C → m ≤ length seen + k → ((us : List Located) (x : A) → Rest us x → R (seen ++ us) x)
       → ((zs : List Located) → (Like rest zs) ⊎ (F zs) → p (mk (seen ++ zs) f e) ≡ q (mk zs f (end_of e seen)))
-      → Stop k C R2 q f (end_of e seen) rest → Stop m C R p f e (seen ++ rest)
-  stop_prefix k m F C R R2 p q f e seen rest starts bound map same (done seen2 rest2 x is fewer r reads) =
-      done (seen ++ seen2) rest2 x (ap (λ ws. seen ++ ws) is ∙ sym (append_assoc seen seen2 rest2)) (let l = length-append seen seen2 in omega arith) (map seen2 x r)
+      → Stop k C Rest q f (end_of e seen) rest → Stop m C R p f e (seen ++ rest)
+  stop_prefix k m F C R Rest p q f e seen rest starts bound map same (done later behind x is fewer r reads) =
+      done (seen ++ later) behind x (ap (λ ws. seen ++ ws) is ∙ sym (append_assoc seen later behind)) (let l = length-append seen later in omega arith) (map later x r)
       (λ zs h. let read = reads zs h in
-      let ok : (Like rest (seen2 ++ zs)) ⊎ (F (seen2 ++ zs)) = elim h [ inl l ↦ inl (ap kind_ahead is ∙ like-append seen2 rest2 zs l) | inr c ↦ inr (starts (mk (seen2 ++ zs) f (end_of e seen)) (mk zs f (end_of (end_of e seen) seen2)) x read c) ] in
-      ap (λ ws. p (mk ws f e)) (append_assoc seen seen2 zs) ∙ same (seen2 ++ zs) ok ∙ read ∙ ap (λ y. Ok (x, mk zs f y)) (sym (end-append e seen seen2)))
-  stop_prefix k m F C R R2 p q f e seen rest starts bound map same (refused seen2 rest2 is reads on) =
-      refused (seen ++ seen2) rest2 (ap (λ ws. seen ++ ws) is ∙ sym (append_assoc seen seen2 rest2))
-      (λ zs l. ap (λ ws. p (mk ws f e)) (append_assoc seen seen2 zs) ∙ same (seen2 ++ zs) (inl (ap kind_ahead is ∙ like-append seen2 rest2 zs l)) ∙ reads zs l)
-      (continues_prefix F C p q f e seen seen2 starts (λ zs h. same zs (inr h)) on)
-  stop_prefix k m F C R R2 p q f e seen rest starts bound map same (unread seen2 rest2 a err is bad reads good on) =
-      unread (seen ++ seen2) rest2 a err (ap (λ ws. seen ++ ws) is ∙ sym (append_assoc seen seen2 (a ∷ rest2))) bad
-      (λ zs. ap (λ ws. p (mk ws f e)) (append_assoc seen seen2 (a ∷ zs)) ∙ same (seen2 ++ a ∷ zs) (inl (ap kind_ahead is ∙ like-append seen2 (a ∷ rest2) (a ∷ zs) refl)) ∙ reads zs)
-      (λ b g. subst (λ ws. Continues C p f e ws) (sym (append_assoc seen seen2 (b ∷ []))) (continues_prefix F C p q f e seen (seen2 ++ b ∷ []) starts (λ zs h. same zs (inr h)) (good b g)))
-      (continues_prefix F C p q f e seen seen2 starts (λ zs h. same zs (inr h)) on)
+      let ok : (Like rest (later ++ zs)) ⊎ (F (later ++ zs)) = elim h [ inl l ↦ inl (ap kind_ahead is ∙ like-append later behind zs l) | inr c ↦ inr (starts (mk (later ++ zs) f (end_of e seen)) (mk zs f (end_of (end_of e seen) later)) x read c) ] in
+      ap (λ ws. p (mk ws f e)) (append_assoc seen later zs) ∙ same (later ++ zs) ok ∙ read ∙ ap (λ y. Ok (x, mk zs f y)) (sym (end-append e seen later)))
+  stop_prefix k m F C R Rest p q f e seen rest starts bound map same (refused later behind is reads on) =
+      refused (seen ++ later) behind (ap (λ ws. seen ++ ws) is ∙ sym (append_assoc seen later behind))
+      (λ zs l. ap (λ ws. p (mk ws f e)) (append_assoc seen later zs) ∙ same (later ++ zs) (inl (ap kind_ahead is ∙ like-append later behind zs l)) ∙ reads zs l)
+      (continues_prefix F C p q f e seen later starts (λ zs h. same zs (inr h)) on)
+  stop_prefix k m F C R Rest p q f e seen rest starts bound map same (unread later behind a err is bad reads good on) =
+      unread (seen ++ later) behind a err (ap (λ ws. seen ++ ws) is ∙ sym (append_assoc seen later (a ∷ behind))) bad
+      (λ zs. ap (λ ws. p (mk ws f e)) (append_assoc seen later (a ∷ zs)) ∙ same (later ++ a ∷ zs) (inl (ap kind_ahead is ∙ like-append later (a ∷ behind) (a ∷ zs) refl)) ∙ reads zs)
+      (λ b g. subst (λ ws. Continues C p f e ws) (sym (append_assoc seen later (b ∷ []))) (continues_prefix F C p q f e seen (later ++ b ∷ []) starts (λ zs h. same zs (inr h)) (good b g)))
+      (continues_prefix F C p q f e seen later starts (λ zs h. same zs (inr h)) on)
 
   -- a sentence of what follows ends one of both
   continues_then : {A B : Type 0} (F C : List Located → Type 0) (p : Parser A) (g : A → Parser B) (f : Span) (e : SourcePosition) (ts : List Located) → ((x : A) → Starts F (g x) C)
@@ -97,22 +97,22 @@ module _ (Bad : Located → Fault → Type 0) (Good : Located → Type 0) where
   pub sentence_bind : {A B : Type 0} {F C : List Located → Type 0} {p : Parser A} {g : A → Parser B} → ((x : A) → Starts F (g x) C) → Sentence F p → ((x : A) → Sentence C (g x)) → Sentence C (p >>= g)
   sentence_bind {F = F} {C = C} {p = p} {g = g} starts first second f e = continues_then F C p g f e [] starts second (first f e)
 
-  bind_stop : {A B : Type 0} (k m n : ℕ) (F C : List Located → Type 0) (R1 : List Located → A → Type 0) (R : List Located → B → Type 0) (p : Parser A) (g : A → Parser B) (f : Span) (e : SourcePosition) (xs : List Located)
-      → ((x : A) → Starts F (g x) C) → ((x : A) → Sentence C (g x)) → ((ts : List Located) (x : A) → R1 ts x → Runs m C (λ us y. R (ts ++ us) y) (n - k) (g x))
-      → length xs < n → Stop k F R1 p f e xs → Stop (k + m) C R (p >>= g) f e xs
-  bind_stop k m n F C R1 R p g f e xs starts sentence next fewer (done seen rest x is many r reads) =
+  bind_stop : {A B : Type 0} (k m n : ℕ) (F C : List Located → Type 0) (Front : List Located → A → Type 0) (R : List Located → B → Type 0) (p : Parser A) (g : A → Parser B) (f : Span) (e : SourcePosition) (xs : List Located)
+      → ((x : A) → Starts F (g x) C) → ((x : A) → Sentence C (g x)) → ((ts : List Located) (x : A) → Front ts x → Runs m C (λ us y. R (ts ++ us) y) (n - k) (g x))
+      → length xs < n → Stop k F Front p f e xs → Stop (k + m) C R (p >>= g) f e xs
+  bind_stop k m n F C Front R p g f e xs starts sentence next fewer (done seen rest x is many r reads) =
       subst (λ ws. Stop (k + m) C R (p >>= g) f e ws) (sym is)
       (stop_prefix m (k + m) F C R (λ us y. R (seen ++ us) y) (p >>= g) (g x) f e seen rest (starts x) (omega arith) (λ us y h. h) (λ zs h. ap (λ o. and_then o g) (reads zs h))
       ((next seen x r).stop rest f (end_of e seen) (let l = length-append seen rest in let same : length xs ≡ length (seen ++ rest) = ap length is in omega arith)))
-  bind_stop k m n F C R1 R p g f e xs starts sentence next fewer (refused seen rest is reads on) =
+  bind_stop k m n F C Front R p g f e xs starts sentence next fewer (refused seen rest is reads on) =
       refused seen rest is (λ zs l. ap (λ o. and_then o g) (reads zs l)) (continues_then F C p g f e seen starts sentence on)
-  bind_stop k m n F C R1 R p g f e xs starts sentence next fewer (unread seen rest a err is bad reads good on) =
+  bind_stop k m n F C Front R p g f e xs starts sentence next fewer (unread seen rest a err is bad reads good on) =
       unread seen rest a err is bad (λ zs. ap (λ o. and_then o g) (reads zs)) (λ b h. continues_then F C p g f e (seen ++ b ∷ []) starts sentence (good b h)) (continues_then F C p g f e seen starts sentence on)
 
-  pub runs_bind : {A B : Type 0} {k m n : ℕ} {F C : List Located → Type 0} {R1 : List Located → A → Type 0} {R : List Located → B → Type 0} {p : Parser A} {g : A → Parser B}
-      → ((x : A) → Starts F (g x) C) → ((x : A) → Sentence C (g x)) → Runs k F R1 n p → ((ts : List Located) (x : A) → R1 ts x → Runs m C (λ us y. R (ts ++ us) y) (n - k) (g x)) → Runs (k + m) C R n (p >>= g)
-  runs_bind {k = k} {m = m} {n = n} {F = F} {C = C} {R1 = R1} {R = R} {p = p} {g = g} starts sentence first next = record {
-    stop = λ xs f e fewer. bind_stop k m n F C R1 R p g f e xs starts sentence next fewer (first.stop xs f e fewer);
+  pub runs_bind : {A B : Type 0} {k m n : ℕ} {F C : List Located → Type 0} {Front : List Located → A → Type 0} {R : List Located → B → Type 0} {p : Parser A} {g : A → Parser B}
+      → ((x : A) → Starts F (g x) C) → ((x : A) → Sentence C (g x)) → Runs k F Front n p → ((ts : List Located) (x : A) → Front ts x → Runs m C (λ us y. R (ts ++ us) y) (n - k) (g x)) → Runs (k + m) C R n (p >>= g)
+  runs_bind {k = k} {m = m} {n = n} {F = F} {C = C} {Front = Front} {R = R} {p = p} {g = g} starts sentence first next = record {
+    stop = λ xs f e fewer. bind_stop k m n F C Front R p g f e xs starts sentence next fewer (first.stop xs f e fewer);
   }
 
   pub runs_pure : {A : Type 0} {C : List Located → Type 0} {R : List Located → A → Type 0} {n : ℕ} (x : A) → R [] x → Runs 0 C R n (pure x)

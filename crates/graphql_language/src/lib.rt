@@ -11,6 +11,14 @@ mod parser;
 mod source;
 mod tree;
 
+pub use graphql_text::{
+    Items, Lexer, LexerError, LexerResult, OptionParseResult, ParseError, ParseResult, ScalarToken,
+    SourcePosition, Span, Spanning, Text, TextRef, Token, UnlocatedParseResult, lex_all,
+};
+pub use graphql_values::{
+    BorrowedType, DefaultScalarValue, InputValue, Name, NameParseError, ParseScalarResult,
+    ParseScalarValue, ScalarValue, Type, TypeModifier, TypeModifiers,
+};
 pub use parser::{Parser, parse_type, parse_value_literal};
 pub use source::parse_document_source;
 pub use tree::{
