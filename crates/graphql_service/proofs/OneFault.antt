@@ -1,6 +1,6 @@
 -- A text that is no document has one first fault.
 use Rattle.std.specs.Prelude.{codes, pos}
-use Rattle.graphql_values.specs.IntValue.{int_value}
+use Rattle.graphql_scalars.specs.IntValue.{int_value}
 use Rattle.std.proofs.Common.{◌≡◌, ◌⊎◌, inl, inr, ℕ, List, [], ◌∷◌, ◌++◌, Result, Ok, Err, ap, ◌∙◌, sym, refl, subst, append_assoc}
 use Rattle.std.proofs.lemmas.List.{same_from_push}
 use Rattle.graphql_text.specs.declared.position.Span.{Span}
@@ -12,9 +12,9 @@ use Rattle.graphql_text.specs.Position.{origin}
 use Rattle.graphql_text.specs.Reading.{Refusal}
 use Rattle.graphql_text.specs.Refusals.{parse_error_of}
 use Rattle.graphql_text.proofs.GrammarLaws as lexical
-use Rattle.graphql_values.specs.declared.default_scalar.DefaultScalarValue.{DefaultScalarValue}
-use Rattle.graphql_values.specs.declared.default_scalar.DefaultScalarValue.TheVariants as value
-use Rattle.graphql_values.specs.DefaultScalar.{reads}
+use Rattle.graphql_scalars.specs.declared.default_scalar.DefaultScalarValue.{DefaultScalarValue}
+use Rattle.graphql_scalars.specs.declared.default_scalar.DefaultScalarValue.TheVariants as value
+use Rattle.graphql_scalars.specs.DefaultScalar.{reads}
 use Rattle.graphql_grammar.specs.Input.{Input, Located, Fault}
 use Rattle.graphql_grammar.specs.Ahead.{mk}
 use Rattle.graphql_grammar.specs.Faults.{BadScalar, GoodScalar, Begins, FaultOf, unexpected_token, refused_scalar, FirstFault}

@@ -1,8 +1,8 @@
 -- Texts as documents of the language, and thin documents among them: one selection set of field names, nested.
 use Rattle.std.specs.Prelude.{ℕ, Bool, true, false, not, ◌&&◌, ◌==◌, List, [], ◌∷◌, map, drop, Option, Some, None, is_some, option_map, if◌then◌else◌, Result, Ok, Err}
-use Rattle.graphql_values.specs.declared.default_scalar.DefaultScalarValue.{DefaultScalarValue}
-use Rattle.graphql_values.specs.declared.default_scalar.DefaultScalarValue.TheVariants.{Boolean}
-use Rattle.graphql_values.specs.DefaultScalar.{reads}
+use Rattle.graphql_scalars.specs.declared.default_scalar.DefaultScalarValue.{DefaultScalarValue}
+use Rattle.graphql_scalars.specs.declared.default_scalar.DefaultScalarValue.TheVariants.{Boolean}
+use Rattle.graphql_scalars.specs.DefaultScalar.{reads}
 use Rattle.graphql_grammar.specs.Input.{At, Fault}
 use Rattle.graphql_language.specs.declared.tree.document.Definition as definitions
 use Rattle.graphql_language.specs.declared.tree.document.Definition.TheVariants as definition

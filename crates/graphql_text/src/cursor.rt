@@ -45,8 +45,8 @@ impl<'a> Cursor<'a> {
     }
 }
 
-/// The first character of a text, and what follows it.
-fn first_character(text: &str) -> Option<(char, &str)>
+/// The first character of a text, and what follows it; nothing where the text is empty.
+pub fn first_character(text: &str) -> Option<(char, &str)>
     ensures bytes { MatchOption result (text.now ≡ []) (λ p. text.now ≡ encode_utf8 p.0 ++ p.1.now) }
     ensures chars { MatchOption result (chars text.now ≡ []) (λ p. chars text.now ≡ p.0 ∷ chars p.1.now) }
     ensures shorter { IfSome result (λ p. length p.1.now < length text.now) }

@@ -19,6 +19,7 @@ mod text_ref;
 mod token;
 mod tokens;
 
+pub use cursor::first_character;
 pub use graphql_items::{Items, Text};
 pub use lexer::{Lexer, lex_all};
 pub use parse_error::{OptionParseResult, ParseError, ParseResult, UnlocatedParseResult};

@@ -8,7 +8,7 @@ ghost use Rattle.graphql_values.specs.declared.input_value.InputValue.TheVariant
 #[cfg(test)]
 mod tests;
 
-use crate::default_scalar::DefaultScalarValue;
+use graphql_scalars::DefaultScalarValue;
 use graphql_text::{Items, Spanning, Text};
 use std::alloc::{AllocError, Global};
 

@@ -1,8 +1,8 @@
 use Rattle.std.proofs.Common.{◌≡◌, ◌<◌, ◌≤◌, ℕ, List, Option, Some, None, ap, sym, ◌∙◌, subst, arith}
 use Rattle.std.specs.Str.{chars}
 use Rattle.std.proofs.lemmas.Option.{none-some, same_Some}
-use Rattle.graphql_values.specs.declared.default_scalar.DefaultScalarValue.TheVariants.{Boolean}
-use Rattle.graphql_values.specs.DefaultScalar.{reads}
+use Rattle.graphql_scalars.specs.declared.default_scalar.DefaultScalarValue.TheVariants.{Boolean}
+use Rattle.graphql_scalars.specs.DefaultScalar.{reads}
 use Rattle.graphql_grammar.specs.Input.{Fault}
 use Rattle.graphql_language.proofs.TextLaws as language
 use Rattle.graphql_language.proofs.TextLaws.{one_document}

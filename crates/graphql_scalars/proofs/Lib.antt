@@ -1,0 +1,3 @@
+pub mod IntLemmas
+pub mod StringLemmas
+pub mod StringMeaning

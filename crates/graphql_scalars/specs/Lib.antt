@@ -1,0 +1,5 @@
+pub mod Reading
+pub mod IntValue
+pub mod StringValue
+pub mod DefaultScalar
+pub mod Laws

@@ -1,0 +1,224 @@
+//! The scalars of a schema that declares none of its own.
+
+ghost use Rattle.std.specs.Prelude.{◌≡◌, refl, string_bytes};
+ghost use Rattle.graphql_scalars.specs.Reading.{Answers};
+ghost use Rattle.graphql_scalars.specs.DefaultScalar as spec;
+ghost use Rattle.graphql_scalars.specs.IntValue.{int_value};
+ghost use Rattle.graphql_scalars.specs.StringValue.{string_value};
+ghost use Rattle.graphql_scalars.specs.declared.default_scalar.DefaultScalarValue.TheVariants.{Int, String, Boolean};
+
+#[cfg(test)]
+mod tests;
+
+use crate::int_value::int_value;
+use crate::scalar::{ParseScalarResult, ParseScalarValue, ScalarValue};
+use crate::string_value::string_value;
+use graphql_text::{ParseError, ScalarToken, Text};
+use std::alloc::{AllocError, Global};
+
+/// An integer of 32 bits, a text or a boolean (GraphQL October 2021, 3.5.1 Int, 3.5.3 String,
+/// 3.5.4 Boolean).
+#[derive(Debug, Drop, PartialEq, Eq)]
+pub enum DefaultScalarValue {
+    /// An integer.
+    Int(i32),
+
+    /// A text.
+    String(Text),
+
+    /// A boolean.
+    Boolean(bool),
+}
+
+impl From<i32> for DefaultScalarValue {
+    ghost from_gives = { λ value scalar. scalar ≡ Int value };
+
+    fn from(value: i32) -> DefaultScalarValue {
+        DefaultScalarValue::Int(value)
+    }
+}
+
+impl From<Text> for DefaultScalarValue {
+    ghost from_gives = { λ value scalar. scalar ≡ String value };
+
+    fn from(value: Text) -> DefaultScalarValue {
+        DefaultScalarValue::String(value)
+    }
+}
+
+impl From<std::string::String> for DefaultScalarValue {
+    ghost from_gives = { λ value scalar. scalar ≡ String (string_bytes value) };
+
+    fn from(value: std::string::String) -> DefaultScalarValue {
+        DefaultScalarValue::String(Text::from_string(value))
+    }
+}
+
+impl From<bool> for DefaultScalarValue {
+    ghost from_gives = { λ value scalar. scalar ≡ Boolean value };
+
+    fn from(value: bool) -> DefaultScalarValue {
+        DefaultScalarValue::Boolean(value)
+    }
+}
+
+impl Clone for DefaultScalarValue {
+    ghost is_clone = { λ x y. y ≡ x };
+
+    /// The same scalar. An error is want of memory.
+    fn clone(&self) -> Result<DefaultScalarValue, AllocError> {
+        match self {
+            DefaultScalarValue::Int(value) => Ok(DefaultScalarValue::Int(*value)),
+            DefaultScalarValue::String(text) => Ok(DefaultScalarValue::String(text.clone()?)),
+            DefaultScalarValue::Boolean(value) => Ok(DefaultScalarValue::Boolean(*value)),
+        }
+    }
+}
+
+/// The refusal of a token, by its source text.
+fn refused(alloc: Global, token: &ScalarToken<'_>) -> ParseScalarResult<DefaultScalarValue>
+    ensures { Answers (spec.refused token.now) result }
+{
+    match token.to_string(alloc) {
+        Ok(source) => Err(ParseError::UnexpectedToken(Text::from_string(source))),
+        Err(_) => Err(ParseError::Memory),
+    }
+}
+
+/// The scalar of a string with this source text.
+fn text_scalar(alloc: Global, source: &str) -> ParseScalarResult<DefaultScalarValue>
+    ensures { Answers (spec.text_of (string_value source.now)) result }
+{
+    match string_value(alloc, source) {
+        Ok(text) => Ok(DefaultScalarValue::String(text)),
+        Err(refusal) => Err(refusal),
+    }
+}
+
+/// The scalar of a token that is an integer with this source text, if it is one of 32 bits.
+fn int_scalar(
+    alloc: Global,
+    source: &str,
+    token: &ScalarToken<'_>,
+) -> ParseScalarResult<DefaultScalarValue>
+    ensures { Answers (spec.int_or (int_value source.now) (spec.refused token.now)) result }
+{
+    match int_value(source) {
+        Some(value) => Ok(DefaultScalarValue::Int(value)),
+        None => refused(alloc, token),
+    }
+}
+
+/// Reads strings, with their escapes decoded, and integers of 32 bits. A number with a fraction or an
+/// exponent is refused, and so is an integer of more bits.
+impl ParseScalarValue<DefaultScalarValue> for DefaultScalarValue {
+    ghost reads = { spec.reads };
+
+    fn from_str(alloc: Global, token: &ScalarToken<'_>) -> ParseScalarResult<DefaultScalarValue> {
+        match token {
+            ScalarToken::String(source) => text_scalar(alloc, source.as_str()),
+            ScalarToken::Int(source) => int_scalar(alloc, source.as_str(), token),
+            ScalarToken::Float(_) => {
+                let words = Text::from_str(alloc, "There needs to be a Float type")?;
+                Err(ParseError::ExpectedScalarError(words))
+            }
+        }
+    }
+}
+
+/// Reads strings alone, with their escapes decoded.
+impl ParseScalarValue<DefaultScalarValue> for std::string::String {
+    ghost reads = { spec.reads_text };
+
+    fn from_str(alloc: Global, token: &ScalarToken<'_>) -> ParseScalarResult<DefaultScalarValue> {
+        match token {
+            ScalarToken::String(source) => text_scalar(alloc, source.as_str()),
+            ScalarToken::Int(_) | ScalarToken::Float(_) => refused(alloc, token),
+        }
+    }
+}
+
+/// Reads integers of 32 bits alone.
+impl ParseScalarValue<DefaultScalarValue> for i32 {
+    ghost reads = { spec.reads_int };
+
+    fn from_str(alloc: Global, token: &ScalarToken<'_>) -> ParseScalarResult<DefaultScalarValue> {
+        match token {
+            ScalarToken::Int(source) => int_scalar(alloc, source.as_str(), token),
+            ScalarToken::String(_) | ScalarToken::Float(_) => refused(alloc, token),
+        }
+    }
+}
+
+/// Reads nothing: `true` and `false` are names, and no scalar tokens.
+impl ParseScalarValue<DefaultScalarValue> for bool {
+    ghost reads = { spec.refused };
+
+    fn from_str(alloc: Global, token: &ScalarToken<'_>) -> ParseScalarResult<DefaultScalarValue> {
+        refused(alloc, token)
+    }
+}
+
+impl ScalarValue for DefaultScalarValue {
+    ghost of_bool = { Boolean };
+
+    ghost of_int = { Int };
+
+    ghost of_text = { String };
+
+    ghost as_bool = { spec.as_bool };
+
+    ghost as_int = { spec.as_int };
+
+    ghost as_text = { spec.as_text };
+
+    ghost clones = { λ x y is. is };
+
+    ghost bool_answers = { λ b. refl };
+
+    ghost int_answers = { λ n. refl };
+
+    ghost text_answers = { λ text. refl };
+
+    ghost one_answers = { spec.one_answers };
+
+    fn from_bool(value: bool) -> DefaultScalarValue {
+        DefaultScalarValue::Boolean(value)
+    }
+
+    fn from_int(value: i32) -> DefaultScalarValue {
+        DefaultScalarValue::Int(value)
+    }
+
+    fn from_string(value: std::string::String) -> DefaultScalarValue {
+        DefaultScalarValue::String(Text::from_string(value))
+    }
+
+    fn try_to_bool(&self) -> Option<bool> {
+        match self {
+            DefaultScalarValue::Boolean(value) => Some(*value),
+            DefaultScalarValue::Int(_) | DefaultScalarValue::String(_) => None,
+        }
+    }
+
+    fn try_to_int(&self) -> Option<i32> {
+        match self {
+            DefaultScalarValue::Int(value) => Some(*value),
+            DefaultScalarValue::String(_) | DefaultScalarValue::Boolean(_) => None,
+        }
+    }
+
+    fn try_as_str(&self) -> Option<&str> {
+        match self {
+            DefaultScalarValue::String(text) => Some(text.as_str()),
+            DefaultScalarValue::Int(_) | DefaultScalarValue::Boolean(_) => None,
+        }
+    }
+
+    fn try_into_string(self) -> Option<std::string::String> {
+        match self {
+            DefaultScalarValue::String(text) => Some(text.into_string()),
+            DefaultScalarValue::Int(_) | DefaultScalarValue::Boolean(_) => None,
+        }
+    }
+}

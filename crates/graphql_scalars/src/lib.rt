@@ -1,0 +1,12 @@
+//! The scalars of GraphQL: what a type of scalars offers, how scalars are read from a text's tokens,
+//! and the scalars of a schema that declares none of its own.
+#![tactic(auto)]
+
+mod default_scalar;
+mod int_value;
+pub mod laws;
+mod scalar;
+mod string_value;
+
+pub use default_scalar::DefaultScalarValue;
+pub use scalar::{ParseScalarResult, ParseScalarValue, ScalarValue};

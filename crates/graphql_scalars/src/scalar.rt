@@ -1,0 +1,90 @@
+//! Scalars, how they are read from the tokens of a text, and what they answer.
+
+ghost use Rattle.std.specs.Prelude.{◌≡◌, ℤ, Option, Some, Result, Bool, List, ℕ, string_bytes, IsSome, ◌⊎◌};
+ghost use Rattle.std.specs.Option.{option_map};
+ghost use Rattle.graphql_text.specs.declared.token.ScalarToken.{ScalarToken};
+ghost use Rattle.graphql_text.specs.declared.parse_error.ParseError.{ParseError};
+ghost use Rattle.graphql_scalars.specs.Reading.{Answers};
+
+use graphql_text::{ParseError, ScalarToken};
+use std::alloc::Global;
+
+/// What a token means as a scalar, or why it means none.
+pub type ParseScalarResult<S> = Result<S, ParseError>;
+
+/// A type whose values `S` are written as scalar tokens (GraphQL October 2021, 3.5 Scalars).
+pub trait ParseScalarValue<S> {
+    /// What a token means, by its kind and its text alone.
+    ghost reads: { ScalarToken → Result S ParseError };
+
+    /// What the token means, or why it means nothing here. `ParseError::Memory` is want of memory,
+    /// and tells nothing of the token.
+    fn from_str(alloc: Global, token: &ScalarToken<'_>) -> ParseScalarResult<S>
+        ensures { Answers (reads token.now) result };
+}
+
+/// A type that holds every scalar of a schema (GraphQL October 2021, 3.5 Scalars). Each of its
+/// values answers as an integer, as a boolean or as a text, and one that is made from such a value
+/// answers that value.
+pub trait ScalarValue: ParseScalarValue<Self> + Clone + Eq {
+    /// The scalar of a boolean.
+    ghost of_bool: { Bool → Self };
+
+    /// The scalar of an integer of 32 bits.
+    ghost of_int: { ℤ → Self };
+
+    /// The scalar of a text, by its bytes.
+    ghost of_text: { List ℕ → Self };
+
+    /// The boolean that a scalar answers, if it answers one.
+    ghost as_bool: { Self → Option Bool };
+
+    /// The integer that a scalar answers, if it answers one.
+    ghost as_int: { Self → Option ℤ };
+
+    /// The text that a scalar answers, if it answers one.
+    ghost as_text: { Self → Option (List ℕ) };
+
+    /// The scalar of `true` or `false`. Takes no memory.
+    fn from_bool(value: bool) -> Self
+        ensures { result ≡ of_bool value };
+
+    /// The scalar of an integer. Takes no memory.
+    fn from_int(value: i32) -> Self
+        ensures { result ≡ of_int value };
+
+    /// The scalar of a text. Takes no memory.
+    fn from_string(value: String) -> Self
+        ensures { result ≡ of_text (string_bytes value) };
+
+    /// The boolean that the scalar answers, if it answers one (3.5.4 Boolean).
+    fn try_to_bool(&self) -> Option<bool>
+        ensures { result ≡ as_bool self.now };
+
+    /// The integer that the scalar answers, if it answers one (3.5.1 Int).
+    fn try_to_int(&self) -> Option<i32>
+        ensures { result ≡ as_int self.now };
+
+    /// The text that the scalar answers, if it answers one (3.5.3 String).
+    fn try_as_str(&self) -> Option<&str>
+        ensures { option_map (λ text. text.now) result ≡ as_text self.now };
+
+    /// The text that the scalar answers, if it answers one, as a text of its own. Takes no memory.
+    fn try_into_string(self) -> Option<String>
+        ensures { option_map (λ text. string_bytes text) result ≡ as_text self };
+
+    /// A clone is the same scalar.
+    ghost clones: { (x y : Self) → Self.is_clone x y → y ≡ x };
+
+    /// The scalar of a boolean answers it.
+    ghost bool_answers: { (b : Bool) → as_bool (of_bool b) ≡ Some b };
+
+    /// The scalar of an integer answers it.
+    ghost int_answers: { (n : ℤ) → as_int (of_int n) ≡ Some n };
+
+    /// The scalar of a text answers it.
+    ghost text_answers: { (text : List ℕ) → as_text (of_text text) ≡ Some text };
+
+    /// Each scalar answers.
+    ghost one_answers: { (s : Self) → IsSome (as_int s) ⊎ (IsSome (as_bool s) ⊎ IsSome (as_text s)) };
+}

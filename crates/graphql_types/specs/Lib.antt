@@ -1,0 +1,3 @@
+pub mod TypeReference
+pub mod Names
+pub mod Laws
