@@ -2,4 +2,5 @@ pub mod Reading
 pub mod IntValue
 pub mod StringValue
 pub mod DefaultScalar
+pub mod Shown
 pub mod Laws

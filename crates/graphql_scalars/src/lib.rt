@@ -6,7 +6,9 @@ mod default_scalar;
 mod int_value;
 pub mod laws;
 mod scalar;
+mod shown;
 mod string_value;
 
 pub use default_scalar::DefaultScalarValue;
 pub use scalar::{ParseScalarResult, ParseScalarValue, ScalarValue};
+pub use shown::Scalar;
