@@ -3,4 +3,5 @@ pub mod IntValue
 pub mod StringValue
 pub mod DefaultScalar
 pub mod Shown
+pub mod CheckErrors
 pub mod Laws

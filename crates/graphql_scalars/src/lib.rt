@@ -2,6 +2,7 @@
 //! and the scalars of a schema that declares none of its own.
 #![tactic(auto)]
 
+mod check_error;
 mod default_scalar;
 mod int_value;
 pub mod laws;
@@ -9,6 +10,7 @@ mod scalar;
 mod shown;
 mod string_value;
 
+pub use check_error::{CheckError, WrongInputScalarTypeError};
 pub use default_scalar::DefaultScalarValue;
 pub use scalar::{ParseScalarResult, ParseScalarValue, ScalarValue};
 pub use shown::Scalar;

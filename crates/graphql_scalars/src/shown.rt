@@ -12,7 +12,7 @@ use std::marker::Model;
 
 /// A scalar, lent, that is shown as a message names it: an integer in decimal, a boolean as `true` or
 /// `false`, a text between quotes. Contracts see the scalar alone, wherever it stands.
-#[derive(Drop)]
+#[derive(Debug, Drop)]
 pub struct Scalar<'a, S> {
     held: &'a S,
 }
