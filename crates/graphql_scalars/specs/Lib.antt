@@ -4,4 +4,6 @@ pub mod StringValue
 pub mod DefaultScalar
 pub mod Shown
 pub mod CheckErrors
+pub mod Conversions
+pub mod Another
 pub mod Laws
