@@ -1,4 +1,4 @@
--- What a conversion answers, and when a scalar is refused (GraphQL October 2021, 3.5 Scalars, "Input Coercion").
+-- What a conversion answers, and when a scalar is refused (GraphQL October 2021, 3.5 Scalars, input coercion).
 use Rattle.std.specs.Prelude.{◌≡◌, ℕ, List, Option, None, Result, Ok, Err}
 use Rattle.graphql_scalars.specs.declared.check_error.CheckError.{CheckError}
 use Rattle.graphql_scalars.specs.declared.check_error.CheckError.TheVariants.{Message}

@@ -60,7 +60,7 @@ impl fmt::Display for CheckError {
 impl Error for CheckError {}
 
 /// A scalar that is none of a type: the type's name, and the scalar, lent (GraphQL October 2021,
-/// 3.5 Scalars, "Input Coercion").
+/// 3.5 Scalars, input coercion).
 #[derive(Debug, Drop)]
 pub struct WrongInputScalarTypeError<'a, S> {
     /// The name of the type.

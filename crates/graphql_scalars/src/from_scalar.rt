@@ -18,7 +18,7 @@ use graphql_text::Text;
 use std::alloc::{AllocError, Global};
 use std::rc::Rc;
 
-/// A type that scalars mean values of (GraphQL October 2021, 3.5 Scalars, "Input Coercion").
+/// A type that scalars mean values of (GraphQL October 2021, 3.5 Scalars, input coercion).
 pub trait FromScalarValue<'s, S>: Sized {
     /// Why a scalar means nothing here, or want of memory.
     type Error: From<AllocError>;

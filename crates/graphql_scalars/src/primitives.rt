@@ -17,7 +17,8 @@ use crate::shown::Scalar;
 use graphql_text::TextRef;
 use std::alloc::{AllocError, Global};
 
-/// A scalar that may be a value of the type `T`.
+/// A scalar that may be a plain value, of the type `T` (GraphQL October 2021, 3.5 Scalars, input
+/// coercion).
 pub trait TryToPrimitive<'me, T> {
     /// Why the scalar is no value of the type, or want of memory.
     type Error: From<AllocError>;
@@ -53,7 +54,7 @@ fn refused<S: ScalarValue>(alloc: Global, type_name: &str, scalar: &S) -> CheckE
     error.to_check_error(alloc)
 }
 
-/// The boolean that the scalar answers.
+/// The boolean that the scalar answers (3.5.4 Boolean). Takes memory only for the refusal.
 impl<'me, S: ScalarValue> TryToPrimitive<'me, bool> for S {
     type Error = CheckError;
 
@@ -75,7 +76,7 @@ impl<'me, S: ScalarValue> TryToPrimitive<'me, bool> for S {
     }
 }
 
-/// The integer that the scalar answers.
+/// The integer that the scalar answers (3.5.1 Int). Takes memory only for the refusal.
 impl<'me, S: ScalarValue> TryToPrimitive<'me, i32> for S {
     type Error = CheckError;
 
@@ -97,7 +98,7 @@ impl<'me, S: ScalarValue> TryToPrimitive<'me, i32> for S {
     }
 }
 
-/// The text that the scalar answers, lent.
+/// The text that the scalar answers, lent (3.5.3 String). Takes memory only for the refusal.
 impl<'me, S: ScalarValue> TryToPrimitive<'me, &'me str> for S {
     type Error = CheckError;
 
@@ -119,7 +120,7 @@ impl<'me, S: ScalarValue> TryToPrimitive<'me, &'me str> for S {
     }
 }
 
-/// The text that the scalar answers, as a text of its own.
+/// The text that the scalar answers, as a text of its own (3.5.3 String).
 impl<'me, S: ScalarValue> TryToPrimitive<'me, String> for S {
     type Error = CheckError;
 

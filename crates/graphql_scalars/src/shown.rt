@@ -55,7 +55,7 @@ impl<'a, S: ScalarValue> fmt::Display for Scalar<'a, S> {
         }
         match self.held.try_as_str() {
             Some(text) => write!(f, "\"{text}\""),
-            None => write!(f, ""),
+            None => unreachable!(),
         }
     }
 }

@@ -11,7 +11,7 @@ use graphql_text::Text;
 use std::alloc::{AllocError, Global};
 use std::rc::Rc;
 
-/// A type whose values are scalars (GraphQL October 2021, 3.5 Scalars, "Result Coercion").
+/// A type whose values are scalars (GraphQL October 2021, 3.5 Scalars, result coercion).
 pub trait ToScalarValue<S> {
     /// The scalar of a value.
     ghost scalar: { Self → S };
