@@ -5,9 +5,9 @@ use Rattle.std.specs.Prelude.{codes}
 use Rattle.graphql_text.specs.declared.token.Token.TheVariants as t
 use Rattle.graphql_text.specs.declared.token.ScalarToken.{ScalarToken}
 use Rattle.graphql_text.specs.declared.parse_error.ParseError.{ParseError}
-use Rattle.graphql_language.specs.declared.tree.document.Operation.{Operation}
-use Rattle.graphql_language.specs.declared.tree.document.Definition.{Definition}
-use Rattle.graphql_language.specs.declared.tree.document.Definition.TheVariants as d
+use Rattle.graphql_tree.specs.declared.document.Operation.{Operation}
+use Rattle.graphql_tree.specs.declared.document.Definition.{Definition}
+use Rattle.graphql_tree.specs.declared.document.Definition.TheVariants as d
 use Rattle.graphql_grammar.specs.declared.kind.Kind.TheVariants as k
 use Rattle.graphql_grammar.specs.Kinds.{only, either, no_kind, names}
 use Rattle.graphql_grammar.specs.Input.{At, Input, Located, Fault, Parser, ◌>>=◌, pure}

@@ -6,9 +6,6 @@ pub mod TypeLaws
 pub mod DirectiveLaws
 pub mod SelectionLaws
 pub mod DocumentLaws
-pub mod SelectionEquations
-pub mod SelectionInduction
-pub mod UnlocatedEquations
 pub mod Calls
 pub mod TextLaws
 pub mod KindTests
@@ -16,8 +13,6 @@ pub mod DirectiveParts
 pub mod VariableParts
 pub mod ValueSteps
 pub mod TypeSteps
-pub mod CountEquations
-pub mod ReleaseLemmas
 pub mod Lists
 pub mod LiteralLaws
 pub mod Places

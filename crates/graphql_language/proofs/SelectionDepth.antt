@@ -8,8 +8,8 @@ use Rattle.graphql_grammar.specs.Kinds.{Kinds, only, names, fragment_names}
 use Rattle.graphql_grammar.specs.Input.{Input, Parser, refuse, left}
 use Rattle.graphql_grammar.specs.Steps.{expect, name, name_of, located, all, all_from}
 use Rattle.graphql_grammar.proofs.Recursion.{Uses, Agree, agree_self, agree_fewer, agree_pure, agree_bind, agree_made, agree_located, agree_when, agree_optional, agree_token, agree_some_between, unfolds, uses_fix}
-use Rattle.graphql_language.specs.declared.tree.selection.Selection.{Selection}
-use Rattle.graphql_language.specs.declared.tree.selection.Selection.TheVariants as s
+use Rattle.graphql_tree.specs.declared.selection.Selection.{Selection}
+use Rattle.graphql_tree.specs.declared.selection.Selection.TheVariants as s
 use Rattle.graphql_language.specs.ReadValues.{value}
 use Rattle.graphql_language.specs.ReadDirectives.{some_of, arguments, directive, directives}
 use Rattle.graphql_language.specs.ReadSelections.{field_names, type_condition, fragment_spread, inlines, spreads, selection_of, made_field, selection_set, inline_fragment, spread, field, selection_layer, selection_from, selection}

@@ -3,11 +3,11 @@ use Rattle.std.proofs.Common.{◌≡◌, ℕ, Bool, true, false, if◌then◌els
 use Rattle.graphql_text.specs.declared.position.SourcePosition.{SourcePosition}
 use Rattle.graphql_text.specs.declared.token.ScalarToken.{ScalarToken}
 use Rattle.graphql_text.specs.declared.parse_error.ParseError.{ParseError}
-use Rattle.graphql_language.specs.declared.tree.directive.Arguments.{Arguments}
-use Rattle.graphql_language.specs.declared.tree.directive.Directive.{Directive}
-use Rattle.graphql_language.specs.declared.tree.selection.Field.{Field}
-use Rattle.graphql_language.specs.declared.tree.selection.Selection.{Selection}
-use Rattle.graphql_language.specs.declared.tree.selection.Selection.TheVariants as s
+use Rattle.graphql_tree.specs.declared.directive.Arguments.{Arguments}
+use Rattle.graphql_tree.specs.declared.directive.Directive.{Directive}
+use Rattle.graphql_tree.specs.declared.selection.Field.{Field}
+use Rattle.graphql_tree.specs.declared.selection.Selection.{Selection}
+use Rattle.graphql_tree.specs.declared.selection.Selection.TheVariants as s
 use Rattle.graphql_language.specs.declared.parse.selection.FieldHead.{FieldHead}
 use Rattle.graphql_language.specs.declared.parse.selection.Head.{Head}
 use Rattle.graphql_language.specs.declared.parse.selection.Head.TheVariants as h

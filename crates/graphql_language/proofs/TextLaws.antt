@@ -26,7 +26,7 @@ use Rattle.graphql_grammar.proofs.Stops.{ran_before}
 use Rattle.graphql_grammar.proofs.Choices.{word_is_name}
 use Rattle.graphql_grammar.proofs.Ends.{finished_end}
 use Rattle.graphql_grammar.proofs.FirstFaults.{spelled, first_fault, one_tree}
-use Rattle.graphql_language.specs.declared.tree.document.Definition.{Definition}
+use Rattle.graphql_tree.specs.declared.document.Definition.{Definition}
 use Rattle.graphql_language.specs.ReadDocuments.{definition_kinds, definition, document}
 use Rattle.graphql_language.specs.Documents.{DocumentOf}
 use Rattle.graphql_language.specs.Texts.{IsCut, IsDocument, IsUngrammatical, IsRefused, OnlyDocument, OneDocument, DocumentOrRefused, NotBoth}

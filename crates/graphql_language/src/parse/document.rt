@@ -9,9 +9,9 @@ ghost use Rattle.graphql_language.specs.ReadDefinitions as parts;
 use crate::parse::directive::{directives, located_name};
 use crate::parse::selection::{fragment_name, selection_set, type_condition};
 use crate::parse::variable::variable_definitions;
-use crate::tree::{Definition, Fragment, Operation, OperationType, Selection};
 use graphql_grammar::{Cursor, Fault, Kind, keep};
 use graphql_text::{Items, Spanning, TextRef};
+use graphql_tree::{Definition, Fragment, Operation, OperationType, Selection};
 use graphql_values::ScalarValue;
 use std::alloc::Global;
 

@@ -15,9 +15,9 @@ ghost use Rattle.graphql_language.specs.ReadHeads as heads;
 ghost use Rattle.graphql_language.specs.ReadHeads.{Adds, Begins, completed};
 
 use crate::parse::directive::{arguments, directives, located_name};
-use crate::tree::{Arguments, Directive, Field, FragmentSpread, InlineFragment, Selection};
 use graphql_grammar::{Cursor, Fault, Kind, keep};
 use graphql_text::{Items, SourcePosition, Spanning, TextRef};
+use graphql_tree::{Arguments, Directive, Field, FragmentSpread, InlineFragment, Selection};
 use graphql_values::ScalarValue;
 use std::alloc::{AllocError, Global};
 

@@ -2,7 +2,7 @@ use Rattle.std.proofs.Common.{◌≡◌, List, ◌∷◌, [], ◌++◌, true, fa
 use Rattle.graphql_grammar.specs.Steps.{sees}
 use Rattle.graphql_grammar.proofs.Turns.{sees_kind, all_refused, all_more, all_stopped}
 use Rattle.graphql_grammar.proofs.Parts.{exits_with}
-use Rattle.graphql_language.specs.declared.tree.document.Definition.{Definition}
+use Rattle.graphql_tree.specs.declared.document.Definition.{Definition}
 use Rattle.graphql_language.specs.ReadDocuments.{definition_kinds, definition}
 use Rattle.graphql_language.proofs.DocumentParts.{first_refused, first_read}
 use Rattle.graphql_language.proofs.parse.document.definitions.Goals as goal

@@ -2,7 +2,7 @@ use Rattle.std.proofs.Common.{◌≢◌, List, [], ◌∷◌, ◌++◌, Err, ◌
 use Rattle.graphql_grammar.specs.declared.kind.Kind.TheVariants as k
 use Rattle.graphql_grammar.proofs.Parts.{exits_with}
 use Rattle.graphql_grammar.proofs.Turns.{until_closed, until_more, until_refused, until_ended}
-use Rattle.graphql_language.specs.declared.tree.selection.Selection.{Selection}
+use Rattle.graphql_tree.specs.declared.selection.Selection.{Selection}
 use Rattle.graphql_language.specs.ReadSelections.{selection}
 use Rattle.graphql_language.specs.ReadHeads.{completed}
 use Rattle.graphql_language.proofs.SelectionParts.{adds_exit, begins_some, begins_none, completed_kept}

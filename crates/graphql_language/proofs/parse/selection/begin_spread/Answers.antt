@@ -1,7 +1,7 @@
 use Rattle.std.proofs.Common.{◌≡◌, true, false, sym, ap, ◌∙◌, refl}
 use Rattle.graphql_text.specs.declared.position.SourcePosition.{SourcePosition}
-use Rattle.graphql_language.specs.declared.tree.selection.FragmentSpread.{FragmentSpread}
-use Rattle.graphql_language.specs.declared.tree.selection.Selection.TheVariants as s
+use Rattle.graphql_tree.specs.declared.selection.FragmentSpread.{FragmentSpread}
+use Rattle.graphql_tree.specs.declared.selection.Selection.TheVariants as s
 use Rattle.graphql_grammar.specs.Input.{At, peek}
 use Rattle.graphql_grammar.specs.Kinds.{fragment_names}
 use Rattle.graphql_grammar.specs.Steps.{sees}

@@ -1,31 +1,30 @@
 -- The trees of a document without their places: each part stands at the empty part at the origin, so that two trees are the same here where they differ in places alone.
 use Rattle.std.specs.Prelude.{ℕ, List, Option, map}
 use Rattle.std.specs.Option.{option_map}
-use Rattle.graphql_values.specs.InputValues.{unplaced, unlocated}
-use Rattle.graphql_language.specs.declared.tree.directive.Arguments.{Arguments}
-use Rattle.graphql_language.specs.declared.tree.directive.Directive.{Directive}
-use Rattle.graphql_language.specs.declared.tree.variable.VariableDefinition.{VariableDefinition}
-use Rattle.graphql_language.specs.declared.tree.variable.VariableDefinitions.{VariableDefinitions}
-use Rattle.graphql_language.specs.declared.tree.selection.Field.{Field}
-use Rattle.graphql_language.specs.declared.tree.selection.FragmentSpread.{FragmentSpread}
-use Rattle.graphql_language.specs.declared.tree.selection.InlineFragment.{InlineFragment}
-use Rattle.graphql_language.specs.declared.tree.selection.Selection.{Selection, fold-Selection}
-use Rattle.graphql_language.specs.declared.tree.selection.Selection.TheFolds.{fold-Field, fold-InlineFragment}
-use Rattle.graphql_language.specs.declared.tree.selection.Selection.TheOpen.{Selection-F, Field-F, InlineFragment-F}
-use Rattle.graphql_language.specs.declared.tree.selection.Selection.TheVariants as selection
-use Rattle.graphql_language.specs.declared.tree.document.Operation.{Operation}
-use Rattle.graphql_language.specs.declared.tree.document.Fragment.{Fragment}
-use Rattle.graphql_language.specs.declared.tree.document.Definition.{Definition}
-use Rattle.graphql_language.specs.declared.tree.document.Definition.TheVariants as definition
-use Rattle.graphql_grammar.specs.Input.{At}
-use Rattle.graphql_language.specs.Arguments.{Argument}
-use Rattle.graphql_language.specs.Variables.{Variable}
+use Rattle.graphql_values.specs.InputValues.{Placed, unplaced, unlocated}
+use Rattle.graphql_tree.specs.declared.directive.Arguments.{Arguments}
+use Rattle.graphql_tree.specs.declared.directive.Directive.{Directive}
+use Rattle.graphql_tree.specs.declared.variable.VariableDefinition.{VariableDefinition}
+use Rattle.graphql_tree.specs.declared.variable.VariableDefinitions.{VariableDefinitions}
+use Rattle.graphql_tree.specs.declared.selection.Field.{Field}
+use Rattle.graphql_tree.specs.declared.selection.FragmentSpread.{FragmentSpread}
+use Rattle.graphql_tree.specs.declared.selection.InlineFragment.{InlineFragment}
+use Rattle.graphql_tree.specs.declared.selection.Selection.{Selection, fold-Selection}
+use Rattle.graphql_tree.specs.declared.selection.Selection.TheFolds.{fold-Field, fold-InlineFragment}
+use Rattle.graphql_tree.specs.declared.selection.Selection.TheOpen.{Selection-F, Field-F, InlineFragment-F}
+use Rattle.graphql_tree.specs.declared.selection.Selection.TheVariants as selection
+use Rattle.graphql_tree.specs.declared.document.Operation.{Operation}
+use Rattle.graphql_tree.specs.declared.document.Fragment.{Fragment}
+use Rattle.graphql_tree.specs.declared.document.Definition.{Definition}
+use Rattle.graphql_tree.specs.declared.document.Definition.TheVariants as definition
+use Rattle.graphql_tree.specs.Arguments.{Argument}
+use Rattle.graphql_tree.specs.Variables.{Variable}
 
 -- what a function gives of what stands at a place, at no place
-abbrev pub without_place : {A B : Type 0} → (A → B) → At A → At B
+abbrev pub without_place : {A B : Type 0} → (A → B) → Placed A → Placed B
 without_place f x = unplaced (f x.item)
 
-abbrev pub unlocated_name : At (List ℕ) → At (List ℕ)
+abbrev pub unlocated_name : Placed (List ℕ) → Placed (List ℕ)
 unlocated_name = without_place (λ n. n)
 
 module _ {S : Type 0} where
@@ -40,7 +39,7 @@ module _ {S : Type 0} where
   abbrev pub unlocated_directive : Directive S → Directive S
   unlocated_directive d = record { name = unlocated_name d.name; arguments = option_map (without_place unlocated_arguments) d.arguments }
 
-  abbrev pub unlocated_directives : Option (List (At (Directive S))) → Option (List (At (Directive S)))
+  abbrev pub unlocated_directives : Option (List (Placed (Directive S))) → Option (List (Placed (Directive S)))
   unlocated_directives = option_map (map (without_place unlocated_directive))
 
   -- 2.10 Variables

@@ -1,4 +1,4 @@
-use crate::tree::{
+use crate::{
     Arguments, Definition, Field, Fragment, InlineFragment, Selection, VariableDefinition,
     VariableDefinitions, release_document,
 };

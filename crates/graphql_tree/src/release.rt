@@ -1,10 +1,10 @@
 //! Letting trees go that are nested as deep as a text is long.
 
 ghost use Rattle.std.specs.Prelude.{◌<◌, MatchOption};
-ghost use Rattle.graphql_language.specs.Counts.{selection_count, set_count};
+ghost use Rattle.graphql_tree.specs.Counts.{selection_count, set_count};
 
-use crate::tree::document::{Definition, OwnedDocument};
-use crate::tree::selection::Selection;
+use crate::document::{Definition, OwnedDocument};
+use crate::selection::Selection;
 use graphql_text::{Items, Spanning};
 
 /// Lets a document go, as dropping it does, in a stack that does not grow with the depth of its

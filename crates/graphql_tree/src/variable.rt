@@ -3,9 +3,9 @@
 ghost use Rattle.std.specs.Prelude.{◌≡◌, ◌<◌, ◌^◌, length};
 ghost use Rattle.std.specs.Slice.Iter.{iter_rest, iter_steps};
 ghost use Rattle.std.specs.Iterator.Runs.{EveryRun, ItemsMapTo};
-ghost use Rattle.graphql_language.specs.Variables.{Variable};
+ghost use Rattle.graphql_tree.specs.Variables.{Variable};
 
-use crate::tree::directive::Directive;
+use crate::directive::Directive;
 use graphql_text::{Items, Spanning, TextRef};
 use graphql_values::{DefaultScalarValue, InputValue, Type};
 use std::slice::Iter;

@@ -1,6 +1,6 @@
 //! What an operation or a fragment selects.
 
-use crate::tree::directive::{Arguments, Directive};
+use crate::directive::{Arguments, Directive};
 use graphql_text::{Items, Spanning, TextRef};
 use graphql_values::DefaultScalarValue;
 

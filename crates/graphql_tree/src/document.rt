@@ -1,8 +1,8 @@
 //! Documents and their definitions.
 
-use crate::tree::directive::Directive;
-use crate::tree::selection::Selection;
-use crate::tree::variable::VariableDefinitions;
+use crate::directive::Directive;
+use crate::selection::Selection;
+use crate::variable::VariableDefinitions;
 use graphql_text::{Items, Spanning, TextRef};
 use graphql_values::DefaultScalarValue;
 

@@ -3,14 +3,14 @@ use Rattle.std.proofs.Common.{List, Some, None, map, sym, subst, get_or}
 use Rattle.std.specs.List.{All}
 use Rattle.std.specs.Prelude.{IfSome}
 use Rattle.std.proofs.lemmas.List.Elements.{All-map}
-use Rattle.graphql_language.specs.declared.tree.selection.Field.{Field}
-use Rattle.graphql_language.specs.declared.tree.selection.FragmentSpread.{FragmentSpread}
-use Rattle.graphql_language.specs.declared.tree.selection.InlineFragment.{InlineFragment}
-use Rattle.graphql_language.specs.declared.tree.selection.Selection.{Selection, roll-Selection, ind-Selection, map-Selection}
-use Rattle.graphql_language.specs.declared.tree.selection.Selection.TheFolds.{map-Field}
-use Rattle.graphql_language.specs.declared.tree.selection.Selection.TheOpen.{Selection-F}
-use Rattle.graphql_language.specs.declared.tree.selection.Selection.TheVariants as selection
-use Rattle.graphql_grammar.specs.Input.{At}
+use Rattle.graphql_values.specs.InputValues.{Placed}
+use Rattle.graphql_tree.specs.declared.selection.Field.{Field}
+use Rattle.graphql_tree.specs.declared.selection.FragmentSpread.{FragmentSpread}
+use Rattle.graphql_tree.specs.declared.selection.InlineFragment.{InlineFragment}
+use Rattle.graphql_tree.specs.declared.selection.Selection.{Selection, roll-Selection, ind-Selection, map-Selection}
+use Rattle.graphql_tree.specs.declared.selection.Selection.TheFolds.{map-Field}
+use Rattle.graphql_tree.specs.declared.selection.Selection.TheOpen.{Selection-F}
+use Rattle.graphql_tree.specs.declared.selection.Selection.TheVariants as selection
 
 module _ {S : Type 0} (P : Selection S → Type 0) where
   -- a selection of which it is shown
@@ -30,9 +30,9 @@ module _ {S : Type 0} (P : Selection S → Type 0) where
   set_holds xs = All-map P (λ (e : Shown). e.0) xs (λ k d h. (get_or xs k d).1)
 
   pub selection_ind :
-      ((x : At (Field S)) → HoldsInField x.item → P (selection.Field x))
-      → ((x : At (FragmentSpread S)) → P (selection.FragmentSpread x))
-      → ((x : At (InlineFragment S)) → HoldsInInline x.item → P (selection.InlineFragment x))
+      ((x : Placed (Field S)) → HoldsInField x.item → P (selection.Field x))
+      → ((x : Placed (FragmentSpread S)) → P (selection.FragmentSpread x))
+      → ((x : Placed (InlineFragment S)) → HoldsInInline x.item → P (selection.InlineFragment x))
       → (x : Selection S) → P x
   selection_ind at_field at_spread at_inline = ind-Selection S P HoldsInField HoldsInInline
       (λ x y is. subst (λ z. P (roll-Selection S z)) is (elim y as (λ w. P (roll-Selection S (map-Selection S _ _ _ _ _ _ (λ e. e.0) (λ e. e.0) (λ e. e.0) w))) [

@@ -6,7 +6,7 @@ ghost use Rattle.std.specs.Slice.Iter.{iter_rest, iter_steps};
 ghost use Rattle.std.specs.Iterator.Runs.{EveryRun, ItemsMapTo, ItemsAre};
 ghost use Rattle.std.specs.declared.alloc.Global.{Global};
 ghost use Rattle.std.specs.Vec.Iter.{into_iter_items, into_iter_len, into_iter_steps};
-ghost use Rattle.graphql_language.specs.Arguments.{Argument, value_of};
+ghost use Rattle.graphql_tree.specs.Arguments.{Argument, value_of};
 
 use graphql_text::{Items, Spanning, TextRef};
 use graphql_values::{DefaultScalarValue, InputValue};
