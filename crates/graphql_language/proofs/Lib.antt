@@ -20,4 +20,5 @@ pub mod DocumentPlaces
 pub mod AlikeTexts
 pub mod SelectionLevels
 pub mod SelectionParts
+pub mod OpenSets
 pub mod DocumentParts

@@ -1,5 +1,5 @@
 -- How documents are read (GraphQL October 2021, 2.2 Document, 2.3 Operations, 2.8 Fragments).
-use Rattle.std.specs.Prelude.{ℕ, Bool, true, false, List, [], ◌∷◌, Option, None, Result}
+use Rattle.std.specs.Prelude.{Bool, true, false, List, [], ◌∷◌, None, Result}
 use Rattle.graphql_text.specs.declared.token.Token.{Token}
 use Rattle.graphql_text.specs.declared.token.ScalarToken.{ScalarToken}
 use Rattle.graphql_text.specs.declared.parse_error.ParseError.{ParseError}

@@ -1,5 +1,5 @@
 -- How selections are read (GraphQL October 2021, 2.4 Selection Sets, 2.5 Fields, 2.8 Fragments).
-use Rattle.std.specs.Prelude.{ℕ, zero, suc, Bool, false, List, [], ◌∷◌, Option, Some, None, Result}
+use Rattle.std.specs.Prelude.{ℕ, zero, suc, Bool, false, List, Option, Some, None, Result}
 use Rattle.graphql_text.specs.declared.token.ScalarToken.{ScalarToken}
 use Rattle.graphql_text.specs.declared.parse_error.ParseError.{ParseError}
 use Rattle.graphql_tree.specs.declared.directive.Arguments.{Arguments}

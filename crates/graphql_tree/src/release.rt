@@ -25,8 +25,8 @@ pub fn release_document<S: Drop>(document: OwnedDocument<'_, S>) {
     }
 }
 
-/// Lets selections go one by one, those within them too.
-fn release_selections<S: Drop>(selections: Items<Selection<'_, S>>) {
+/// Lets selections go one by one, those within them too: as `release_document`, of a selection set.
+pub fn release_selections<S: Drop>(selections: Items<Selection<'_, S>>) {
     let mut pending = selections;
     'pending: while let Some(selection) = pending.pop() {
         if let Some(mut within) = into_set(selection) {

@@ -23,6 +23,7 @@ pub(crate) fn located_name<'a>(
 ) -> Result<Spanning<TextRef<'a>>, Fault>
     ensures reads { Reads (located steps.name cursor.old) result cursor.new }
     ensures no_more { left cursor.new ≤ left cursor.old }
+    ensures fewer { OnOk result (left cursor.new < left cursor.old) }
 {
     let start = cursor.start();
     let name = cursor.name(alloc)?;

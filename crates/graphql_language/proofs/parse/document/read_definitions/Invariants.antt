@@ -3,7 +3,7 @@ use Rattle.graphql_grammar.specs.Input.{left}
 use Rattle.graphql_grammar.proofs.Turns.{AllLeft}
 use Rattle.graphql_language.specs.ReadDocuments.{definition_kinds, definition}
 use Rattle.graphql_language.specs.ReadDefinitions.{definitions}
-use Rattle.graphql_language.proofs.parse.document.definitions.Given as goal
+use Rattle.graphql_language.proofs.parse.document.read_definitions.Given as goal
 
 abbrev pub decreases-definitions : goal.decreases-definitions
 decreases-definitions g l = left l.cursor
