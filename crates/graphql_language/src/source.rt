@@ -9,9 +9,9 @@ ghost use Rattle.graphql_language.specs.Texts.{IsDocument, OnlyDocument, IsRefus
 mod tests;
 
 use crate::parse::document;
-use crate::tree::OwnedDocument;
 use graphql_grammar::Cursor;
 use graphql_text::UnlocatedParseResult;
+use graphql_tree::OwnedDocument;
 use graphql_values::ScalarValue;
 use std::alloc::Global;
 

@@ -13,7 +13,7 @@ use crate::refusal::ThinRefusal;
 use crate::request::{Request, request_in, value_of};
 use crate::selection::Selection;
 use crate::table::{ThinRecord, ThinType};
-use graphql_language::Definition;
+use graphql_language::{Definition, release_document};
 use std::alloc::{AllocError, Global};
 
 /// Types, and records of them, over which request lines are answered.
@@ -84,7 +84,9 @@ impl ThinService {
             Ok(document) => document,
             Err(fault) => return self.refused(alloc, ThinRefusal::ParseError(fault)),
         };
-        match self.accepted(alloc, request, document.as_slice())? {
+        let accepted = self.accepted(alloc, request, document.as_slice());
+        release_document(document);
+        match accepted? {
             Some(set) => self.data(alloc, set.as_slice()),
             None => self.refused(alloc, ThinRefusal::NotThin),
         }

@@ -1,6 +1,6 @@
 use super::parse_document_source;
-use crate::tree::{Definition, Operation, OwnedDocument, Selection, release_document};
 use graphql_text::{SourcePosition, Span, Spanning};
+use graphql_tree::{Definition, Operation, OwnedDocument, Selection, release_document};
 use graphql_values::DefaultScalarValue;
 use std::alloc::{AllocError, Global};
 use std::test::Fail;
