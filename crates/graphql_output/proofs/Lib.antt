@@ -1,0 +1,2 @@
+pub mod ValueEquations
+pub mod ValueInduction
