@@ -1,2 +1,3 @@
 pub mod ValueEquations
 pub mod ValueInduction
+pub mod ObjectLemmas

@@ -1,10 +1,16 @@
 //! Objects: fields with their values.
 
-ghost use Rattle.std.specs.Prelude.{◌≡◌, [], IfOk};
+ghost use Rattle.std.specs.Prelude.{◌≡◌, [], IfOk, OnOk, OnErr, length, is_some, position};
+ghost use Rattle.std.specs.Borrow.{sem};
+ghost use Rattle.std.specs.Option.{option_copied, option_copied_mut};
+ghost use Rattle.std.specs.Str.{bytes_eq};
+ghost use Rattle.graphql_output.specs.Lending.{LendsField};
+ghost use Rattle.graphql_output.specs.Objects.{HasDistinctKeys, field_value, with_field};
 
 use crate::value::Value;
 use graphql_items::{Items, Text};
 use std::alloc::{AllocError, Global};
+use std::mem;
 
 /// Fields with their values, in order; no two fields have one key (GraphQL October 2021, 7.2.2
 /// Serialized Map Ordering). The list is private, and each call that makes or changes an object keeps
@@ -25,5 +31,59 @@ impl<S> Object<S> {
         Ok(Object {
             fields: Items::with_capacity(alloc, capacity)?,
         })
+    }
+
+    /// How many fields there are.
+    pub fn field_count(&self) -> usize
+        ensures { result ≡ length self.now.fields }
+    {
+        self.fields.len()
+    }
+
+    /// The place of the field of this key, counted from zero. A scan.
+    fn place_of(&self, key: &str) -> Option<usize>
+        ensures { result ≡ position (λ field. bytes_eq key.now field.0) self.now.fields }
+    {
+        self.fields.iter().position(|field| key == field.0.as_str())
+    }
+
+    /// Whether there is a field of this key. A scan.
+    pub fn contains_field(&self, key: &str) -> bool
+        ensures { result ≡ is_some (field_value self.now.fields key.now) }
+    {
+        self.place_of(key).is_some()
+    }
+
+    /// The value of the field of this key, if there is one. A scan.
+    pub fn get_field_value(&self, key: &str) -> Option<&Value<S>>
+        ensures { option_copied result ≡ field_value self.now.fields key.now }
+    {
+        match self.place_of(key) {
+            Some(place) => Some(&self.fields.as_slice()[place].1),
+            None => None,
+        }
+    }
+
+    /// Puts `value` under `key`. Where a field has the key, it keeps its place, and its old value comes
+    /// back; else the field is the last. An error is want of memory, at a field that is new: the object
+    /// stays.
+    pub fn add_field(&mut self, key: Text, value: Value<S>) -> Result<Option<Value<S>>, AllocError>
+    where
+        S: Drop,
+        ensures old { IfOk result (λ old. old ≡ field_value self.old.fields key) }
+        ensures fields { OnOk result (self.new.fields ≡ with_field self.old.fields key value) }
+        ensures err { OnErr result (self.new ≡ self.old) }
+        ensures distinct { HasDistinctKeys self.old.fields → HasDistinctKeys self.new.fields }
+    {
+        match self.place_of(key.as_str()) {
+            Some(place) => {
+                let field = &mut self.fields[place];
+                Ok(Some(mem::replace(&mut field.1, value)))
+            }
+            None => {
+                self.fields.push((key, value))?;
+                Ok(None)
+            }
+        }
     }
 }

@@ -1,7 +1,10 @@
 //! Values, as an execution answers them.
 
 ghost use Rattle.std.specs.Prelude.{◌≡◌, IsTrue, ◌↔◌, List};
-ghost use Rattle.std.specs.Option.{option_copied};
+ghost use Rattle.std.specs.Borrow.{sem};
+ghost use Rattle.std.specs.Option.{option_copied, option_copied_mut};
+ghost use Rattle.graphql_output.specs.Lending.{LendsObject};
+ghost use Rattle.graphql_output.specs.Values.{Holds};
 ghost use Rattle.graphql_output.specs.declared.value.Value.TheVariants as value;
 
 use crate::object::Object;
@@ -61,6 +64,59 @@ impl<S> Value<S> {
         match self {
             Value::Null => true,
             _ => false,
+        }
+    }
+
+    /// The object that this is, if it is one.
+    pub fn as_object_value(&self) -> Option<&Object<S>>
+        ensures { Holds value.Object self.now (option_copied result) }
+    {
+        match self {
+            Value::Object(object) => Some(object),
+            _ => None,
+        }
+    }
+
+    /// The object that this is, if it is one.
+    pub fn into_object(self) -> Option<Object<S>>
+    where
+        S: Drop,
+        ensures { Holds value.Object self result }
+    {
+        match self {
+            Value::Object(object) => Some(object),
+            _ => None,
+        }
+    }
+
+    /// The object that this is, if it is one, to be written to.
+    pub fn as_mut_object_value(&mut self) -> Option<&mut Object<S>>
+        ensures* writes_back { sem 𝓛 (LendsObject S.row self.entry result) }
+        ensures value { Holds value.Object self.old (option_copied_mut result) }
+    {
+        match self {
+            Value::Object(object) => Some(object),
+            _ => None,
+        }
+    }
+
+    /// The items of the list that this is, if it is one.
+    pub fn as_list_value(&self) -> Option<&[Value<S>]>
+        ensures { Holds value.List self.now (option_copied result) }
+    {
+        match self {
+            Value::List(items) => Some(items.as_slice()),
+            _ => None,
+        }
+    }
+
+    /// The scalar that this is, if it is one.
+    pub fn as_scalar(&self) -> Option<&S>
+        ensures { Holds value.Scalar self.now (option_copied result) }
+    {
+        match self {
+            Value::Scalar(scalar) => Some(scalar),
+            _ => None,
         }
     }
 }
