@@ -1,7 +1,10 @@
 -- Fields by their keys: what a scan finds, and what a field that is put leaves.
 use Rattle.std.proofs.Common.{◌≡◌, ◌<◌, ◌+◌, ◌||◌, ℕ, zero, suc, Bool, true, false, cond, List, [], ◌∷◌, ◌++◌, length, map, get_or, set, Option, Some, None, is_some, sym, ap, subst, refl, ◌∙◌, arith}
 use Rattle.std.specs.List.{IsDistinct, list_any, position, position_from}
-use Rattle.std.specs.Map.{lookup, keys_of}
+use Rattle.std.specs.Map.{lookup, keys_of, set_value}
+use Rattle.std.specs.Option.{option_map}
+use Rattle.std.specs.Prelude.{slice_get}
+use Rattle.graphql_output.specs.Lending.{set_value_at}
 use Rattle.std.specs.Str.{bytes_eq}
 use Rattle.std.specs.Cmp.Lexicographic.{nat_list_eq_equiv}
 use Rattle.std.proofs.lemmas.List.Quantifiers.{position-Some}
@@ -40,6 +43,23 @@ module _ {A : Type 0} where
       behind true rest e = cc
       behind false rest e = ap (λ gs. f ∷ gs) (rest e)
 
+  set_first : (t : List ℕ → Bool) (w : A) (fs : List (Pair A)) (i : ℕ) (d : Pair A) → i < length fs → t (get_or fs i d).0 ≡ true → ((k : ℕ) → k < i → t (get_or fs k d).0 ≡ false) → set_value_at i w fs ≡ set_value t fs w
+  set_first t w [] i d within passes none = refl
+  set_first t w (f ∷ fs) zero d within passes none = sym (ap (λ b. cond b ((f.0, w) ∷ fs) (f ∷ set_value t fs w)) passes)
+  set_first t w (f ∷ fs) (suc i) d within passes none =
+      ap (λ gs. f ∷ gs) (set_first t w fs i d (omega arith) passes (λ k h. none (suc k) (omega arith))) ∙ sym (ap (λ b. cond b ((f.0, w) ∷ fs) (f ∷ set_value t fs w)) (none 0 (omega arith)))
+
+  -- a write of a field's value, and a read of it
+  pub set_at : (fs : List (Pair A)) (i : ℕ) (d : Pair A) (w : A) → i < length fs → set fs i ((get_or fs i d).0, w) ≡ set_value_at i w fs
+  set_at [] i d w within = absurd (omega arith)
+  set_at (f ∷ fs) zero d w within = refl
+  set_at (f ∷ fs) (suc i) d w within = ap (λ gs. f ∷ gs) (set_at fs i d w (omega arith))
+
+  pub read_at : (fs : List (Pair A)) (i : ℕ) (d : Pair A) → i < length fs → option_map (λ f. f.1) (slice_get fs i) ≡ Some (get_or fs i d).1
+  read_at [] i d within = absurd (omega arith)
+  read_at (f ∷ fs) zero d within = refl
+  read_at (f ∷ fs) (suc i) d within = read_at fs i d (omega arith)
+
   -- the same, by the place that a scan gives
   module _ (key : List ℕ) (fs : List (Pair A)) where
     abbrev pub place : Option ℕ
@@ -60,6 +80,14 @@ module _ {A : Type 0} where
     is_there : (d : Pair A) (o : Option ℕ) → place ≡ o → is_some o ≡ is_some (field_value fs key)
     is_there d None e = ap is_some (sym (value_nowhere e))
     is_there d (Some i) e = ap is_some (sym (value_at i d e))
+
+  pub set_placed : (key : List ℕ) (fs : List (Pair A)) (w : A) (i : ℕ) → place key fs ≡ Some i → set_value_at i w fs ≡ set_value (bytes_eq key) fs w
+  set_placed key [] w i e = refl
+  set_placed key (f ∷ fs) w i e = let p = position-Some (λ g. bytes_eq key g.0) (f ∷ fs) i f e in set_first (bytes_eq key) w (f ∷ fs) i f p.0 p.1 p.2
+
+  pub read_placed : (key : List ℕ) (fs : List (Pair A)) (i : ℕ) → place key fs ≡ Some i → field_value fs key ≡ option_map (λ f. f.1) (slice_get fs i)
+  read_placed key [] i e = refl
+  read_placed key (f ∷ fs) i e = value_at key (f ∷ fs) i f e ∙ sym (read_at (f ∷ fs) i f (position-Some (λ g. bytes_eq key g.0) (f ∷ fs) i f e).0)
 
   pub there_if_value : (key : List ℕ) (fs : List (Pair A)) → is_some (position (λ f. bytes_eq key f.0) fs) ≡ is_some (field_value fs key)
   there_if_value key [] = refl

@@ -1,10 +1,10 @@
 //! Objects: fields with their values.
 
-ghost use Rattle.std.specs.Prelude.{◌≡◌, [], IfOk, OnOk, OnErr, length, is_some, position};
+ghost use Rattle.std.specs.Prelude.{◌≡◌, [], IfOk, OnOk, OnErr, length, is_some, position, ◌<◌, slice_get};
 ghost use Rattle.std.specs.Borrow.{sem};
-ghost use Rattle.std.specs.Option.{option_copied, option_copied_mut};
+ghost use Rattle.std.specs.Option.{option_copied, option_copied_mut, option_map};
 ghost use Rattle.std.specs.Str.{bytes_eq};
-ghost use Rattle.graphql_output.specs.Lending.{LendsField};
+ghost use Rattle.graphql_output.specs.Lending.{LendsField, LendsPlace};
 ghost use Rattle.graphql_output.specs.Objects.{HasDistinctKeys, field_value, with_field};
 
 use crate::value::Value;
@@ -84,6 +84,27 @@ impl<S> Object<S> {
                 self.fields.push((key, value))?;
                 Ok(None)
             }
+        }
+    }
+
+    /// The value of the field at this place, to be written to.
+    fn value_mut_at(&mut self, place: usize) -> &mut Value<S>
+        requires { place < length self.old.fields }
+        ensures* writes_back { sem 𝓛 (LendsPlace S.row self.entry place result) }
+        ensures value { option_map (λ field. field.1) (slice_get self.old.fields place) ≡ Some result.now }
+    {
+        let field = &mut self.fields[place];
+        &mut field.1
+    }
+
+    /// The value of the field of this key, if there is one, to be written to. A scan.
+    pub fn get_mut_field_value(&mut self, key: &str) -> Option<&mut Value<S>>
+        ensures* writes_back { sem 𝓛 (LendsField S.row self.entry key.now result) }
+        ensures value { option_copied_mut result ≡ field_value self.old.fields key.now }
+    {
+        match self.place_of(key) {
+            Some(place) => Some(self.value_mut_at(place)),
+            None => None,
         }
     }
 }
