@@ -1,16 +1,21 @@
 //! Objects: fields with their values.
 
-ghost use Rattle.std.specs.Prelude.{◌≡◌, [], IfOk, OnOk, OnErr, length, is_some, position, ◌<◌, slice_get};
+ghost use Rattle.std.specs.Prelude.{◌≡◌, [], IfOk, OnOk, OnErr, length, is_some, position, ◌<◌, ◌^◌, slice_get};
 ghost use Rattle.std.specs.Borrow.{sem};
 ghost use Rattle.std.specs.Option.{option_copied, option_copied_mut, option_map};
 ghost use Rattle.std.specs.Str.{bytes_eq};
+ghost use Rattle.std.specs.Slice.Iter.{iter_rest, iter_steps};
+ghost use Rattle.std.specs.Iterator.Runs.{EveryRun, ItemsMapTo};
 ghost use Rattle.graphql_output.specs.Lending.{LendsField, LendsPlace};
 ghost use Rattle.graphql_output.specs.Objects.{HasDistinctKeys, field_value, with_field};
+
+mod traits;
 
 use crate::value::Value;
 use graphql_items::{Items, Text};
 use std::alloc::{AllocError, Global};
 use std::mem;
+use std::slice::Iter;
 
 /// Fields with their values, in order; no two fields have one key (GraphQL October 2021, 7.2.2
 /// Serialized Map Ordering). The list is private, and each call that makes or changes an object keeps
@@ -106,5 +111,14 @@ impl<S> Object<S> {
             Some(place) => Some(self.value_mut_at(place)),
             None => None,
         }
+    }
+
+    /// The fields in order, each its key and its value.
+    pub fn iter(&self) -> Iter<'_, (Text, Value<S>)>
+        ensures rest { iter_rest result ≡ self.now.fields }
+        ensures bound { length (iter_rest result) < 2 ^ 64 }
+        ensures runs { EveryRun (iter_steps {A = Text × Value S}) (λ p. ItemsMapTo p (λ y. y.now) (iter_rest p.from)) }
+    {
+        self.fields.iter()
     }
 }
