@@ -1,3 +1,4 @@
 pub mod ValueEquations
 pub mod ValueInduction
 pub mod ObjectLemmas
+pub mod TurnedLemmas

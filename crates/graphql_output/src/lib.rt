@@ -2,6 +2,7 @@
 #![tactic(auto)]
 
 mod object;
+mod turned;
 mod value;
 
 pub use graphql_scalars::{DefaultScalarValue, ScalarValue};

@@ -24,7 +24,7 @@ use std::slice::Iter;
 #[cycle(values)]
 #[derive(Debug, Drop)]
 pub struct Object<S> {
-    fields: Items<(Text, Value<S>)>,
+    pub(crate) fields: Items<(Text, Value<S>)>,
 }
 
 impl<S> Object<S> {
