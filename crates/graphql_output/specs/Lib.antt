@@ -1,3 +1,4 @@
 pub mod Objects
 pub mod Values
 pub mod Lending
+pub mod Equality
