@@ -1,0 +1,4 @@
+pub mod Objects
+pub mod Values
+pub mod Lending
+pub mod Equality
