@@ -55,3 +55,10 @@ module _ {S : Type 0} (given : Text → Option (InputValue S)) where
   -- the value with each variable's value in its stead; nothing where a variable has no value
   abbrev pub constant_of : InputValue S → Option (InputValue S)
   constant_of = fold-InputValue S (Option (InputValue S)) constant_layer
+
+  -- the same of the value of a list's item, and of a field
+  abbrev pub constant_item : Placed (InputValue S) → Option (Placed (InputValue S))
+  constant_item x = given_item (record { item = constant_of x.item; span = x.span })
+
+  abbrev pub constant_pair : Pair (InputValue S) → Option (Pair (InputValue S))
+  constant_pair p = option_map (λ x. (p.0, x)) (constant_item p.1)

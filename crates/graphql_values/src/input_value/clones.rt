@@ -16,7 +16,7 @@ impl<S: ScalarValue + Drop> Clone for InputValue<S> {
 }
 
 /// A field of the same name, at the same places, with this value.
-fn field_with<S: Drop>(
+pub(super) fn field_with<S: Drop>(
     pair: &(Spanning<Text>, Spanning<InputValue<S>>),
     item: InputValue<S>,
 ) -> Result<(Spanning<Text>, Spanning<InputValue<S>>), AllocError>
