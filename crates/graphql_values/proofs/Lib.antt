@@ -1,2 +1,3 @@
 pub mod InputValueEquations
 pub mod InputValueInduction
+pub mod ConversionLemmas

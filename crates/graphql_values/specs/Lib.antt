@@ -1,1 +1,5 @@
 pub mod InputValues
+pub mod Conversions
+pub mod ConversionsOfLists
+pub mod ConversionsOfArrays
+pub mod ConversionLaws
