@@ -1,2 +1,6 @@
 pub mod InputValues
 pub mod Variables
+pub mod Conversions
+pub mod ConversionsOfLists
+pub mod ConversionsOfArrays
+pub mod ConversionLaws
