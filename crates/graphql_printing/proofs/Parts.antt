@@ -105,7 +105,7 @@ part_heads before p behind h = record {
 regrouped : (a b c d : List ℕ) → (a ++ (b ++ c)) ++ d ≡ a ++ (b ++ (c ++ d))
 regrouped a b c d = append_assoc a (b ++ c) d ∙ ap (λ l. a ++ l) (append_assoc b c d)
 
-up_to_all : (before : List ℕ) (p : Part) (text : List ℕ) → up_to before p ++ text ≡ before ++ (p.blanks ++ (p.own ++ text))
+pub up_to_all : (before : List ℕ) (p : Part) (text : List ℕ) → up_to before p ++ text ≡ before ++ (p.blanks ++ (p.own ++ text))
 up_to_all before p text = append_assoc (before ++ p.blanks) p.own text ∙ append_assoc before p.blanks (p.own ++ text)
 
 pub parts_divide : (before : List ℕ) (ps : List Part) (behind : List ℕ) → AllFit ps behind → Divides before (text_of ps ++ behind) (tokens_of before ps) (before ++ text_of ps) behind

@@ -1,2 +1,4 @@
 pub mod Parts
 pub mod Laws
+pub mod Shown
+pub mod Writable
