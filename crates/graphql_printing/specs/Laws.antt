@@ -1,9 +1,21 @@
 -- What is written is read back: laws of written texts.
-use Rattle.std.specs.Prelude.{◌≡◌, ℕ, false, List, [], ◌∷◌, ◌++◌}
+use Rattle.std.specs.Prelude.{◌≡◌, ℕ, Bool, false, List, [], ◌∷◌, ◌++◌, Ok, Err}
+use Rattle.std.specs.Str.{chars}
+use Rattle.graphql_text.specs.declared.position.Span.{Span}
 use Rattle.graphql_text.specs.declared.token.Token.{Token}
-use Rattle.graphql_text.specs.Tokens.{is_end}
+use Rattle.graphql_text.specs.Tokens.{Located, is_end}
 use Rattle.graphql_text.specs.Grammar.{Ends}
+use Rattle.graphql_scalars.specs.declared.default_scalar.DefaultScalarValue.{DefaultScalarValue}
+use Rattle.graphql_scalars.specs.declared.default_scalar.DefaultScalarValue.TheVariants as scalar
+use Rattle.graphql_scalars.specs.DefaultScalar.{reads}
+use Rattle.graphql_values.specs.InputValues.{unlocated}
+use Rattle.graphql_grammar.specs.Input.{At, Input, Outcome}
+use Rattle.graphql_grammar.specs.Cursor.{IsStart}
+use Rattle.graphql_grammar.specs.Faults.{Found}
 use Rattle.graphql_language.specs.Texts.{IsCut}
+use Rattle.graphql_language.specs.Values.{ValueOf}
+use Rattle.graphql_printing.specs.Shown.{shown}
+use Rattle.graphql_printing.specs.Writable.{Value, IsWritable}
 use Rattle.graphql_printing.specs.Parts.{Part, AreBlank, IsClosed, text_of, AllFit, tokens_of, end_of}
 
 -- ---- parts (2.1.6 Lexical Tokens)
@@ -15,3 +27,33 @@ PartsAreTokens = (ps : List Part) (blanks : List ℕ) → AreBlank blanks → Al
 -- where what follows is closed each token ends
 abbrev pub ClosedTokensEnd : Type 0
 ClosedTokensEnd = (token : Token) (own behind : List ℕ) → is_end token ≡ false → IsClosed behind → Ends token own behind
+
+-- ---- input values (2.9 Input Values)
+
+-- which tokens spell which value
+abbrev pub Of : Bool → List Located → At Value → Type 0
+Of is_const = ValueOf DefaultScalarValue reads scalar.Boolean is_const
+
+-- the tokens of the text spell this value, places aside, and no other
+pub record SpellsValue (is_const : Bool) (text : List ℕ) (value : Value) : Type 0 where
+  pub tokens : List Located
+  pub finish : Span
+  pub cut : IsCut text tokens finish
+  pub tree : At Value
+  pub spells : Of is_const tokens tree
+  pub same : unlocated tree.item ≡ unlocated value
+  pub only : (other : At Value) → Of is_const tokens other → other ≡ tree
+
+-- what a value is shown as spells it
+abbrev pub ShownSpells : Type 0
+ShownSpells = (is_const : Bool) (value : Value) → IsWritable is_const value → SpellsValue is_const (chars (shown value)) value
+
+-- the value was found, places aside, and nothing is left but the end
+abbrev pub IsReadBack : Value → Outcome (At Value) → Type 0
+IsReadBack value (Ok p) = (unlocated p.0.item ≡ unlocated value) × (p.1.ahead ≡ [])
+IsReadBack value (Err e) = ⊥
+
+-- whatever is found at the start of what a value is shown as is that value
+abbrev pub ShownIsReadBack : Type 0
+ShownIsReadBack =
+    (is_const : Bool) (value : Value) → IsWritable is_const value → (i : Input) → IsStart (chars (shown value)) i → (found : Outcome (At Value)) → Found reads (Of is_const) i found → IsReadBack value found

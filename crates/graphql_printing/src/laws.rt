@@ -1,6 +1,6 @@
 //! Laws of the definitions: each function's contract is a law, and its body does nothing.
 
-ghost use Rattle.graphql_printing.specs.Laws.{PartsAreTokens, ClosedTokensEnd};
+ghost use Rattle.graphql_printing.specs.Laws.{PartsAreTokens, ClosedTokensEnd, ShownSpells, ShownIsReadBack};
 
 /// The tokens of a text that is written in parts, each of blanks and the characters of a token, are
 /// those of its parts (GraphQL October 2021, 2.1.6 Lexical Tokens).
@@ -11,4 +11,17 @@ pub fn parts_are_tokens()
 /// A token ends where no letter, digit, underscore or point follows.
 pub fn closed_tokens_end()
     ensures { ClosedTokensEnd }
+{}
+
+/// The tokens of what an input value is shown as spell that value, places aside, and no other, where
+/// its names are names, its enums none of `true`, `false` and `null`, its integers have 32 bits, and no
+/// quote, backslash or control but a tab is in its texts (GraphQL October 2021, 2.9 Input Values).
+pub fn shown_spells()
+    ensures { ShownSpells }
+{}
+
+/// Whatever is found at the start of what such a value is shown as is that value, places aside, with
+/// nothing left behind it but the end.
+pub fn shown_is_read_back()
+    ensures { ShownIsReadBack }
 {}
