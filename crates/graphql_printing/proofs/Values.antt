@@ -29,45 +29,9 @@ use Rattle.graphql_printing.specs.Parts.{Part, IsClosed, text_of, located, up_to
 use Rattle.graphql_printing.specs.Shown.{shown_layer, shown, separated, followed}
 use Rattle.graphql_printing.specs.Writable.{Value, IsPlain, IsEnum, IsWritable, null, integer, string, boolean, enum, variable, list, object, AreWritable, no_items, more_items, FieldsAreWritable, no_fields, more_fields}
 use Rattle.graphql_printing.proofs.Parts.{closed_tokens_end}
-use Rattle.graphql_printing.proofs.Words.{name_is_ascii, name_spells, integer_is_ascii, integer_spells, integer_reads, quoted, string_spells, string_reads}
+use Rattle.graphql_printing.proofs.Words.{integer_reads, quoted, string_reads}
+use Rattle.graphql_printing.proofs.PrintedWords.{name_word, dollar, bracket_open, bracket_close, curly_open, curly_close, colon, integer_word, string_word}
 use Rattle.graphql_printing.proofs.Printed.{Writes, writes_append, writes_ascii, text_append, tokens_append, IsLead, no_lead, space_lead, comma_lead, IsWord, Printed, printed_as, printed_nil, printed_cons, Closes, printed_append}
-
--- ---- words
-
-pub name_word : (n : List ℕ) → IsName n → IsWord (t.Name n) n n
-name_word n h = record { spells = name_spells n h; goes_on = refl; writes = writes_ascii n (name_is_ascii n h) }
-
-pub mark_word : (token : Token) (c : ℕ) → c < 128 → is_end token ≡ false → Spells token (c ∷ []) → IsWord token (c ∷ []) (c ∷ [])
-mark_word token c small goes_on h = record { spells = h; goes_on = goes_on; writes = writes_ascii (c ∷ []) (IsAscii-cons c [] small IsAscii-nil) }
-
-dollar : IsWord t.Dollar (36 ∷ []) (36 ∷ [])
-dollar = mark_word t.Dollar 36 (omega arith) refl refl
-
-bracket_open : IsWord t.BracketOpen (91 ∷ []) (91 ∷ [])
-bracket_open = mark_word t.BracketOpen 91 (omega arith) refl refl
-
-bracket_close : IsWord t.BracketClose (93 ∷ []) (93 ∷ [])
-bracket_close = mark_word t.BracketClose 93 (omega arith) refl refl
-
-curly_open : IsWord t.CurlyOpen (123 ∷ []) (123 ∷ [])
-curly_open = mark_word t.CurlyOpen 123 (omega arith) refl refl
-
-curly_close : IsWord t.CurlyClose (125 ∷ []) (125 ∷ [])
-curly_close = mark_word t.CurlyClose 125 (omega arith) refl refl
-
-colon : IsWord t.Colon (58 ∷ []) (58 ∷ [])
-colon = mark_word t.Colon 58 (omega arith) refl refl
-
-quote_ascii : IsAscii (34 ∷ [])
-quote_ascii = IsAscii-cons 34 [] (omega arith) IsAscii-nil
-
-string_word : (text : List ℕ) → IsPlain text → IsWord (t.Scalar (s.String text)) (quoted text) (34 ∷ (text ++ 34 ∷ []))
-string_word text h = record {
-  spells = string_spells text h.utf8 h.plain;
-  goes_on = refl;
-  writes = writes_append (34 ∷ []) (chars text ++ 34 ∷ []) (34 ∷ []) (text ++ 34 ∷ []) (writes_ascii (34 ∷ []) quote_ascii)
-      (writes_append (chars text) (34 ∷ []) text (34 ∷ []) (record { utf8 = h.utf8; is = encodes-chars text h.utf8 }) (writes_ascii (34 ∷ []) quote_ascii));
-}
 
 -- ---- names of enums
 
@@ -186,7 +150,7 @@ module _ (is_const : Bool) where
   integer_written : (n : ℤ) → FitsSigned w32 n → (lead : List ℕ) → IsLead lead → Written (v.Scalar (scalar.Int n)) lead
   integer_written n fits lead l =
       one_word (v.Scalar (scalar.Int n)) lead (t.Scalar (s.Int (signed_decimal n))) (signed_decimal n) (signed_decimal n) l
-      (record { spells = integer_spells n fits; goes_on = refl; writes = writes_ascii (signed_decimal n) (integer_is_ascii n fits) })
+      (integer_word n fits)
       (fold_scalar shown_layer (scalar.Int n)) (λ a is. of_scalar a (s.Int (signed_decimal n)) (scalar.Int n) is (integer_reads n fits))
 
   string_written : (text : List ℕ) → IsPlain text → (lead : List ℕ) → IsLead lead → Written (v.Scalar (scalar.String text)) lead

@@ -9,13 +9,17 @@ use Rattle.graphql_scalars.specs.declared.default_scalar.DefaultScalarValue.{Def
 use Rattle.graphql_scalars.specs.declared.default_scalar.DefaultScalarValue.TheVariants as scalar
 use Rattle.graphql_scalars.specs.DefaultScalar.{reads}
 use Rattle.graphql_values.specs.InputValues.{unlocated}
+use Rattle.graphql_types.specs.TypeReference.{written}
 use Rattle.graphql_grammar.specs.Input.{At, Input, Outcome}
 use Rattle.graphql_grammar.specs.Cursor.{IsStart}
-use Rattle.graphql_grammar.specs.Faults.{Found}
+use Rattle.graphql_grammar.specs.Faults.{Found, Sought}
 use Rattle.graphql_language.specs.Texts.{IsCut}
 use Rattle.graphql_language.specs.Values.{ValueOf}
+use Rattle.graphql_language.specs.ReadTypes.{TypeRef}
+use Rattle.graphql_language.specs.Types.{TypeOf, no_scalar}
 use Rattle.graphql_printing.specs.Shown.{shown}
 use Rattle.graphql_printing.specs.Writable.{Value, IsWritable}
+use Rattle.graphql_printing.specs.WritableTypes.{IsWritableType}
 use Rattle.graphql_printing.specs.Parts.{Part, AreBlank, IsClosed, text_of, AllFit, tokens_of, end_of}
 
 -- ---- parts (2.1.6 Lexical Tokens)
@@ -57,3 +61,28 @@ IsReadBack value (Err e) = ⊥
 abbrev pub ShownIsReadBack : Type 0
 ShownIsReadBack =
     (is_const : Bool) (value : Value) → IsWritable is_const value → (i : Input) → IsStart (chars (shown value)) i → (found : Outcome (At Value)) → Found reads (Of is_const) i found → IsReadBack value found
+
+-- ---- type references (2.11 Type References)
+
+-- the tokens of the text spell this type, and no other
+pub record SpellsType (text : List ℕ) (t : TypeRef) : Type 0 where
+  pub tokens : List Located
+  pub finish : Span
+  pub cut : IsCut text tokens finish
+  pub span : Span
+  pub spells : TypeOf tokens (record { item = t; span = span })
+  pub only : (other : At TypeRef) → TypeOf tokens other → other.item ≡ t
+
+-- what a type is displayed as spells it
+abbrev pub WrittenSpells : Type 0
+WrittenSpells = (t : TypeRef) → IsWritableType t → SpellsType (chars (written t.name t.modifiers)) t
+
+-- the type was found, and nothing is left but the end
+abbrev pub IsTypeReadBack : TypeRef → Outcome (At TypeRef) → Type 0
+IsTypeReadBack t (Ok p) = (p.0.item ≡ t) × (p.1.ahead ≡ [])
+IsTypeReadBack t (Err e) = ⊥
+
+-- the longest type that is found at the start of what a type is displayed as is that type
+abbrev pub WrittenIsReadBack : Type 0
+WrittenIsReadBack =
+    (t : TypeRef) → IsWritableType t → (i : Input) → IsStart (chars (written t.name t.modifiers)) i → (found : Outcome (At TypeRef)) → Sought no_scalar TypeOf i found → IsTypeReadBack t found

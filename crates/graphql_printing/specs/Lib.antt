@@ -2,3 +2,4 @@ pub mod Parts
 pub mod Laws
 pub mod Shown
 pub mod Writable
+pub mod WritableTypes

@@ -1,6 +1,6 @@
 //! Laws of the definitions: each function's contract is a law, and its body does nothing.
 
-ghost use Rattle.graphql_printing.specs.Laws.{PartsAreTokens, ClosedTokensEnd, ShownSpells, ShownIsReadBack};
+ghost use Rattle.graphql_printing.specs.Laws.{PartsAreTokens, ClosedTokensEnd, ShownSpells, ShownIsReadBack, WrittenSpells, WrittenIsReadBack};
 
 /// The tokens of a text that is written in parts, each of blanks and the characters of a token, are
 /// those of its parts (GraphQL October 2021, 2.1.6 Lexical Tokens).
@@ -24,4 +24,17 @@ pub fn shown_spells()
 /// nothing left behind it but the end.
 pub fn shown_is_read_back()
     ensures { ShownIsReadBack }
+{}
+
+/// The tokens of what a type is displayed as spell that type, and no other, where its name is a name,
+/// no `!` stands behind another one, and no length of a list is expected (GraphQL October 2021, 2.11
+/// Type References).
+pub fn written_spells()
+    ensures { WrittenSpells }
+{}
+
+/// The longest type that is found at the start of what such a type is displayed as is that type, with
+/// nothing left behind it but the end.
+pub fn written_is_read_back()
+    ensures { WrittenIsReadBack }
 {}
