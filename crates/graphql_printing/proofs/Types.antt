@@ -1,7 +1,8 @@
 -- What a type is displayed as spells it.
-use Rattle.std.proofs.Common.{◌≡◌, ℕ, ◌≤◌, ◌<◌, Bool, true, false, Some, None, List, [], ◌∷◌, ◌++◌, length, Ok, Err, refl, sym, subst, ap, ◌∙◌, arith, append_assoc, append-nil}
+use Rattle.std.proofs.Common.{◌≡◌, ℕ, ◌≤◌, ◌<◌, Bool, true, false, Some, None, List, [], ◌∷◌, ◌++◌, length, Result, Ok, Err, refl, sym, subst, ap, ◌∙◌, arith, append_assoc, append-nil}
 use Rattle.std.specs.Str.{chars}
 use Rattle.std.proofs.lemmas.List.{nil_from_length}
+use Rattle.std.proofs.lemmas.Option.{MatchOption-at_none}
 use Rattle.graphql_text.specs.declared.position.Span.{Span}
 use Rattle.graphql_text.specs.declared.token.Token.{Token}
 use Rattle.graphql_text.specs.declared.token.Token.TheVariants as t
@@ -10,22 +11,24 @@ use Rattle.graphql_text.specs.Grammar.{IsName, Ends}
 use Rattle.graphql_types.specs.declared.type_modifier.TypeModifier.{TypeModifier}
 use Rattle.graphql_types.specs.declared.type_modifier.TypeModifier.TheVariants as m
 use Rattle.graphql_types.specs.TypeReference.{written}
-use Rattle.graphql_grammar.specs.Input.{At, Input}
+use Rattle.graphql_grammar.specs.Input.{At, Input, Fault}
 use Rattle.graphql_grammar.specs.Ahead.{mk}
+use Rattle.graphql_grammar.specs.Cursor.{IsStart}
 use Rattle.graphql_grammar.specs.Relations.{end_of, span_of}
-use Rattle.graphql_grammar.specs.Faults.{BadScalar, GoodScalar, Spelled}
+use Rattle.graphql_grammar.specs.Faults.{BadScalar, GoodScalar, Spelled, Sought}
 use Rattle.graphql_grammar.proofs.FirstFaults.{one_tree}
+use Rattle.graphql_language.specs.Parser.{State, Gives, Again}
 use Rattle.graphql_language.specs.Texts.{IsCut}
 use Rattle.graphql_language.specs.ReadTypes.{TypeRef, type_ref}
 use Rattle.graphql_language.specs.Types.{NullableOf, of_name, of_list, TypeOf, of_nullable, of_non_null, no_scalar}
 use Rattle.graphql_language.proofs.TypeLaws.{law_type}
 use Rattle.graphql_printing.specs.Parts.{Part, IsClosed, text_of, located, up_to, tokens_of, end_of as place_of_end}
 use Rattle.graphql_printing.specs.WritableTypes.{CanWrap, IsWritableType}
-use Rattle.graphql_printing.specs.Laws.{SpellsType, WrittenSpells, WrittenIsReadBack}
+use Rattle.graphql_printing.specs.Laws.{SpellsType, WrittenSpells, WrittenIsFound, GivesTypeBack, WrittenIsReadBack}
 use Rattle.graphql_printing.proofs.Parts.{parts_are_tokens, closed_tokens_end}
 use Rattle.graphql_printing.proofs.Printed.{tokens_append, no_lead, IsWord, written_chars, Printed, printed_as, printed_nil, printed_cons, printed_append}
 use Rattle.graphql_printing.proofs.PrintedWords.{name_word, bracket_open, bracket_close, exclamation_mark}
-use Rattle.graphql_printing.proofs.ReadBack.{no_fault, start_tokens}
+use Rattle.graphql_printing.proofs.ReadBack.{no_fault, start_tokens, fails_by_memory}
 
 -- a name with wraps
 abbrev wrapped_in : List ℕ → List TypeModifier → TypeRef
@@ -123,8 +126,8 @@ written_spells x h =
           (one_tree no_scalar TypeOf type_ref (law_type (BadScalar no_scalar) (GoodScalar no_scalar)) refl (tokens_of [] parts) other (record { item = x; span = tree.0 }) d spells);
     }
 
-pub written_is_read_back : WrittenIsReadBack
-written_is_read_back x h i start (Ok (y, j)) (spelled, longest) =
+pub written_is_found : WrittenIsFound
+written_is_found x h i start (Ok (y, j)) (spelled, longest) =
     let s = written_spells x h in
     let ahead = start_tokens (chars (written x.name x.modifiers)) s.tokens s.finish i s.cut start in
     let tree : At TypeRef = record { item = x; span = s.span } in
@@ -133,8 +136,16 @@ written_is_read_back x h i start (Ok (y, j)) (spelled, longest) =
     let most : length j.ahead ≤ 0 = longest.most tree (mk [] i.finish (end_of i.end i.ahead)) whole in
     let none : j.ahead ≡ [] = nil_from_length j.ahead (omega arith) in
     (ap (λ (z : At TypeRef). z.item) (sym (longest.same tree (mk [] i.finish (end_of i.end i.ahead)) whole (omega arith))), none)
-written_is_read_back x h i start (Err e) fault =
+written_is_found x h i start (Err e) fault =
     let s = written_spells x h in
     let ahead = start_tokens (chars (written x.name x.modifiers)) s.tokens s.finish i s.cut start in
     let tree : At TypeRef = record { item = x; span = s.span } in
     no_fault no_scalar TypeOf i tree e (subst (λ ts. TypeOf ts tree) (sym ahead) s.spells) fault
+
+given_back : (x : TypeRef) → IsWritableType x → (i : Input) (new : State) (r : Result (At TypeRef) Fault) → IsStart (chars (written x.name x.modifiers)) i → Gives (Sought no_scalar TypeOf) i r new → GivesTypeBack x r new
+given_back x h i new (Ok y) start gives = written_is_found x h i start (Ok (y, new.input)) gives.0
+given_back x h i new (Err f) start fails = fails_by_memory (Sought no_scalar TypeOf) i f new (λ e found. written_is_found x h i start (Err e) found) fails
+
+pub written_is_read_back : WrittenIsReadBack
+written_is_read_back x h old new r start fresh calls =
+    given_back x h old.input new r start (MatchOption-at_none (Gives (Sought no_scalar TypeOf) old.input r new) (λ e. Again e r × (new ≡ old)) fresh calls)

@@ -1,8 +1,9 @@
 -- What is written is read back: laws of written texts.
-use Rattle.std.specs.Prelude.{◌≡◌, ℕ, Bool, false, List, [], ◌∷◌, ◌++◌, Ok, Err}
+use Rattle.std.specs.Prelude.{◌≡◌, ℕ, Bool, false, List, [], ◌∷◌, ◌++◌, None, Result, Ok, Err}
 use Rattle.std.specs.Str.{chars}
 use Rattle.graphql_text.specs.declared.position.Span.{Span}
 use Rattle.graphql_text.specs.declared.token.Token.{Token}
+use Rattle.graphql_text.specs.declared.parse_error.ParseError.TheVariants.{Memory}
 use Rattle.graphql_text.specs.Tokens.{Located, is_end}
 use Rattle.graphql_text.specs.Grammar.{Ends}
 use Rattle.graphql_scalars.specs.declared.default_scalar.DefaultScalarValue.{DefaultScalarValue}
@@ -10,9 +11,10 @@ use Rattle.graphql_scalars.specs.declared.default_scalar.DefaultScalarValue.TheV
 use Rattle.graphql_scalars.specs.DefaultScalar.{reads}
 use Rattle.graphql_values.specs.InputValues.{unlocated}
 use Rattle.graphql_types.specs.TypeReference.{written}
-use Rattle.graphql_grammar.specs.Input.{At, Input, Outcome}
+use Rattle.graphql_grammar.specs.Input.{At, Input, Fault, Outcome}
 use Rattle.graphql_grammar.specs.Cursor.{IsStart}
 use Rattle.graphql_grammar.specs.Faults.{Found, Sought}
+use Rattle.graphql_language.specs.Parser.{State, Calls}
 use Rattle.graphql_language.specs.Texts.{IsCut}
 use Rattle.graphql_language.specs.Values.{ValueOf}
 use Rattle.graphql_language.specs.ReadTypes.{TypeRef}
@@ -53,14 +55,25 @@ abbrev pub ShownSpells : Type 0
 ShownSpells = (is_const : Bool) (value : Value) → IsWritable is_const value → SpellsValue is_const (chars (shown value)) value
 
 -- the value was found, places aside, and nothing is left but the end
-abbrev pub IsReadBack : Value → Outcome (At Value) → Type 0
-IsReadBack value (Ok p) = (unlocated p.0.item ≡ unlocated value) × (p.1.ahead ≡ [])
-IsReadBack value (Err e) = ⊥
+abbrev pub IsFound : Value → Outcome (At Value) → Type 0
+IsFound value (Ok p) = (unlocated p.0.item ≡ unlocated value) × (p.1.ahead ≡ [])
+IsFound value (Err e) = ⊥
 
 -- whatever is found at the start of what a value is shown as is that value
+abbrev pub ShownIsFound : Type 0
+ShownIsFound =
+    (is_const : Bool) (value : Value) → IsWritable is_const value → (i : Input) → IsStart (chars (shown value)) i → (found : Outcome (At Value)) → Found reads (Of is_const) i found → IsFound value found
+
+-- a parser gives the value, places aside, and stands at the end; else memory ran out
+abbrev pub GivesBack : Value → Result (At Value) Fault → State → Type 0
+GivesBack value (Ok x) new = (unlocated x.item ≡ unlocated value) × (new.input.ahead ≡ [])
+GivesBack value (Err e) new = e.item ≡ Memory
+
+-- a parser at the start of what a value is shown as reads that value
 abbrev pub ShownIsReadBack : Type 0
 ShownIsReadBack =
-    (is_const : Bool) (value : Value) → IsWritable is_const value → (i : Input) → IsStart (chars (shown value)) i → (found : Outcome (At Value)) → Found reads (Of is_const) i found → IsReadBack value found
+    (is_const : Bool) (value : Value) → IsWritable is_const value → (old new : State) (result : Result (At Value) Fault) → IsStart (chars (shown value)) old.input → old.refused ≡ None
+    → Calls (Found reads (Of is_const)) old result new → GivesBack value result new
 
 -- ---- type references (2.11 Type References)
 
@@ -78,11 +91,22 @@ abbrev pub WrittenSpells : Type 0
 WrittenSpells = (t : TypeRef) → IsWritableType t → SpellsType (chars (written t.name t.modifiers)) t
 
 -- the type was found, and nothing is left but the end
-abbrev pub IsTypeReadBack : TypeRef → Outcome (At TypeRef) → Type 0
-IsTypeReadBack t (Ok p) = (p.0.item ≡ t) × (p.1.ahead ≡ [])
-IsTypeReadBack t (Err e) = ⊥
+abbrev pub IsTypeFound : TypeRef → Outcome (At TypeRef) → Type 0
+IsTypeFound t (Ok p) = (p.0.item ≡ t) × (p.1.ahead ≡ [])
+IsTypeFound t (Err e) = ⊥
 
 -- the longest type that is found at the start of what a type is displayed as is that type
+abbrev pub WrittenIsFound : Type 0
+WrittenIsFound =
+    (t : TypeRef) → IsWritableType t → (i : Input) → IsStart (chars (written t.name t.modifiers)) i → (found : Outcome (At TypeRef)) → Sought no_scalar TypeOf i found → IsTypeFound t found
+
+-- a parser gives the type and stands at the end; else memory ran out
+abbrev pub GivesTypeBack : TypeRef → Result (At TypeRef) Fault → State → Type 0
+GivesTypeBack t (Ok x) new = (x.item ≡ t) × (new.input.ahead ≡ [])
+GivesTypeBack t (Err e) new = e.item ≡ Memory
+
+-- a parser at the start of what a type is displayed as reads that type
 abbrev pub WrittenIsReadBack : Type 0
 WrittenIsReadBack =
-    (t : TypeRef) → IsWritableType t → (i : Input) → IsStart (chars (written t.name t.modifiers)) i → (found : Outcome (At TypeRef)) → Sought no_scalar TypeOf i found → IsTypeReadBack t found
+    (t : TypeRef) → IsWritableType t → (old new : State) (result : Result (At TypeRef) Fault) → IsStart (chars (written t.name t.modifiers)) old.input → old.refused ≡ None
+    → Calls (Sought no_scalar TypeOf) old result new → GivesTypeBack t result new

@@ -1,6 +1,6 @@
 //! Laws of the definitions: each function's contract is a law, and its body does nothing.
 
-ghost use Rattle.graphql_printing.specs.Laws.{PartsAreTokens, ClosedTokensEnd, ShownSpells, ShownIsReadBack, WrittenSpells, WrittenIsReadBack};
+ghost use Rattle.graphql_printing.specs.Laws.{PartsAreTokens, ClosedTokensEnd, ShownSpells, ShownIsFound, ShownIsReadBack, WrittenSpells, WrittenIsFound, WrittenIsReadBack};
 
 /// The tokens of a text that is written in parts, each of blanks and the characters of a token, are
 /// those of its parts (GraphQL October 2021, 2.1.6 Lexical Tokens).
@@ -22,6 +22,12 @@ pub fn shown_spells()
 
 /// Whatever is found at the start of what such a value is shown as is that value, places aside, with
 /// nothing left behind it but the end.
+pub fn shown_is_found()
+    ensures { ShownIsFound }
+{}
+
+/// What `parse_value_literal` ensures at the start of what such a value is shown as: it gives that
+/// value, places aside, and leaves nothing but the end. Its only error is want of memory.
 pub fn shown_is_read_back()
     ensures { ShownIsReadBack }
 {}
@@ -35,6 +41,12 @@ pub fn written_spells()
 
 /// The longest type that is found at the start of what such a type is displayed as is that type, with
 /// nothing left behind it but the end.
+pub fn written_is_found()
+    ensures { WrittenIsFound }
+{}
+
+/// What `parse_type` ensures at the start of what such a type is displayed as: it gives that type and
+/// leaves nothing but the end. Its only error is want of memory.
 pub fn written_is_read_back()
     ensures { WrittenIsReadBack }
 {}
