@@ -1,15 +1,14 @@
 -- A text in parts is divided into the tokens of its parts.
 use Rattle.std.proofs.Common.{◌≡◌, ℕ, Bool, true, false, ◌==◌, ◌||◌, List, [], ◌∷◌, ◌++◌, inl, inr, refl, sym, subst, ap, ◌∙◌, arith, append_assoc, append-nil}
-use Rattle.std.specs.Char.{is_ascii_alphabetic, is_ascii_alphanumeric, is_ascii_digit}
+use Rattle.std.specs.Char.{is_ascii_alphabetic, is_ascii_digit}
 use Rattle.std.proofs.lemmas.Bool.Decides.{nat_tests}
 use Rattle.graphql_text.specs.declared.token.Token.{Token}
 use Rattle.graphql_text.specs.declared.token.Token.TheVariants as t
 use Rattle.graphql_text.specs.declared.token.ScalarToken.TheVariants as s
-use Rattle.graphql_text.specs.Position.{position_of}
 use Rattle.graphql_types.specs.Names.{continues_name}
-use Rattle.graphql_text.specs.Tokens.{Located, is_end}
-use Rattle.graphql_text.specs.Grammar.{Each, NextIsNot, IsWhole, IsInteger, Spells, Ends, Ignored, blank, gap_of, AreIgnored, IsGap, Heads, Divides, IsDivided}
-use Rattle.graphql_printing.specs.Parts.{Part, is_blank, AreBlank, IsClosed, text_of, Fits, AllFit, up_to, located, tokens_of, end_of}
+use Rattle.graphql_text.specs.Tokens.{is_end}
+use Rattle.graphql_text.specs.Grammar.{NextIsNot, IsWhole, IsInteger, Spells, Ignored, blank, gap_of, AreIgnored, IsGap, Heads, Divides}
+use Rattle.graphql_printing.specs.Parts.{Part, is_blank, AreBlank, text_of, Fits, AllFit, up_to, located, tokens_of, end_of}
 use Rattle.graphql_printing.specs.Laws.{PartsAreTokens, ClosedTokensEnd}
 
 -- ---- what a token begins with is not blank, and begins no comment

@@ -1,11 +1,11 @@
 -- Texts that are printed in parts, one behind another.
-use Rattle.std.proofs.Common.{◌≡◌, ◌<◌, ℕ, false, List, [], ◌∷◌, ◌++◌, refl, sym, subst, ap, ◌∙◌, arith, append_assoc, append-nil}
+use Rattle.std.proofs.Common.{◌≡◌, ℕ, false, List, [], ◌∷◌, ◌++◌, refl, sym, subst, ap, ◌∙◌, arith, append_assoc, append-nil}
 use Rattle.std.specs.Prelude.{encode_utf8_all}
 use Rattle.std.specs.Str.{chars, IsUtf8, IsAscii}
 use Rattle.std.proofs.lemmas.Str.{encodes-append, encodes-IsAscii, IsUtf8-append, IsUtf8-from_ascii, chars_from_encodes}
 use Rattle.std.proofs.lemmas.Str.Ascii.{IsAscii-cons, IsAscii-nil}
 use Rattle.graphql_text.specs.declared.token.Token.{Token}
-use Rattle.graphql_text.specs.Tokens.{Located, is_end}
+use Rattle.graphql_text.specs.Tokens.{is_end}
 use Rattle.graphql_text.specs.Grammar.{Spells, Ends}
 use Rattle.graphql_printing.specs.Parts.{Part, AreBlank, IsClosed, text_of, Fits, AllFit, up_to, located, tokens_of}
 use Rattle.graphql_printing.proofs.Parts.{up_to_all}

@@ -1,5 +1,5 @@
 -- What is found at the start of a text whose tokens spell a tree is that tree, with nothing left behind it.
-use Rattle.std.proofs.Common.{◌≡◌, ◌≢◌, ℕ, suc, ◌<◌, Bool, true, false, None, List, [], ◌∷◌, ◌++◌, length, Result, Ok, Err, ap, ◌∙◌, sym, refl, subst, append_assoc, arith}
+use Rattle.std.proofs.Common.{◌≡◌, ◌≢◌, ℕ, suc, Bool, List, [], ◌∷◌, ◌++◌, length, Result, Ok, Err, ap, ◌∙◌, sym, refl, subst, append_assoc, arith}
 use Rattle.std.specs.Str.{chars}
 use Rattle.std.proofs.lemmas.List.{append-nil, same_from_push}
 use Rattle.std.proofs.lemmas.Option.{MatchOption-at_none}
@@ -9,16 +9,14 @@ use Rattle.graphql_text.specs.declared.parse_error.ParseError.{ParseError}
 use Rattle.graphql_text.specs.declared.parse_error.ParseError.TheVariants.{UnexpectedToken, UnexpectedEndOfFile, LexerError, ExpectedScalarError, Memory}
 use Rattle.graphql_text.specs.Tokens.{Located}
 use Rattle.graphql_text.proofs.GrammarLaws as lexical
-use Rattle.graphql_scalars.specs.declared.default_scalar.DefaultScalarValue.{DefaultScalarValue}
 use Rattle.graphql_scalars.specs.declared.default_scalar.DefaultScalarValue.TheVariants as scalar
 use Rattle.graphql_scalars.specs.DefaultScalar.{reads}
 use Rattle.graphql_values.specs.InputValues.{unlocated}
-use Rattle.graphql_grammar.specs.Input.{At, Input, Fault, Parser, Outcome}
-use Rattle.graphql_grammar.specs.Ahead.{mk, Free}
-use Rattle.graphql_grammar.specs.Kinds.{Kinds}
+use Rattle.graphql_grammar.specs.Input.{At, Input, Fault, Outcome}
+use Rattle.graphql_grammar.specs.Ahead.{mk}
 use Rattle.graphql_grammar.specs.Relations.{end_of}
 use Rattle.graphql_grammar.specs.Cursor.{IsStart}
-use Rattle.graphql_grammar.specs.Faults.{Begins, BadScalar, GoodScalar, FirstFault, Spelled, OnlyTree, Found}
+use Rattle.graphql_grammar.specs.Faults.{Begins, FirstFault, Found}
 use Rattle.graphql_grammar.proofs.FirstFaults.{one_tree}
 use Rattle.graphql_language.specs.Parser.{State, Rule, Fails, Gives, Again}
 use Rattle.graphql_language.specs.Texts.{IsCut}
@@ -27,7 +25,7 @@ use Rattle.graphql_language.proofs.ValueLaws.{law_value}
 use Rattle.graphql_printing.specs.Parts.{tokens_of, end_of as place_of_end, text_of}
 use Rattle.graphql_printing.specs.Shown.{shown}
 use Rattle.graphql_printing.specs.Writable.{Value, IsWritable}
-use Rattle.graphql_printing.specs.Laws.{Of, SpellsValue, ShownSpells, IsFound, ShownIsFound, GivesBack, ShownIsReadBack}
+use Rattle.graphql_printing.specs.Laws.{Of, ShownSpells, ShownIsFound, GivesBack, ShownIsReadBack}
 use Rattle.graphql_printing.proofs.Parts.{parts_are_tokens}
 use Rattle.graphql_printing.proofs.Printed.{no_lead, written_chars}
 use Rattle.graphql_printing.proofs.Values.{written}

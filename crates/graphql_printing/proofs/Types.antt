@@ -1,5 +1,5 @@
 -- What a type is displayed as spells it.
-use Rattle.std.proofs.Common.{◌≡◌, ℕ, ◌≤◌, ◌<◌, Bool, true, false, Some, None, List, [], ◌∷◌, ◌++◌, length, Result, Ok, Err, refl, sym, subst, ap, ◌∙◌, arith, append_assoc, append-nil}
+use Rattle.std.proofs.Common.{◌≡◌, ℕ, ◌≤◌, Bool, true, false, Some, None, List, [], ◌∷◌, ◌++◌, length, Result, Ok, Err, refl, sym, subst, ap, ◌∙◌, arith, append_assoc, append-nil}
 use Rattle.std.specs.Str.{chars}
 use Rattle.std.proofs.lemmas.List.{nil_from_length}
 use Rattle.std.proofs.lemmas.Option.{MatchOption-at_none}
@@ -24,7 +24,7 @@ use Rattle.graphql_language.specs.Types.{NullableOf, of_name, of_list, TypeOf, o
 use Rattle.graphql_language.proofs.TypeLaws.{law_type}
 use Rattle.graphql_printing.specs.Parts.{Part, IsClosed, text_of, located, up_to, tokens_of, end_of as place_of_end}
 use Rattle.graphql_printing.specs.WritableTypes.{CanWrap, IsWritableType}
-use Rattle.graphql_printing.specs.Laws.{SpellsType, WrittenSpells, WrittenIsFound, GivesTypeBack, WrittenIsReadBack}
+use Rattle.graphql_printing.specs.Laws.{WrittenSpells, WrittenIsFound, GivesTypeBack, WrittenIsReadBack}
 use Rattle.graphql_printing.proofs.Parts.{parts_are_tokens, closed_tokens_end}
 use Rattle.graphql_printing.proofs.Printed.{tokens_append, no_lead, IsWord, written_chars, Printed, printed_as, printed_nil, printed_cons, printed_append}
 use Rattle.graphql_printing.proofs.PrintedWords.{name_word, bracket_open, bracket_close, exclamation_mark}

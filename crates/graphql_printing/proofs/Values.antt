@@ -1,37 +1,34 @@
 -- What an input value is shown as spells the same value, places aside.
-use Rattle.std.proofs.Common.{◌≡◌, ◌≢◌, ◌<◌, ℕ, Bool, true, false, if◌then◌else◌, List, [], ◌∷◌, ◌++◌, map, refl, sym, subst, ap, ◌∙◌, arith, append_assoc, append-nil}
+use Rattle.std.proofs.Common.{◌≡◌, ◌≢◌, ℕ, Bool, true, false, if◌then◌else◌, List, [], ◌∷◌, ◌++◌, map, refl, sym, subst, ap, ◌∙◌, append_assoc, append-nil}
 use Rattle.std.specs.Prelude.{codes, ℤ, FitsSigned}
 use mir.Syntax.{w32}
 use Rattle.std.specs.Fmt.{signed_decimal}
-use Rattle.std.specs.Str.{chars, bytes_eq, IsAscii}
-use Rattle.std.proofs.lemmas.Simd.{map-map}
+use Rattle.std.specs.Str.{bytes_eq}
 use Rattle.std.proofs.lemmas.Slice.Eq.{bytes_eq-Decides}
-use Rattle.std.proofs.lemmas.Str.{encodes-chars, IsUtf8-append}
-use Rattle.std.proofs.lemmas.Str.Ascii.{IsAscii-cons, IsAscii-nil}
 use Rattle.graphql_text.specs.declared.token.Token.{Token}
 use Rattle.graphql_text.specs.declared.token.Token.TheVariants as t
 use Rattle.graphql_text.specs.declared.token.ScalarToken.TheVariants as s
-use Rattle.graphql_text.specs.Tokens.{Located, is_end}
-use Rattle.graphql_text.specs.Grammar.{IsName, Spells}
+use Rattle.graphql_text.specs.Tokens.{Located}
+use Rattle.graphql_text.specs.Grammar.{IsName}
 use Rattle.graphql_scalars.specs.declared.default_scalar.DefaultScalarValue.{DefaultScalarValue}
 use Rattle.graphql_scalars.specs.declared.default_scalar.DefaultScalarValue.TheVariants as scalar
 use Rattle.graphql_scalars.specs.DefaultScalar.{reads}
-use Rattle.graphql_values.specs.declared.input_value.InputValue.{InputValue}
 use Rattle.graphql_values.specs.declared.input_value.InputValue.TheVariants as v
 use Rattle.graphql_values.specs.InputValues.{Placed, Pair, unplaced, unplaced_pair, unlocated}
-use Rattle.graphql_values.proofs.InputValueEquations.{on_item, on_value, fold_null, fold_scalar, fold_enum, fold_variable, fold_list, fold_object, unlocated_list, unlocated_object}
+use Rattle.graphql_values.proofs.InputValueEquations.{unlocated_list, unlocated_object}
 use Rattle.graphql_grammar.specs.declared.kind.Kind.TheVariants as k
 use Rattle.graphql_grammar.specs.Kinds.{kind, word_kind, only, enum_names}
 use Rattle.graphql_grammar.specs.Input.{At}
 use Rattle.graphql_language.specs.Values.{Is, spanned, ValueOf, of_true, of_false, of_null, of_enum, of_scalar, of_variable, of_list, of_object, ItemsOf, FieldsOf}
 use Rattle.graphql_language.specs.Values as grammar
 use Rattle.graphql_printing.specs.Parts.{Part, IsClosed, text_of, located, up_to, tokens_of}
-use Rattle.graphql_printing.specs.Shown.{shown_layer, shown, separated, followed}
+use Rattle.graphql_printing.specs.Shown.{shown, separated, followed}
 use Rattle.graphql_printing.specs.Writable.{Value, IsPlain, IsEnum, IsWritable, null, integer, string, boolean, enum, variable, list, object, AreWritable, no_items, more_items, FieldsAreWritable, no_fields, more_fields}
+use Rattle.graphql_printing.proofs.ShownEquations.{item_texts, field_texts, null_shown, scalar_shown, enum_shown, variable_shown, list_shown, object_shown}
 use Rattle.graphql_printing.proofs.Parts.{closed_tokens_end}
 use Rattle.graphql_printing.proofs.Words.{integer_reads, quoted, string_reads}
 use Rattle.graphql_printing.proofs.PrintedWords.{name_word, dollar, bracket_open, bracket_close, curly_open, curly_close, colon, integer_word, string_word}
-use Rattle.graphql_printing.proofs.Printed.{Writes, writes_append, writes_ascii, text_append, tokens_append, IsLead, no_lead, space_lead, comma_lead, IsWord, Printed, printed_as, printed_nil, printed_cons, Closes, printed_append}
+use Rattle.graphql_printing.proofs.Printed.{text_append, tokens_append, IsLead, no_lead, space_lead, comma_lead, IsWord, Printed, printed_as, printed_nil, printed_cons, Closes, printed_append}
 
 -- ---- names of enums
 
@@ -132,38 +129,35 @@ module _ (is_const : Bool) where
 
   -- ---- values of one word
 
-  shown_null : shown v.Null ≡ codes "null"
-  shown_null = fold_null shown_layer
-
   null_written : (lead : List ℕ) → IsLead lead → Written v.Null lead
-  null_written lead l = one_name v.Null lead (codes "null") l (refl, (refl, (refl, (refl, tt)))) shown_null (λ a is. of_null a (ap (λ token. only k.Null (kind token)) is))
+  null_written lead l = one_name v.Null lead (codes "null") l (refl, (refl, (refl, (refl, tt)))) null_shown (λ a is. of_null a (ap (λ token. only k.Null (kind token)) is))
 
   true_written : (lead : List ℕ) → IsLead lead → Written (v.Scalar (scalar.Boolean true)) lead
   true_written lead l =
-      one_name (v.Scalar (scalar.Boolean true)) lead (codes "true") l (refl, (refl, (refl, (refl, tt)))) (fold_scalar shown_layer (scalar.Boolean true)) (λ a is. of_true a (ap (λ token. only k.True (kind token)) is))
+      one_name (v.Scalar (scalar.Boolean true)) lead (codes "true") l (refl, (refl, (refl, (refl, tt)))) (scalar_shown (scalar.Boolean true)) (λ a is. of_true a (ap (λ token. only k.True (kind token)) is))
 
   false_written : (lead : List ℕ) → IsLead lead → Written (v.Scalar (scalar.Boolean false)) lead
   false_written lead l =
-      one_name (v.Scalar (scalar.Boolean false)) lead (codes "false") l (refl, (refl, (refl, (refl, (refl, tt))))) (fold_scalar shown_layer (scalar.Boolean false))
+      one_name (v.Scalar (scalar.Boolean false)) lead (codes "false") l (refl, (refl, (refl, (refl, (refl, tt))))) (scalar_shown (scalar.Boolean false))
       (λ a is. of_false a (ap (λ token. only k.False (kind token)) is))
 
   integer_written : (n : ℤ) → FitsSigned w32 n → (lead : List ℕ) → IsLead lead → Written (v.Scalar (scalar.Int n)) lead
   integer_written n fits lead l =
       one_word (v.Scalar (scalar.Int n)) lead (t.Scalar (s.Int (signed_decimal n))) (signed_decimal n) (signed_decimal n) l
       (integer_word n fits)
-      (fold_scalar shown_layer (scalar.Int n)) (λ a is. of_scalar a (s.Int (signed_decimal n)) (scalar.Int n) is (integer_reads n fits))
+      (scalar_shown (scalar.Int n)) (λ a is. of_scalar a (s.Int (signed_decimal n)) (scalar.Int n) is (integer_reads n fits))
 
   string_written : (text : List ℕ) → IsPlain text → (lead : List ℕ) → IsLead lead → Written (v.Scalar (scalar.String text)) lead
   string_written text h lead l =
       one_word (v.Scalar (scalar.String text)) lead (t.Scalar (s.String text)) (quoted text) (34 ∷ (text ++ 34 ∷ [])) l (string_word text h)
-      (fold_scalar shown_layer (scalar.String text)) (λ a is. of_scalar a (s.String text) (scalar.String text) is (string_reads text h.utf8 h.plain))
+      (scalar_shown (scalar.String text)) (λ a is. of_scalar a (s.String text) (scalar.String text) is (string_reads text h.utf8 h.plain))
 
   enum_written : (name : List ℕ) → IsEnum name → (lead : List ℕ) → IsLead lead → Written (v.Enum name) lead
-  enum_written name h lead l = one_name (v.Enum name) lead name l h.is (fold_enum shown_layer name) (λ a is. of_enum a name is (ap (λ token. enum_names (kind token)) is ∙ enum_kind name h))
+  enum_written name h lead l = one_name (v.Enum name) lead name l h.is (enum_shown name) (λ a is. of_enum a name is (ap (λ token. enum_names (kind token)) is ∙ enum_kind name h))
 
   variable_written : (name : List ℕ) → is_const ≡ false → IsName name → (lead : List ℕ) → IsLead lead → Written (v.Variable name) lead
   variable_written name may h lead l = record {
-    printed = printed_as (ap (λ z. lead ++ (36 ∷ z)) (append-nil name) ∙ ap (λ z. lead ++ z) (sym (fold_variable shown_layer name)))
+    printed = printed_as (ap (λ z. lead ++ (36 ∷ z)) (append-nil name) ∙ ap (λ z. lead ++ z) (sym (variable_shown name)))
         (printed_cons lead t.Dollar (36 ∷ []) (36 ∷ []) l dollar (printed_cons [] (t.Name name) name name no_lead (name_word name h) printed_nil (λ behind closed. closed_tokens_end (t.Name name) name behind refl closed)) (λ behind closed. tt));
     more = 36 ∷ (name ++ []);
     begins = refl;
@@ -191,13 +185,6 @@ module _ (is_const : Bool) where
   fields_append ts _ ps _ m (grammar.more_fields us ws qs a b n x found is h r) =
       subst (λ zs. Fields zs (ps ++ (qs ++ (spanned a n a, x) ∷ []))) (append_assoc ts us (a ∷ b ∷ ws)) (subst (λ zs. Fields ((ts ++ us) ++ (a ∷ b ∷ ws)) zs) (append_assoc ps qs ((spanned a n a, x) ∷ []))
       (grammar.more_fields (ts ++ us) ws (ps ++ qs) a b n x (fields_append ts us ps qs m found) is h r))
-
-  -- what the items and the fields are shown as
-  abbrev item_texts : List (Placed Value) → List (List ℕ)
-  item_texts xs = map (λ (x : Placed Value). shown x.item) xs
-
-  abbrev field_texts : List (Pair Value) → List (List ℕ)
-  field_texts ps = map (λ (p : Pair Value). p.0.item ++ codes ": " ++ shown p.1.item) ps
 
   -- the same with no places
   abbrev bare_items : List (Placed Value) → List (Placed Value)
@@ -266,18 +253,12 @@ module _ (is_const : Bool) where
 
   -- ---- lists and objects
 
-  shown_list : (xs : List (Placed Value)) → shown (v.List xs) ≡ codes "[" ++ separated (item_texts xs) ++ codes "]"
-  shown_list xs = fold_list shown_layer xs ∙ ap (λ ts. codes "[" ++ separated ts ++ codes "]") (map-map (λ x. x.item) (on_item shown) xs)
-
-  shown_object : (ps : List (Pair Value)) → shown (v.Object ps) ≡ codes "{" ++ separated (field_texts ps) ++ codes "}"
-  shown_object ps = fold_object shown_layer ps ∙ ap (λ ts. codes "{" ++ separated ts ++ codes "}") (map-map (λ p. p.0.item ++ codes ": " ++ p.1.item) (on_value shown) ps)
-
   list_written : (xs : List (Placed Value)) (lead : List ℕ) → IsLead lead → ManyItems [] xs → Written (v.List xs) lead
   list_written xs lead l m =
       let closing : Printed ((93 ∷ []) ++ []) = printed_cons [] t.BracketClose (93 ∷ []) (93 ∷ []) no_lead bracket_close printed_nil (λ behind closed. tt) in
       let inner = printed_append m.printed closing (λ behind closed. refl) in
       record {
-        printed = printed_as (ap (λ z. lead ++ (91 ∷ (z ++ 93 ∷ []))) (separated_led (item_texts xs)) ∙ ap (λ z. lead ++ z) (sym (shown_list xs)))
+        printed = printed_as (ap (λ z. lead ++ (91 ∷ (z ++ 93 ∷ []))) (separated_led (item_texts xs)) ∙ ap (λ z. lead ++ z) (sym (list_shown xs)))
             (printed_cons lead t.BracketOpen (91 ∷ []) (91 ∷ []) l bracket_open inner (λ behind closed. tt));
         more = 91 ∷ text_of inner.parts;
         begins = refl;
@@ -298,7 +279,7 @@ module _ (is_const : Bool) where
       let closing : Printed ((125 ∷ []) ++ []) = printed_cons [] t.CurlyClose (125 ∷ []) (125 ∷ []) no_lead curly_close printed_nil (λ behind closed. tt) in
       let inner = printed_append m.printed closing (λ behind closed. refl) in
       record {
-        printed = printed_as (ap (λ z. lead ++ (123 ∷ (z ++ 125 ∷ []))) (separated_led (field_texts ps)) ∙ ap (λ z. lead ++ z) (sym (shown_object ps)))
+        printed = printed_as (ap (λ z. lead ++ (123 ∷ (z ++ 125 ∷ []))) (separated_led (field_texts ps)) ∙ ap (λ z. lead ++ z) (sym (object_shown ps)))
             (printed_cons lead t.CurlyOpen (123 ∷ []) (123 ∷ []) l curly_open inner (λ behind closed. tt));
         more = 123 ∷ text_of inner.parts;
         begins = refl;

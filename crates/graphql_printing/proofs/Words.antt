@@ -1,9 +1,8 @@
 -- The words of values: names, integers and strings, as tokens.
-use Rattle.std.proofs.Common.{◌≡◌, ◌≤◌, ◌<◌, ◌^◌, ℕ, zero, suc, ℤ, pos, negsuc, neg_ℤ, nat_le, Bool, true, false, ◌==◌, ◌||◌, ◌&&◌, if◌then◌else◌, Some, None, Option, Result, Ok, List, [], ◌∷◌, ◌++◌, length, get_or, map, inl, inr, refl, sym, subst, ap, ◌∙◌, arith, rules, append-nil}
+use Rattle.std.proofs.Common.{◌≡◌, ◌≤◌, ◌<◌, ◌^◌, ℕ, zero, suc, ℤ, pos, negsuc, neg_ℤ, nat_le, Bool, true, false, ◌==◌, ◌||◌, ◌&&◌, if◌then◌else◌, Some, None, Ok, List, [], ◌∷◌, ◌++◌, length, get_or, map, inl, inr, refl, sym, ap, ◌∙◌, arith, rules}
 use Rattle.std.specs.Prelude.{encode_utf8_all, FitsSigned}
 use Rattle.std.specs.Char.{is_ascii_alphabetic, is_ascii_alphanumeric, is_ascii_digit}
 use Rattle.std.specs.Fmt.{decimal, signed_decimal}
-use Rattle.std.specs.List.{All}
 use Rattle.std.specs.Option.{option_map}
 use Rattle.std.specs.Str.{chars, IsUtf8, IsAscii, all_ascii_digits}
 use Rattle.std.specs.Str.Parse.{digits_value}
@@ -15,7 +14,7 @@ use Rattle.std.proofs.lemmas.Str.Parse.{IsDigitsTest, IsNumeralModel, numerals_b
 use mir.Syntax.{w32}
 use Rattle.graphql_text.specs.declared.token.Token.TheVariants as t
 use Rattle.graphql_text.specs.declared.token.ScalarToken.TheVariants as s
-use Rattle.graphql_text.specs.Grammar.{Each, NextIsNot, IsName, IsDigits, IsWhole, IsInteger, Piece, character, ArePieces, spellings, is_string_character, IsStringText, Spells}
+use Rattle.graphql_text.specs.Grammar.{Each, NextIsNot, IsName, IsDigits, IsWhole, IsInteger, Piece, character, ArePieces, spellings, is_string_character, Spells}
 use Rattle.graphql_scalars.specs.declared.default_scalar.DefaultScalarValue.TheVariants as scalar
 use Rattle.graphql_scalars.specs.IntValue.{natural_up_to, int_value}
 use Rattle.graphql_scalars.specs.DefaultScalar.{reads, int_or, refused}
