@@ -1,0 +1,3 @@
+pub mod ValueEquations
+pub mod ValueInduction
+pub mod ObjectLemmas

@@ -1,0 +1,32 @@
+use Rattle.std.proofs.Common.{◌≡◌, Some, None, ap, sym, subst, ◌∙◌}
+use Rattle.std.specs.List.{position}
+use Rattle.std.specs.Str.{bytes_eq}
+use Rattle.graphql_output.specs.Objects.{HasDistinctKeys, with_field}
+use Rattle.graphql_output.proofs.ObjectLemmas.{place, value_at, value_nowhere, put_at, put_last, distinct_after}
+use Rattle.graphql_output.proofs.object.Object.add_field.Goals as goal
+
+-- the key is found at a place
+at_place : (g : _) (c : goal.After-drop-key-inside g) → place c.args.key c.args.self.now.fields ≡ Some c.in-Some.place
+at_place g c = ap (λ k. place k c.args.self.now.fields) (sym c.as_str.ensures) ∙ sym c.place_of.ensures ∙ c.in-Some.is
+
+-- or nowhere
+nowhere : (g : _) (c : goal.In_ok-push-in-None g) → place c.args.key c.args.self.now.fields ≡ None
+nowhere g c = ap (λ k. place k c.args.self.now.fields) (sym c.as_str.ensures) ∙ sym c.place_of.ensures ∙ c.in-None.is
+
+pub returns-in-Some-clause-old : goal.returns-in-Some-clause-old
+returns-in-Some-clause-old g c = let at = value_at c.args.key c.args.self.now.fields c.in-Some.place c.index_mut-field.result.now (at_place g c) in cc
+
+pub returns-in-Some-clause-fields : goal.returns-in-Some-clause-fields
+returns-in-Some-clause-fields g c = let put = put_at c.args.key c.args.self.now.fields c.args.value c.in-Some.place c.index_mut-field.result.now (at_place g c) in cc
+
+pub returns-in-Some-clause-distinct : goal.returns-in-Some-clause-distinct
+returns-in-Some-clause-distinct g c distinct = subst HasDistinctKeys (sym (returns-in-Some-clause-fields g c)) (distinct_after c.args.key c.args.value c.args.self.now.fields distinct)
+
+pub returns-in_ok-push-in-None-clause-old : goal.returns-in_ok-push-in-None-clause-old
+returns-in_ok-push-in-None-clause-old g c = sym (value_nowhere c.args.key c.args.self.now.fields (nowhere g c))
+
+pub returns-in_ok-push-in-None-clause-fields : goal.returns-in_ok-push-in-None-clause-fields
+returns-in_ok-push-in-None-clause-fields g c = c.in_ok-push-in-None.ensures.ok ∙ sym (put_last c.args.key c.args.self.now.fields c.args.value (nowhere g c))
+
+pub returns-in_ok-push-in-None-clause-distinct : goal.returns-in_ok-push-in-None-clause-distinct
+returns-in_ok-push-in-None-clause-distinct g c distinct = subst HasDistinctKeys (sym (returns-in_ok-push-in-None-clause-fields g c)) (distinct_after c.args.key c.args.value c.args.self.now.fields distinct)

@@ -1,0 +1,9 @@
+//! The values that an execution answers (GraphQL October 2021, 7.1 Response Format).
+#![tactic(auto)]
+
+mod object;
+mod value;
+
+pub use graphql_scalars::{DefaultScalarValue, ScalarValue};
+pub use object::Object;
+pub use value::Value;
