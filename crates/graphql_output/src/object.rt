@@ -113,6 +113,13 @@ impl<S> Object<S> {
         }
     }
 
+    /// The fields in order, each its key and its value, as a slice.
+    pub fn as_slice(&self) -> &[(Text, Value<S>)]
+        ensures { result.now ≡ self.now.fields }
+    {
+        self.fields.as_slice()
+    }
+
     /// The fields in order, each its key and its value.
     pub fn iter(&self) -> Iter<'_, (Text, Value<S>)>
         ensures rest { iter_rest result ≡ self.now.fields }

@@ -1,0 +1,4 @@
+pub mod Turns
+pub mod Named
+pub mod Requests
+pub mod Joins

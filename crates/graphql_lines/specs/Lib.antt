@@ -1,0 +1,3 @@
+pub mod Variables
+pub mod Request
+pub mod Json

@@ -1,0 +1,13 @@
+//! Request lines and JSON texts: what a client sends and is sent (GraphQL October 2021, 7.2
+//! Serialization Format; RFC 8259).
+#![tactic(auto)]
+
+mod json;
+mod refusal;
+mod request;
+mod variables;
+
+pub use json::{text_to_json, value_to_json};
+pub use refusal::LineRefusal;
+pub use request::{GraphQLRequest, json_of_line, request_from_line, request_in};
+pub use variables::{Variables, variables_from_json};

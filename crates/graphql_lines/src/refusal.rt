@@ -1,0 +1,33 @@
+//! Why a line is no request.
+
+ghost use Rattle.std.specs.Prelude.{◌≡◌};
+
+use std::alloc::AllocError;
+
+/// Why a line is no request that can be run: the first that stands, in this order.
+#[derive(Clone, Copy, Debug, PartialEq, Eq)]
+pub enum LineRefusal {
+    /// The line has more bytes than its service takes. `request_from_line` never answers it.
+    LineTooLong,
+
+    /// The line is not UTF-8, no JSON that `serde_json` reads, nested deeper than it reads, no
+    /// object; or its `query` is missing or no text, its `operationName` neither text nor null, its
+    /// `variables` neither object nor null.
+    NotARequest,
+
+    /// A number in `variables` is not held as a whole one, or lies outside 32 bits.
+    BadNumber,
+
+    /// Memory ran out, which tells nothing of the line.
+    Memory,
+}
+
+impl From<AllocError> for LineRefusal {
+    ghost use Rattle.graphql_lines.specs.declared.refusal.LineRefusal.TheVariants.{Memory};
+
+    ghost from_gives = { λ _ e. e ≡ Memory };
+
+    fn from(_error: AllocError) -> LineRefusal {
+        LineRefusal::Memory
+    }
+}

@@ -1,0 +1,121 @@
+//! Requests, one a line.
+
+ghost use Rattle.std.specs.Prelude.{◌≡◌, ◌≢◌, option_map, option_and_then, Some, IfOk, IfErr, IsNone, string_bytes};
+ghost use Rattle.graphql_items.specs.Memory.{Gives};
+ghost use Rattle.serde_json.specs.View.{view};
+ghost use Rattle.graphql_lines.specs.declared.refusal.LineRefusal.TheVariants.{NotARequest, Memory};
+ghost use Rattle.graphql_lines.specs.Variables.{GivesVariables};
+ghost use Rattle.graphql_lines.specs.Request as spec;
+
+use crate::refusal::LineRefusal;
+use crate::variables::{Variables, variables_from_json};
+use graphql_values::{DefaultScalarValue, ScalarValue};
+use serde_json::Value;
+use std::alloc::Global;
+use std::collections::HashMap;
+
+/// What a client asks (GraphQL October 2021, 6.1 Executing Requests).
+#[derive(Drop)]
+pub struct GraphQLRequest<S = DefaultScalarValue> {
+    /// The text of the document.
+    pub query: String,
+
+    /// The name of the operation, where one was given.
+    pub operation_name: Option<String>,
+
+    /// The values of the variables, by name. None of them holds a variable.
+    pub variables: Variables<S>,
+}
+
+/// The JSON value of a line.
+///
+/// `NotARequest` where the line is not UTF-8, or no JSON that `serde_json` reads; `Memory` where
+/// memory ran out.
+pub fn json_of_line(alloc: Global, line: &[u8]) -> Result<Value, LineRefusal>
+    ensures ok { IfOk result (λ value. Some (view value) ≡ spec.data_of line.now) }
+    ensures err { IfErr result (λ e. e ≢ Memory → (e ≡ NotARequest) × IsNone (spec.data_of line.now)) }
+{
+    match Value::from_slice(alloc, line) {
+        Ok(value) => Ok(value),
+        Err(error) if error.is_memory() => Err(LineRefusal::Memory),
+        Err(_) => Err(LineRefusal::NotARequest),
+    }
+}
+
+/// The text of a query, of which there must be one.
+fn query_in(value: &Value) -> Option<&str>
+    ensures { option_map (λ text. text.now) result ≡ spec.query_in (view value.now) }
+{
+    value.get("query").and_then(Value::as_str)
+}
+
+/// The name of an operation, which may be missing or null.
+fn name_in(alloc: Global, value: Option<&Value>) -> Result<Option<String>, LineRefusal>
+    ensures ok { IfOk result (λ name. Some (option_map (λ text. string_bytes text) name) ≡ spec.name_in (option_map (λ v. view v.now) value.entry)) }
+    ensures err { IfErr result (λ e. e ≢ Memory → (e ≡ NotARequest) × IsNone (spec.name_in (option_map (λ v. view v.now) value.entry))) }
+{
+    match value {
+        None | Some(Value::Null) => Ok(None),
+        Some(Value::String(text)) => Ok(Some(String::from_str(alloc, text.as_str())?)),
+        Some(_) => Err(LineRefusal::NotARequest),
+    }
+}
+
+/// The values of variables, which may be missing or null.
+fn variables_in<S: ScalarValue>(
+    alloc: Global,
+    value: Option<&Value>,
+) -> Result<Variables<S>, LineRefusal>
+    ensures { GivesVariables S.of_bool S.of_int S.of_text (spec.variables_in (option_map (λ v. view v.now) value.entry)) result }
+{
+    match value {
+        None => Ok(HashMap::new(alloc)),
+        Some(value) => variables_from_json(alloc, value),
+    }
+}
+
+/// The request that a JSON value describes. Members of other names are passed over.
+///
+/// `NotARequest` where the value is no object, its `query` is missing or no text, its
+/// `operationName` neither text nor null, or its `variables` neither object nor null; else
+/// `BadNumber` where a number anywhere in `variables` is not held as a whole one, or lies outside 32
+/// bits; `Memory` where memory ran out.
+pub fn request_in<S: ScalarValue>(
+    alloc: Global,
+    value: &Value,
+) -> Result<GraphQLRequest<S>, LineRefusal>
+    ensures { spec.Answers S.of_bool S.of_int S.of_text (spec.request_in (view value.now)) result }
+{
+    let Some(query) = query_in(value) else {
+        return Err(LineRefusal::NotARequest);
+    };
+    let query = String::from_str(alloc, query)?;
+    let operation_name = name_in(alloc, value.get("operationName"))?;
+    match variables_in(alloc, value.get("variables")) {
+        Ok(variables) => Ok(GraphQLRequest {
+            query,
+            operation_name,
+            variables,
+        }),
+        Err(refusal) => Err(refusal),
+    }
+}
+
+/// The request that a line describes, as `serde_json` reads the line (RFC 8259): a JSON object with
+/// the text `query` and, where they are not missing or null, the text `operationName` and the object
+/// `variables`. Members of other names are passed over; of members of one name the last counts.
+///
+/// The first refusal that stands: `NotARequest` where the line is not UTF-8, no JSON, nested deeper
+/// than 127, no object, or a member is of another kind; `BadNumber` where a number anywhere in
+/// `variables` is not held as a whole one, or lies outside 32 bits. `Memory` where memory ran out,
+/// which tells nothing of the line. `LineTooLong` is never answered: a line's length is its caller's
+/// to judge.
+pub fn request_from_line<S: ScalarValue>(
+    alloc: Global,
+    line: &[u8],
+) -> Result<GraphQLRequest<S>, LineRefusal>
+    ensures { spec.Answers S.of_bool S.of_int S.of_text (spec.request_of line.now) result }
+{
+    let value = json_of_line(alloc, line)?;
+    request_in(alloc, &value)
+}

@@ -1,0 +1,158 @@
+//! Variables' values from JSON.
+
+ghost use Rattle.std.specs.Prelude.{◌≡◌, ◌≢◌, Some, None, IfOk, IfErr, OnOk, option_map};
+ghost use Rattle.std.specs.HashMap.{Updates};
+ghost use Rattle.std.specs.String.{string_eq};
+ghost use Rattle.graphql_items.specs.Memory.{Gives};
+ghost use Rattle.serde_json.specs.View.{view, number_view, items_view, members_view};
+ghost use Rattle.graphql_values.specs.declared.input_value.InputValue.TheVariants as value;
+ghost use Rattle.graphql_lines.specs.declared.refusal.LineRefusal.TheVariants.{NotARequest, BadNumber, Memory};
+ghost use Rattle.graphql_lines.specs.Variables as spec;
+
+use crate::refusal::LineRefusal;
+use graphql_items::{Items, Text};
+use graphql_text::Spanning;
+use graphql_values::{DefaultScalarValue, InputValue, ScalarValue};
+use serde_json::{Map, Number, Value};
+use std::alloc::{AllocError, Global};
+use std::collections::HashMap;
+
+/// The values of a request's variables, by name.
+pub type Variables<S = DefaultScalarValue> = HashMap<String, InputValue<S>>;
+
+/// The integer of 32 bits that a number is, if it is held as a whole one.
+fn whole(number: &Number) -> Option<i32>
+    ensures { result ≡ spec.whole_of (number_view number.now) }
+{
+    match number.as_i64() {
+        Some(value) => match i32::try_from(value) {
+            Ok(value) => Some(value),
+            Err(_) => None,
+        },
+        None => None,
+    }
+}
+
+/// The scalar of a text.
+fn text_scalar<S: ScalarValue>(alloc: Global, text: &str) -> Result<InputValue<S>, AllocError>
+    ensures { Gives result (value.Scalar (S.of_text text.now)) }
+{
+    let text = String::from_str(alloc, text)?;
+    Ok(InputValue::Scalar(S::from_string(text)))
+}
+
+/// The value that JSON stands for, in no text, or None where a number in it is no whole one of 32
+/// bits.
+#[cycle(inputs)]
+fn input_value<S: ScalarValue>(
+    alloc: Global,
+    json: &Value,
+) -> Result<Option<InputValue<S>>, AllocError>
+    ensures { Gives result (spec.input_of S.of_bool S.of_int S.of_text (view json.now)) }
+{
+    match json {
+        Value::Null => Ok(Some(InputValue::Null)),
+        Value::Bool(value) => Ok(Some(InputValue::Scalar(S::from_bool(*value)))),
+        Value::Number(number) => match whole(number) {
+            Some(value) => Ok(Some(InputValue::Scalar(S::from_int(value)))),
+            None => Ok(None),
+        },
+        Value::String(text) => Ok(Some(text_scalar(alloc, text.as_str())?)),
+        Value::Array(items) => list(alloc, items.as_slice()),
+        Value::Object(members) => object(alloc, members),
+    }
+}
+
+/// The list of what these stand for.
+#[cycle(inputs)]
+fn list<S: ScalarValue>(alloc: Global, items: &[Value]) -> Result<Option<InputValue<S>>, AllocError>
+    ensures { Gives result (option_map value.List (spec.inputs_of S.of_bool S.of_int S.of_text (items_view items.now))) }
+{
+    let mut found = Items::with_capacity(alloc, items.len())?;
+    'items: for item in items {
+        match input_value(alloc, item)? {
+            Some(value) => found.push(Spanning::unlocated(value))?,
+            None => return Ok(None),
+        }
+    }
+    Ok(Some(InputValue::List(found)))
+}
+
+/// The object of what these members stand for.
+#[cycle(inputs)]
+fn object<S: ScalarValue>(
+    alloc: Global,
+    members: &Map<String, Value>,
+) -> Result<Option<InputValue<S>>, AllocError>
+    ensures { Gives result (option_map value.Object (spec.fields_of S.of_bool S.of_int S.of_text (members_view members.now.entries))) }
+{
+    let mut found = Items::with_capacity(alloc, members.len())?;
+    'members: for (key, member) in members.iter() {
+        match input_value(alloc, member)? {
+            Some(value) => {
+                let name = Text::from_str(alloc, key.as_str())?;
+                found.push((Spanning::unlocated(name), Spanning::unlocated(value)))?;
+            }
+            None => return Ok(None),
+        }
+    }
+    Ok(Some(InputValue::Object(found)))
+}
+
+/// Gives a variable a value, and lets its old one go.
+fn set<S: Drop>(
+    variables: &mut Variables<S>,
+    name: String,
+    value: InputValue<S>,
+) -> Result<(), AllocError>
+    ensures { OnOk result (Updates string_eq variables.old variables.new name (Some value)) }
+{
+    match variables.insert(name, value) {
+        Ok(_) => Ok(()),
+        Err(refused) => Err(AllocError::from(refused)),
+    }
+}
+
+/// The values of these members, by name.
+///
+/// `BadNumber` where a number in one is not held as a whole one, or lies outside 32 bits; `Memory`
+/// where memory ran out.
+fn values_by_name<S: ScalarValue>(
+    alloc: Global,
+    members: &Map<String, Value>,
+) -> Result<Variables<S>, LineRefusal>
+    ensures ok { IfOk result (λ variables. spec.HasValues S.of_bool S.of_int S.of_text (members_view members.now.entries) variables) }
+    ensures err { IfErr result (λ e. e ≢ Memory → (e ≡ BadNumber) × (spec.fields_of S.of_bool S.of_int S.of_text (members_view members.now.entries) ≡ None)) }
+{
+    let mut variables = HashMap::new(alloc);
+    'members: for (key, member) in members.iter() {
+        match input_value(alloc, member)? {
+            Some(value) => {
+                let name = String::from_str(alloc, key.as_str())?;
+                set(&mut variables, name, value)?;
+            }
+            None => return Err(LineRefusal::BadNumber),
+        }
+    }
+    Ok(variables)
+}
+
+/// The values of a request's variables, from their JSON value: an object, or null, which has none.
+/// No value holds a variable.
+///
+/// `NotARequest` where the JSON value is of another kind; else `BadNumber` where a number anywhere in
+/// it is not held as a whole one, or lies outside 32 bits; `Memory` where memory ran out.
+pub fn variables_from_json<S: ScalarValue>(
+    alloc: Global,
+    json: &Value,
+) -> Result<Variables<S>, LineRefusal>
+    ensures { spec.GivesVariables S.of_bool S.of_int S.of_text (spec.members_of_variables (view json.now)) result }
+{
+    match json {
+        Value::Null => Ok(HashMap::new(alloc)),
+        Value::Object(members) => values_by_name(alloc, members),
+        Value::Bool(_) | Value::Number(_) | Value::String(_) | Value::Array(_) => {
+            Err(LineRefusal::NotARequest)
+        }
+    }
+}
