@@ -10,4 +10,4 @@ mod variables;
 pub use json::{text_to_json, value_to_json};
 pub use refusal::LineRefusal;
 pub use request::{GraphQLRequest, json_of_line, request_from_line, request_in};
-pub use variables::{Variables, variables_from_json};
+pub use variables::variables_from_json;
