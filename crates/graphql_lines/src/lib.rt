@@ -5,6 +5,8 @@
 mod json;
 mod refusal;
 mod request;
+#[cfg(test)]
+mod tests;
 mod variables;
 
 pub use json::{text_to_json, value_to_json};
