@@ -2,10 +2,12 @@
 #![tactic(auto)]
 
 mod equality;
+mod into_value;
 mod object;
 mod turned;
 mod value;
 
 pub use graphql_scalars::{DefaultScalarValue, ScalarValue};
+pub use into_value::IntoValue;
 pub use object::Object;
 pub use value::Value;
