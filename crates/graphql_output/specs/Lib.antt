@@ -7,3 +7,4 @@ pub mod ValueInduction
 pub mod EqualityEquations
 pub mod EqualityLaws
 pub mod EqualValues
+pub mod Display

@@ -1,9 +1,12 @@
 //! The values that an execution answers (GraphQL October 2021, 7.1 Response Format).
 #![tactic(auto)]
 
+mod display;
 mod equality;
 mod into_value;
 mod object;
+#[cfg(test)]
+mod tests;
 mod turned;
 mod value;
 
