@@ -1,7 +1,4 @@
-pub mod ValueEquations
-pub mod ValueInduction
 pub mod ObjectLemmas
 pub mod TurnedLemmas
-pub mod EqualityEquations
-pub mod EqualityLaws
-pub mod EqualValues
+pub mod EqualityTests
+pub mod DisplayLemmas

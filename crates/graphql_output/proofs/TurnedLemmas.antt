@@ -5,7 +5,7 @@ use Rattle.graphql_output.specs.declared.object.Object.{Object}
 use Rattle.graphql_output.specs.declared.value.Value.{Value}
 use Rattle.graphql_output.specs.declared.value.Value.TheVariants as value
 use Rattle.graphql_output.specs.Values.{turned_layer, turned_fields, turned, turned_field}
-use Rattle.graphql_output.proofs.ValueEquations.{fold_null, fold_scalar, fold_list, fold_object, fold_fields}
+use Rattle.graphql_output.specs.ValueEquations.{fold_null, fold_scalar, fold_list, fold_object, fold_fields}
 
 module _ {S T : Type 0} (f : S → T) where
   pub turned_null : turned f value.Null ≡ value.Null

@@ -1,5 +1,5 @@
 -- Values, form by form (GraphQL October 2021, 7.1 Response Format).
-use Rattle.std.specs.Prelude.{◌≡◌, Option, Some, None, map}
+use Rattle.std.specs.Prelude.{◌≡◌, Option, Some, None}
 use Rattle.graphql_output.specs.Objects.{Pair}
 use Rattle.graphql_output.specs.declared.object.Object.{Object}
 use Rattle.graphql_output.specs.declared.value.Value.{Value, fold-Value}

@@ -7,7 +7,7 @@ use Rattle.graphql_output.specs.declared.value.Value.{Value, roll-Value, ind-Val
 use Rattle.graphql_output.specs.declared.value.Value.TheOpen.{Value-F}
 use Rattle.graphql_output.specs.declared.value.Value.TheVariants as value
 use Rattle.graphql_output.specs.Objects.{Pair}
-use Rattle.graphql_output.proofs.ValueEquations.{on_value}
+use Rattle.graphql_output.specs.ValueEquations.{on_value}
 
 module _ {S : Type 0} (P : Value S → Type 0) where
   -- a part of which it is shown

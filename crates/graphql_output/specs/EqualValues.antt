@@ -1,15 +1,14 @@
 -- The equality of values is symmetric and transitive where that of scalars is, and reflexive where that is.
-use Rattle.std.proofs.Common.{◌≡◌, Bool, true, false, List, [], ◌∷◌, map, ap, sym, subst, refl, ◌∙◌}
-use Rattle.std.specs.List.{All}
+use Rattle.std.proofs.Common.{◌≡◌, Bool, true, false, List, map, ap, sym, subst, refl, ◌∙◌}
 use Rattle.std.specs.Cmp.{IsEquivalence, IsPartialEquivalence, equiv, partial_equiv_from_equiv}
-use Rattle.graphql_output.specs.Equality.{fields_equal, items_equal, forms_equal, equal, equal_objects}
+use Rattle.graphql_output.specs.Equality.{items_equal, forms_equal, equal, equal_objects}
 use Rattle.graphql_output.specs.declared.object.Object.{Object}
 use Rattle.graphql_output.specs.declared.value.Value.{Value}
 use Rattle.graphql_output.specs.declared.value.Value.TheOpen.{Value-F}
 use Rattle.graphql_output.specs.declared.value.Value.TheVariants as value
-use Rattle.graphql_output.proofs.EqualityEquations.{out_null, out_scalar, out_list, out_object, null_against, scalar_against, list_against, object_against, equal_nulls, equal_scalars, equal_lists, equal_as_objects}
-use Rattle.graphql_output.proofs.EqualityLaws.{Flips, Carries, IsItself, fields_symm, fields_trans, fields_refl, items_symm, items_trans, items_refl}
-use Rattle.graphql_output.proofs.ValueInduction.{value_ind}
+use Rattle.graphql_output.specs.EqualityEquations.{out_null, out_scalar, out_list, out_object, null_against, scalar_against, list_against, object_against, equal_nulls, equal_scalars, equal_lists, equal_as_objects}
+use Rattle.graphql_output.specs.EqualityLaws.{Flips, Carries, IsItself, fields_symm, fields_trans, fields_refl, items_symm, items_trans, items_refl}
+use Rattle.graphql_output.specs.ValueInduction.{value_ind}
 
 -- nothing is both true and false
 unlike : {P : Type 0} {b : Bool} → b ≡ true → b ≡ false → P
@@ -89,25 +88,25 @@ module _ {S : Type 0} (same : S → S → Bool) where
     pub equal_symm : (v : Value S) → Flips E v
     equal_symm = value_ind (Flips E)
         (value_ind (λ w. E value.Null w ≡ E w value.Null)
-          refl
-          (λ t. null_scalar t ∙ sym (scalar_null t))
-          (λ ys all. null_list ys ∙ sym (list_null ys))
-          (λ p all. null_object p ∙ sym (object_null p)))
+        refl
+        (λ t. null_scalar t ∙ sym (scalar_null t))
+        (λ ys all. null_list ys ∙ sym (list_null ys))
+        (λ p all. null_object p ∙ sym (object_null p)))
         (λ s. value_ind (λ w. E (value.Scalar s) w ≡ E w (value.Scalar s))
-          (scalar_null s ∙ sym (null_scalar s))
-          (λ t. equal_scalars same s t ∙ per.symm s t ∙ sym (equal_scalars same t s))
-          (λ ys all. scalar_list s ys ∙ sym (list_scalar ys s))
-          (λ p all. scalar_object s p ∙ sym (object_scalar p s)))
+        (scalar_null s ∙ sym (null_scalar s))
+        (λ t. equal_scalars same s t ∙ per.symm s t ∙ sym (equal_scalars same t s))
+        (λ ys all. scalar_list s ys ∙ sym (list_scalar ys s))
+        (λ p all. scalar_object s p ∙ sym (object_scalar p s)))
         (λ xs flips. value_ind (λ w. E (value.List xs) w ≡ E w (value.List xs))
-          (list_null xs ∙ sym (null_list xs))
-          (λ t. list_scalar xs t ∙ sym (scalar_list t xs))
-          (λ ys all. equal_lists same xs ys ∙ items_symm E xs ys flips ∙ sym (equal_lists same ys xs))
-          (λ p all. list_object xs p ∙ sym (object_list p xs)))
+        (list_null xs ∙ sym (null_list xs))
+        (λ t. list_scalar xs t ∙ sym (scalar_list t xs))
+        (λ ys all. equal_lists same xs ys ∙ items_symm E xs ys flips ∙ sym (equal_lists same ys xs))
+        (λ p all. list_object xs p ∙ sym (object_list p xs)))
         (λ o flips. value_ind (λ w. E (value.Object o) w ≡ E w (value.Object o))
-          (object_null o ∙ sym (null_object o))
-          (λ t. object_scalar o t ∙ sym (scalar_object t o))
-          (λ ys all. object_list o ys ∙ sym (list_object ys o))
-          (λ p all. equal_as_objects same o p ∙ fields_symm E o.fields p.fields flips ∙ sym (equal_as_objects same p o)))
+        (object_null o ∙ sym (null_object o))
+        (λ t. object_scalar o t ∙ sym (scalar_object t o))
+        (λ ys all. object_list o ys ∙ sym (list_object ys o))
+        (λ p all. equal_as_objects same o p ∙ fields_symm E o.fields p.fields flips ∙ sym (equal_as_objects same p o)))
 
     pub equal_trans : (v : Value S) → Carries E v
     equal_trans = value_ind (Carries E)

@@ -1,5 +1,5 @@
 -- Laws of the equality of lists of items and of fields, from those of the items' and the values' equality.
-use Rattle.std.proofs.Common.{◌≡◌, ◌<◌, Bool, true, false, cond, ◌&&◌, List, [], ◌∷◌, ℕ, suc, length, get_or, Option, Some, None, is_some, ap, sym, subst, refl, ◌∙◌, arith}
+use Rattle.std.proofs.Common.{◌≡◌, Bool, true, false, cond, ◌&&◌, List, [], ◌∷◌, ℕ, suc, Option, Some, None, is_some, ap, sym, subst, refl, ◌∙◌, arith}
 use Rattle.std.specs.List.{All, list_all}
 use Rattle.std.specs.Cmp.{both_ways}
 use Rattle.std.specs.Map.{lookup, keys_of}
@@ -21,7 +21,7 @@ all_from_each test each [] = refl
 all_from_each test each (k ∷ ks) = λ i. each k i && all_from_each test each ks i
 
 -- a test that holds of each key holds of a key that a look-up finds
-at_key : {A : Type 0} (test : List ℕ → Bool) (fs : List (Pair A)) (k : List ℕ) → list_all test (keys_of fs) ≡ true → is_some (field_value fs k) ≡ true → test k ≡ true
+pub at_key : {A : Type 0} (test : List ℕ → Bool) (fs : List (Pair A)) (k : List ℕ) → list_all test (keys_of fs) ≡ true → is_some (field_value fs k) ≡ true → test k ≡ true
 at_key test [] k all found = absurd (cc)
 at_key test (f ∷ fs) k all found = either (bytes_eq k f.0) refl found (at_key test fs k (and_right _ _ all))
   where

@@ -10,7 +10,7 @@ use Rattle.graphql_output.specs.declared.object.Object.{Object}
 use Rattle.graphql_output.specs.declared.value.Value.{Value, out-Value, out-roll-Value}
 use Rattle.graphql_output.specs.declared.value.Value.TheOpen.{Value-F}
 use Rattle.graphql_output.specs.declared.value.Value.TheVariants as value
-use Rattle.graphql_output.proofs.ValueEquations.{on_value, fold_null, fold_scalar, fold_list, fold_object, fold_fields}
+use Rattle.graphql_output.specs.ValueEquations.{on_value, fold_null, fold_scalar, fold_list, fold_object, fold_fields}
 
 module _ {A B : Type 0} (f : A → B → Bool) where
   items_map : (xs : List A) (ys : List B) → items_equal (λ (g : B → Bool) y. g y) (map f xs) ys ≡ items_equal f xs ys
