@@ -2,3 +2,4 @@ pub mod InputValueEquations
 pub mod InputValueInduction
 pub mod VariableLemmas
 pub mod Growing
+pub mod SameValueLemmas

@@ -1,2 +1,3 @@
 pub mod InputValues
 pub mod Variables
+pub mod SameValue
