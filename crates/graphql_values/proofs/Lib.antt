@@ -3,3 +3,4 @@ pub mod InputValueInduction
 pub mod VariableLemmas
 pub mod Growing
 pub mod SameValueLemmas
+pub mod SameValueLaws

@@ -18,7 +18,7 @@ refuted r isnt is = absurd (false≢true (sym isnt ∙ is))
 pub found_at : {X : Type 0} (P : X → Type 0) (xs ys : List X) (k : ℕ) (x : X) → xs ≡ ys → k < length xs → x ≡ get_or xs k x → P x → Any P ys
 found_at P xs ys k x same within is here = subst (Any P) same (k, x, within, sym is, here)
 
-get_or_any : {X : Type 0} (xs : List X) (n : ℕ) (x d : X) → n < length xs → get_or xs n x ≡ get_or xs n d
+pub get_or_any : {X : Type 0} (xs : List X) (n : ℕ) (x d : X) → n < length xs → get_or xs n x ≡ get_or xs n d
 get_or_any [] n x d within = absurd (omega arith)
 get_or_any (y ∷ xs) zero x d within = refl
 get_or_any (y ∷ xs) (suc n) x d within = get_or_any xs n x d (omega arith)
@@ -119,7 +119,7 @@ module _ {S : Type 0} (eq : S → S → Bool) where
   pub same_at : (a b x y : InputValue S) → a ≡ x → b ≡ y → Same x y → Same a b
   same_at a b x y p q s = subst (λ z. Same z b) (sym p) (subst (Same x) (sym q) s)
 
-  null_level : (m : InputValue-F S (InputValue S)) → Level InputValue-F.Null m → m ≡ InputValue-F.Null
+  pub null_level : (m : InputValue-F S (InputValue S)) → Level InputValue-F.Null m → m ≡ InputValue-F.Null
   null_level InputValue-F.Null h = refl
   null_level (InputValue-F.Scalar _) h = absurd h
   null_level (InputValue-F.Enum _) h = absurd h

@@ -1,3 +1,4 @@
 pub mod InputValues
 pub mod Variables
 pub mod SameValue
+pub mod Laws
