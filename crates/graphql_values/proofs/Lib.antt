@@ -3,3 +3,5 @@ pub mod InputValueInduction
 pub mod VariableLemmas
 pub mod Growing
 pub mod ConversionLemmas
+pub mod SameValueLemmas
+pub mod SameValueLaws

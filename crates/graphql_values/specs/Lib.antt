@@ -4,3 +4,5 @@ pub mod Conversions
 pub mod ConversionsOfLists
 pub mod ConversionsOfArrays
 pub mod ConversionLaws
+pub mod SameValue
+pub mod Laws

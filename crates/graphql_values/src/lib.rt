@@ -3,6 +3,7 @@
 
 mod conversions;
 mod input_value;
+pub mod laws;
 
 pub use conversions::{
     FromInputValue, FromInputValueArrayError, FromInputValueVecError, IntoInputValue, ToInputValue,
