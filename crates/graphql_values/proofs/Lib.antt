@@ -1,2 +1,4 @@
 pub mod InputValueEquations
 pub mod InputValueInduction
+pub mod VariableLemmas
+pub mod Growing

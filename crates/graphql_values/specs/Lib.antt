@@ -1,1 +1,2 @@
 pub mod InputValues
+pub mod Variables

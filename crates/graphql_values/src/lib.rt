@@ -5,4 +5,4 @@ mod input_value;
 
 pub use graphql_scalars::{DefaultScalarValue, ParseScalarResult, ParseScalarValue, ScalarValue};
 pub use graphql_types::{BorrowedType, Name, NameParseError, Type, TypeModifier, TypeModifiers};
-pub use input_value::InputValue;
+pub use input_value::{InputValue, Variables};
