@@ -4,3 +4,4 @@ pub mod VariableLemmas
 pub mod Growing
 pub mod SameValueLemmas
 pub mod SameValueLaws
+pub mod ShownLemmas

@@ -2,3 +2,4 @@ pub mod InputValues
 pub mod Variables
 pub mod SameValue
 pub mod Laws
+pub mod Shown
