@@ -6,3 +6,4 @@ pub mod ConversionsOfArrays
 pub mod ConversionLaws
 pub mod SameValue
 pub mod Laws
+pub mod Shown
