@@ -1,2 +1,5 @@
 pub mod InputValues
 pub mod Variables
+pub mod SameValue
+pub mod Laws
+pub mod Shown

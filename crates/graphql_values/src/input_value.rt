@@ -6,6 +6,8 @@ ghost use Rattle.graphql_values.specs.InputValues.{unplaced, unplaced_pair};
 ghost use Rattle.graphql_values.specs.declared.input_value.InputValue.TheVariants as value;
 
 mod clones;
+mod display;
+mod equality;
 mod parts;
 #[cfg(test)]
 mod tests;

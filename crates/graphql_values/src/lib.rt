@@ -2,6 +2,7 @@
 #![tactic(auto)]
 
 mod input_value;
+pub mod laws;
 
 pub use graphql_scalars::{DefaultScalarValue, ParseScalarResult, ParseScalarValue, ScalarValue};
 pub use graphql_types::{BorrowedType, Name, NameParseError, Type, TypeModifier, TypeModifiers};
