@@ -3,3 +3,4 @@ pub mod Laws
 pub mod Shown
 pub mod Writable
 pub mod WritableTypes
+pub mod WritableTest

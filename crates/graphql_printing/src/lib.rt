@@ -4,3 +4,6 @@
 pub mod laws;
 #[cfg(test)]
 mod tests;
+mod writable;
+
+pub use writable::is_writable;
