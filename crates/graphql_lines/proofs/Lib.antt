@@ -6,3 +6,4 @@ pub mod Written
 pub mod ReadBack
 pub mod Outline
 pub mod Keys
+pub mod BadNumbers

@@ -1,7 +1,7 @@
 -- What JSON keeps of values (GraphQL October 2021, 7.2 Serialization Format; RFC 8259).
-use Rattle.std.specs.Prelude.{◌≡◌, ◌≤◌, ℕ, suc, max, ℤ, Bool, true, IsTrue, List, [], ◌∷◌, map, fold, Option, Some, option_map, unwrap_or}
+use Rattle.std.specs.Prelude.{◌≡◌, ◌≤◌, ◌↔◌, ℕ, suc, max, ℤ, Bool, true, IsTrue, List, [], ◌∷◌, ◌++◌, map, fold, Contains, Option, Some, None, option_map, unwrap_or}
 use Rattle.std.specs.List.{list_all}
-use Rattle.serde_json.specs.Data.{Data, null, boolean, number, string, array, object, Items, no_items, item, Members, no_members, put}
+use Rattle.serde_json.specs.Data.{Num, Data, null, boolean, number, string, array, object, Items, no_items, item, Members, no_members, member, put}
 use Rattle.serde_json.specs.Find.{of_integer, get}
 use Rattle.serde_json.specs.Read.{read, max_depth}
 use Rattle.graphql_output.specs.declared.object.Object.{Object}
@@ -10,7 +10,7 @@ use Rattle.graphql_output.specs.declared.value.Value.TheOpen.{Value-F, Object-F}
 use Rattle.graphql_output.specs.declared.value.Value.TheVariants as value
 use Rattle.graphql_output.specs.Objects.{Pair, HasDistinctKeys, field_value}
 use Rattle.graphql_lines.specs.Json.{json}
-use Rattle.graphql_lines.specs.Variables.{has_32_bits}
+use Rattle.graphql_lines.specs.Variables.{has_32_bits, whole_of, input_of, fields_of}
 
 -- the items of an array, in order
 abbrev pub items_of : List Data → Items
@@ -83,3 +83,32 @@ module _ {S : Type 0} (as_int : S → Option ℤ) (as_bool : S → Option Bool) 
   -- where an object's keys are distinct, each stands for its own value (7.2.2 Serialized Map Ordering)
   abbrev pub KeysKeepValues : Type 0
   KeysKeepValues = (o : Object S) (key : List ℕ) → HasDistinctKeys o.fields → get key (data_of_value (value.Object o)) ≡ option_map data_of_value (field_value o.fields key)
+
+-- the numbers in data, from left to right
+abbrev mutual
+  pub numbers_in : Data → List Num
+  numbers_in null = []
+  numbers_in (boolean b) = []
+  numbers_in (number n) = n ∷ []
+  numbers_in (string s) = []
+  numbers_in (array ds) = numbers_in_items ds
+  numbers_in (object ms) = numbers_in_members ms
+
+  pub numbers_in_items : Items → List Num
+  numbers_in_items no_items = []
+  numbers_in_items (item d ds) = numbers_in d ++ numbers_in_items ds
+
+  pub numbers_in_members : Members → List Num
+  numbers_in_members no_members = []
+  numbers_in_members (member k d ms) = numbers_in d ++ numbers_in_members ms
+
+-- one of these numbers is no whole one of 32 bits
+abbrev pub HasBadNumber : List Num → Type 0
+HasBadNumber ns = (n : Num) × Contains ns n × (whole_of n ≡ None)
+
+module _ {S : Type 0} (of_bool : Bool → S) (of_int : ℤ → S) (of_text : List ℕ → S) where
+  -- data stands for no value exactly where a number anywhere in it is no whole one of 32 bits, and so do the members of variables (3.5.1 Int)
+  abbrev pub BadNumbersAreRefused : Type 0
+  BadNumbersAreRefused =
+      ((d : Data) → (input_of of_bool of_int of_text d ≡ None) ↔ HasBadNumber (numbers_in d))
+      × ((ms : Members) → (fields_of of_bool of_int of_text ms ≡ None) ↔ HasBadNumber (numbers_in_members ms))
