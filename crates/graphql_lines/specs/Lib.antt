@@ -1,3 +1,4 @@
 pub mod Variables
 pub mod Request
 pub mod Json
+pub mod Laws

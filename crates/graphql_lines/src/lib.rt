@@ -3,6 +3,7 @@
 #![tactic(auto)]
 
 mod json;
+pub mod laws;
 mod refusal;
 mod request;
 #[cfg(test)]
