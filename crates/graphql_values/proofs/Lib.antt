@@ -1,3 +1,4 @@
 pub mod InputValueEquations
 pub mod InputValueInduction
 pub mod ConversionLemmas
+pub mod ShownEquations

@@ -1,4 +1,5 @@
 pub mod InputValues
+pub mod Shown
 pub mod Conversions
 pub mod ConversionsOfLists
 pub mod ConversionsOfArrays

@@ -5,6 +5,7 @@ ghost use Rattle.graphql_items.specs.Memory.{Gives};
 ghost use Rattle.graphql_values.specs.InputValues.{unplaced, unplaced_pair};
 ghost use Rattle.graphql_values.specs.declared.input_value.InputValue.TheVariants as value;
 
+mod display;
 #[cfg(test)]
 mod tests;
 
