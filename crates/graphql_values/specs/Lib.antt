@@ -1,9 +1,10 @@
 pub mod InputValues
 pub mod Variables
+pub mod Shown
 pub mod Conversions
 pub mod ConversionsOfLists
 pub mod ConversionsOfArrays
+pub mod ConversionsOfScalars
 pub mod ConversionLaws
 pub mod SameValue
 pub mod Laws
-pub mod Shown

@@ -7,6 +7,9 @@ mod into_input_value;
 mod lists;
 mod optional;
 mod pointers;
+mod scalars;
+#[cfg(test)]
+mod tests;
 mod to_input_value;
 
 pub use arrays::FromInputValueArrayError;

@@ -50,3 +50,25 @@ fn parsed_values_are_kept(rt: HostRuntime) -> Result<(), Fail> {
     assert!(rt; variable.is_variable());
     Ok(())
 }
+
+#[test]
+fn values_are_shown(rt: HostRuntime) -> Result<(), Fail> {
+    let alloc = rt.alloc();
+    let mut values = Vec::new(alloc);
+    values.push(InputValue::variable(alloc, "v")?)?;
+    values.push(InputValue::enum_value(alloc, "JEDI")?)?;
+    values.push(InputValue::null())?;
+    values.push(InputValue::scalar(Text::from_str(alloc, "a\"b")?))?;
+    let mut fields = Vec::new(alloc);
+    fields.push((
+        Text::from_str(alloc, "k")?,
+        InputValue::list(alloc, values)?,
+    ))?;
+    fields.push((Text::from_str(alloc, "l")?, InputValue::scalar(1)))?;
+    let object: InputValue = InputValue::object(alloc, fields)?;
+    assert_eq!(rt;
+        object.to_string(alloc)?.as_str(),
+        "{k: [$v, JEDI, null, \"a\"b\"], l: 1}"
+    );
+    Ok(())
+}
