@@ -8,3 +8,4 @@ pub mod ConversionsOfScalars
 pub mod ConversionLaws
 pub mod SameValue
 pub mod Laws
+pub mod InputOfOutput

@@ -11,6 +11,7 @@ mod scalars;
 #[cfg(test)]
 mod tests;
 mod to_input_value;
+mod values;
 
 pub use arrays::FromInputValueArrayError;
 pub use from_input_value::FromInputValue;
