@@ -3,3 +3,4 @@ pub mod Variables
 pub mod SameValue
 pub mod Laws
 pub mod Shown
+pub mod Parts
