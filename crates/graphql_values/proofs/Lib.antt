@@ -6,3 +6,4 @@ pub mod SameValueLemmas
 pub mod SameValueLaws
 pub mod ShownLemmas
 pub mod PartsLemmas
+pub mod VariableLaws
