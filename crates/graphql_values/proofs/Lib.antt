@@ -7,3 +7,5 @@ pub mod SameValueLemmas
 pub mod SameValueLaws
 pub mod ShownLemmas
 pub mod InputOfOutputLemmas
+pub mod PartsLemmas
+pub mod VariableLaws

@@ -9,3 +9,4 @@ pub mod ConversionLaws
 pub mod SameValue
 pub mod Laws
 pub mod InputOfOutput
+pub mod Parts

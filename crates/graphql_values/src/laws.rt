@@ -1,10 +1,25 @@
 //! Laws of the definitions: each function's contract is a law, and its body does nothing.
 
-ghost use Rattle.graphql_values.specs.Laws.{SameAsItself, SameEitherWay, SameByAThird};
+ghost use Rattle.graphql_values.specs.Laws.{SameAsItself, SameEitherWay, SameByAThird, VariablesAreListed, NoneIsListed, ConstantsStay, NoVariableStays, OnlyMissingValuesFail};
 
 /// Being the same value wherever they stand is an equivalence, since the scalars' equality is one.
 pub fn same_value_is_an_equivalence<S: Eq>()
     ensures itself { SameAsItself S.eq }
     ensures either_way { SameEitherWay S.eq }
     ensures by_a_third { SameByAThird S.eq }
+{}
+
+/// The names that `referenced_variables` lists are those of the variables that stand in a value; it
+/// lists none exactly where none stands there.
+pub fn variables_are_listed<S>()
+    ensures listed { VariablesAreListed S }
+    ensures none { NoneIsListed S }
+{}
+
+/// `into_const` leaves a value without variables as it is. With values that have no variable it
+/// gives one that has none. It gives nothing only where a variable of the value has no value.
+pub fn variables_are_replaced<S>()
+    ensures stay { ConstantsStay S }
+    ensures constant { NoVariableStays S }
+    ensures fail { OnlyMissingValuesFail S }
 {}
