@@ -3,7 +3,6 @@ use Rattle.std.proofs.Common.{◌≡◌, ◌<◌, ℕ, zero, suc, ◌+◌, add-o
 use Rattle.std.specs.Prelude.{codes}
 use Rattle.std.specs.List.{flat_map}
 use Rattle.graphql_output.specs.Display.{listed, field_text, layer_text, object_layer_text, value_text, object_text}
-use Rattle.graphql_output.specs.Objects.{Pair}
 use Rattle.graphql_output.specs.declared.object.Object.{Object}
 use Rattle.graphql_output.specs.declared.value.Value.{Value}
 use Rattle.graphql_output.specs.declared.value.Value.TheVariants as value

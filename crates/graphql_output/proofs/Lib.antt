@@ -2,3 +2,4 @@ pub mod ObjectLemmas
 pub mod TurnedLemmas
 pub mod EqualityTests
 pub mod DisplayLemmas
+pub mod FieldLaws

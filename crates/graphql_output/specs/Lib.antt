@@ -8,3 +8,4 @@ pub mod EqualityEquations
 pub mod EqualityLaws
 pub mod EqualValues
 pub mod Display
+pub mod Laws

@@ -4,6 +4,7 @@
 mod display;
 mod equality;
 mod into_value;
+pub mod laws;
 mod object;
 #[cfg(test)]
 mod tests;

@@ -1,0 +1,22 @@
+//! Laws of objects and of their equality: each function's contract is a law, and its body does nothing.
+
+ghost use Rattle.graphql_output.specs.Equality.{equal};
+ghost use Rattle.graphql_output.specs.Laws.{EqualByFields, EqualInAnyOrder, MadeDistinct};
+ghost use Rattle.graphql_output.specs.declared.object.Object.{Object};
+ghost use Rattle.graphql_output.specs.declared.value.Value.{Value};
+
+/// Objects of distinct keys are equal exactly where they have equally many fields, and each field of
+/// the one stands in the other with an equal value.
+pub fn equal_by_fields<S: PartialEq>()
+    ensures { (one other : Object S) → EqualByFields (equal S.eq) one.fields other.fields }
+{}
+
+/// Objects of distinct keys with the same fields in another order are equal.
+pub fn equal_in_any_order<S: Eq>()
+    ensures { (one other : Object S) → EqualInAnyOrder (equal S.eq) one.fields other.fields }
+{}
+
+/// An object that is made of pairs has distinct keys.
+pub fn made_distinct<S>()
+    ensures { MadeDistinct (Value S) }
+{}
