@@ -5,3 +5,4 @@ pub mod Growing
 pub mod SameValueLemmas
 pub mod SameValueLaws
 pub mod ShownLemmas
+pub mod ConversionLemmas

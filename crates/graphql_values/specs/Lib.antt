@@ -3,3 +3,7 @@ pub mod Variables
 pub mod SameValue
 pub mod Laws
 pub mod Shown
+pub mod Conversions
+pub mod ConversionsOfLists
+pub mod ConversionsOfArrays
+pub mod ConversionLaws

@@ -1,0 +1,125 @@
+//! Values as lists of one length.
+
+ghost use Rattle.std.specs.Prelude.{◌≡◌, ◌≢◌, length, MatchOption, MatchResult};
+ghost use Rattle.graphql_values.specs.ConversionsOfArrays as spec;
+ghost use Rattle.graphql_values.specs.ConversionLaws.{arrays_apart, array_memory};
+ghost use Rattle.graphql_values.specs.declared.conversions.arrays.FromInputValueArrayError.TheVariants as array_error;
+
+use super::FromInputValue;
+use super::lists::FromInputValueVecError;
+use crate::input_value::InputValue;
+use std::alloc::{AllocError, Global};
+
+/// Why a value means no list of the wanted length, where an item's error is an `E`.
+#[derive(Clone, Debug, Drop, PartialEq, Eq)]
+pub enum FromInputValueArrayError<E> {
+    /// The value is null.
+    Null,
+
+    /// The value gives another number of items.
+    WrongCount {
+        /// How many it gives.
+        actual: usize,
+
+        /// How many are wanted.
+        expected: usize,
+    },
+
+    /// The error of the first item that means nothing.
+    Item(E),
+
+    /// Memory ran out. It says nothing about the value.
+    Memory,
+}
+
+impl<E> From<AllocError> for FromInputValueArrayError<E> {
+    ghost from_gives = { λ _ e. e ≡ array_error.Memory };
+
+    fn from(_error: AllocError) -> FromInputValueArrayError<E> {
+        FromInputValueArrayError::Memory
+    }
+}
+
+impl<E> From<FromInputValueVecError<E>> for FromInputValueArrayError<E> {
+    ghost from_gives = { λ error e. e ≡ spec.of_list_error error };
+
+    fn from(error: FromInputValueVecError<E>) -> FromInputValueArrayError<E> {
+        match error {
+            FromInputValueVecError::Null => FromInputValueArrayError::Null,
+            FromInputValueVecError::Item(error) => FromInputValueArrayError::Item(error),
+            FromInputValueVecError::Memory => FromInputValueArrayError::Memory,
+        }
+    }
+}
+
+/// How many items a list has, if it is another number than the wanted one.
+fn other_count<S>(value: &InputValue<S>, expected: usize) -> Option<usize>
+    ensures { MatchOption result (spec.ListHas expected value.now) (spec.ListHasOther expected value.now) }
+{
+    match value {
+        InputValue::List(items) => {
+            let actual = items.len();
+            (actual != expected).then_some(actual)
+        }
+        _ => None,
+    }
+}
+
+/// The values as an array, if there are as many.
+fn exactly<T: Drop, E, const N: usize>(
+    values: Vec<T>,
+) -> Result<[T; N], FromInputValueArrayError<E>>
+    ensures { MatchResult result (λ array. (array ≡ values.items) × (length values.items ≡ N)) (λ e. (e ≡ array_error.WrongCount (length values.items) N) × (length values.items ≢ N)) }
+{
+    let actual = values.len();
+    match <[T; N]>::try_from(values) {
+        Ok(array) => Ok(array),
+        Err(_) => Err(FromInputValueArrayError::WrongCount {
+            actual,
+            expected: N,
+        }),
+    }
+}
+
+/// What a value means as a list, if it is a list of `N` items. A list of another number is refused
+/// before its items are read, and a value that stands alone once it has been read (GraphQL October
+/// 2021, 3.11 List, "Input Coercion").
+impl<S, T: FromInputValue<S> + Drop, const N: usize> FromInputValue<S> for [T; N] {
+    type Error = FromInputValueArrayError<T::Error>;
+
+    ghost means = { spec.MeansExactly N T.means };
+
+    ghost refuses = { spec.RefusesExactly N T.means T.refuses };
+
+    ghost is_memory = { spec.IsItemMemory T.is_memory };
+
+    ghost means_absent = { λ meant. ⊥ };
+
+    ghost refuses_absent = { λ e. e ≡ array_error.Null };
+
+    ghost apart = { arrays_apart N T.means T.refuses T.apart };
+
+    ghost absent_apart = { λ meant e impossible is. impossible };
+
+    ghost memory_is_memory = { λ _ e is. array_memory T.is_memory e is };
+
+    fn from_input_value(
+        alloc: Global,
+        value: &InputValue<S>,
+    ) -> Result<[T; N], FromInputValueArrayError<T::Error>> {
+        if let Some(actual) = other_count(value, N) {
+            return Err(FromInputValueArrayError::WrongCount {
+                actual,
+                expected: N,
+            });
+        }
+        match Vec::from_input_value(alloc, value) {
+            Ok(meant) => exactly(meant),
+            Err(error) => Err(FromInputValueArrayError::from(error)),
+        }
+    }
+
+    fn from_implicit_null(_alloc: Global) -> Result<[T; N], FromInputValueArrayError<T::Error>> {
+        Err(FromInputValueArrayError::Null)
+    }
+}
