@@ -1,12 +1,8 @@
 -- What input values mean at types of the program (GraphQL October 2021, 3.4.2 Input and Output Types).
-use Rattle.std.specs.Prelude.{◌≡◌, ◌≢◌, Option, Some, None, Result, Ok, Err}
+use Rattle.std.specs.Prelude.{◌≡◌, ◌≢◌, Option, Some, None, List, map}
 use Rattle.graphql_values.specs.declared.input_value.InputValue.{InputValue}
 use Rattle.graphql_values.specs.declared.input_value.InputValue.TheVariants as value
-
--- the answer of a reading: what was read, or why it means nothing; want of memory tells nothing
-abbrev pub Reads : {T E : Type 0} → (T → Type 0) → (E → Type 0) → (E → Type 0) → Result T E → Type 0
-Reads means refuses is_memory (Ok x) = means x
-Reads means refuses is_memory (Err e) = (is_memory e → ⊥) → refuses e
+use Rattle.graphql_values.specs.InputValues.{unplaced}
 
 -- null is none, and any other value is what it means where it may not be null (3.12 Non-Null)
 abbrev pub MeansNullable : {S T : Type 0} → (InputValue S → T → Type 0) → InputValue S → Option T → Type 0
@@ -26,3 +22,12 @@ pub nullable_apart :
     → Apart means refuses → Apart (MeansNullable means) (RefusesNullable refuses)
 nullable_apart means refuses apart v None e is refused = refused.0 is
 nullable_apart means refuses apart v (Some x) e meant refused = apart v x e meant.1 refused.1
+
+-- null stands for none
+abbrev pub nullable_of : {S T : Type 0} → (T → InputValue S) → Option T → InputValue S
+nullable_of of None = value.Null
+nullable_of of (Some x) = of x
+
+-- the list of what stands for each item, in no text
+abbrev pub list_of : {S T : Type 0} → (T → InputValue S) → List T → InputValue S
+list_of of xs = value.List (map (λ x. unplaced (of x)) xs)

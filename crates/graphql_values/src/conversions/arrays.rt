@@ -101,7 +101,7 @@ impl<S, T: FromInputValue<S> + Drop, const N: usize> FromInputValue<S> for [T; N
 
     ghost absent_apart = { λ meant e impossible is. impossible };
 
-    ghost memory_is_memory = { λ _ e is. array_memory T.is_memory e is };
+    ghost memory = { λ _ e is. array_memory T.is_memory e is };
 
     fn from_input_value(
         alloc: Global,

@@ -26,7 +26,7 @@ impl<S, T: FromInputValue<S>> FromInputValue<S> for Option<T> {
 
     ghost absent_apart = { λ x e is h. h };
 
-    ghost memory_is_memory = { T.memory_is_memory };
+    ghost memory = { T.memory };
 
     fn from_input_value(alloc: Global, value: &InputValue<S>) -> Result<Option<T>, T::Error> {
         match value {

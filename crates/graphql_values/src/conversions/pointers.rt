@@ -25,7 +25,7 @@ impl<S, T: FromInputValue<S> + Drop> FromInputValue<S> for Box<T> {
 
     ghost absent_apart = { λ boxed e. T.absent_apart boxed.value e };
 
-    ghost memory_is_memory = { T.memory_is_memory };
+    ghost memory = { T.memory };
 
     fn from_input_value(alloc: Global, value: &InputValue<S>) -> Result<Box<T>, T::Error> {
         let meant = T::from_input_value(alloc, value)?;
@@ -56,7 +56,7 @@ impl<S, T: FromInputValue<S> + Drop> FromInputValue<S> for Rc<T> {
 
     ghost absent_apart = { λ shared e. T.absent_apart shared.value e };
 
-    ghost memory_is_memory = { T.memory_is_memory };
+    ghost memory = { T.memory };
 
     fn from_input_value(alloc: Global, value: &InputValue<S>) -> Result<Rc<T>, T::Error> {
         let meant = T::from_input_value(alloc, value)?;
