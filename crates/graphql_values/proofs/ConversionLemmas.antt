@@ -85,7 +85,7 @@ module _ {S T E : Type 0} (n : ℕ) (means : InputValue S → T → Type 0) (ref
 
   -- a list of meanings, once it is known to be as long as wanted or not
   pub ConvertsTo-exactly :
-      (is_memory : FromInputValueArrayError E → Type 0) (v : InputValue S) (ys : List T) (r : Result (List T) (FromInputValueArrayError E)) → ListHas n v → MeansItems means v ys
+      (is_memory : FromInputValueArrayError T S E → Type 0) (v : InputValue S) (ys : List T) (r : Result (List T) (FromInputValueArrayError T S E)) → ListHas n v → MeansItems means v ys
       → MatchResult r (λ array. (array ≡ ys) × (length ys ≡ n)) (λ e. (e ≡ array_error.WrongCount (length ys) n) × (length ys ≢ n))
       → ConvertsTo (MeansExactly n means v) (RefusesExactly n means refuses v) is_memory r
   ConvertsTo-exactly is_memory v ys (Ok array) has meant is = subst (MeansExactly n means v) (sym is.0) (meant, is.1)

@@ -46,13 +46,13 @@ module _ {S T E : Type 0} (means : InputValue S → T → Type 0) (refuses : Inp
       let found = AllZip-middle means refused.before refused.refused refused.behind ys (subst (λ xs. AllZip means xs ys) refused.parts meant) in
       apart refused.refused found.0 e found.1 refused.refused_is
 
-  pub lists_apart : (v : InputValue S) (ys : List T) (e : FromInputValueVecError E) → MeansItems means v ys → RefusesItems means refuses v e → ⊥
+  pub lists_apart : (v : InputValue S) (ys : List T) (e : FromInputValueVecError T S E) → MeansItems means v ys → RefusesItems means refuses v e → ⊥
   lists_apart v ys vec_error.Null meant is = subst (λ items. IsSomeAnd items (λ xs. AllZip means xs ys)) (ap items_of is ∙ items_of-null) meant
   lists_apart v ys (vec_error.Item e) meant refused = item_apart (items_of v) ys e meant refused
   lists_apart v ys vec_error.Memory meant refused = refused
 
 -- want of memory of the list itself is want of memory
-pub list_memory : {E : Type 0} (is_memory : E → Type 0) (e : FromInputValueVecError E) → e ≡ vec_error.Memory → IsItemMemory is_memory e
+pub list_memory : {S T E : Type 0} (is_memory : E → Type 0) (e : FromInputValueVecError T S E) → e ≡ vec_error.Memory → IsItemMemory is_memory e
 list_memory is_memory e is = subst (IsItemMemory is_memory) (sym is) tt
 
 module _ {S T E : Type 0} (n : ℕ) (means : InputValue S → T → Type 0) (refuses : InputValue S → E → Type 0) (apart : Apart means refuses) where
@@ -60,12 +60,12 @@ module _ {S T E : Type 0} (n : ℕ) (means : InputValue S → T → Type 0) (ref
   counts_apart v None ys actual meant other = absurd meant
   counts_apart v (Some xs) ys actual meant other = AllZip-long means xs ys meant ∙ other.0
 
-  pub arrays_apart : (v : InputValue S) (ys : List T) (e : FromInputValueArrayError E) → MeansExactly n means v ys → RefusesExactly n means refuses v e → ⊥
+  pub arrays_apart : (v : InputValue S) (ys : List T) (e : FromInputValueArrayError T S E) → MeansExactly n means v ys → RefusesExactly n means refuses v e → ⊥
   arrays_apart v ys array_error.Null meant is = lists_apart means refuses apart v ys vec_error.Null meant.0 is
   arrays_apart v ys (array_error.WrongCount actual expected) meant refused = refused.1 (sym (counts_apart v (items_of v) ys actual meant.0 refused.2) ∙ meant.1)
   arrays_apart v ys (array_error.Item e) meant refused = lists_apart means refuses apart v ys (vec_error.Item e) meant.0 refused.1
   arrays_apart v ys array_error.Memory meant refused = refused
 
 -- want of memory of the array itself is want of memory
-pub array_memory : {E : Type 0} (is_memory : E → Type 0) (e : FromInputValueArrayError E) → e ≡ array_error.Memory → arrays.IsItemMemory is_memory e
+pub array_memory : {S T E : Type 0} (is_memory : E → Type 0) (e : FromInputValueArrayError T S E) → e ≡ array_error.Memory → arrays.IsItemMemory is_memory e
 array_memory is_memory e is = subst (arrays.IsItemMemory is_memory) (sym is) tt

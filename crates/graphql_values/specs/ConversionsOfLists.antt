@@ -1,5 +1,5 @@
 -- What input values mean as lists (GraphQL October 2021, 3.11 List, "Input Coercion"; 3.12.1 Combining List and Non-Null).
-use Rattle.std.specs.Prelude.{◌≡◌, Option, Some, None, List, [], ◌∷◌, ◌++◌, map}
+use Rattle.std.specs.Prelude.{◌≡◌, ℕ, Option, Some, None, List, [], ◌∷◌, ◌++◌, map, codes}
 use Rattle.std.specs.Option.{IsSomeAnd}
 use Rattle.std.specs.List.{AllZip}
 use Rattle.graphql_values.specs.declared.input_value.InputValue.{InputValue, out-InputValue}
@@ -41,13 +41,19 @@ module _ {S T E : Type 0} (means : InputValue S → T → Type 0) (refuses : Inp
   RefusesItem v e = IsSomeAnd (items_of v) (λ items. IsRefusedFirst means refuses items e)
 
   -- null is no list, and a refused item refuses the list
-  abbrev pub RefusesItems : InputValue S → FromInputValueVecError E → Type 0
+  abbrev pub RefusesItems : InputValue S → FromInputValueVecError T S E → Type 0
   RefusesItems v vec_error.Null = v ≡ value.Null
   RefusesItems v (vec_error.Item e) = RefusesItem v e
   RefusesItems v vec_error.Memory = ⊥
 
 -- an error that is want of memory, an item's among them
-abbrev pub IsItemMemory : {E : Type 0} → (E → Type 0) → FromInputValueVecError E → Type 0
+abbrev pub IsItemMemory : {S T E : Type 0} → (E → Type 0) → FromInputValueVecError T S E → Type 0
 IsItemMemory is_memory vec_error.Null = ⊥
 IsItemMemory is_memory (vec_error.Item e) = is_memory e
 IsItemMemory is_memory vec_error.Memory = Unit {0}
+
+-- the text of an error, by those of items' errors
+abbrev pub list_error_text : {S T E : Type 0} → (E → Option (List ℕ)) → FromInputValueVecError T S E → Option (List ℕ)
+list_error_text text vec_error.Null = Some (codes "Failed to convert into `Vec`: Value cannot be `null`")
+list_error_text text (vec_error.Item e) = text e
+list_error_text text vec_error.Memory = Some (codes "Out of memory")

@@ -9,10 +9,15 @@ use super::FromInputValue;
 use super::lists::FromInputValueVecError;
 use crate::input_value::InputValue;
 use std::alloc::{AllocError, Global};
+use std::fmt;
 
-/// Why a value means no list of the wanted length, where an item's error is an `E`.
-#[derive(Clone, Debug, Drop, PartialEq, Eq)]
-pub enum FromInputValueArrayError<E> {
+/// Why a value means no list of the wanted length, by its items' errors.
+#[derive_where(Clone, Debug, PartialEq, Eq; T::Error)]
+#[derive(Drop)]
+pub enum FromInputValueArrayError<T, S>
+where
+    T: FromInputValue<S>,
+{
     /// The value is null.
     Null,
 
@@ -26,24 +31,25 @@ pub enum FromInputValueArrayError<E> {
     },
 
     /// The error of the first item that means nothing.
-    Item(E),
+    Item(T::Error),
 
     /// Memory ran out. It says nothing about the value.
     Memory,
 }
 
-impl<E> From<AllocError> for FromInputValueArrayError<E> {
+impl<S, T: FromInputValue<S>> From<AllocError> for FromInputValueArrayError<T, S> {
     ghost from_gives = { λ _ e. e ≡ array_error.Memory };
 
-    fn from(_error: AllocError) -> FromInputValueArrayError<E> {
+    fn from(_error: AllocError) -> FromInputValueArrayError<T, S> {
         FromInputValueArrayError::Memory
     }
 }
 
-impl<E> From<FromInputValueVecError<E>> for FromInputValueArrayError<E> {
+impl<S, T: FromInputValue<S>> From<FromInputValueVecError<T, S>>
+    for FromInputValueArrayError<T, S> {
     ghost from_gives = { λ error e. e ≡ spec.of_list_error error };
 
-    fn from(error: FromInputValueVecError<E>) -> FromInputValueArrayError<E> {
+    fn from(error: FromInputValueVecError<T, S>) -> FromInputValueArrayError<T, S> {
         match error {
             FromInputValueVecError::Null => FromInputValueArrayError::Null,
             FromInputValueVecError::Item(error) => FromInputValueArrayError::Item(error),
@@ -66,9 +72,9 @@ fn other_count<S>(value: &InputValue<S>, expected: usize) -> Option<usize>
 }
 
 /// The values as an array, if there are as many.
-fn exactly<T: Drop, E, const N: usize>(
+fn exactly<S, T: FromInputValue<S> + Drop, const N: usize>(
     values: Vec<T>,
-) -> Result<[T; N], FromInputValueArrayError<E>>
+) -> Result<[T; N], FromInputValueArrayError<T, S>>
     ensures { MatchResult result (λ array. (array ≡ values.items) × (length values.items ≡ N)) (λ e. (e ≡ array_error.WrongCount (length values.items) N) × (length values.items ≢ N)) }
 {
     let actual = values.len();
@@ -85,7 +91,7 @@ fn exactly<T: Drop, E, const N: usize>(
 /// before its items are read, and a value that stands alone once it has been read (GraphQL October
 /// 2021, 3.11 List, "Input Coercion").
 impl<S, T: FromInputValue<S> + Drop, const N: usize> FromInputValue<S> for [T; N] {
-    type Error = FromInputValueArrayError<T::Error>;
+    type Error = FromInputValueArrayError<T, S>;
 
     ghost means = { spec.MeansExactly N T.means };
 
@@ -106,7 +112,7 @@ impl<S, T: FromInputValue<S> + Drop, const N: usize> FromInputValue<S> for [T; N
     fn from_input_value(
         alloc: Global,
         value: &InputValue<S>,
-    ) -> Result<[T; N], FromInputValueArrayError<T::Error>> {
+    ) -> Result<[T; N], FromInputValueArrayError<T, S>> {
         if let Some(actual) = other_count(value, N) {
             return Err(FromInputValueArrayError::WrongCount {
                 actual,
@@ -119,7 +125,30 @@ impl<S, T: FromInputValue<S> + Drop, const N: usize> FromInputValue<S> for [T; N
         }
     }
 
-    fn from_implicit_null(_alloc: Global) -> Result<[T; N], FromInputValueArrayError<T::Error>> {
+    fn from_implicit_null(_alloc: Global) -> Result<[T; N], FromInputValueArrayError<T, S>> {
         Err(FromInputValueArrayError::Null)
+    }
+}
+
+/// Writes that null is refused, which number of items was found in place of which, an item's own
+/// text, or `Out of memory`.
+impl<S, T: FromInputValue<S>> fmt::Display for FromInputValueArrayError<T, S>
+where
+    T::Error: fmt::Display,
+{
+    ghost output = { spec.array_error_text T.Error.output };
+
+    fn fmt<W: fmt::Write>(&self, f: &mut fmt::Formatter<W>) -> fmt::Result {
+        match self {
+            FromInputValueArrayError::Null => {
+                f.write_str("Failed to convert into exact-size array: Value cannot be `null`")
+            }
+            FromInputValueArrayError::WrongCount { actual, expected } => write!(
+                f,
+                "Failed to convert into exact-size array: wrong elements count: {actual} instead of {expected}"
+            ),
+            FromInputValueArrayError::Item(error) => write!(f, "{error}"),
+            FromInputValueArrayError::Memory => f.write_str("Out of memory"),
+        }
     }
 }

@@ -11,32 +11,37 @@ use super::FromInputValue;
 use crate::input_value::InputValue;
 use graphql_text::Spanning;
 use std::alloc::{AllocError, AllocFailed, Global};
+use std::fmt;
 
-/// Why a value means no list, where an item's error is an `E`.
-#[derive(Clone, Debug, Drop, PartialEq, Eq)]
-pub enum FromInputValueVecError<E> {
+/// Why a value means no list, by its items' errors.
+#[derive_where(Clone, Debug, PartialEq, Eq; T::Error)]
+#[derive(Drop)]
+pub enum FromInputValueVecError<T, S>
+where
+    T: FromInputValue<S>,
+{
     /// The value is null.
     Null,
 
     /// The error of the first item that means nothing.
-    Item(E),
+    Item(T::Error),
 
     /// Memory ran out. It says nothing about the value.
     Memory,
 }
 
-impl<E> From<AllocError> for FromInputValueVecError<E> {
+impl<S, T: FromInputValue<S>> From<AllocError> for FromInputValueVecError<T, S> {
     ghost from_gives = { λ _ e. e ≡ vec_error.Memory };
 
-    fn from(_error: AllocError) -> FromInputValueVecError<E> {
+    fn from(_error: AllocError) -> FromInputValueVecError<T, S> {
         FromInputValueVecError::Memory
     }
 }
 
-impl<T: Drop, E> From<AllocFailed<T>> for FromInputValueVecError<E> {
+impl<U: Drop, S, T: FromInputValue<S>> From<AllocFailed<U>> for FromInputValueVecError<T, S> {
     ghost from_gives = { λ _ e. e ≡ vec_error.Memory };
 
-    fn from(_error: AllocFailed<T>) -> FromInputValueVecError<E> {
+    fn from(_error: AllocFailed<U>) -> FromInputValueVecError<T, S> {
         FromInputValueVecError::Memory
     }
 }
@@ -45,7 +50,7 @@ impl<T: Drop, E> From<AllocFailed<T>> for FromInputValueVecError<E> {
 fn read_items<S, T: FromInputValue<S> + Drop>(
     alloc: Global,
     items: &[Spanning<InputValue<S>>],
-) -> Result<Vec<T>, FromInputValueVecError<T::Error>>
+) -> Result<Vec<T>, FromInputValueVecError<T, S>>
     ensures { ConvertsTo (λ meant. spec.MeansItems T.means (value.List items.now) meant.items) (spec.RefusesItems T.means T.refuses (value.List items.now)) (spec.IsItemMemory T.is_memory) result }
 {
     let mut meant = Vec::with_capacity(alloc, items.len())?;
@@ -62,7 +67,7 @@ fn read_items<S, T: FromInputValue<S> + Drop>(
 fn read_single<S, T: FromInputValue<S> + Drop>(
     alloc: Global,
     single: &InputValue<S>,
-) -> Result<Vec<T>, FromInputValueVecError<T::Error>>
+) -> Result<Vec<T>, FromInputValueVecError<T, S>>
     requires not_null { single.now ≢ value.Null }
     requires not_list { (items : _) → single.now ≢ value.List items }
     ensures { ConvertsTo (λ meant. spec.MeansItems T.means single.now meant.items) (spec.RefusesItems T.means T.refuses single.now) (spec.IsItemMemory T.is_memory) result }
@@ -81,7 +86,7 @@ fn read_single<S, T: FromInputValue<S> + Drop>(
 /// it. Any other value means the list of its one meaning (GraphQL October 2021, 3.11 List, "Input
 /// Coercion").
 impl<S, T: FromInputValue<S> + Drop> FromInputValue<S> for Vec<T> {
-    type Error = FromInputValueVecError<T::Error>;
+    type Error = FromInputValueVecError<T, S>;
 
     ghost means = { λ v meant. spec.MeansItems T.means v meant.items };
 
@@ -102,7 +107,7 @@ impl<S, T: FromInputValue<S> + Drop> FromInputValue<S> for Vec<T> {
     fn from_input_value(
         alloc: Global,
         value: &InputValue<S>,
-    ) -> Result<Vec<T>, FromInputValueVecError<T::Error>> {
+    ) -> Result<Vec<T>, FromInputValueVecError<T, S>> {
         match value {
             InputValue::Null => Err(FromInputValueVecError::Null),
             InputValue::List(items) => read_items(alloc, items.as_slice()),
@@ -110,7 +115,25 @@ impl<S, T: FromInputValue<S> + Drop> FromInputValue<S> for Vec<T> {
         }
     }
 
-    fn from_implicit_null(_alloc: Global) -> Result<Vec<T>, FromInputValueVecError<T::Error>> {
+    fn from_implicit_null(_alloc: Global) -> Result<Vec<T>, FromInputValueVecError<T, S>> {
         Err(FromInputValueVecError::Null)
+    }
+}
+
+/// Writes that null is refused, an item's own text, or `Out of memory`.
+impl<S, T: FromInputValue<S>> fmt::Display for FromInputValueVecError<T, S>
+where
+    T::Error: fmt::Display,
+{
+    ghost output = { spec.list_error_text T.Error.output };
+
+    fn fmt<W: fmt::Write>(&self, f: &mut fmt::Formatter<W>) -> fmt::Result {
+        match self {
+            FromInputValueVecError::Null => {
+                f.write_str("Failed to convert into `Vec`: Value cannot be `null`")
+            }
+            FromInputValueVecError::Item(error) => write!(f, "{error}"),
+            FromInputValueVecError::Memory => f.write_str("Out of memory"),
+        }
     }
 }
