@@ -1,8 +1,8 @@
--- What the forms of input values give to lists, and that no value both means a list and is refused as one.
+-- What the forms of input values give to lists, and that no value both means something and is refused.
 use Rattle.std.specs.Prelude.{◌≡◌, ℕ, Option, Some, None, List, [], ◌∷◌, ◌++◌, map, length}
 use Rattle.std.specs.Option.{IsSomeAnd}
 use Rattle.std.specs.List.{AllZip}
-use Rattle.std.proofs.Common.{ap, sym, subst, ◌∙◌}
+use Rattle.std.proofs.Common.{inl, inr, ap, sym, subst, ◌∙◌}
 use Rattle.std.proofs.lemmas.Slice.Zip.{AllZip-long}
 use Rattle.graphql_values.specs.declared.input_value.InputValue.{InputValue, out-InputValue, roll-InputValue, out-roll-InputValue}
 use Rattle.graphql_values.specs.declared.input_value.InputValue.TheOpen.{InputValue-F}
@@ -11,6 +11,8 @@ use Rattle.graphql_values.specs.declared.conversions.lists.FromInputValueVecErro
 use Rattle.graphql_values.specs.declared.conversions.lists.FromInputValueVecError.TheVariants as vec_error
 use Rattle.graphql_values.specs.declared.conversions.arrays.FromInputValueArrayError.{FromInputValueArrayError}
 use Rattle.graphql_values.specs.declared.conversions.arrays.FromInputValueArrayError.TheVariants as array_error
+use Rattle.graphql_scalars.specs.declared.check_error.CheckError.{CheckError}
+use Rattle.graphql_values.specs.ConversionsOfScalars.{MeansAnswer, RefusesAnswer}
 use Rattle.graphql_values.specs.InputValues.{Placed}
 use Rattle.graphql_values.specs.Conversions.{Apart}
 use Rattle.graphql_values.specs.ConversionsOfLists.{items_layer, items_of, IsRefusedFirst, MeansItems, RefusesItems, IsItemMemory}
@@ -69,3 +71,18 @@ module _ {S T E : Type 0} (n : ℕ) (means : InputValue S → T → Type 0) (ref
 -- want of memory of the array itself is want of memory
 pub array_memory : {S T E : Type 0} (is_memory : E → Type 0) (e : FromInputValueArrayError T S E) → e ≡ array_error.Memory → arrays.IsItemMemory is_memory e
 array_memory is_memory e is = subst (arrays.IsItemMemory is_memory) (sym is) tt
+
+-- a scalar is no other scalar
+pub same_scalar : {S : Type 0} (s r : S) → value.Scalar s ≡ value.Scalar r → s ≡ r
+same_scalar {S} s r is =
+    let layers : InputValue-F.Scalar s ≡ InputValue-F.Scalar r =
+    sym (out_form (value.Scalar s) (InputValue-F.Scalar s) (value.rolls-Scalar s)) ∙ ap (out-InputValue S) is ∙ out_form (value.Scalar r) (InputValue-F.Scalar r) (value.rolls-Scalar r) in
+    cc
+
+module _ {S A : Type 0} (type_name : List ℕ) (scalar_text : S → List ℕ) (answer : S → Option A) where
+  pub answers_apart : (v : InputValue S) (x : A) (e : CheckError) → MeansAnswer answer v x → RefusesAnswer type_name scalar_text answer v e → ⊥
+  answers_apart v x e meant (inl refused) =
+      let same : meant.0 ≡ refused.0 = same_scalar meant.0 refused.0 (sym meant.1 ∙ refused.1) in
+      let both : Some x ≡ None = sym meant.2 ∙ ap answer same ∙ refused.2.0 in
+      cc
+  answers_apart v x e meant (inr refused) = refused.0 meant.0 meant.1

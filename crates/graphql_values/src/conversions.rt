@@ -7,6 +7,7 @@ mod into_input_value;
 mod lists;
 mod optional;
 mod pointers;
+mod scalars;
 mod to_input_value;
 
 pub use arrays::FromInputValueArrayError;
