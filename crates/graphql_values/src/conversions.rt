@@ -8,6 +8,8 @@ mod lists;
 mod optional;
 mod pointers;
 mod scalars;
+#[cfg(test)]
+mod tests;
 mod to_input_value;
 
 pub use arrays::FromInputValueArrayError;
