@@ -99,7 +99,7 @@ fn read_sets<'a, S: ScalarValue>(
         if cursor.kind() == Kind::CurlyClose && !found.is_empty() {
             cursor.advance();
             match outer.pop() {
-                Some(open) => close_set(open, found, cursor.end())?,
+                Some(last) => close_set(last, found, cursor.end())?,
                 None => return Ok(()),
             }
         } else if let Some(head) = begin(alloc, cursor, found)? {
@@ -132,13 +132,13 @@ fn open_set<'a, S: ScalarValue>(
 /// Ends an open set, of which these selections were found, and which ends there: what is found then
 /// are the selections of the set around it, its own selection the last.
 fn close_set<'a, S: ScalarValue>(
-    open: Open<'a, S>,
+    last: Open<'a, S>,
     found: &mut Items<Selection<'a, S>>,
     end: SourcePosition,
 ) -> Result<(), AllocError>
-    ensures { OnOk result (found.new ≡ open.entry.around ++ completed open.entry.head found.old end ∷ []) }
+    ensures { OnOk result (found.new ≡ last.entry.around ++ completed last.entry.head found.old end ∷ []) }
 {
-    let Open { head, around } = open;
+    let Open { head, around } = last;
     let set = mem::replace(found, around);
     match head {
         Head::Field(head) => keep(found, field(head, Some(set), end)),

@@ -1,4 +1,7 @@
 //! Values (GraphQL October 2021, 2.9 Input Values).
+//!
+//! Values nest as deep as a text has tokens, and the functions that call one another keep what they
+//! read on the stack. So what they read of single tokens is read by functions that stay calls.
 
 ghost use Rattle.std.specs.Prelude.{◌≡◌, ◌<◌, ◌≤◌, OnOk};
 ghost use Rattle.graphql_values.specs.declared.input_value.InputValue.TheVariants as v;
@@ -122,6 +125,7 @@ pub(crate) fn key<'a>(
 }
 
 /// As `key`, with the name as a text of its own.
+#[inline(never)]
 fn owned_key(alloc: Global, cursor: &mut Cursor<'_>) -> Result<Spanning<Text>, Fault>
     ensures reads { Reads (parts.key cursor.old) result cursor.new }
     ensures no_more { left cursor.new ≤ left cursor.old }
@@ -135,6 +139,7 @@ fn owned_key(alloc: Global, cursor: &mut Cursor<'_>) -> Result<Spanning<Text>, F
 
 /// Reads a value that holds no other: a variable, where the value is no constant, or a scalar or a
 /// word.
+#[inline(never)]
 fn single<S: ScalarValue>(
     alloc: Global,
     cursor: &mut Cursor<'_>,

@@ -39,7 +39,7 @@ pub selections-preserved-then-not-is_empty : goal.selections-preserved-then-not-
 selections-preserved-then-not-is_empty g c =
     let seen = asked_kind k.CurlyClose c.selections.cursor c.kind.result true c.kind.ensures c.if-eq.ensures in
     record {
-      reads = set_ends g.S.ParseScalarValue.reads g.S.ScalarValue.of_bool c.selections.invariant.reads c.in-Some.open (λ e. let q = c.if-not-is_empty.ensures.1 e in cc) seen c.advance.ensures.next c.in-Some.ensures c.end.ensures
+      reads = set_ends g.S.ParseScalarValue.reads g.S.ScalarValue.of_bool c.selections.invariant.reads c.in-Some.last (λ e. let q = c.if-not-is_empty.ensures.1 e in cc) seen c.advance.ensures.next c.in-Some.ensures c.end.ensures
           c.in_ok-close_set-in-Some.ensures;
       fewer = omega arith;
     }
