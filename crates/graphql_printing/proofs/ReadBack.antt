@@ -23,8 +23,7 @@ use Rattle.graphql_language.specs.Texts.{IsCut}
 use Rattle.graphql_language.specs.ReadValues.{value}
 use Rattle.graphql_language.proofs.ValueLaws.{law_value}
 use Rattle.graphql_printing.specs.Parts.{tokens_of, end_of as place_of_end, text_of}
-use Rattle.graphql_printing.specs.Shown.{shown}
-use Rattle.graphql_printing.specs.Writable.{Value, IsWritable}
+use Rattle.graphql_printing.specs.Writable.{Value, shown, IsWritable}
 use Rattle.graphql_printing.specs.Laws.{Of, ShownSpells, ShownIsFound, GivesBack, ShownIsReadBack}
 use Rattle.graphql_printing.proofs.Parts.{parts_are_tokens}
 use Rattle.graphql_printing.proofs.Printed.{no_lead, written_chars}

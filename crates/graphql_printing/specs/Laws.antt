@@ -19,8 +19,7 @@ use Rattle.graphql_language.specs.Texts.{IsCut}
 use Rattle.graphql_language.specs.Values.{ValueOf}
 use Rattle.graphql_language.specs.ReadTypes.{TypeRef}
 use Rattle.graphql_language.specs.Types.{TypeOf, no_scalar}
-use Rattle.graphql_printing.specs.Shown.{shown}
-use Rattle.graphql_printing.specs.Writable.{Value, IsWritable}
+use Rattle.graphql_printing.specs.Writable.{Value, shown, IsWritable}
 use Rattle.graphql_printing.specs.WritableTypes.{IsWritableType}
 use Rattle.graphql_printing.specs.Parts.{Part, AreBlank, IsClosed, text_of, AllFit, tokens_of, end_of}
 
