@@ -1,5 +1,5 @@
 -- What is found at the start of a text whose tokens spell a tree is that tree, with nothing left behind it.
-use Rattle.std.proofs.Common.{◌≡◌, ◌≢◌, ℕ, suc, Bool, List, [], ◌∷◌, ◌++◌, length, Result, Ok, Err, ap, ◌∙◌, sym, refl, subst, append_assoc, arith}
+use Rattle.std.proofs.Common.{◌≡◌, ◌≢◌, IfOk, IfErr, ℕ, suc, Bool, List, [], ◌∷◌, ◌++◌, length, None, Result, Ok, Err, ap, ◌∙◌, sym, refl, subst, append_assoc, arith}
 use Rattle.std.specs.Str.{chars}
 use Rattle.std.proofs.lemmas.List.{append-nil, same_from_push}
 use Rattle.std.proofs.lemmas.Option.{MatchOption-at_none}
@@ -15,16 +15,15 @@ use Rattle.graphql_values.specs.InputValues.{unlocated}
 use Rattle.graphql_grammar.specs.Input.{At, Input, Fault, Outcome}
 use Rattle.graphql_grammar.specs.Ahead.{mk}
 use Rattle.graphql_grammar.specs.Relations.{end_of}
-use Rattle.graphql_grammar.specs.Cursor.{IsStart}
+use Rattle.graphql_grammar.specs.Cursor.{IsStart, IsLexical}
 use Rattle.graphql_grammar.specs.Faults.{Begins, FirstFault, Found}
 use Rattle.graphql_grammar.proofs.FirstFaults.{one_tree}
-use Rattle.graphql_language.specs.Parser.{State, Rule, Fails, Gives, Again}
+use Rattle.graphql_language.specs.Parser.{State, Rule, Fails, Gives, Calls, Again}
 use Rattle.graphql_language.specs.Texts.{IsCut}
 use Rattle.graphql_language.specs.ReadValues.{value}
 use Rattle.graphql_language.proofs.ValueLaws.{law_value}
 use Rattle.graphql_printing.specs.Parts.{tokens_of, end_of as place_of_end, text_of}
-use Rattle.graphql_printing.specs.Shown.{shown}
-use Rattle.graphql_printing.specs.Writable.{Value, IsWritable}
+use Rattle.graphql_printing.specs.Writable.{Value, shown, IsWritable}
 use Rattle.graphql_printing.specs.Laws.{Of, ShownSpells, ShownIsFound, GivesBack, ShownIsReadBack}
 use Rattle.graphql_printing.proofs.Parts.{parts_are_tokens}
 use Rattle.graphql_printing.proofs.Printed.{no_lead, written_chars}
@@ -56,6 +55,10 @@ fails_by_memory rule i f new none h = is_memory f.item (λ told. let same : h.fa
 -- the tokens that are ahead at the start of a text are those into which it is cut
 pub start_tokens : (text : List ℕ) (tokens : List Located) (finish : Span) (i : Input) → IsCut text tokens finish → IsStart text i → i.ahead ≡ tokens
 start_tokens text tokens finish i cut start = (same_from_push i.ahead tokens _ _ (lexical.one_list text _ _ start.divided cut)).0
+
+-- a text that is cut has no lexical fault, so only want of memory may be told
+pub no_lexical : (text : List ℕ) (tokens : List Located) (finish : Span) (e : Fault) → IsCut text tokens finish → (e.item ≢ Memory → IsLexical text e) → e.item ≡ Memory
+no_lexical text tokens finish e cut h = is_memory e.item (λ told. let l = h told in lexical.not_both text _ l.0 cut l.1)
 
 -- ---- input values
 
@@ -111,3 +114,22 @@ given_back is_const v h i new (Err f) start fails = fails_by_memory (Found reads
 pub shown_is_read_back : ShownIsReadBack
 shown_is_read_back is_const v h old new r start fresh calls =
     given_back is_const v h old.input new r start (MatchOption-at_none (Gives (Found reads (Of is_const)) old.input r new) (λ e. Again e r × (new ≡ old)) fresh calls)
+
+-- ---- what a call that reads a value answers
+
+pub value_memory : (is_const : Bool) (v : Value) (text : List ℕ) (e : Fault) → IsWritable is_const v → text ≡ shown v → (e.item ≢ Memory → IsLexical (chars text) e) → e.item ≡ Memory
+value_memory is_const v text e h is lexical =
+    let s = shown_spells is_const v h in
+    no_lexical (chars (shown v)) s.tokens s.finish e s.cut (subst (λ t. e.item ≢ Memory → IsLexical (chars t) e) is lexical)
+
+pub value_read : (is_const : Bool) (v : Value) (text : List ℕ) (old new : State) (r : Result (At Value) Fault) → IsWritable is_const v → text ≡ shown v → IsStart (chars text) old.input → old.refused ≡ None
+    → Calls (Found reads (Of is_const)) old r new → GivesBack v r new
+value_read is_const v text old new r h is start fresh calls = shown_is_read_back is_const v h old new r (subst (λ t. IsStart (chars t) old.input) is start) fresh calls
+
+pub back_same : (v : Value) (new : State) (r : Result (At Value) Fault) → GivesBack v r new → IfOk r (λ found. unlocated found.item ≡ unlocated v)
+back_same v new (Ok x) h = h.0
+back_same v new (Err e) h = tt
+
+pub back_memory : (v : Value) (new : State) (r : Result (At Value) Fault) → GivesBack v r new → IfErr r (λ e. e.item ≡ Memory)
+back_memory v new (Ok x) h = tt
+back_memory v new (Err e) h = h

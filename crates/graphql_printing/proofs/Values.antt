@@ -22,9 +22,9 @@ use Rattle.graphql_grammar.specs.Input.{At}
 use Rattle.graphql_language.specs.Values.{Is, spanned, ValueOf, of_true, of_false, of_null, of_enum, of_scalar, of_variable, of_list, of_object, ItemsOf, FieldsOf}
 use Rattle.graphql_language.specs.Values as grammar
 use Rattle.graphql_printing.specs.Parts.{Part, IsClosed, text_of, located, up_to, tokens_of}
-use Rattle.graphql_printing.specs.Shown.{shown, separated, followed}
-use Rattle.graphql_printing.specs.Writable.{Value, IsPlain, IsEnum, IsWritable, null, integer, string, boolean, enum, variable, list, object, AreWritable, no_items, more_items, FieldsAreWritable, no_fields, more_fields}
-use Rattle.graphql_printing.proofs.ShownEquations.{item_texts, field_texts, null_shown, scalar_shown, enum_shown, variable_shown, list_shown, object_shown}
+use Rattle.graphql_values.specs.Shown.{separated}
+use Rattle.graphql_printing.specs.Writable.{Value, shown, IsPlain, IsEnum, IsWritable, null, integer, string, boolean, enum, variable, list, object, AreWritable, no_items, more_items, FieldsAreWritable, no_fields, more_fields}
+use Rattle.graphql_printing.proofs.ShownEquations.{followed, item_texts, field_texts, null_shown, scalar_shown, enum_shown, variable_shown, list_shown, object_shown}
 use Rattle.graphql_printing.proofs.Parts.{closed_tokens_end}
 use Rattle.graphql_printing.proofs.Words.{integer_reads, quoted, string_reads}
 use Rattle.graphql_printing.proofs.PrintedWords.{name_word, dollar, bracket_open, bracket_close, curly_open, curly_close, colon, integer_word, string_word}

@@ -9,7 +9,9 @@ use Rattle.graphql_text.specs.Grammar.{Ends}
 use Rattle.graphql_scalars.specs.declared.default_scalar.DefaultScalarValue.{DefaultScalarValue}
 use Rattle.graphql_scalars.specs.declared.default_scalar.DefaultScalarValue.TheVariants as scalar
 use Rattle.graphql_scalars.specs.DefaultScalar.{reads}
+use Rattle.graphql_values.specs.declared.input_value.InputValue.{InputValue}
 use Rattle.graphql_values.specs.InputValues.{unlocated}
+use Rattle.graphql_values.specs.SameValue.{SameValue}
 use Rattle.graphql_types.specs.TypeReference.{written}
 use Rattle.graphql_grammar.specs.Input.{At, Input, Fault, Outcome}
 use Rattle.graphql_grammar.specs.Cursor.{IsStart}
@@ -19,8 +21,7 @@ use Rattle.graphql_language.specs.Texts.{IsCut}
 use Rattle.graphql_language.specs.Values.{ValueOf}
 use Rattle.graphql_language.specs.ReadTypes.{TypeRef}
 use Rattle.graphql_language.specs.Types.{TypeOf, no_scalar}
-use Rattle.graphql_printing.specs.Shown.{shown}
-use Rattle.graphql_printing.specs.Writable.{Value, IsWritable}
+use Rattle.graphql_printing.specs.Writable.{Value, shown, IsWritable}
 use Rattle.graphql_printing.specs.WritableTypes.{IsWritableType}
 use Rattle.graphql_printing.specs.Parts.{Part, AreBlank, IsClosed, text_of, AllFit, tokens_of, end_of}
 
@@ -74,6 +75,10 @@ abbrev pub ShownIsReadBack : Type 0
 ShownIsReadBack =
     (is_const : Bool) (value : Value) → IsWritable is_const value → (old new : State) (result : Result (At Value) Fault) → IsStart (chars (shown value)) old.input → old.refused ≡ None
     → Calls (Found reads (Of is_const)) old result new → GivesBack value result new
+
+-- values that are alike once their places are left out are the same, wherever they stand
+abbrev pub SameWithoutPlaces : {S : Type 0} → (S → S → Bool) → Type 0
+SameWithoutPlaces {S} eq = (a b : InputValue S) → unlocated a ≡ unlocated b → SameValue S eq a b
 
 -- ---- type references (2.11 Type References)
 

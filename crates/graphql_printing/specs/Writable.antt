@@ -5,12 +5,18 @@ use mir.Syntax.{w32}
 use Rattle.graphql_text.specs.Grammar.{Each, IsName, is_string_character}
 use Rattle.graphql_scalars.specs.declared.default_scalar.DefaultScalarValue.{DefaultScalarValue}
 use Rattle.graphql_scalars.specs.declared.default_scalar.DefaultScalarValue.TheVariants as scalar
+use Rattle.graphql_scalars.specs.DefaultScalar.{as_int, as_bool, as_text}
 use Rattle.graphql_values.specs.declared.input_value.InputValue.{InputValue}
 use Rattle.graphql_values.specs.declared.input_value.InputValue.TheVariants as v
 use Rattle.graphql_values.specs.InputValues.{Placed, Pair}
+use Rattle.graphql_values.specs.Shown as values
 
 abbrev pub Value : Type 0
 Value = InputValue DefaultScalarValue
+
+-- the text of a value
+abbrev pub shown : Value → List ℕ
+shown = values.shown as_int as_bool as_text
 
 -- the bytes of characters among which is no quote, no backslash and no control but a tab (2.9.4 String Value)
 pub record IsPlain (text : List ℕ) : Type 0 where

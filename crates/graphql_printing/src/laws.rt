@@ -1,6 +1,6 @@
 //! Laws of the definitions: each function's contract is a law, and its body does nothing.
 
-ghost use Rattle.graphql_printing.specs.Laws.{PartsAreTokens, ClosedTokensEnd, ShownSpells, ShownIsFound, ShownIsReadBack, WrittenSpells, WrittenIsFound, WrittenIsReadBack};
+ghost use Rattle.graphql_printing.specs.Laws.{PartsAreTokens, ClosedTokensEnd, ShownSpells, ShownIsFound, ShownIsReadBack, SameWithoutPlaces, WrittenSpells, WrittenIsFound, WrittenIsReadBack};
 
 /// The tokens of a text that is written in parts, each of blanks and the characters of a token, are
 /// those of its parts (GraphQL October 2021, 2.1.6 Lexical Tokens).
@@ -30,6 +30,11 @@ pub fn shown_is_found()
 /// value, places aside, and leaves nothing but the end. Its only error is want of memory.
 pub fn shown_is_read_back()
     ensures { ShownIsReadBack }
+{}
+
+/// Values that are alike once their places are left out are the same, as `unlocated_eq` compares them.
+pub fn same_without_places<S: Eq>()
+    ensures { SameWithoutPlaces S.eq }
 {}
 
 /// The tokens of what a type is displayed as spell that type, and no other, where its name is a name,

@@ -2,8 +2,10 @@
 #![tactic(auto)]
 
 pub mod laws;
+mod round_trip;
 #[cfg(test)]
 mod tests;
 mod writable;
 
+pub use round_trip::read_back;
 pub use writable::is_writable;
