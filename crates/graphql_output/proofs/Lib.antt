@@ -3,3 +3,4 @@ pub mod TurnedLemmas
 pub mod EqualityTests
 pub mod DisplayLemmas
 pub mod FieldLaws
+pub mod PutLaws

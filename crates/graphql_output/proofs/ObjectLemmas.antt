@@ -94,7 +94,7 @@ module _ {A : Type 0} where
   there_if_value key (f ∷ fs) = is_there key (f ∷ fs) f _ refl
 
   -- the keys stay, or the key is a new one at the end
-  keys_after : (key : List ℕ) (v : A) (fs : List (Pair A)) → keys_of (with_field fs key v) ≡ cond (list_any (bytes_eq key) (keys_of fs)) (keys_of fs) (keys_of fs ++ key ∷ [])
+  pub keys_after : (key : List ℕ) (v : A) (fs : List (Pair A)) → keys_of (with_field fs key v) ≡ cond (list_any (bytes_eq key) (keys_of fs)) (keys_of fs) (keys_of fs ++ key ∷ [])
   keys_after key v [] = refl
   keys_after key v (f ∷ fs) = one (bytes_eq key f.0) (keys_after key v fs)
     where

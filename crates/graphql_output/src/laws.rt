@@ -1,7 +1,7 @@
 //! Laws of objects and of their equality: each function's contract is a law, and its body does nothing.
 
 ghost use Rattle.graphql_output.specs.Equality.{equal};
-ghost use Rattle.graphql_output.specs.Laws.{EqualByFields, EqualInAnyOrder, MadeDistinct};
+ghost use Rattle.graphql_output.specs.Laws.{EqualByFields, EqualInAnyOrder, KeysKeepPlaces, MadeDistinct, PutUnder};
 ghost use Rattle.graphql_output.specs.declared.object.Object.{Object};
 ghost use Rattle.graphql_output.specs.declared.value.Value.{Value};
 
@@ -19,4 +19,14 @@ pub fn equal_in_any_order<S: Eq>()
 /// An object that is made of pairs has distinct keys.
 pub fn made_distinct<S>()
     ensures { MadeDistinct (Value S) }
+{}
+
+/// A value that is put under a key stands there, and what stands under any other key stays.
+pub fn put_under<S>()
+    ensures { PutUnder (Value S) }
+{}
+
+/// Putting a value under a key keeps the keys in their places, and a new key is the last.
+pub fn keys_keep_places<S>()
+    ensures { KeysKeepPlaces (Value S) }
 {}
