@@ -5,6 +5,8 @@ ghost use Rattle.graphql_items.specs.Memory.{Gives};
 ghost use Rattle.graphql_values.specs.InputValues.{unplaced, unplaced_pair};
 ghost use Rattle.graphql_values.specs.declared.input_value.InputValue.TheVariants as value;
 
+#[cfg(test)]
+mod call_tests;
 mod clones;
 mod display;
 mod equality;
