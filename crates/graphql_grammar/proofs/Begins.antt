@@ -1,5 +1,5 @@
 -- What a parser begins with, whatever its parts read.
-use Rattle.std.proofs.Common.{◌≡◌, Bool, true, false, ◌||◌, Ok, ◌∙◌, sym, refl}
+use Rattle.std.proofs.Common.{◌≡◌, Bool, true, false, Ok, ◌∙◌, sym, refl}
 use Rattle.graphql_text.specs.declared.token.Token.{Token}
 use Rattle.graphql_grammar.specs.Kinds.{Kinds, either, within}
 use Rattle.graphql_grammar.specs.Input.{Input, Parser, ◌>>=◌}

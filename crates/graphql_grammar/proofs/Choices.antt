@@ -1,6 +1,5 @@
 -- The law of one token, of choices by the next token, of parts that may be absent, and of places.
-use Rattle.std.proofs.Common.{◌≡◌, ℕ, ◌<◌, ◌≤◌, ◌⊎◌, inl, inr, Bool, true, false, if◌then◌else◌, List, [], ◌∷◌, ◌++◌, length, Result, Ok, Err, Option, Some, None, ap, ◌∙◌, sym, refl, subst, arith, le_refl}
-use Rattle.std.specs.Str.{bytes_eq}
+use Rattle.std.proofs.Common.{◌≡◌, ℕ, ◌<◌, ◌≤◌, inl, inr, Bool, true, false, if◌then◌else◌, List, [], ◌∷◌, ◌++◌, length, Result, Ok, Err, Option, Some, None, ap, ◌∙◌, sym, refl, subst, arith}
 use Rattle.std.specs.Prelude.{codes}
 use Rattle.graphql_text.specs.declared.position.Span.{Span}
 use Rattle.graphql_text.specs.declared.position.SourcePosition.{SourcePosition}
@@ -11,14 +10,15 @@ use Rattle.graphql_text.specs.declared.token.ScalarToken.TheVariants as st
 use Rattle.graphql_text.specs.declared.parse_error.ParseError.{ParseError}
 use Rattle.graphql_grammar.specs.declared.kind.Kind.{Kind}
 use Rattle.graphql_grammar.specs.declared.kind.Kind.TheVariants as k
-use Rattle.graphql_grammar.specs.Kinds.{Kinds, kind, word_kind, names, only, either, no_kind, apart, within}
+use Rattle.graphql_grammar.specs.Kinds.{Kinds, kind, names, only, either, no_kind, apart, within}
 use Rattle.graphql_grammar.specs.Input.{At, Input, Located, Fault, Parser, Outcome, and_then, ◌>>=◌, pure, refuse, refusal, peek, peek_kind, next}
 use Rattle.graphql_grammar.specs.Steps.{sees, when, token, expect, scalar, scalar_by, read_by, placed, located, optional}
 use Rattle.graphql_grammar.specs.Ahead.{mk, In, Free, Like, kind_ahead, refused_at}
 use Rattle.graphql_grammar.specs.Relations.{end_of, span_of, TokenOf, Nothing, Made, Placed, OptionOf, absent, present, EitherOf}
 use Rattle.graphql_grammar.specs.Faults.{BadScalar, GoodScalar, ScalarOf}
+use Rattle.graphql_grammar.proofs.Cursors.{word_is_name}
 use Rattle.graphql_grammar.proofs.Sets.{is_kind, or_left, or_right, in_left, in_right, within_is}
-use Rattle.graphql_grammar.proofs.Stops.{Stop, done, refused, unread, Runs, Continues, Sentence, Starts, ran_before, stop_prefix, taking, narrow_runs, narrow_continues, same_state}
+use Rattle.graphql_grammar.proofs.Stops.{Stop, done, refused, unread, Runs, Continues, Sentence, Starts, ran_before, stop_prefix, narrow_runs}
 use Rattle.graphql_grammar.proofs.Law.{Law, ReadsAs, Begun, begun_first, begun_second, least, stops_of, follows, law_is, law_made, law_pure}
 
 pub sees-ahead : (kinds : Kinds) (xs : List Located) (f : Span) (e : SourcePosition) → sees kinds (mk xs f e) ≡ kinds (kind_ahead xs)
@@ -151,21 +151,6 @@ module _ {S : Type 0} (reads : ScalarToken → Result S ParseError) where
   scalar_faults : (a : Located) (zs : List Located) (f : Span) (e : SourcePosition) (s : ScalarToken) (x : ParseError) → a.item ≡ t.Scalar s → reads s ≡ Err x → scalar reads (mk (a ∷ zs) f e) ≡ Err (record { item = x; span = a.span })
   unfolding peek
   scalar_faults a zs f e s x is means = scalar_at a zs f e s is ∙ ap (λ r. read_by reads r (mk (a ∷ zs) f e)) means
-
-word_by : (b1 b2 b3 b4 b5 b6 b7 b8 : Bool) → names (if b1 then k.On else if b2 then k.Query else if b3 then k.Mutation else if b4 then k.Subscription else if b5 then k.Fragment else if b6 then k.True else if b7 then k.False else if b8 then k.Null else k.Name) ≡ true
-word_by true b2 b3 b4 b5 b6 b7 b8 = refl
-word_by false true b3 b4 b5 b6 b7 b8 = refl
-word_by false false true b4 b5 b6 b7 b8 = refl
-word_by false false false true b5 b6 b7 b8 = refl
-word_by false false false false true b6 b7 b8 = refl
-word_by false false false false false true b7 b8 = refl
-word_by false false false false false false true b8 = refl
-word_by false false false false false false false true = refl
-word_by false false false false false false false false = refl
-
--- the kind of a name is one of names
-pub word_is_name : (n : List ℕ) → names (word_kind n) ≡ true
-word_is_name n = word_by (bytes_eq n (codes "on")) (bytes_eq n (codes "query")) (bytes_eq n (codes "mutation")) (bytes_eq n (codes "subscription")) (bytes_eq n (codes "fragment")) (bytes_eq n (codes "true")) (bytes_eq n (codes "false")) (bytes_eq n (codes "null"))
 
 scalar_token : (x : Token) → kind x ≡ k.Scalar → (s : ScalarToken) × (x ≡ t.Scalar s)
 scalar_token (t.Scalar s) h = (s, refl)

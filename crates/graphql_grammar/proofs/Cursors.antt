@@ -1,5 +1,5 @@
 -- What a cursor answers, as the steps of productions say it.
-use Rattle.std.proofs.Common.{◌≡◌, ◌≢◌, ◌<◌, ◌≤◌, ◌+◌, ◌-◌, ℕ, Bool, true, false, if◌then◌else◌, List, [], ◌∷◌, ◌++◌, length, length-drop, drop, slice_get, slice_index_or, codes, Some, None, Ok, Err, refl, sym, ap, ◌∙◌, subst, arith}
+use Rattle.std.proofs.Common.{◌≡◌, ◌≢◌, ◌<◌, ◌≤◌, ◌+◌, ◌-◌, ℕ, Bool, true, false, if◌then◌else◌, List, [], ◌∷◌, ◌++◌, length, length-drop, drop, slice_get, slice_index_or, codes, Some, None, Ok, Err, refl, sym, ap, ◌∙◌, subst, ◌⊎◌, inl, inr, arith}
 use Rattle.std.specs.Str.{bytes_eq}
 use denote.Enum.Bare.{same_true}
 use Rattle.std.proofs.lemmas.List.{drop_all, at_drop_more, same_from_push}
@@ -140,8 +140,9 @@ names_if : (b : Bool) (v w : Kind) → names v ≡ true → names w ≡ true →
 names_if true v w e f = e
 names_if false v w e f = f
 
-names_word : (n : List ℕ) → names (word_kind n) ≡ true
-names_word n = names_if (bytes_eq n (codes "on")) _ _ refl (names_if (bytes_eq n (codes "query")) _ _ refl (names_if (bytes_eq n (codes "mutation")) _ _ refl (names_if (bytes_eq n (codes "subscription")) _ _ refl
+-- the kind of a name is one of names
+pub word_is_name : (n : List ℕ) → names (word_kind n) ≡ true
+word_is_name n = names_if (bytes_eq n (codes "on")) _ _ refl (names_if (bytes_eq n (codes "query")) _ _ refl (names_if (bytes_eq n (codes "mutation")) _ _ refl (names_if (bytes_eq n (codes "subscription")) _ _ refl
     (names_if (bytes_eq n (codes "fragment")) _ _ refl (names_if (bytes_eq n (codes "true")) _ _ refl (names_if (bytes_eq n (codes "false")) _ _ refl (names_if (bytes_eq n (codes "null")) _ _ refl refl)))))))
 
 names_token : (x : Token) → ((n : List ℕ) → x ≢ t.Name n) → names (kind x) ≡ false
@@ -165,14 +166,14 @@ names_token t.EndOfFile h = refl
 pub name_read : (i : Input) (n : List ℕ) → (peek i).item ≡ t.Name n → name i ≡ Ok (n, next i)
 unfolding sees peek_kind
 name_read i n e =
-    let seen : sees names i ≡ true = ap (λ (x : Token). names (kind x)) e ∙ names_word n in
+    let seen : sees names i ≡ true = ap (λ (x : Token). names (kind x)) e ∙ word_is_name n in
     token_yes names name_of i seen ∙ ap (λ (x : Token). Ok (name_of x, next i)) e
 
 pub name_refused : (i : Input) → ((n : List ℕ) → (peek i).item ≢ t.Name n) → name i ≡ Err (refusal i)
 unfolding sees peek_kind
 name_refused i h = token_no names name_of i (names_token (peek i).item h)
 
-fragment_names_same : (w : Kind) → w ≢ k.On → fragment_names w ≡ names w
+pub fragment_names_same : (w : Kind) → w ≢ k.On → fragment_names w ≡ names w
 fragment_names_same k.On h = absurd (h refl)
 fragment_names_same k.Name h = refl
 fragment_names_same k.Query h = refl
@@ -212,23 +213,40 @@ divides_no_end : (before rest : List ℕ) (ts : List Located) (after behind : Li
 divides_no_end before rest [] after behind d = tt
 divides_no_end before rest (x ∷ xs) after behind (middle, more, h, goes, d) = (goes, divides_no_end middle more xs after behind d)
 
+no_end : (w : Kind) → names w ≡ true → only k.EndOfFile w ≡ false
+no_end k.EndOfFile h = cc
+no_end k.Name h = refl
+no_end k.On h = refl
+no_end k.Query h = refl
+no_end k.Mutation h = refl
+no_end k.Subscription h = refl
+no_end k.Fragment h = refl
+no_end k.True h = refl
+no_end k.False h = refl
+no_end k.Null h = refl
+no_end w h = absurd (cc)
+
+-- a token is the end, or it is neither said to be nor of its kind
+pub end_or_not : (x : Token) → (x ≡ t.EndOfFile) ⊎ ((is_end x ≡ false) × (only k.EndOfFile (kind x) ≡ false))
+end_or_not t.EndOfFile = inl refl
+end_or_not (t.Name n) = inr (refl, no_end (word_kind n) (word_is_name n))
+end_or_not (t.Scalar s) = inr (refl, refl)
+end_or_not t.ExclamationMark = inr (refl, refl)
+end_or_not t.Dollar = inr (refl, refl)
+end_or_not t.ParenOpen = inr (refl, refl)
+end_or_not t.ParenClose = inr (refl, refl)
+end_or_not t.BracketOpen = inr (refl, refl)
+end_or_not t.BracketClose = inr (refl, refl)
+end_or_not t.CurlyOpen = inr (refl, refl)
+end_or_not t.CurlyClose = inr (refl, refl)
+end_or_not t.Ellipsis = inr (refl, refl)
+end_or_not t.Colon = inr (refl, refl)
+end_or_not t.Equals = inr (refl, refl)
+end_or_not t.At = inr (refl, refl)
+end_or_not t.Pipe = inr (refl, refl)
+
 item_of_end : (x : Token) → is_end x ≡ true → x ≡ t.EndOfFile
-item_of_end t.EndOfFile e = refl
-item_of_end (t.Name n) e = absurd (cc)
-item_of_end (t.Scalar s) e = absurd (cc)
-item_of_end t.ExclamationMark e = absurd (cc)
-item_of_end t.Dollar e = absurd (cc)
-item_of_end t.ParenOpen e = absurd (cc)
-item_of_end t.ParenClose e = absurd (cc)
-item_of_end t.BracketOpen e = absurd (cc)
-item_of_end t.BracketClose e = absurd (cc)
-item_of_end t.CurlyOpen e = absurd (cc)
-item_of_end t.CurlyClose e = absurd (cc)
-item_of_end t.Ellipsis e = absurd (cc)
-item_of_end t.Colon e = absurd (cc)
-item_of_end t.Equals e = absurd (cc)
-item_of_end t.At e = absurd (cc)
-item_of_end t.Pipe e = absurd (cc)
+item_of_end x e = elim (end_or_not x) [ inl h ↦ h | inr h ↦ absurd (let q = sym h.0 ∙ e in cc) ]
 
 -- all tokens before the last
 pub starts : (text : List ℕ) (ts front : List Located) (last : Located) → IsDivided text ts → ts ≡ front ++ last ∷ []

@@ -1,12 +1,12 @@
 -- The law of the end of the text.
-use Rattle.std.proofs.Common.{◌≡◌, ℕ, ◌<◌, ◌≤◌, inl, inr, Bool, true, false, not, List, [], ◌∷◌, ◌++◌, length, Ok, Err, ap, ◌∙◌, sym, refl, subst, arith}
+use Rattle.std.proofs.Common.{◌≡◌, ℕ, inl, inr, Bool, true, false, not, List, [], ◌++◌, Ok, Err, ap, ◌∙◌, sym, refl, subst, arith}
 use Rattle.graphql_text.specs.declared.position.Span.{Span}
 use Rattle.graphql_text.specs.declared.position.SourcePosition.{SourcePosition}
 use Rattle.graphql_grammar.specs.declared.kind.Kind.TheVariants as k
 use Rattle.graphql_grammar.specs.Kinds.{Kinds, only, no_kind}
-use Rattle.graphql_grammar.specs.Input.{Input, Located, Fault, Parser, pure, refuse}
+use Rattle.graphql_grammar.specs.Input.{Input, Located, Fault, pure, refuse}
 use Rattle.graphql_grammar.specs.Steps.{finished}
-use Rattle.graphql_grammar.specs.Ahead.{mk, Free, Like, kind_ahead, refused_at}
+use Rattle.graphql_grammar.specs.Ahead.{mk, Free, kind_ahead, refused_at}
 use Rattle.graphql_grammar.specs.Relations.{end_of, Nothing}
 use Rattle.graphql_grammar.proofs.Stops.{Stop, done, refused, Sentence, same_state}
 use Rattle.graphql_grammar.proofs.Law.{Law}

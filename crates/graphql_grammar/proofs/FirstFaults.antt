@@ -5,9 +5,7 @@ use Rattle.graphql_text.specs.declared.position.Span.{Span}
 use Rattle.graphql_text.specs.declared.position.SourcePosition.{SourcePosition}
 use Rattle.graphql_text.specs.Position.{origin}
 use Rattle.graphql_text.specs.declared.parse_error.ParseError.{ParseError}
-use Rattle.graphql_text.specs.declared.token.Token.{Token}
 use Rattle.graphql_text.specs.declared.token.ScalarToken.{ScalarToken}
-use Rattle.graphql_grammar.specs.declared.kind.Kind.{Kind}
 use Rattle.graphql_grammar.specs.declared.kind.Kind.TheVariants as k
 use Rattle.graphql_grammar.specs.Kinds.{Kinds, kind}
 use Rattle.graphql_grammar.specs.Input.{Input, Located, Fault, Parser, Outcome, left}

@@ -1,14 +1,14 @@
 -- The law of a production: it reads what its relation spells, stops as `Stop` says, has a sentence, and begins with one of its first kinds.
-use Rattle.std.proofs.Common.{◌≡◌, ℕ, ◌+◌, ◌-◌, ◌<◌, ◌≤◌, ◌⊎◌, inl, inr, Bool, true, false, ◌||◌, List, [], ◌∷◌, ◌++◌, length, length-append, Ok, Err, ap, ◌∙◌, sym, refl, subst, append_assoc, arith, le_refl}
+use Rattle.std.proofs.Common.{◌≡◌, ℕ, ◌+◌, ◌-◌, ◌<◌, ◌≤◌, ◌⊎◌, inl, inr, Bool, true, false, ◌||◌, List, ◌++◌, length, length-append, Ok, ap, ◌∙◌, sym, refl, subst, append_assoc, arith, le_refl}
 use Rattle.std.proofs.lemmas.List.{append-nil}
 use Rattle.graphql_text.specs.declared.position.Span.{Span}
 use Rattle.graphql_text.specs.declared.position.SourcePosition.{SourcePosition}
 use Rattle.graphql_grammar.specs.Kinds.{Kinds, either, no_kind, apart, within}
-use Rattle.graphql_grammar.specs.Input.{Input, Located, Fault, Parser, Outcome, and_then, ◌>>=◌, pure}
+use Rattle.graphql_grammar.specs.Input.{Input, Located, Fault, Parser, and_then, ◌>>=◌, pure}
 use Rattle.graphql_grammar.specs.Ahead.{mk, In, Free, kind_ahead}
 use Rattle.graphql_grammar.specs.Relations.{end_of, Nothing, Then, Made}
 use Rattle.graphql_grammar.proofs.Sets.{or_left, or_right, in_left, in_right, apart_is, within_is}
-use Rattle.graphql_grammar.proofs.Stops.{Stop, done, refused, unread, Runs, Continues, Sentence, Starts, ran_before, end-append, runs_bind, sentence_bind, runs_pure, sentence_pure, fewer_runs, taking, narrow_runs, narrow_continues, same_state, runs_same, continues_same}
+use Rattle.graphql_grammar.proofs.Stops.{Runs, Sentence, Starts, ran_before, end-append, runs_bind, sentence_bind, runs_pure, sentence_pure, fewer_runs, taking, narrow_runs, narrow_continues, same_state, runs_same, continues_same}
 
 -- how many tokens it takes at least
 abbrev pub least : Bool → ℕ

@@ -3,26 +3,31 @@ use Rattle.std.proofs.Common.{◌≡◌, ℕ, zero, suc, ◌-◌, ◌<◌, ◌�
 use Rattle.std.proofs.lemmas.List.{append-nil}
 use Rattle.graphql_text.specs.declared.position.Span.{Span}
 use Rattle.graphql_text.specs.declared.position.SourcePosition.{SourcePosition}
-use Rattle.graphql_text.specs.declared.token.Token.{Token}
 use Rattle.graphql_grammar.specs.declared.kind.Kind.{Kind}
 use Rattle.graphql_grammar.specs.declared.kind.Kind.TheVariants as k
-use Rattle.graphql_grammar.specs.Kinds.{Kinds, kind, only, either, no_kind, apart, within}
+use Rattle.graphql_grammar.specs.Kinds.{Kinds, only, either, no_kind, apart, within}
 use Rattle.graphql_grammar.specs.Input.{Input, Located, Fault, Parser, Outcome, and_then, ◌>>=◌, pure, refuse, next, left}
-use Rattle.graphql_grammar.specs.Steps.{sees, when, token, expect, until, until_from, all, all_from, between, some_between}
+use Rattle.graphql_grammar.specs.Steps.{sees, when, token, until, until_from, all, all_from, between, some_between}
 use Rattle.graphql_grammar.specs.Ahead.{mk, In, Free, kind_ahead, refused_at}
-use Rattle.graphql_grammar.specs.Relations.{Rel, TokenOf, Nothing, Then, Ended, AllFrom, none_more, one_more, AllOf, SomeOf, Between, EitherOf}
-use Rattle.graphql_grammar.proofs.Sets.{or_left, or_right, in_left, in_right}
-use Rattle.graphql_grammar.proofs.Stops.{Continues, Sentence, ran_before, same_state}
-use Rattle.graphql_grammar.proofs.Law.{Law, Begun, law_bind, law_pure, law_is, law_fewer, law_narrow, law_starts, law_same, law_zero}
+use Rattle.graphql_grammar.specs.Relations.{TokenOf, Nothing, Then, Ended, AllFrom, none_more, one_more, AllOf, SomeOf, Between, EitherOf}
+use Rattle.graphql_grammar.proofs.Sets.{or_right, in_left, in_right}
+use Rattle.graphql_grammar.proofs.Stops.{Sentence, ran_before, same_state}
+use Rattle.graphql_grammar.proofs.Law.{Law, law_bind, law_pure, law_is, law_fewer, law_narrow, law_starts, law_same, law_zero}
 use Rattle.graphql_grammar.proofs.Choices.{when_then, when_else, refusal-is, token_reads, sample, sample_is, law_one, law_expect, law_when}
 
 -- each turn takes a token
 abbrev pub Takes : {A : Type 0} → Parser A → Type 0
 Takes {A} p = (i : Input) (x : A) (j : Input) → p i ≡ Ok (x, j) → left j < left i
 
-same_then : {A B : Type 0} (n : ℕ) (o : Outcome A) (g h : A → Parser B) → ((x : A) (j : Input) → o ≡ Ok (x, j) → left j < n) → ((x : A) (j : Input) → left j < n → g x j ≡ h x j) → and_then o g ≡ and_then o h
+-- what stands behind a part is asked only where the part leaves fewer tokens
+pub same_then : {A B : Type 0} (n : ℕ) (o : Outcome A) (g h : A → Parser B) → ((x : A) (j : Input) → o ≡ Ok (x, j) → left j < n) → ((x : A) (j : Input) → left j < n → g x j ≡ h x j) → and_then o g ≡ and_then o h
 same_then n (Ok p) g h fewer same = same p.0 p.1 (fewer p.0 p.1 refl)
 same_then n (Err x) g h fewer same = refl
+
+-- an item in front of some turns
+turns_more : {A : Type 0} (R : List Located → A → Type 0) (found : List A) (x : A) (ts us : List Located) (xs : List A) → R ts x → AllFrom R (found ++ x ∷ []) us xs → AllFrom R found (ts ++ us) xs
+turns_more R found x ts _ _ r none_more = subst (λ ws. AllFrom R found ws (found ++ x ∷ [])) (sym (append-nil ts)) (one_more [] ts found x none_more r)
+turns_more R found x ts _ _ r (one_more us ws xs y m q) = subst (λ vs. AllFrom R found vs (xs ++ y ∷ [])) (append_assoc ts us ws) (one_more (ts ++ us) ws xs y (turns_more R found x ts us xs r m) q)
 
 -- ---- items up to the token that closes them
 
@@ -90,11 +95,6 @@ module _ {A : Type 0} (close : Kind) (item : Parser A) (not_end : only close k.E
         let u = ran_before (item i) (λ x. until close item (found ++ x ∷ [])) (xs, j) q in
         in_right (only close (kind_ahead i.ahead)) (starts (kind_ahead i.ahead)) (l.begins i u.0.1 u.0.0 u.1)
 
-    -- an item in front of some turns
-    ended_more : (found : List A) (x : A) (ts us : List Located) (xs : List A) → R ts x → AllFrom R (found ++ x ∷ []) us xs → AllFrom R found (ts ++ us) xs
-    ended_more found x ts _ _ r none_more = subst (λ ws. AllFrom R found ws (found ++ x ∷ [])) (sym (append-nil ts)) (one_more [] ts found x none_more r)
-    ended_more found x ts _ _ r (one_more us ws xs y m q) = subst (λ vs. AllFrom R found vs (xs ++ y ∷ [])) (append_assoc ts us ws) (one_more (ts ++ us) ws xs y (ended_more found x ts us xs r m) q)
-
     Turn : List A → List Located → List A → Type 0
     Turn found = EitherOf (TokenOf (only close) (λ x. found)) (Then R (λ x. Ended (AllFrom R (found ++ x ∷ [])) close))
 
@@ -106,7 +106,7 @@ module _ {A : Type 0} (close : Kind) (item : Parser A) (not_end : only close k.E
       last = m.last;
       is = r.is ∙ ap (λ ws. r.front ++ ws) m.is ∙ sym (append_assoc r.front m.inside (m.last ∷ []));
       closes = m.closes;
-      spells = ended_more found r.part r.front m.inside xs r.begins m.spells;
+      spells = turns_more R found r.part r.front m.inside xs r.begins m.spells;
     }
 
     -- the first of some turns
@@ -236,16 +236,12 @@ module _ {A : Type 0} (kinds : Kinds) (item : Parser A) (not_end : kinds k.EndOf
         let u = ran_before (item i) (λ x. all kinds item (found ++ x ∷ [])) (xs, j) q in inl (l.begins i u.0.1 u.0.0 u.1)
     all_begins_by n l found i j xs false is r = inr (sym (same_state found xs i j (sym (all_unfolds found i ∙ when_else kinds (item >>= (λ x. all kinds item (found ++ x ∷ []))) (pure found) i is) ∙ r)))
 
-    all_more : (found : List A) (x : A) (ts us : List Located) (xs : List A) → R ts x → AllFrom R (found ++ x ∷ []) us xs → AllFrom R found (ts ++ us) xs
-    all_more found x ts _ _ r none_more = subst (λ ws. AllFrom R found ws (found ++ x ∷ [])) (sym (append-nil ts)) (one_more [] ts found x none_more r)
-    all_more found x ts _ _ r (one_more us ws xs y m q) = subst (λ vs. AllFrom R found vs (xs ++ y ∷ [])) (append_assoc ts us ws) (one_more (ts ++ us) ws xs y (all_more found x ts us xs r m) q)
-
     Step : List A → List Located → List A → Type 0
     Step found = EitherOf (Then R (λ x. AllFrom R (found ++ x ∷ []))) (Nothing found)
 
     of_step : (found : List A) (ts : List Located) (xs : List A) → Step found ts xs → AllFrom R found ts xs
     unfolding Step
-    of_step found ts xs (inl r) = subst (λ us. AllFrom R found us xs) (sym r.is) (all_more found r.part r.front r.back xs r.begins r.ends)
+    of_step found ts xs (inl r) = subst (λ us. AllFrom R found us xs) (sym r.is) (turns_more R found r.part r.front r.back xs r.begins r.ends)
     of_step found ts xs (inr r) = subst (λ us. AllFrom R found us xs) (sym r.empty) (subst (λ ys. AllFrom R found [] ys) (sym r.is) none_more)
 
     to_step : (found : List A) (ts : List Located) (xs : List A) → AllFrom R found ts xs → Step found ts xs

@@ -1,18 +1,19 @@
 -- Parsers that call themselves: the count of levels decides nothing, where it is enough.
-use Rattle.std.proofs.Common.{◌≡◌, ℕ, zero, suc, ◌+◌, ◌-◌, ◌<◌, ◌≤◌, inl, Bool, true, false, ◌||◌, ◌&&◌, if◌then◌else◌, List, [], ◌∷◌, ◌++◌, length, length-append, Ok, Err, Option, Some, None, ap, ◌∙◌, sym, refl, subst, arith}
+use Rattle.std.proofs.Common.{◌≡◌, ℕ, zero, suc, ◌+◌, ◌-◌, ◌<◌, ◌≤◌, inl, Bool, true, false, ◌||◌, ◌&&◌, if◌then◌else◌, List, [], ◌∷◌, ◌++◌, length, length-append, Ok, Err, Some, None, ap, ◌∙◌, sym, refl, subst, arith}
 use Rattle.graphql_text.specs.declared.position.Span.{Span}
 use Rattle.graphql_text.specs.declared.position.SourcePosition.{SourcePosition}
 use Rattle.graphql_text.specs.declared.token.Token.{Token}
 use Rattle.graphql_grammar.specs.declared.kind.Kind.{Kind}
 use Rattle.graphql_grammar.specs.declared.kind.Kind.TheVariants as k
-use Rattle.graphql_grammar.specs.Kinds.{Kinds, kind, only}
-use Rattle.graphql_grammar.specs.Input.{At, Input, Located, Fault, Parser, Outcome, and_then, ◌>>=◌, pure, refuse, refusal, next, left}
-use Rattle.graphql_grammar.specs.Steps.{sees, when, token, expect, located, placed, optional, until, until_from, all, all_from, between, some_between}
+use Rattle.graphql_grammar.specs.Kinds.{Kinds, only}
+use Rattle.graphql_grammar.specs.Input.{Input, Located, Fault, Parser, Outcome, and_then, ◌>>=◌, pure, refusal, next, left}
+use Rattle.graphql_grammar.specs.Steps.{sees, when, token, located, placed, optional, until, until_from, between, some_between}
 use Rattle.graphql_grammar.specs.Ahead.{mk, Free, kind_ahead}
 use Rattle.graphql_grammar.specs.Relations.{end_of}
 use Rattle.graphql_grammar.proofs.Stops.{Stop, done, refused, unread, ran_before, same_state}
 use Rattle.graphql_grammar.proofs.Law.{Law, least}
 use Rattle.graphql_grammar.proofs.Choices.{sees-ahead, token_reads, token_refuses}
+use Rattle.graphql_grammar.proofs.Loops.{same_then}
 
 -- it leaves no more tokens than it finds, and takes one at least where it is said to
 abbrev pub Uses : {A : Type 0} → Bool → Parser A → Type 0
@@ -49,10 +50,6 @@ uses_pure x i y j r = let l : left j ≡ left i = ap left (sym (same_state x y i
 pub agree_pure : {A : Type 0} {n : ℕ} (x : A) → Agree false n (pure x) (pure x)
 agree_pure x = agree_self (uses_pure x)
 
-then_same : {A B : Type 0} (n : ℕ) (o : Outcome A) (g h : A → Parser B) → ((x : A) (j : Input) → o ≡ Ok (x, j) → left j < n) → ((x : A) (j : Input) → left j < n → g x j ≡ h x j) → and_then o g ≡ and_then o h
-then_same n (Ok p) g h fewer same = same p.0 p.1 (fewer p.0 p.1 refl)
-then_same n (Err x) g h fewer same = refl
-
 below : (a : Bool) (m l n : ℕ) → m + least a ≤ l → l < n → m < n - least a
 below true m l n h u = omega arith
 below false m l n h u = omega arith
@@ -60,7 +57,7 @@ below false m l n h u = omega arith
 pub agree_bind : {A B : Type 0} {a b : Bool} {n : ℕ} {p q : Parser A} {g h : A → Parser B} → Agree a n p q → ((x : A) → Agree b (n - least a) (g x) (h x)) → Agree (a || b) n (p >>= g) (q >>= h)
 agree_bind {a = a} {b = b} {n = n} {p = p} {q = q} {g = g} {h = h} one two = record {
   uses = λ i y j r. let u = ran_before (p i) g (y, j) r in least_sum a b (left u.0.1) (left j) ((two u.0.0).uses u.0.1 y j u.2) (left i) (one.uses i u.0.0 u.0.1 u.1);
-  same = λ i fewer. then_same (n - least a) (p i) g h (λ x j r. below a (left j) (left i) n (one.uses i x j r) fewer) (λ x j few. (two x).same j few) ∙ ap (λ o. and_then o h) (one.same i fewer);
+  same = λ i fewer. same_then (n - least a) (p i) g h (λ x j r. below a (left j) (left i) n (one.uses i x j r) fewer) (λ x j few. (two x).same j few) ∙ ap (λ o. and_then o h) (one.same i fewer);
 }
 
 pub agree_made : {A B : Type 0} {a : Bool} {n : ℕ} {p q : Parser A} (make : A → B) → Agree a n p q → Agree a n (p >>= (λ x. pure (make x))) (q >>= (λ x. pure (make x)))
@@ -145,7 +142,7 @@ module _ {A : Type 0} {n : ℕ} {p q : Parser A} (one : Agree true n p q) where
     unfolding until_from
     same_until_from zero found i fewer = refl
     same_until_from (suc m) found i fewer = same_when (sees (only close) i) (Ok (found, next i)) _ (Ok (found, next i)) _ refl
-        (then_same n (p i) (λ y. until_from close p m (found ++ y ∷ [])) (λ y. until_from close q m (found ++ y ∷ [])) (λ x j r. let l = one.uses i x j r in omega arith) (λ x j few. same_until_from m (found ++ x ∷ []) j few)
+        (same_then n (p i) (λ y. until_from close p m (found ++ y ∷ [])) (λ y. until_from close q m (found ++ y ∷ [])) (λ x j r. let l = one.uses i x j r in omega arith) (λ x j few. same_until_from m (found ++ x ∷ []) j few)
         ∙ ap (λ o. and_then o (λ y. until_from close q m (found ++ y ∷ []))) (one.same i fewer))
 
     pub agree_until : (found : List A) → Agree true n (until close p found) (until close q found)

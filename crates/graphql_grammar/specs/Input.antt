@@ -89,6 +89,11 @@ abbrev pub Reads : {A : Type 0} → Outcome A → Result A Fault → Input → T
 Reads outcome (Ok a) new = outcome ≡ Ok (a, new)
 Reads outcome (Err e) new = e.item ≢ Memory → outcome ≡ Err e
 
+-- the same of a function that fills a list
+abbrev pub Fills : {A : Type 0} → Outcome (List A) → Result (Unit {0}) Fault → List A → Input → Type 0
+Fills outcome (Ok u) found new = outcome ≡ Ok (found, new)
+Fills outcome (Err e) found new = e.item ≢ Memory → outcome ≡ Err e
+
 -- an error that stands for this one, want of memory aside
 abbrev pub IsFault : Fault → Fault → Type 0
 IsFault wanted e = e.item ≢ Memory → wanted ≡ e

@@ -1,5 +1,5 @@
 -- The steps that productions are made of.
-use Rattle.std.specs.Prelude.{◌≡◌, ℕ, zero, suc, Bool, if◌then◌else◌, List, [], ◌∷◌, ◌++◌, Result, Ok, Err, Option, Some, None}
+use Rattle.std.specs.Prelude.{ℕ, zero, suc, Bool, if◌then◌else◌, List, [], ◌∷◌, ◌++◌, Result, Ok, Err, Option, Some, None}
 use Rattle.graphql_text.specs.declared.token.Token.{Token}
 use Rattle.graphql_text.specs.declared.token.Token.TheVariants as t
 use Rattle.graphql_text.specs.declared.token.ScalarToken.{ScalarToken}
@@ -7,7 +7,7 @@ use Rattle.graphql_text.specs.declared.parse_error.ParseError.{ParseError}
 use Rattle.graphql_grammar.specs.declared.kind.Kind.{Kind}
 use Rattle.graphql_grammar.specs.declared.kind.Kind.TheVariants as k
 use Rattle.graphql_grammar.specs.Kinds.{Kinds, only, names}
-use Rattle.graphql_grammar.specs.Input.{At, Input, Parser, Outcome, and_then, ◌>>=◌, pure, refuse, peek, peek_kind, next, left}
+use Rattle.graphql_grammar.specs.Input.{At, Input, Parser, and_then, ◌>>=◌, pure, refuse, peek, peek_kind, next, left}
 
 -- whether one of these kinds stands next
 unfoldable pub sees : Kinds → Input → Bool

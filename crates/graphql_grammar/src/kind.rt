@@ -59,6 +59,37 @@ pub enum Kind {
     EndOfFile,
 }
 
+impl Kind {
+    /// Whether it is that of a name, of a word or another (GraphQL October 2021, 2.1.9 Names).
+    pub fn is_name(self) -> bool
+        ensures { result ≡ spec.names self }
+    {
+        matches!(
+            self,
+            Kind::Name
+                | Kind::On
+                | Kind::Query
+                | Kind::Mutation
+                | Kind::Subscription
+                | Kind::Fragment
+                | Kind::True
+                | Kind::False
+                | Kind::Null
+        )
+    }
+
+    /// Whether it is that of a fragment's name: of any name but `on` (GraphQL October 2021, 2.8
+    /// Fragments).
+    pub fn is_fragment_name(self) -> bool
+        ensures { result ≡ spec.fragment_names self }
+    {
+        match self {
+            Kind::On => false,
+            _ => self.is_name(),
+        }
+    }
+}
+
 /// Which of the grammar's words a name is.
 fn word_kind(name: &TextRef<'_>) -> Kind
     ensures { result ≡ spec.word_kind name.now }

@@ -14,9 +14,9 @@ use Rattle.graphql_grammar.specs.Relations.{end_of}
 use Rattle.graphql_grammar.specs.Alike.{tokens_of, SameTokens, Corresponding, SameOutcome}
 use Rattle.graphql_grammar.proofs.FirstFaults.{spelled}
 use Rattle.graphql_grammar.proofs.AlikeFaults.{end_at, same_split, first_fault_again}
-use Rattle.graphql_language.specs.declared.tree.document.Definition.{Definition}
+use Rattle.graphql_tree.specs.declared.document.Definition.{Definition}
 use Rattle.graphql_language.specs.ReadDocuments.{document}
-use Rattle.graphql_language.specs.Unlocated.{unlocated_document}
+use Rattle.graphql_tree.specs.Unlocated.{unlocated_document}
 use Rattle.graphql_language.specs.Documents.{DocumentOf}
 use Rattle.graphql_language.specs.Texts.{IsCut}
 use Rattle.graphql_language.specs.Alike.{AreAlike, DifferInPlaces, RefusedAlike}

@@ -1,22 +1,20 @@
 -- Arguments, directives and variables: the law of each production.
-use Rattle.std.proofs.Common.{◌≡◌, ℕ, suc, ◌-◌, ◌<◌, ◌≤◌, Bool, true, false, List, [], Result, Err, refl, arith}
+use Rattle.std.proofs.Common.{◌≡◌, ℕ, ◌-◌, Bool, true, false, [], Result, Err, refl, arith}
 use Rattle.graphql_text.specs.declared.position.Span.{Span}
 use Rattle.graphql_text.specs.declared.position.SourcePosition.{SourcePosition}
 use Rattle.graphql_text.specs.declared.token.ScalarToken.{ScalarToken}
 use Rattle.graphql_text.specs.declared.parse_error.ParseError.{ParseError}
-use Rattle.graphql_values.specs.declared.input_value.InputValue.{InputValue}
-use Rattle.graphql_language.specs.declared.tree.variable.VariableDefinition.{VariableDefinition}
 use Rattle.graphql_grammar.specs.declared.kind.Kind.TheVariants as k
 use Rattle.graphql_grammar.specs.Kinds.{Kinds, only, no_kind, either, names}
-use Rattle.graphql_grammar.specs.Input.{At, Input, Located, Fault, Parser, ◌>>=◌, peek, peek_kind, refusal}
-use Rattle.graphql_grammar.specs.Steps.{sees, token, expect, optional, name}
+use Rattle.graphql_grammar.specs.Input.{Located, Fault, ◌>>=◌, peek, peek_kind, refusal}
+use Rattle.graphql_grammar.specs.Steps.{sees, token, expect, optional}
 use Rattle.graphql_grammar.specs.Ahead.{mk, refused_at}
 use Rattle.graphql_grammar.specs.Relations.{OptionOf}
 use Rattle.graphql_grammar.specs.Faults.{BadScalar, GoodScalar}
-use Rattle.graphql_grammar.proofs.Law.{Law, law_bind, law_made, law_fewer, law_wider}
+use Rattle.graphql_grammar.proofs.Law.{Law, law_bind, law_made, law_wider}
 use Rattle.graphql_grammar.proofs.Choices.{law_expect, law_optional, law_located}
 use Rattle.graphql_grammar.proofs.Loops.{Takes, law_some_between, law_all}
-use Rattle.graphql_grammar.proofs.Recursion.{Uses, uses_law}
+use Rattle.graphql_grammar.proofs.Recursion.{uses_law}
 use Rattle.graphql_language.specs.ReadValues.{named, value}
 use Rattle.graphql_language.specs.ReadDirectives.{some_of, arguments, directive, directives, variable_definition, variable_definitions}
 use Rattle.graphql_language.specs.Directives.{ArgumentsOf, DirectiveOf, DirectivesOf, VariableDefinitionOf, VariableDefinitionsOf, ArgumentOf, DefaultOf}

@@ -1,20 +1,18 @@
 -- Documents: the law of each production.
-use Rattle.std.proofs.Common.{◌≡◌, ℕ, suc, ◌-◌, ◌<◌, ◌≤◌, Bool, true, false, List, [], ◌∷◌, ◌++◌, Result, ap, ◌∙◌, sym, refl, subst, arith}
+use Rattle.std.proofs.Common.{ℕ, Bool, true, false, List, [], ◌∷◌, ◌++◌, Result, ap, ◌∙◌, sym, refl, subst, arith}
 use Rattle.std.proofs.lemmas.List.{append-nil}
 use Rattle.std.specs.Prelude.{codes}
 use Rattle.graphql_text.specs.declared.token.Token.TheVariants as t
 use Rattle.graphql_text.specs.declared.token.ScalarToken.{ScalarToken}
 use Rattle.graphql_text.specs.declared.parse_error.ParseError.{ParseError}
-use Rattle.graphql_language.specs.declared.tree.document.Operation.{Operation}
-use Rattle.graphql_language.specs.declared.tree.document.Definition.{Definition}
-use Rattle.graphql_language.specs.declared.tree.document.Definition.TheVariants as d
+use Rattle.graphql_tree.specs.declared.document.Definition.{Definition}
+use Rattle.graphql_tree.specs.declared.document.Definition.TheVariants as d
 use Rattle.graphql_grammar.specs.declared.kind.Kind.TheVariants as k
 use Rattle.graphql_grammar.specs.Kinds.{only, either, no_kind, names}
-use Rattle.graphql_grammar.specs.Input.{At, Input, Located, Fault, Parser, ◌>>=◌, pure}
-use Rattle.graphql_grammar.specs.Steps.{all, finished}
-use Rattle.graphql_grammar.specs.Relations.{Nothing, Then, AllFrom, SomeOf}
+use Rattle.graphql_grammar.specs.Input.{Located, Fault}
+use Rattle.graphql_grammar.specs.Relations.{Nothing, Then, AllFrom}
 use Rattle.graphql_grammar.specs.Faults.{BadScalar, GoodScalar}
-use Rattle.graphql_grammar.proofs.Law.{Law, law_bind, law_made, law_is, law_fewer, law_wider}
+use Rattle.graphql_grammar.proofs.Law.{Law, law_bind, law_made, law_is, law_wider}
 use Rattle.graphql_grammar.proofs.Choices.{law_token, law_expect, law_when, law_optional, law_located}
 use Rattle.graphql_grammar.proofs.Loops.{Takes, law_all_from}
 use Rattle.graphql_grammar.proofs.Recursion.{uses_law}

@@ -1,20 +1,20 @@
 -- What the parts of documents read, from what their own parts read.
-use Rattle.std.proofs.Common.{◌≡◌, ◌≢◌, ℕ, Bool, true, false, List, [], ◌∷◌, ◌++◌, Option, None, Result, Ok, Err, refl, sym, ap, ◌∙◌}
+use Rattle.std.proofs.Common.{◌≡◌, ◌≢◌, ℕ, Bool, true, false, List, [], ◌∷◌, ◌++◌, Option, Result, Ok, Err, refl, sym, ap, ◌∙◌}
 use Rattle.graphql_text.specs.declared.token.ScalarToken.{ScalarToken}
 use Rattle.graphql_text.specs.declared.parse_error.ParseError.{ParseError}
-use Rattle.graphql_language.specs.declared.tree.directive.Directive.{Directive}
-use Rattle.graphql_language.specs.declared.tree.variable.VariableDefinitions.{VariableDefinitions}
-use Rattle.graphql_language.specs.declared.tree.selection.Selection.{Selection}
-use Rattle.graphql_language.specs.declared.tree.document.OperationType.{OperationType}
-use Rattle.graphql_language.specs.declared.tree.document.Operation.{Operation}
-use Rattle.graphql_language.specs.declared.tree.document.Fragment as fragments
-use Rattle.graphql_language.specs.declared.tree.document.Definition.{Definition}
-use Rattle.graphql_language.specs.declared.tree.document.Definition.TheVariants as d
+use Rattle.graphql_tree.specs.declared.directive.Directive.{Directive}
+use Rattle.graphql_tree.specs.declared.variable.VariableDefinitions.{VariableDefinitions}
+use Rattle.graphql_tree.specs.declared.selection.Selection.{Selection}
+use Rattle.graphql_tree.specs.declared.document.OperationType.{OperationType}
+use Rattle.graphql_tree.specs.declared.document.Operation.{Operation}
+use Rattle.graphql_tree.specs.declared.document.Fragment as fragments
+use Rattle.graphql_tree.specs.declared.document.Definition.{Definition}
+use Rattle.graphql_tree.specs.declared.document.Definition.TheVariants as d
 use Rattle.graphql_grammar.specs.declared.kind.Kind.{Kind}
 use Rattle.graphql_grammar.specs.declared.kind.Kind.TheVariants as k
 use Rattle.graphql_grammar.specs.Kinds.{only, fragment_names}
 use Rattle.graphql_grammar.specs.Input.{At, Input, Fault, Outcome, Parser, and_then, ◌>>=◌, pure, refuse, refusal, peek_kind, next}
-use Rattle.graphql_grammar.specs.Steps.{sees, when, expect, name_in, located, optional, all, finished}
+use Rattle.graphql_grammar.specs.Steps.{sees, expect, name_in, located, optional, all, finished}
 use Rattle.graphql_grammar.proofs.Cursors.{token_yes, token_no}
 use Rattle.graphql_grammar.proofs.Parts.{then_read, then_refused, when_yes, when_no}
 use Rattle.graphql_grammar.proofs.Turns.{AllLeft, all_starts}

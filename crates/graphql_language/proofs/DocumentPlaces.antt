@@ -9,15 +9,15 @@ use Rattle.graphql_grammar.specs.Kinds.{only, names, fragment_names}
 use Rattle.graphql_grammar.specs.Input.{At, Parser}
 use Rattle.graphql_grammar.specs.Steps.{name_of, name_in, located}
 use Rattle.graphql_grammar.proofs.Alike.{Even, even_pure, even_refuse, even_bind, even_made, even_when, even_token, even_optional, even_finished, even_all, even_some_between, even_levels}
-use Rattle.graphql_language.specs.declared.tree.directive.Arguments.{Arguments}
-use Rattle.graphql_language.specs.declared.tree.directive.Directive.{Directive}
-use Rattle.graphql_language.specs.declared.tree.selection.Selection.{Selection}
-use Rattle.graphql_language.specs.declared.tree.selection.Selection.TheVariants as s
-use Rattle.graphql_language.specs.declared.tree.document.Definition.TheVariants as d
+use Rattle.graphql_tree.specs.declared.directive.Arguments.{Arguments}
+use Rattle.graphql_tree.specs.declared.directive.Directive.{Directive}
+use Rattle.graphql_tree.specs.declared.selection.Selection.{Selection}
+use Rattle.graphql_tree.specs.declared.selection.Selection.TheVariants as s
+use Rattle.graphql_tree.specs.declared.document.Definition.TheVariants as d
 use Rattle.graphql_language.specs.ReadSelections.{Names, field_names, type_condition, Spread, spreads, inlines, made_spread, selection_of, fragment_spread, made_field, selection_set, inline_fragment, spread, field, selection_layer, selection_from, selection}
 use Rattle.graphql_language.specs.ReadDocuments.{operation_words, operation_type_of, definition_kinds, query_of, set, full_operation, operation, fragment, definition, document}
-use Rattle.graphql_language.specs.Unlocated.{without_place, unlocated_name, unlocated_arguments, unlocated_directives, unlocated_spread, unlocated_selection, unlocated_field, unlocated_inline, unlocated_operation, unlocated_fragment, unlocated_definition, unlocated_document}
-use Rattle.graphql_language.proofs.UnlocatedEquations.{unlocated_selection_field, unlocated_selection_spread, unlocated_selection_inline, unlocated_in_field, unlocated_in_inline}
+use Rattle.graphql_tree.specs.Unlocated.{without_place, unlocated_name, unlocated_arguments, unlocated_directives, unlocated_spread, unlocated_selection, unlocated_field, unlocated_inline, unlocated_operation, unlocated_fragment, unlocated_definition, unlocated_document}
+use Rattle.graphql_tree.proofs.UnlocatedEquations.{unlocated_selection_field, unlocated_selection_spread, unlocated_selection_inline, unlocated_in_field, unlocated_in_inline}
 use Rattle.graphql_language.proofs.Places.{even_placed, even_expect, even_name, even_arguments, even_directives, even_variables}
 
 -- ---- names of fields and fragments

@@ -6,9 +6,6 @@ pub mod TypeLaws
 pub mod DirectiveLaws
 pub mod SelectionLaws
 pub mod DocumentLaws
-pub mod SelectionEquations
-pub mod SelectionInduction
-pub mod UnlocatedEquations
 pub mod Calls
 pub mod TextLaws
 pub mod KindTests
@@ -16,8 +13,6 @@ pub mod DirectiveParts
 pub mod VariableParts
 pub mod ValueSteps
 pub mod TypeSteps
-pub mod CountEquations
-pub mod ReleaseLemmas
 pub mod Lists
 pub mod LiteralLaws
 pub mod Places
@@ -25,4 +20,5 @@ pub mod DocumentPlaces
 pub mod AlikeTexts
 pub mod SelectionLevels
 pub mod SelectionParts
+pub mod OpenSets
 pub mod DocumentParts

@@ -1,5 +1,5 @@
 -- What parsers of values and of type references answer, in the grammar's words.
-use Rattle.std.proofs.Common.{◌≡◌, Bool, List, Result, Ok, Err, refl}
+use Rattle.std.proofs.Common.{◌≡◌, Bool, Result, Ok, Err, refl}
 use Rattle.graphql_text.specs.declared.token.ScalarToken.{ScalarToken}
 use Rattle.graphql_text.specs.declared.parse_error.ParseError.{ParseError}
 use Rattle.graphql_values.specs.declared.input_value.InputValue.{InputValue}

@@ -17,7 +17,7 @@ use Rattle.graphql_grammar.proofs.Alike.{Even, even_weaker, even_pure, even_refu
 use Rattle.graphql_language.specs.ReadValues.{named, word_of, word_or_scalar, variable_or, bare, value_from, value}
 use Rattle.graphql_language.specs.ReadTypes.{TypeRef, plain, wrapped, list_of, nullable, bare_type, type_from, type_ref}
 use Rattle.graphql_language.specs.ReadDirectives.{some_of, arguments, directive, directives, variable_definition, variable_definitions}
-use Rattle.graphql_language.specs.Unlocated.{without_place, unlocated_name, unlocated_argument, unlocated_arguments, unlocated_directive, unlocated_directives, unlocated_variable, unlocated_variables}
+use Rattle.graphql_tree.specs.Unlocated.{without_place, unlocated_name, unlocated_argument, unlocated_arguments, unlocated_directive, unlocated_directives, unlocated_variable, unlocated_variables}
 
 -- ---- what stands at a place
 

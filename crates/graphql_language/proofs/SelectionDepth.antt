@@ -1,15 +1,19 @@
 -- Selections stand inside selections: each takes a token, so the count of levels decides nothing.
-use Rattle.std.proofs.Common.{◌≡◌, ℕ, zero, suc, Bool, true, false, List, [], ◌∷◌, ◌++◌, Result, Some, None, refl, arith}
+use Rattle.std.proofs.Common.{◌≡◌, ℕ, zero, suc, Bool, true, false, List, [], ◌∷◌, ◌++◌, Result, Err, Some, None, refl, arith}
+use Rattle.graphql_text.specs.declared.position.Span.{Span}
+use Rattle.graphql_text.specs.declared.position.SourcePosition.{SourcePosition}
 use Rattle.graphql_text.specs.declared.token.ScalarToken.{ScalarToken}
 use Rattle.graphql_text.specs.declared.parse_error.ParseError.{ParseError}
 use Rattle.graphql_grammar.specs.declared.kind.Kind.{Kind}
 use Rattle.graphql_grammar.specs.declared.kind.Kind.TheVariants as k
 use Rattle.graphql_grammar.specs.Kinds.{Kinds, only, names, fragment_names}
-use Rattle.graphql_grammar.specs.Input.{Input, Parser, refuse, left}
-use Rattle.graphql_grammar.specs.Steps.{expect, name, name_of, located, all, all_from}
+use Rattle.graphql_grammar.specs.Input.{Input, Parser, refuse, refusal, left, peek, peek_kind}
+use Rattle.graphql_grammar.specs.Steps.{sees, token, expect, name, name_of, located, all, all_from}
+use Rattle.graphql_grammar.specs.Ahead.{mk, refused_at}
+use Rattle.graphql_grammar.proofs.Loops.{Takes}
 use Rattle.graphql_grammar.proofs.Recursion.{Uses, Agree, agree_self, agree_fewer, agree_pure, agree_bind, agree_made, agree_located, agree_when, agree_optional, agree_token, agree_some_between, unfolds, uses_fix}
-use Rattle.graphql_language.specs.declared.tree.selection.Selection.{Selection}
-use Rattle.graphql_language.specs.declared.tree.selection.Selection.TheVariants as s
+use Rattle.graphql_tree.specs.declared.selection.Selection.{Selection}
+use Rattle.graphql_tree.specs.declared.selection.Selection.TheVariants as s
 use Rattle.graphql_language.specs.ReadValues.{value}
 use Rattle.graphql_language.specs.ReadDirectives.{some_of, arguments, directive, directives}
 use Rattle.graphql_language.specs.ReadSelections.{field_names, type_condition, fragment_spread, inlines, spreads, selection_of, made_field, selection_set, inline_fragment, spread, field, selection_layer, selection_from, selection}
@@ -110,3 +114,11 @@ module _ {S : Type 0} (reads : ScalarToken → Result S ParseError) (of_bool : B
   pub selection_uses : Uses true (selection reads of_bool)
   unfolding selection
   selection_uses = uses_fix (selection_layer reads of_bool) (selection_from reads of_bool) from_zero from_suc agree_layer
+
+  pub takes_selection : Takes (selection reads of_bool)
+  takes_selection i x j r = let l = selection_uses i x j r in omega arith
+
+  -- no selection begins at the end of the text
+  pub selection_at_end : (f : Span) (e : SourcePosition) → selection reads of_bool (mk [] f e) ≡ Err (refused_at f [])
+  unfolding selection_layer field field_names sees peek_kind peek token refusal
+  selection_at_end f e = selection_unfolds (mk [] f e)

@@ -1,40 +1,37 @@
 -- Selections: the law of each production.
-use Rattle.std.proofs.Common.{◌≡◌, ℕ, zero, suc, ◌+◌, ◌-◌, ◌<◌, ◌≤◌, inl, inr, Bool, true, false, List, [], ◌∷◌, ◌++◌, length, Option, Some, None, Result, Ok, Err, ap, ◌∙◌, sym, refl, subst, append_assoc, arith}
+use Rattle.std.proofs.Common.{◌≡◌, ℕ, zero, suc, inl, inr, Bool, true, false, List, [], ◌∷◌, ◌++◌, Option, Some, None, Result, ap, ◌∙◌, sym, refl, subst, append_assoc, arith}
 use Rattle.std.proofs.lemmas.List.{append-nil}
 use Rattle.std.specs.Prelude.{codes}
-use Rattle.graphql_text.specs.declared.position.Span.{Span}
-use Rattle.graphql_text.specs.declared.position.SourcePosition.{SourcePosition}
 use Rattle.graphql_text.specs.declared.token.Token.TheVariants as t
 use Rattle.graphql_text.specs.declared.token.ScalarToken.{ScalarToken}
 use Rattle.graphql_text.specs.declared.parse_error.ParseError.{ParseError}
-use Rattle.graphql_language.specs.declared.tree.directive.Arguments.{Arguments}
-use Rattle.graphql_language.specs.declared.tree.directive.Directive.{Directive}
-use Rattle.graphql_language.specs.declared.tree.selection.Field.{Field}
-use Rattle.graphql_language.specs.declared.tree.selection.FragmentSpread.{FragmentSpread}
-use Rattle.graphql_language.specs.declared.tree.selection.InlineFragment.{InlineFragment}
-use Rattle.graphql_language.specs.declared.tree.selection.Selection.{Selection}
-use Rattle.graphql_language.specs.declared.tree.selection.Selection.TheVariants as s
+use Rattle.graphql_tree.specs.declared.directive.Arguments.{Arguments}
+use Rattle.graphql_tree.specs.declared.directive.Directive.{Directive}
+use Rattle.graphql_tree.specs.declared.selection.Field.{Field}
+use Rattle.graphql_tree.specs.declared.selection.InlineFragment.{InlineFragment}
+use Rattle.graphql_tree.specs.declared.selection.Selection.{Selection}
+use Rattle.graphql_tree.specs.declared.selection.Selection.TheVariants as s
 use Rattle.graphql_grammar.specs.declared.kind.Kind.TheVariants as k
-use Rattle.graphql_grammar.specs.Kinds.{Kinds, kind, only, either, no_kind, names, fragment_names}
-use Rattle.graphql_grammar.specs.Input.{At, Input, Located, Fault, Parser, ◌>>=◌, pure, peek, peek_kind, next, refusal}
-use Rattle.graphql_grammar.specs.Steps.{sees, token, expect, name, name_of, name_in, located, when, optional, all_from, until_from}
-use Rattle.graphql_grammar.specs.Ahead.{mk, Free, refused_at}
-use Rattle.graphql_grammar.specs.Relations.{end_of, span_of, TokenOf, Nothing, Then, Made, Placed, Between, AllFrom, none_more, one_more, AllOf, SomeOf, OptionOf, absent, present, EitherOf}
+use Rattle.graphql_grammar.specs.Kinds.{Kinds, only, either, no_kind, names, fragment_names}
+use Rattle.graphql_grammar.specs.Input.{At, Input, Located, Fault, peek, peek_kind, next}
+use Rattle.graphql_grammar.specs.Steps.{sees, token, name_of, name_in, located, all_from, until_from}
+use Rattle.graphql_grammar.specs.Ahead.{Free}
+use Rattle.graphql_grammar.specs.Relations.{Then, Made, Placed, Between, AllFrom, none_more, one_more, SomeOf, OptionOf, absent, present, EitherOf}
 use Rattle.graphql_grammar.specs.Faults.{BadScalar, GoodScalar}
 use Rattle.graphql_grammar.proofs.Stops.{Sentence}
 use Rattle.graphql_grammar.proofs.Law.{Law, law_bind, law_pure, law_made, law_is, law_fewer, law_same, law_zero, law_wider}
 use Rattle.graphql_grammar.proofs.Choices.{law_token, law_expect, law_when, law_optional, law_located}
-use Rattle.graphql_grammar.proofs.Loops.{Takes, law_some_between}
+use Rattle.graphql_grammar.proofs.Loops.{law_some_between}
 use Rattle.graphql_grammar.proofs.Begins.{BeginsWith, begins_token, begins_bind, begins_when, begins_located, begins_same}
-use Rattle.graphql_language.specs.ReadDirectives.{arguments, directives}
-use Rattle.graphql_language.specs.ReadSelections.{Names, field_names, type_condition, Spread, spreads, inlines, made_spread, selection_of, fragment_spread, made_field, selection_set, inline_fragment, spread, field, selection_layer, selection_from, selection}
-use Rattle.graphql_language.specs.Values.{Is, spanned}
-use Rattle.graphql_language.specs.Directives.{Sign, NameOf, Named, ArgumentsOf, DirectivesOf}
-use Rattle.graphql_language.specs.Selections.{FragmentNamed, TypeConditionOf, NamesOf, Stands, SpreadOf, SelectionOf, of_field, of_spread, of_inline, FieldOf, of_parts, InlineOf, of_inline_parts, MaybeSetOf, no_set, some_set, SetOf, of_set, SelectionsOf, one_selection, more_selections}
+use Rattle.graphql_language.specs.ReadDirectives.{directives}
+use Rattle.graphql_language.specs.ReadSelections.{field_names, type_condition, Spread, spreads, inlines, made_spread, selection_of, fragment_spread, made_field, selection_set, inline_fragment, spread, field, selection_layer, selection_from, selection}
+use Rattle.graphql_language.specs.Values.{spanned}
+use Rattle.graphql_language.specs.Directives.{Sign, ArgumentsOf, DirectivesOf}
+use Rattle.graphql_language.specs.Selections.{FragmentNamed, TypeConditionOf, NamesOf, Stands, SelectionOf, of_field, of_spread, of_inline, FieldOf, of_parts, InlineOf, of_inline_parts, MaybeSetOf, no_set, some_set, SetOf, of_set, SelectionsOf, one_selection, more_selections}
 use Rattle.graphql_language.proofs.ValueDepth.{value_uses}
-use Rattle.graphql_language.proofs.ValueLaws.{law_name, law_placed_name}
+use Rattle.graphql_language.proofs.ValueLaws.{law_placed_name}
 use Rattle.graphql_language.proofs.DirectiveLaws.{law_arguments, law_directives}
-use Rattle.graphql_language.proofs.SelectionDepth.{selection_unfolds, selection_uses}
+use Rattle.graphql_language.proofs.SelectionDepth.{selection_unfolds, takes_selection, selection_at_end}
 
 -- what a selection begins with
 abbrev pub selection_kinds : Kinds
@@ -83,13 +80,6 @@ module _ {S : Type 0} (reads : ScalarToken → Result S ParseError) (of_bool : B
   unfolds : (i : Input) → selection reads of_bool i ≡ selection_layer reads of_bool (selection reads of_bool) i
   unfolds = selection_unfolds reads of_bool (value_uses reads of_bool)
 
-  takes_selection : Takes (selection reads of_bool)
-  takes_selection i x j r = let l = selection_uses reads of_bool (value_uses reads of_bool) i x j r in omega arith
-
-  selection_at_end : (f : Span) (e : SourcePosition) → selection reads of_bool (mk [] f e) ≡ Err (refused_at f [])
-  unfolding selection_layer field field_names sees peek_kind peek token refusal
-  selection_at_end f e = unfolds (mk [] f e)
-
   -- ---- sets, and what stands behind three points
 
   abbrev SetIs : List Located → List (Selection S) → Type 0
@@ -97,7 +87,7 @@ module _ {S : Type 0} (reads : ScalarToken → Result S ParseError) (of_bool : B
 
   law_set_of : (n : ℕ) → SelectionLaw n → Law Bad Good true (only k.CurlyOpen) no_kind SetIs (suc n) (selection_set reads of_bool (selection reads of_bool))
   unfolding selection_set
-  law_set_of n l = law_some_between k.CurlyClose (selection reads of_bool) refl takes_selection selection_at_end Bad Good selection_kinds selection_stops Of refl refl
+  law_set_of n l = law_some_between k.CurlyClose (selection reads of_bool) refl (takes_selection reads of_bool (value_uses reads of_bool)) (selection_at_end reads of_bool (value_uses reads of_bool)) Bad Good selection_kinds selection_stops Of refl refl
       k.CurlyOpen refl refl refl refl (suc n) (law_fewer Bad Good (omega arith) l)
 
   abbrev SpreadIs : List Located → Spread S → Type 0

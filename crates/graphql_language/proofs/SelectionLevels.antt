@@ -1,22 +1,21 @@
 -- A selection is its beginning and the rest of it.
-use Rattle.std.proofs.Common.{◌≡◌, ℕ, Bool, true, false, if◌then◌else◌, List, [], ◌∷◌, ◌++◌, Option, Some, None, Result, Ok, Err, refl, sym, ap, ◌∙◌}
+use Rattle.std.proofs.Common.{◌≡◌, ℕ, Bool, true, false, if◌then◌else◌, List, [], ◌∷◌, Option, Some, None, Result, Ok, Err, refl, ap, ◌∙◌}
 use Rattle.graphql_text.specs.declared.position.SourcePosition.{SourcePosition}
 use Rattle.graphql_text.specs.declared.token.ScalarToken.{ScalarToken}
 use Rattle.graphql_text.specs.declared.parse_error.ParseError.{ParseError}
-use Rattle.graphql_language.specs.declared.tree.directive.Arguments.{Arguments}
-use Rattle.graphql_language.specs.declared.tree.directive.Directive.{Directive}
-use Rattle.graphql_language.specs.declared.tree.selection.Field.{Field}
-use Rattle.graphql_language.specs.declared.tree.selection.Selection.{Selection}
-use Rattle.graphql_language.specs.declared.tree.selection.Selection.TheVariants as s
+use Rattle.graphql_tree.specs.declared.directive.Arguments.{Arguments}
+use Rattle.graphql_tree.specs.declared.directive.Directive.{Directive}
+use Rattle.graphql_tree.specs.declared.selection.Field.{Field}
+use Rattle.graphql_tree.specs.declared.selection.Selection.{Selection}
+use Rattle.graphql_tree.specs.declared.selection.Selection.TheVariants as s
 use Rattle.graphql_language.specs.declared.parse.selection.FieldHead.{FieldHead}
 use Rattle.graphql_language.specs.declared.parse.selection.Head.{Head}
 use Rattle.graphql_language.specs.declared.parse.selection.Head.TheVariants as h
 use Rattle.graphql_grammar.specs.declared.kind.Kind.TheVariants as k
 use Rattle.graphql_grammar.specs.Kinds.{only, fragment_names}
-use Rattle.graphql_grammar.specs.Input.{At, Input, Fault, Outcome, Parser, left, and_then, ◌>>=◌, pure, peek}
+use Rattle.graphql_grammar.specs.Input.{At, Input, Fault, Outcome, Parser, and_then, ◌>>=◌, pure, peek}
 use Rattle.graphql_grammar.specs.Steps.{sees, when, until, expect, name_in, placed, located, optional}
-use Rattle.graphql_grammar.proofs.Parts.{then_read, then_refused}
-use Rattle.graphql_grammar.proofs.Turns.{UntilLeft, until_starts}
+use Rattle.graphql_grammar.proofs.Parts.{then_refused}
 use Rattle.graphql_language.specs.ReadDirectives.{arguments, directives}
 use Rattle.graphql_language.specs.ReadSelections.{Names, field_names, type_condition, Spread, spreads, inlines, selection_of, made_field, fragment_spread, selection_set, inline_fragment, spread, field, selection_layer, selection}
 use Rattle.graphql_language.specs.ReadHeads.{Begun, whole, opens, head_of, field_with, inline_with, spread_of, completed, ending, whole_ending, field_parts, field_head, spread_parts, inline_head, spread_begun, field_begun, begun, rest_of}
@@ -167,30 +166,14 @@ module _ {S : Type 0} (reads : ScalarToken → Result S ParseError) (of_bool : B
     selection_whole read = selection_begins i ∙ ap (λ (o : Outcome (Begun S)). and_then o (rest_of reads of_bool Selected)) read
 
     module _ {x : Head S} (read : begun reads of_bool i ≡ Ok (opens x, j)) where
-      behind : selection reads of_bool i ≡ and_then (selection_set reads of_bool (selection reads of_bool) j) (λ ss. ending (completed x ss))
-      behind = selection_begins i ∙ ap (λ (o : Outcome (Begun S)). and_then o (rest_of reads of_bool Selected)) read
+      pub selection_opens : selection reads of_bool i ≡ and_then (selection_set reads of_bool (selection reads of_bool) j) (λ ss. ending (completed x ss))
+      selection_opens = selection_begins i ∙ ap (λ (o : Outcome (Begun S)). and_then o (rest_of reads of_bool Selected)) read
 
       pub selection_inside_refused : {e : Fault} → selection_set reads of_bool (selection reads of_bool) j ≡ Err e → selection reads of_bool i ≡ Err e
-      selection_inside_refused refused = behind ∙ ap (λ (o : Outcome (List (Selection S))). and_then o (λ ss. ending (completed x ss))) refused
-
-      pub selection_completed : {ss : List (Selection S)} {m : Input} → selection_set reads of_bool (selection reads of_bool) j ≡ Ok (ss, m) → selection reads of_bool i ≡ Ok (completed x ss m.end, m)
-      selection_completed inside = behind ∙ ap (λ (o : Outcome (List (Selection S))). and_then o (λ ss. ending (completed x ss))) inside
+      selection_inside_refused refused = selection_opens ∙ ap (λ (o : Outcome (List (Selection S))). and_then o (λ ss. ending (completed x ss))) refused
 
   -- ---- a selection set
 
   pub set_refused : (i : Input) {e : Fault} → expect k.CurlyOpen i ≡ Err e → selection_set reads of_bool (selection reads of_bool) i ≡ Err e
   unfolding selection_set
   set_refused i refused = then_refused (expect k.CurlyOpen) (λ u. Selected >>= (λ x. until k.CurlyClose Selected (x ∷ []))) refused
-
-  module _ (i : Input) {j : Input} {u : Unit {0}} (opening : expect k.CurlyOpen i ≡ Ok (u, j)) where
-    pub set_first_refused : {e : Fault} → selection reads of_bool j ≡ Err e → selection_set reads of_bool (selection reads of_bool) i ≡ Err e
-    unfolding selection_set
-    set_first_refused refused = then_read (expect k.CurlyOpen) (λ u. Selected >>= (λ x. until k.CurlyClose Selected (x ∷ []))) opening ∙ then_refused Selected (λ x. until k.CurlyClose Selected (x ∷ [])) refused
-
-    pub set_first : {x : Selection S} {m : Input} {n : ℕ} {found : List (Selection S)} → selection reads of_bool j ≡ Ok (x, m) → found ≡ [] ++ x ∷ [] → n ≡ left m
-        → UntilLeft k.CurlyClose (selection reads of_bool) (selection_set reads of_bool (selection reads of_bool) i) n 0 found m
-    unfolding selection_set
-    set_first {x} {m} {n} {found} read kept count =
-        let first = then_read (expect k.CurlyOpen) (λ u. Selected >>= (λ x. until k.CurlyClose Selected (x ∷ []))) opening ∙ then_read Selected (λ x. until k.CurlyClose Selected (x ∷ [])) read in
-        let same = ap (λ (xs : List (Selection S)). until k.CurlyClose Selected xs m) (sym kept) in
-        until_starts k.CurlyClose Selected n found m (first ∙ same) count

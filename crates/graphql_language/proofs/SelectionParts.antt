@@ -1,15 +1,14 @@
 -- What the parts of selections read, from what their own parts read.
-use Rattle.std.proofs.Common.{◌≡◌, ◌≢◌, ℕ, Bool, true, false, List, [], ◌∷◌, ◌++◌, Option, Some, None, Result, Ok, Err, sym, ap, ◌∙◌, subst}
+use Rattle.std.proofs.Common.{◌≡◌, ◌≢◌, ℕ, Bool, true, false, List, [], ◌∷◌, ◌++◌, Option, Some, None, Result, Ok, Err, refl, sym, ap, ◌∙◌, subst}
 use Rattle.std.specs.Result.{IsErrAnd}
-use Rattle.std.specs.Global.{Box}
 use Rattle.graphql_text.specs.declared.position.SourcePosition.{SourcePosition}
 use Rattle.graphql_text.specs.declared.token.ScalarToken.{ScalarToken}
 use Rattle.graphql_text.specs.declared.parse_error.ParseError.{ParseError}
 use Rattle.graphql_text.specs.declared.parse_error.ParseError.TheVariants.{Memory}
-use Rattle.graphql_language.specs.declared.tree.directive.Arguments.{Arguments}
-use Rattle.graphql_language.specs.declared.tree.directive.Directive.{Directive}
-use Rattle.graphql_language.specs.declared.tree.selection.FragmentSpread.{FragmentSpread}
-use Rattle.graphql_language.specs.declared.tree.selection.Selection.{Selection}
+use Rattle.graphql_tree.specs.declared.directive.Arguments.{Arguments}
+use Rattle.graphql_tree.specs.declared.directive.Directive.{Directive}
+use Rattle.graphql_tree.specs.declared.selection.FragmentSpread.{FragmentSpread}
+use Rattle.graphql_tree.specs.declared.selection.Selection.{Selection}
 use Rattle.graphql_language.specs.declared.parse.selection.FieldHead.{FieldHead}
 use Rattle.graphql_language.specs.declared.parse.selection.InlineHead.{InlineHead}
 use Rattle.graphql_language.specs.declared.parse.selection.Head.{Head}
@@ -24,38 +23,25 @@ use Rattle.graphql_grammar.proofs.Cursors.{token_yes, after_yes, after_no}
 use Rattle.graphql_grammar.proofs.Parts.{then_read, then_refused, when_yes, when_no}
 use Rattle.graphql_language.specs.ReadDirectives.{arguments, directives}
 use Rattle.graphql_language.specs.ReadSelections.{Names, field_names, type_condition}
-use Rattle.graphql_language.specs.ReadHeads.{Begun, whole, opens, Adds, Begins, head_of, field_with, spread_of, completed, whole_ending, field_parts, field_head, spread_parts, inline_head, spread_begun, field_begun, begun}
+use Rattle.graphql_language.specs.ReadHeads.{Begun, whole, opens, Begins, head_of, field_with, spread_of, whole_ending, field_parts, field_head, spread_parts, inline_head, spread_begun, field_begun, begun}
 
 -- the exit of a `?`: the fault of a part is the fault of the whole
-pub adds_exit : {A B : Type 0} {o : Outcome A} {p : Outcome B} {e : Fault} (r : Result (Unit {0}) Fault) (old new : List A) (j : Input)
-    → IsErrAnd r (λ f. f ≡ e) → (e.item ≢ Memory → p ≡ Err e) → (p ≡ Err e → o ≡ Err e) → Adds o r old new j
-adds_exit (Ok u) old new j same part all = absurd same
-adds_exit {A} {B} {o} {p} {e} (Err f) old new j same part all = let P : Fault → Type 0 = λ x. x.item ≢ Memory → o ≡ Err x in subst P (sym same) (λ told. all (part told))
-
-pub begins_exit : {S B : Type 0} {o : Outcome (Begun S)} {p : Outcome B} {e : Fault} (r : Result (Option (Box (Head S))) Fault) (old new : List (Selection S)) (j : Input)
+pub begins_exit : {S B : Type 0} {o : Outcome (Begun S)} {p : Outcome B} {e : Fault} (r : Result (Option (Head S)) Fault) (old new : List (Selection S)) (j : Input)
     → IsErrAnd r (λ f. f ≡ e) → (e.item ≢ Memory → p ≡ Err e) → (p ≡ Err e → o ≡ Err e) → Begins o r old new j
 begins_exit (Ok u) old new j same part all = absurd same
 begins_exit {S} {B} {o} {p} {e} (Err f) old new j same part all = let P : Fault → Type 0 = λ x. x.item ≢ Memory → o ≡ Err x in subst P (sym same) (λ told. all (part told))
 
 -- parsers that answer the same
-pub begins_same : {S : Type 0} {o p : Outcome (Begun S)} (r : Result (Option (Box (Head S))) Fault) (old new : List (Selection S)) (j : Input) → o ≡ p → Begins p r old new j → Begins o r old new j
+pub begins_same : {S : Type 0} {o p : Outcome (Begun S)} (r : Result (Option (Head S)) Fault) (old new : List (Selection S)) (j : Input) → o ≡ p → Begins p r old new j → Begins o r old new j
 begins_same {S} {o} {p} r old new j same h = let P : Outcome (Begun S) → Type 0 = λ u. Begins u r old new j in subst P (sym same) h
 
-pub begins_some : {S : Type 0} {o : Outcome (Begun S)} (r : Option (Box (Head S))) (x : Box (Head S)) (old new : List (Selection S)) (j : Input) → r ≡ Some x → Begins o (Ok r) old new j → (o ≡ Ok (opens x.value, j)) × (new ≡ old)
-begins_some {S} {o} r x old new j is h = let P : Option (Box (Head S)) → Type 0 = λ u. Begins o (Ok u) old new j in subst P is h
+pub begins_some : {S : Type 0} {o : Outcome (Begun S)} (r : Option (Head S)) (x : Head S) (old new : List (Selection S)) (j : Input) → r ≡ Some x → Begins o (Ok r) old new j → (o ≡ Ok (opens x, j)) × (new ≡ old)
+begins_some {S} {o} r x old new j is h = let P : Option (Head S) → Type 0 = λ u. Begins o (Ok u) old new j in subst P is h
 
-pub begins_none : {S : Type 0} {o : Outcome (Begun S)} (r : Option (Box (Head S))) (old new : List (Selection S)) (j : Input) → r ≡ None → Begins o (Ok r) old new j
+pub begins_none : {S : Type 0} {o : Outcome (Begun S)} (r : Option (Head S)) (old new : List (Selection S)) (j : Input) → ((x : Head S) → r ≢ Some x) → Begins o (Ok r) old new j
     → (x : Selection S) × (o ≡ Ok (whole x, j)) × (new ≡ old ++ x ∷ [])
-begins_none {S} {o} r old new j is h = let P : Option (Box (Head S)) → Type 0 = λ u. Begins o (Ok u) old new j in subst P is h
-
-pub completed_kept : {S : Type 0} {more base : List (Selection S)} (old : List (Selection S)) (x : Head S) (ss : List (Selection S)) {d : SourcePosition} (e : SourcePosition) → base ≡ old → d ≡ e → more ≡ base ++ completed x ss d ∷ []
-    → more ≡ old ++ completed x ss e ∷ []
-completed_kept {S} {more} {base} old x ss {d} e same end kept =
-    kept ∙ ap (λ (ys : List (Selection S)). ys ++ completed x ss d ∷ []) same ∙ ap (λ (p : SourcePosition). old ++ completed x ss p ∷ []) end
-
--- what stands before a selection set, in a box
-pub opens_boxed : {S : Type 0} {o : Outcome (Begun S)} {x y : Head S} {j : Input} → o ≡ Ok (opens x, j) → y ≡ x → o ≡ Ok (opens y, j)
-opens_boxed {S} {o} {x} {y} {j} read is = read ∙ ap (λ (z : Head S). Ok (opens z, j)) (sym is)
+begins_none (Some x) old new j none h = absurd (none x refl)
+begins_none None old new j none h = h
 
 -- a whole selection, at the end of the list
 pub whole_kept : {S : Type 0} {o : Outcome (Begun S)} {new : List (Selection S)} (old : List (Selection S)) (x y : Selection S) (j : Input) → o ≡ Ok (whole x, j) → y ≡ x → new ≡ old ++ y ∷ []

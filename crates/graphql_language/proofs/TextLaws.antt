@@ -1,59 +1,30 @@
 -- What a text is, by what is read of its tokens.
-use Rattle.std.proofs.Common.{◌≡◌, ◌≢◌, IfOk, IfErr, ◌⊎◌, ℕ, suc, ◌<◌, inl, inr, Bool, true, false, List, [], ◌∷◌, ◌++◌, length, Result, Ok, Err, ap, ◌∙◌, sym, refl, subst, append_assoc, arith}
+use Rattle.std.proofs.Common.{◌≡◌, ◌≢◌, IfOk, IfErr, ◌⊎◌, ℕ, inl, inr, Bool, true, List, [], ◌∷◌, ◌++◌, Result, Ok, Err, ap, ◌∙◌, sym, refl, subst, append_assoc}
 use Rattle.std.proofs.lemmas.List.{append-nil, same_from_push}
 use Rattle.graphql_text.specs.declared.position.Span.{Span}
-use Rattle.graphql_text.specs.declared.token.Token.{Token}
-use Rattle.graphql_text.specs.declared.token.Token.TheVariants as t
 use Rattle.graphql_text.specs.declared.token.ScalarToken.{ScalarToken}
 use Rattle.graphql_text.specs.declared.parse_error.ParseError.{ParseError}
 use Rattle.graphql_text.specs.declared.parse_error.ParseError.TheVariants.{Memory}
 use Rattle.graphql_text.specs.Position.{origin}
 use Rattle.graphql_text.specs.Tokens.{is_end}
-use Rattle.graphql_text.specs.Grammar.{IsDivided, IsBroken}
-use Rattle.graphql_text.specs.Reading.{Refusal}
 use Rattle.graphql_text.specs.Refusals.{parse_error_of}
-use Rattle.graphql_grammar.specs.declared.kind.Kind.{Kind}
 use Rattle.graphql_grammar.specs.declared.kind.Kind.TheVariants as k
-use Rattle.graphql_grammar.specs.Kinds.{kind, only, names}
-use Rattle.graphql_grammar.specs.Input.{Input, Located, Fault, Parser, Outcome, Reads, ◌>>=◌}
+use Rattle.graphql_grammar.specs.Kinds.{only}
+use Rattle.graphql_grammar.specs.Input.{Input, Located, Fault, Outcome, Reads, ◌>>=◌}
 use Rattle.graphql_grammar.specs.Steps.{finished, all}
 use Rattle.graphql_grammar.specs.Ahead.{mk, kind_ahead}
-use Rattle.graphql_grammar.specs.Faults.{Begins, FirstFault, Spelled}
-use Rattle.graphql_grammar.specs.Cursor.{NoEnd, IsStart, IsLexical}
+use Rattle.graphql_grammar.specs.Faults.{Begins, FirstFault}
+use Rattle.graphql_grammar.specs.Cursor.{NoEnd, IsStart}
 use Rattle.graphql_text.proofs.GrammarLaws as lexical
-use Rattle.graphql_grammar.proofs.Cursors.{starts}
+use Rattle.graphql_grammar.proofs.Cursors.{end_or_not, starts}
 use Rattle.graphql_grammar.proofs.Stops.{ran_before}
-use Rattle.graphql_grammar.proofs.Choices.{word_is_name}
 use Rattle.graphql_grammar.proofs.Ends.{finished_end}
 use Rattle.graphql_grammar.proofs.FirstFaults.{spelled, first_fault, one_tree}
-use Rattle.graphql_language.specs.declared.tree.document.Definition.{Definition}
+use Rattle.graphql_tree.specs.declared.document.Definition.{Definition}
 use Rattle.graphql_language.specs.ReadDocuments.{definition_kinds, definition, document}
 use Rattle.graphql_language.specs.Documents.{DocumentOf}
-use Rattle.graphql_language.specs.Texts.{IsCut, IsDocument, IsUngrammatical, IsRefused, OnlyDocument, OneDocument, DocumentOrRefused, NotBoth}
+use Rattle.graphql_language.specs.Texts.{IsDocument, IsRefused, OnlyDocument, OneDocument, DocumentOrRefused, NotBoth}
 use Rattle.graphql_language.proofs.DocumentLaws.{law_document}
-
-end_name : (w : Kind) → names w ≡ true → only k.EndOfFile w ≡ true → ⊥
-end_name k.EndOfFile h is = cc
-end_name w h is = cc
-
--- a token of the kind of the end is the end
-end_token : (x : Token) → only k.EndOfFile (kind x) ≡ true → is_end x ≡ true
-end_token t.EndOfFile h = refl
-end_token (t.Name n) h = absurd (end_name (kind (t.Name n)) (word_is_name n) h)
-end_token (t.Scalar s) h = cc
-end_token t.ExclamationMark h = cc
-end_token t.Dollar h = cc
-end_token t.ParenOpen h = cc
-end_token t.ParenClose h = cc
-end_token t.BracketOpen h = cc
-end_token t.BracketClose h = cc
-end_token t.CurlyOpen h = cc
-end_token t.CurlyClose h = cc
-end_token t.Ellipsis h = cc
-end_token t.Colon h = cc
-end_token t.Equals h = cc
-end_token t.At h = cc
-end_token t.Pipe h = cc
 
 no_end_behind : (ts us : List Located) → NoEnd (ts ++ us) → NoEnd us
 no_end_behind [] us h = h
@@ -61,7 +32,7 @@ no_end_behind (a ∷ ts) us h = no_end_behind ts us h.1
 
 nothing_left : (us : List Located) → NoEnd us → only k.EndOfFile (kind_ahead us) ≡ true → us ≡ []
 nothing_left [] h is = refl
-nothing_left (a ∷ us) h is = absurd (let q = sym h.0 ∙ end_token a.item is in cc)
+nothing_left (a ∷ us) h is = elim (end_or_not a.item) [ inl e ↦ absurd (let q = sym h.0 ∙ ap is_end e in cc) | inr e ↦ absurd (let q = sym e.1 ∙ is in cc) ]
 
 -- the tokens before the last
 same_front : (ts us : List Located) (a b : Located) → ts ++ a ∷ [] ≡ us ++ b ∷ [] → ts ≡ us

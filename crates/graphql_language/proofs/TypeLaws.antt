@@ -1,26 +1,25 @@
 -- Type references: the law of each production.
-use Rattle.std.proofs.Common.{◌≡◌, ℕ, zero, suc, ◌-◌, ◌<◌, ◌≤◌, inl, inr, Bool, true, false, List, [], ◌∷◌, ◌++◌, Ok, Err, ap, ◌∙◌, sym, refl, subst, append_assoc, arith}
+use Rattle.std.proofs.Common.{◌≡◌, ℕ, zero, suc, inl, inr, true, false, List, [], ◌∷◌, ◌++◌, ap, ◌∙◌, sym, refl, subst, arith}
 use Rattle.std.proofs.lemmas.List.{append-nil}
 use Rattle.std.specs.Prelude.{codes}
 use Rattle.graphql_text.specs.declared.position.Span.{Span}
-use Rattle.graphql_text.specs.declared.position.SourcePosition.{SourcePosition}
 use Rattle.graphql_text.specs.declared.token.Token.TheVariants as t
 use Rattle.graphql_types.specs.declared.type_modifier.TypeModifier.TheVariants as m
 use Rattle.graphql_grammar.specs.declared.kind.Kind.TheVariants as k
-use Rattle.graphql_grammar.specs.Kinds.{Kinds, kind, only, either, no_kind, names}
-use Rattle.graphql_grammar.specs.Input.{At, Input, Located, Fault, Parser, ◌>>=◌, pure, peek, peek_kind, next}
-use Rattle.graphql_grammar.specs.Steps.{sees, token, expect, name, name_of, located, when}
+use Rattle.graphql_grammar.specs.Kinds.{Kinds, only, either, no_kind, names}
+use Rattle.graphql_grammar.specs.Input.{At, Located, Fault, ◌>>=◌, pure, peek, peek_kind, next}
+use Rattle.graphql_grammar.specs.Steps.{sees, token, expect, name_of, when}
 use Rattle.graphql_grammar.specs.Ahead.{mk, Free}
-use Rattle.graphql_grammar.specs.Relations.{end_of, span_of, TokenOf, Nothing, Then, Made, Placed, EitherOf}
+use Rattle.graphql_grammar.specs.Relations.{TokenOf, Nothing, Then, Made, Placed, EitherOf}
 use Rattle.graphql_grammar.proofs.Stops.{Sentence}
 use Rattle.graphql_grammar.proofs.Law.{Law, law_bind, law_pure, law_made, law_is, law_fewer, law_same, law_zero, law_wider}
 use Rattle.graphql_grammar.proofs.Choices.{law_expect, law_when, law_located}
 use Rattle.graphql_grammar.proofs.Begins.{BeginsWith, begins_token, begins_bind, begins_when, begins_located, begins_same}
 use Rattle.graphql_language.specs.ReadTypes.{TypeRef, plain, wrapped, list_of, nullable, bare_type, type_ref}
-use Rattle.graphql_language.specs.Values.{Is, spanned}
+use Rattle.graphql_language.specs.Values.{spanned}
 use Rattle.graphql_language.specs.Types.{NullableOf, of_name, of_list, TypeOf, of_nullable, of_non_null}
 use Rattle.graphql_language.specs.Directives.{NameOf}
-use Rattle.graphql_language.proofs.TypeDepth.{type_unfolds, type_uses}
+use Rattle.graphql_language.proofs.TypeDepth.{type_unfolds}
 use Rattle.graphql_language.proofs.ValueLaws.{name_token, name_kind, law_name, closed_end, stood, span_in}
 
 -- what a type begins with

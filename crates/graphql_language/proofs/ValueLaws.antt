@@ -1,6 +1,5 @@
 -- Values: the law of each production.
-use Rattle.std.proofs.Common.{◌≡◌, ℕ, zero, suc, ◌+◌, ◌-◌, ◌<◌, ◌≤◌, ◌⊎◌, inl, inr, Bool, true, false, List, [], ◌∷◌, ◌++◌, length, Result, Ok, Err, ap, ◌∙◌, sym, refl, subst, append_assoc, arith}
-use Rattle.std.proofs.lemmas.List.{append-nil}
+use Rattle.std.proofs.Common.{◌≡◌, ℕ, zero, suc, inl, inr, Bool, true, false, List, [], ◌∷◌, ◌++◌, Result, Err, ap, ◌∙◌, sym, refl, subst, arith}
 use Rattle.std.specs.Prelude.{codes}
 use Rattle.graphql_text.specs.declared.position.Span.{Span}
 use Rattle.graphql_text.specs.declared.position.SourcePosition.{SourcePosition}
@@ -12,20 +11,21 @@ use Rattle.graphql_values.specs.declared.input_value.InputValue.{InputValue}
 use Rattle.graphql_values.specs.declared.input_value.InputValue.TheVariants as v
 use Rattle.graphql_grammar.specs.declared.kind.Kind.{Kind}
 use Rattle.graphql_grammar.specs.declared.kind.Kind.TheVariants as k
-use Rattle.graphql_grammar.specs.Kinds.{Kinds, kind, word_kind, only, either, no_kind, names, enum_names, within}
-use Rattle.graphql_grammar.specs.Input.{At, Input, Located, Fault, Parser, ◌>>=◌, pure, left, peek, peek_kind, next, refusal}
-use Rattle.graphql_grammar.specs.Steps.{sees, token, expect, name, name_of, located, scalar}
+use Rattle.graphql_grammar.specs.Kinds.{Kinds, kind, only, either, no_kind, names, enum_names, within}
+use Rattle.graphql_grammar.specs.Input.{At, Located, Fault, peek, peek_kind, next, refusal}
+use Rattle.graphql_grammar.specs.Steps.{sees, token, name, name_of, located}
 use Rattle.graphql_grammar.specs.Ahead.{mk, In, Free, refused_at, kind_ahead}
-use Rattle.graphql_grammar.specs.Relations.{end_of, span_of, TokenOf, Then, Made, Placed, Between, AllFrom, none_more, one_more, AllOf, EitherOf}
+use Rattle.graphql_grammar.specs.Relations.{span_of, TokenOf, Then, Made, Placed, Between, none_more, one_more, AllOf, EitherOf}
 use Rattle.graphql_grammar.specs.Faults.{BadScalar, GoodScalar, ScalarOf}
 use Rattle.graphql_grammar.proofs.Sets.{is_kind, within_is}
 use Rattle.graphql_grammar.proofs.Stops.{Sentence, end-append}
 use Rattle.graphql_grammar.proofs.Law.{Law, law_bind, law_made, law_is, law_fewer, law_starts, law_same, law_zero}
-use Rattle.graphql_grammar.proofs.Choices.{word_is_name, law_token, law_expect, law_scalar_or, law_when, law_located, token_reads}
+use Rattle.graphql_grammar.proofs.Cursors.{word_is_name}
+use Rattle.graphql_grammar.proofs.Choices.{law_token, law_expect, law_scalar_or, law_when, law_located}
 use Rattle.graphql_grammar.proofs.Loops.{Takes, law_between}
 use Rattle.graphql_grammar.proofs.Recursion.{Uses, agree_self}
 use Rattle.graphql_grammar.proofs.Begins.{BeginsWith, begins_token, begins_when, begins_located, begins_wider, begins_same}
-use Rattle.graphql_language.specs.ReadValues.{named, word_by, word_of, word, word_or_scalar, variable, variable_or, list, object, bare, value}
+use Rattle.graphql_language.specs.ReadValues.{named, word_by, word_of, word_or_scalar, variable, variable_or, list, object, bare, value}
 use Rattle.graphql_language.specs.Directives.{NameOf}
 use Rattle.graphql_language.proofs.ValueDepth.{agree_named, value_unfolds, value_uses}
 use Rattle.graphql_language.specs.Values.{Is, spanned, ValueOf, of_true, of_false, of_null, of_enum, of_scalar, of_variable, of_list, of_object, ItemsOf, no_items, more_items, FieldsOf, no_fields, more_fields}

@@ -4,7 +4,7 @@ use Rattle.graphql_text.specs.declared.position.SourcePosition.{SourcePosition}
 use Rattle.graphql_text.specs.declared.token.ScalarToken.{ScalarToken}
 use Rattle.graphql_text.specs.declared.parse_error.ParseError.{ParseError}
 use Rattle.graphql_values.specs.declared.input_value.InputValue.{InputValue}
-use Rattle.graphql_language.specs.declared.tree.variable.VariableDefinitions.{VariableDefinitions}
+use Rattle.graphql_tree.specs.declared.variable.VariableDefinitions.{VariableDefinitions}
 use Rattle.graphql_grammar.specs.declared.kind.Kind.TheVariants as k
 use Rattle.graphql_grammar.specs.Input.{At, Input, Fault, Parser, ◌>>=◌, pure, peek}
 use Rattle.graphql_grammar.specs.Steps.{expect, some_between}

@@ -5,8 +5,8 @@ use Rattle.graphql_text.specs.declared.parse_error.ParseError.{ParseError}
 use Rattle.graphql_text.specs.Grammar.{IsDivided}
 use Rattle.graphql_grammar.specs.Input.{Located, Fault}
 use Rattle.graphql_grammar.specs.Alike.{SameTokens, Corresponding}
-use Rattle.graphql_language.specs.declared.tree.document.Definition.{Definition}
-use Rattle.graphql_language.specs.Unlocated.{unlocated_document}
+use Rattle.graphql_tree.specs.declared.document.Definition.{Definition}
+use Rattle.graphql_tree.specs.Unlocated.{unlocated_document}
 use Rattle.graphql_language.specs.Texts.{IsDocument, IsRefused}
 
 -- two texts whose tokens have the same kinds and texts, one by one; what stands between them may differ

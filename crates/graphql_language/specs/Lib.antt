@@ -11,12 +11,8 @@ pub mod Types
 pub mod Directives
 pub mod Selections
 pub mod Documents
-pub mod Arguments
-pub mod Variables
-pub mod Unlocated
 pub mod Parser
 pub mod Texts
-pub mod Counts
 pub mod Lists
 pub mod Alike
 pub mod ReadDefinitions

@@ -1,12 +1,12 @@
 -- How arguments, directives and variables are read (GraphQL October 2021, 2.6 Arguments, 2.12 Directives, 2.10 Variables).
-use Rattle.std.specs.Prelude.{ℕ, Bool, true, false, List, [], ◌∷◌, Option, Some, None, Result}
+use Rattle.std.specs.Prelude.{ℕ, Bool, true, List, [], ◌∷◌, Option, Some, None, Result}
 use Rattle.graphql_text.specs.declared.token.ScalarToken.{ScalarToken}
 use Rattle.graphql_text.specs.declared.parse_error.ParseError.{ParseError}
 use Rattle.graphql_values.specs.declared.input_value.InputValue.{InputValue}
-use Rattle.graphql_language.specs.declared.tree.directive.Arguments.{Arguments}
-use Rattle.graphql_language.specs.declared.tree.directive.Directive.{Directive}
-use Rattle.graphql_language.specs.declared.tree.variable.VariableDefinition.{VariableDefinition}
-use Rattle.graphql_language.specs.declared.tree.variable.VariableDefinitions.{VariableDefinitions}
+use Rattle.graphql_tree.specs.declared.directive.Arguments.{Arguments}
+use Rattle.graphql_tree.specs.declared.directive.Directive.{Directive}
+use Rattle.graphql_tree.specs.declared.variable.VariableDefinition.{VariableDefinition}
+use Rattle.graphql_tree.specs.declared.variable.VariableDefinitions.{VariableDefinitions}
 use Rattle.graphql_grammar.specs.declared.kind.Kind.TheVariants as k
 use Rattle.graphql_grammar.specs.Kinds.{only}
 use Rattle.graphql_grammar.specs.Input.{At, Parser, ◌>>=◌, pure}

@@ -1,15 +1,15 @@
 -- How documents are read (GraphQL October 2021, 2.2 Document, 2.3 Operations, 2.8 Fragments).
-use Rattle.std.specs.Prelude.{ℕ, Bool, true, false, List, [], ◌∷◌, Option, None, Result}
+use Rattle.std.specs.Prelude.{Bool, true, false, List, [], ◌∷◌, None, Result}
 use Rattle.graphql_text.specs.declared.token.Token.{Token}
 use Rattle.graphql_text.specs.declared.token.ScalarToken.{ScalarToken}
 use Rattle.graphql_text.specs.declared.parse_error.ParseError.{ParseError}
-use Rattle.graphql_language.specs.declared.tree.document.OperationType.{OperationType}
-use Rattle.graphql_language.specs.declared.tree.document.OperationType.TheVariants as o
-use Rattle.graphql_language.specs.declared.tree.document.Operation.{Operation}
-use Rattle.graphql_language.specs.declared.tree.document.Fragment as fragments
-use Rattle.graphql_language.specs.declared.tree.document.Definition.{Definition}
-use Rattle.graphql_language.specs.declared.tree.document.Definition.TheVariants as d
-use Rattle.graphql_language.specs.declared.tree.selection.Selection.{Selection}
+use Rattle.graphql_tree.specs.declared.document.OperationType.{OperationType}
+use Rattle.graphql_tree.specs.declared.document.OperationType.TheVariants as o
+use Rattle.graphql_tree.specs.declared.document.Operation.{Operation}
+use Rattle.graphql_tree.specs.declared.document.Fragment as fragments
+use Rattle.graphql_tree.specs.declared.document.Definition.{Definition}
+use Rattle.graphql_tree.specs.declared.document.Definition.TheVariants as d
+use Rattle.graphql_tree.specs.declared.selection.Selection.{Selection}
 use Rattle.graphql_grammar.specs.declared.kind.Kind.{Kind}
 use Rattle.graphql_grammar.specs.declared.kind.Kind.TheVariants as k
 use Rattle.graphql_grammar.specs.Kinds.{Kinds, kind, only, names, fragment_names}

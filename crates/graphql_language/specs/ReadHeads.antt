@@ -1,15 +1,14 @@
 -- How a selection begins: all of it, or what stands before its selection set (GraphQL October 2021, 2.4 Selection Sets, 2.5 Fields, 2.8 Fragments).
 use Rattle.std.specs.Prelude.{◌≡◌, ◌≢◌, Bool, false, List, [], ◌∷◌, ◌++◌, Option, Some, None, Result, Ok, Err}
-use Rattle.std.specs.Global.{Box}
 use Rattle.graphql_text.specs.declared.position.SourcePosition.{SourcePosition}
 use Rattle.graphql_text.specs.declared.token.ScalarToken.{ScalarToken}
 use Rattle.graphql_text.specs.declared.parse_error.ParseError.{ParseError}
 use Rattle.graphql_text.specs.declared.parse_error.ParseError.TheVariants.{Memory}
-use Rattle.graphql_language.specs.declared.tree.directive.Arguments.{Arguments}
-use Rattle.graphql_language.specs.declared.tree.directive.Directive.{Directive}
-use Rattle.graphql_language.specs.declared.tree.selection.FragmentSpread.{FragmentSpread}
-use Rattle.graphql_language.specs.declared.tree.selection.Selection.{Selection}
-use Rattle.graphql_language.specs.declared.tree.selection.Selection.TheVariants as s
+use Rattle.graphql_tree.specs.declared.directive.Arguments.{Arguments}
+use Rattle.graphql_tree.specs.declared.directive.Directive.{Directive}
+use Rattle.graphql_tree.specs.declared.selection.FragmentSpread.{FragmentSpread}
+use Rattle.graphql_tree.specs.declared.selection.Selection.{Selection}
+use Rattle.graphql_tree.specs.declared.selection.Selection.TheVariants as s
 use Rattle.graphql_language.specs.declared.parse.selection.FieldHead.{FieldHead}
 use Rattle.graphql_language.specs.declared.parse.selection.InlineHead.{InlineHead}
 use Rattle.graphql_language.specs.declared.parse.selection.Head.{Head}
@@ -81,13 +80,8 @@ module _ {S : Type 0} (reads : ScalarToken → Result S ParseError) (of_bool : B
 
 -- ---- what functions that add to a list ensure
 
--- the item that was read stands at the end of the list, want of memory aside
-abbrev pub Adds : {A : Type 0} → Outcome A → Result (Unit {0}) Fault → List A → List A → Input → Type 0
-Adds {A} outcome (Ok u) old new i = (x : A) × (outcome ≡ Ok (x, i)) × (new ≡ old ++ x ∷ [])
-Adds outcome (Err e) old new i = e.item ≢ Memory → outcome ≡ Err e
-
 -- a whole selection stands at the end of the list; what stands before a selection set is handed out
-abbrev pub Begins : {S : Type 0} → Outcome (Begun S) → Result (Option (Box (Head S))) Fault → List (Selection S) → List (Selection S) → Input → Type 0
-Begins outcome (Ok (Some x)) old new i = (outcome ≡ Ok (opens x.value, i)) × (new ≡ old)
+abbrev pub Begins : {S : Type 0} → Outcome (Begun S) → Result (Option (Head S)) Fault → List (Selection S) → List (Selection S) → Input → Type 0
+Begins outcome (Ok (Some x)) old new i = (outcome ≡ Ok (opens x, i)) × (new ≡ old)
 Begins {S} outcome (Ok None) old new i = (x : Selection S) × (outcome ≡ Ok (whole x, i)) × (new ≡ old ++ x ∷ [])
 Begins outcome (Err e) old new i = e.item ≢ Memory → outcome ≡ Err e

@@ -3,11 +3,11 @@ use Rattle.std.specs.Prelude.{◌≡◌, ℕ, Bool, false, List, [], ◌∷◌, 
 use Rattle.graphql_text.specs.declared.position.Span.{Span}
 use Rattle.graphql_text.specs.declared.token.ScalarToken.{ScalarToken}
 use Rattle.graphql_text.specs.declared.parse_error.ParseError.{ParseError}
-use Rattle.graphql_language.specs.declared.tree.selection.Field.{Field}
-use Rattle.graphql_language.specs.declared.tree.selection.FragmentSpread.{FragmentSpread}
-use Rattle.graphql_language.specs.declared.tree.selection.InlineFragment.{InlineFragment}
-use Rattle.graphql_language.specs.declared.tree.selection.Selection.{Selection}
-use Rattle.graphql_language.specs.declared.tree.selection.Selection.TheVariants as s
+use Rattle.graphql_tree.specs.declared.selection.Field.{Field}
+use Rattle.graphql_tree.specs.declared.selection.FragmentSpread.{FragmentSpread}
+use Rattle.graphql_tree.specs.declared.selection.InlineFragment.{InlineFragment}
+use Rattle.graphql_tree.specs.declared.selection.Selection.{Selection}
+use Rattle.graphql_tree.specs.declared.selection.Selection.TheVariants as s
 use Rattle.graphql_grammar.specs.declared.kind.Kind.TheVariants as k
 use Rattle.graphql_grammar.specs.Kinds.{fragment_names}
 use Rattle.graphql_grammar.specs.Input.{At, Located}
@@ -15,7 +15,7 @@ use Rattle.graphql_grammar.specs.Steps.{name_of}
 use Rattle.graphql_grammar.specs.Relations.{span_of, TokenOf, Nothing, Then, Made, Placed, OptionOf, EitherOf}
 use Rattle.graphql_language.specs.ReadSelections.{Names}
 use Rattle.graphql_language.specs.Values.{Is}
-use Rattle.graphql_language.specs.Directives.{Sign, NameOf, Named, ArgumentsOf, DirectivesOf}
+use Rattle.graphql_language.specs.Directives.{Sign, Named, ArgumentsOf, DirectivesOf}
 
 -- FragmentName : Name but `on`
 abbrev pub FragmentNamed : List Located → At (List ℕ) → Type 0

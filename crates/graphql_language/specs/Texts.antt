@@ -10,7 +10,7 @@ use Rattle.graphql_grammar.specs.Input.{Located, Fault}
 use Rattle.graphql_grammar.specs.Ahead.{mk}
 use Rattle.graphql_grammar.specs.Faults.{FirstFault}
 use Rattle.graphql_grammar.specs.Cursor.{IsLexical}
-use Rattle.graphql_language.specs.declared.tree.document.Definition.{Definition}
+use Rattle.graphql_tree.specs.declared.document.Definition.{Definition}
 use Rattle.graphql_language.specs.Documents.{DocumentOf}
 
 -- the tokens of a text: these, and then its end

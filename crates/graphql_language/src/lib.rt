@@ -1,4 +1,4 @@
-//! The language layer of GraphQL: syntax trees and the parser of documents.
+//! The language layer of GraphQL: the parser of documents, and what it stands on.
 //!
 //! [`parse_document_source`] gives the tree of a text, or the text's first fault. What a document is,
 //! production by production, is said by the relations in `specs/Documents.antt` and the files that it
@@ -9,11 +9,15 @@ pub mod laws;
 mod parse;
 mod parser;
 mod source;
-mod tree;
 
 pub use graphql_text::{
     Items, Lexer, LexerError, LexerResult, OptionParseResult, ParseError, ParseResult, ScalarToken,
     SourcePosition, Span, Spanning, Text, TextRef, Token, UnlocatedParseResult, lex_all,
+};
+pub use graphql_tree::{
+    Arguments, Definition, Directive, Field, Fragment, FragmentSpread, InlineFragment, Operation,
+    OperationType, OwnedDocument, Selection, VariableDefinition, VariableDefinitions,
+    release_document, release_selections,
 };
 pub use graphql_values::{
     BorrowedType, DefaultScalarValue, InputValue, Name, NameParseError, ParseScalarResult,
@@ -21,8 +25,3 @@ pub use graphql_values::{
 };
 pub use parser::{Parser, parse_type, parse_value_literal};
 pub use source::parse_document_source;
-pub use tree::{
-    Arguments, Definition, Directive, Field, Fragment, FragmentSpread, InlineFragment, Operation,
-    OperationType, OwnedDocument, Selection, VariableDefinition, VariableDefinitions,
-    release_document,
-};

@@ -6,17 +6,19 @@ ghost use Rattle.graphql_text.specs.declared.parse_error.ParseError.TheVariants.
 ghost use Rattle.graphql_language.specs.Texts.{IsDocument, OnlyDocument, IsRefused};
 
 #[cfg(test)]
+mod place_tests;
+#[cfg(test)]
 mod tests;
 
 use crate::parse::document;
-use crate::tree::OwnedDocument;
 use graphql_grammar::Cursor;
 use graphql_text::UnlocatedParseResult;
+use graphql_tree::OwnedDocument;
 use graphql_values::ScalarValue;
 use std::alloc::Global;
 
 /// The document that a text is (GraphQL October 2021, 2.2 Document). Its names are borrowed from the
-/// text. Takes time by the number of tokens, and recurses as deep as the text nests.
+/// text. Takes time by the number of tokens, and recurses as deep as values nest.
 ///
 /// An error is the first fault of the text, at its place: characters, lines and columns from zero.
 /// A lexical fault anywhere comes before every other: `ParseError::LexerError`. Else it is about the

@@ -3,7 +3,7 @@ use Rattle.std.proofs.Common.{◌≡◌, ℕ, ◌+◌, ◌<◌, Bool, false, ℤ
 use Rattle.std.proofs.lemmas.List.{at_drop_more, at_drop_all}
 use Rattle.std.proofs.lemmas.Simd.{map-map}
 use Rattle.graphql_output.specs.declared.object.Object.{Object}
-use Rattle.graphql_output.proofs.ValueEquations.{on_value, fold_fields}
+use Rattle.graphql_output.specs.ValueEquations.{on_value, fold_fields}
 use Rattle.graphql_lines.specs.Json.{joined, comma_unless, json_text, member_json, json, object_json, json_layer, fields_layer}
 
 -- a member, written part by part

@@ -7,7 +7,7 @@ use Rattle.serde_json.specs.Data.{Data, Members, no_members, put}
 use Rattle.serde_json.specs.Find.{get, get_member}
 use Rattle.serde_json.proofs.Views.{get_member-put, get_member-put_other}
 use Rattle.graphql_output.specs.Objects.{Pair, HasDistinctKeys, field_value}
-use Rattle.graphql_output.proofs.ValueEquations.{on_value, fold_object, fold_fields}
+use Rattle.graphql_output.specs.ValueEquations.{on_value, fold_object, fold_fields}
 use Rattle.graphql_lines.specs.Laws.{with_fields, data_layer, data_fields, data_of_value, KeysKeepValues}
 
 -- the first of these, where there is one

@@ -14,8 +14,8 @@ use Rattle.graphql_output.specs.declared.object.Object.{Object}
 use Rattle.graphql_output.specs.declared.value.Value.{Value, fold-Value}
 use Rattle.graphql_output.specs.declared.value.Value.TheOpen.{Value-F, Object-F}
 use Rattle.graphql_output.specs.declared.value.Value.TheVariants as value
-use Rattle.graphql_output.proofs.ValueEquations.{fold_null, fold_scalar, fold_list, fold_object, fold_fields}
-use Rattle.graphql_output.proofs.ValueInduction.{value_ind, HoldsOfItems, HoldsOfFields}
+use Rattle.graphql_output.specs.ValueEquations.{fold_null, fold_scalar, fold_list, fold_object, fold_fields}
+use Rattle.graphql_output.specs.ValueInduction.{value_ind, HoldsOfItems, HoldsOfFields}
 use Rattle.graphql_lines.specs.Json.{json_layer, fields_layer}
 use Rattle.graphql_lines.specs.Json as spec
 use Rattle.graphql_lines.specs.Laws.{nesting_layer, nesting_fields, nesting, fits_layer, fits_fields, fits_32_bits, data_layer, data_fields, data_of_value, JsonReadsBack}

@@ -15,7 +15,7 @@ use Rattle.serde_json.specs.Read.{number_of, of_json, of_items, of_members}
 use Rattle.serde_json.specs.Written.{comma_if}
 use Rattle.serde_json.proofs.Numbers.{number_of-decimal, number_of-negative}
 use Rattle.graphql_output.specs.Objects.{Pair}
-use Rattle.graphql_output.proofs.ValueEquations.{on_value}
+use Rattle.graphql_output.specs.ValueEquations.{on_value}
 use Rattle.graphql_lines.specs.Json.{joined, json_text, member_json, text_or_null, bool_or, int_or, scalar_json}
 use Rattle.graphql_lines.specs.Variables.{has_32_bits}
 use Rattle.graphql_lines.specs.Laws.{items_of, with_fields, greatest, data_of_scalar}

@@ -8,8 +8,8 @@ ghost use Rattle.graphql_lines.specs.Variables.{GivesVariables};
 ghost use Rattle.graphql_lines.specs.Request as spec;
 
 use crate::refusal::LineRefusal;
-use crate::variables::{Variables, variables_from_json};
-use graphql_values::{DefaultScalarValue, ScalarValue};
+use crate::variables::variables_from_json;
+use graphql_values::{DefaultScalarValue, ScalarValue, Variables};
 use serde_json::Value;
 use std::alloc::Global;
 use std::collections::HashMap;

@@ -12,13 +12,10 @@ ghost use Rattle.graphql_lines.specs.Variables as spec;
 use crate::refusal::LineRefusal;
 use graphql_items::{Items, Text};
 use graphql_text::Spanning;
-use graphql_values::{DefaultScalarValue, InputValue, ScalarValue};
+use graphql_values::{InputValue, ScalarValue, Variables};
 use serde_json::{Map, Number, Value};
 use std::alloc::{AllocError, Global};
 use std::collections::HashMap;
-
-/// The values of a request's variables, by name.
-pub type Variables<S = DefaultScalarValue> = HashMap<String, InputValue<S>>;
 
 /// The integer of 32 bits that a number is, if it is held as a whole one.
 fn whole(number: &Number) -> Option<i32>

@@ -1,3 +1,4 @@
-pub mod ValueEquations
-pub mod ValueInduction
 pub mod ObjectLemmas
+pub mod TurnedLemmas
+pub mod EqualityTests
+pub mod DisplayLemmas

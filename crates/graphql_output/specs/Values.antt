@@ -1,5 +1,6 @@
 -- Values, form by form (GraphQL October 2021, 7.1 Response Format).
-use Rattle.std.specs.Prelude.{◌≡◌, Option, Some, None, map}
+use Rattle.std.specs.Prelude.{◌≡◌, Option, Some, None}
+use Rattle.graphql_output.specs.Objects.{Pair}
 use Rattle.graphql_output.specs.declared.object.Object.{Object}
 use Rattle.graphql_output.specs.declared.value.Value.{Value, fold-Value}
 use Rattle.graphql_output.specs.declared.value.Value.TheOpen.{Value-F, Object-F}
@@ -24,3 +25,11 @@ module _ {S T : Type 0} (turn : S → T) where
   -- the value of the same shape with each scalar turned
   abbrev pub turned : Value S → Value T
   turned = fold-Value S (Value T) (Object T) turned_layer turned_fields
+
+  -- the field of the same key
+  abbrev pub turned_field : Pair (Value S) → Pair (Value T)
+  turned_field field = (field.0, turned field.1)
+
+-- each answer is what the function gives
+abbrev pub Turns : {A B : Type 0} → (A → B → Type 0) → (A → B) → Type 0
+Turns answers f = (x : _) (y : _) → answers x y → y ≡ f x

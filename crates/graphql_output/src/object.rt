@@ -24,7 +24,7 @@ use std::slice::Iter;
 #[cycle(values)]
 #[derive(Debug, Drop)]
 pub struct Object<S> {
-    fields: Items<(Text, Value<S>)>,
+    pub(crate) fields: Items<(Text, Value<S>)>,
 }
 
 impl<S> Object<S> {
@@ -46,7 +46,7 @@ impl<S> Object<S> {
     }
 
     /// The place of the field of this key, counted from zero. A scan.
-    fn place_of(&self, key: &str) -> Option<usize>
+    pub(crate) fn place_of(&self, key: &str) -> Option<usize>
         ensures { result ≡ position (λ field. bytes_eq key.now field.0) self.now.fields }
     {
         self.fields.iter().position(|field| key == field.0.as_str())

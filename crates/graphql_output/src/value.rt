@@ -3,13 +3,16 @@
 ghost use Rattle.std.specs.Prelude.{◌≡◌, IsTrue, ◌↔◌, List};
 ghost use Rattle.std.specs.Borrow.{sem};
 ghost use Rattle.std.specs.Option.{option_copied, option_copied_mut};
+ghost use Rattle.graphql_items.specs.Memory.{Gives};
 ghost use Rattle.graphql_output.specs.Lending.{LendsObject};
-ghost use Rattle.graphql_output.specs.Values.{Holds};
+ghost use Rattle.graphql_output.specs.Values.{Holds, Turns, turned};
 ghost use Rattle.graphql_output.specs.declared.value.Value.TheVariants as value;
 
 use crate::object::Object;
+use crate::turned::turned_value;
 use graphql_items::Items;
 use graphql_scalars::DefaultScalarValue;
+use std::alloc::AllocError;
 
 /// A value that a field, or a whole operation, answers (GraphQL October 2021, 7.1 Response Format).
 #[cycle(values)]
@@ -118,5 +121,18 @@ impl<S> Value<S> {
             Value::Scalar(scalar) => Some(scalar),
             _ => None,
         }
+    }
+
+    /// The value of the same shape with each scalar turned. An error is want of memory.
+    pub fn map_scalar_value<T: Drop, F: Fn(S) -> T + Drop>(
+        self,
+        turn: F,
+    ) -> Result<Value<T>, AllocError>
+    where
+        S: Drop,
+        requires { (s : S) → F.pre turn s }
+        ensures { (f : S → T) → Turns (F.post turn) f → Gives result (turned f self) }
+    {
+        turned_value(self, &turn)
     }
 }

@@ -2,4 +2,8 @@ pub mod Reading
 pub mod IntValue
 pub mod StringValue
 pub mod DefaultScalar
+pub mod Shown
+pub mod CheckErrors
+pub mod Conversions
+pub mod Another
 pub mod Laws

@@ -1,8 +1,9 @@
 //! The scalars of a schema that declares none of its own.
 
-ghost use Rattle.std.specs.Prelude.{◌≡◌, refl, string_bytes};
+ghost use Rattle.std.specs.Prelude.{◌≡◌, Some, refl, string_bytes};
 ghost use Rattle.graphql_scalars.specs.Reading.{Answers};
 ghost use Rattle.graphql_scalars.specs.DefaultScalar as spec;
+ghost use Rattle.graphql_scalars.specs.Shown.{plain};
 ghost use Rattle.graphql_scalars.specs.IntValue.{int_value};
 ghost use Rattle.graphql_scalars.specs.StringValue.{string_value};
 ghost use Rattle.graphql_scalars.specs.declared.default_scalar.DefaultScalarValue.TheVariants.{Int, String, Boolean};
@@ -15,6 +16,7 @@ use crate::scalar::{ParseScalarResult, ParseScalarValue, ScalarValue};
 use crate::string_value::string_value;
 use graphql_text::{ParseError, ScalarToken, Text};
 use std::alloc::{AllocError, Global};
+use std::fmt;
 
 /// An integer of 32 bits, a text or a boolean (GraphQL October 2021, 3.5.1 Int, 3.5.3 String,
 /// 3.5.4 Boolean).
@@ -71,6 +73,20 @@ impl Clone for DefaultScalarValue {
             DefaultScalarValue::Int(value) => Ok(DefaultScalarValue::Int(*value)),
             DefaultScalarValue::String(text) => Ok(DefaultScalarValue::String(text.clone()?)),
             DefaultScalarValue::Boolean(value) => Ok(DefaultScalarValue::Boolean(*value)),
+        }
+    }
+}
+
+/// Writes an integer in decimal, a boolean as `true` or `false`, and a text as it stands, without
+/// quotes.
+impl fmt::Display for DefaultScalarValue {
+    ghost output = { λ scalar. Some (plain spec.as_int spec.as_bool spec.as_text scalar) };
+
+    fn fmt<W: fmt::Write>(&self, f: &mut fmt::Formatter<W>) -> fmt::Result {
+        match self {
+            DefaultScalarValue::Int(value) => write!(f, "{value}"),
+            DefaultScalarValue::String(text) => write!(f, "{text}"),
+            DefaultScalarValue::Boolean(value) => write!(f, "{value}"),
         }
     }
 }

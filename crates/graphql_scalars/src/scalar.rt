@@ -1,13 +1,21 @@
 //! Scalars, how they are read from the tokens of a text, and what they answer.
 
-ghost use Rattle.std.specs.Prelude.{◌≡◌, ℤ, Option, Some, Result, Bool, List, ℕ, string_bytes, IsSome, ◌⊎◌};
+ghost use Rattle.std.specs.Prelude.{◌≡◌, ℤ, Option, Some, Result, Bool, List, ℕ, string_bytes, IsSome, IfSome, ◌⊎◌};
 ghost use Rattle.std.specs.Option.{option_map};
 ghost use Rattle.graphql_text.specs.declared.token.ScalarToken.{ScalarToken};
 ghost use Rattle.graphql_text.specs.declared.parse_error.ParseError.{ParseError};
+ghost use Rattle.graphql_items.specs.Memory.{Gives, GivesBy};
+ghost use Rattle.graphql_scalars.specs.Another.{of_first_answer};
+ghost use Rattle.graphql_scalars.specs.Conversions.{ConvertsTo};
 ghost use Rattle.graphql_scalars.specs.Reading.{Answers};
 
-use graphql_text::{ParseError, ScalarToken};
-use std::alloc::Global;
+#[cfg(test)]
+mod tests;
+
+use crate::from_scalar::FromScalarValue;
+use graphql_text::{ParseError, ScalarToken, Text};
+use std::alloc::{AllocError, Global};
+use std::fmt::Display;
 
 /// What a token means as a scalar, or why it means none.
 pub type ParseScalarResult<S> = Result<S, ParseError>;
@@ -72,6 +80,53 @@ pub trait ScalarValue: ParseScalarValue<Self> + Clone + Eq {
     /// The text that the scalar answers, if it answers one, as a text of its own. Takes no memory.
     fn try_into_string(self) -> Option<String>
         ensures { option_map (λ text. string_bytes text) result ≡ as_text self };
+
+    /// The text that the scalar answers, if it answers one, as a text of its own. An error is want of
+    /// memory.
+    final fn try_to_string(&self, alloc: Global) -> Result<Option<String>, AllocError>
+        ensures { GivesBy (λ text. option_map (λ t. string_bytes t) text) result (as_text self.now) }
+    {
+        match self.try_as_str() {
+            Some(text) => Ok(Some(Text::from_str(alloc, text)?.into_string())),
+            None => Ok(None),
+        }
+    }
+
+    /// What the scalar means at the type `T`, or why it means nothing there.
+    final fn try_to<'a, T: FromScalarValue<'a, Self>>(
+        &'a self,
+        alloc: Global,
+    ) -> Result<T, T::Error>
+        ensures { ConvertsTo (T.means self.now) (T.refuses self.now) T.is_memory result }
+    {
+        T::from_scalar_value(alloc, self)
+    }
+
+    /// The scalar of another type that gives the same answer: the integer, else the boolean, else the
+    /// text. Takes no memory.
+    final fn into_another<T: ScalarValue>(self) -> T
+    where
+        Self: Drop,
+        ensures { of_first_answer T.of_int T.of_bool T.of_text (as_int self) (as_bool self) (as_text self) ≡ Some result }
+    {
+        if let Some(value) = self.try_to_int() {
+            return T::from_int(value);
+        }
+        if let Some(value) = self.try_to_bool() {
+            return T::from_bool(value);
+        }
+        match self.try_into_string() {
+            Some(text) => T::from_string(text),
+            None => unreachable!(),
+        }
+    }
+
+    /// The scalar of the text that `{}` writes of a value. An error is want of memory.
+    final fn from_displayable<D: Display>(alloc: Global, value: &D) -> Result<Self, AllocError>
+        ensures { IfSome (D.output value.now) (λ text. Gives result (of_text text)) }
+    {
+        Ok(Self::from_string(value.to_string(alloc)?))
+    }
 
     /// A clone is the same scalar.
     ghost clones: { (x y : Self) → Self.is_clone x y → y ≡ x };

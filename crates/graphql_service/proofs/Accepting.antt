@@ -14,9 +14,9 @@ use Rattle.graphql_service.specs.Evaluation.{Members, Outcome, settled, evaluate
 use Rattle.graphql_service.specs.Told.{told, told_root}
 use Rattle.graphql_service.specs.Json.{data_line}
 use Rattle.graphql_service.specs.Messages.{message, place_of}
-use Rattle.graphql_service.specs.Request.{Request, request_of}
+use Rattle.graphql_service.specs.Request.{Request, requested}
 use Rattle.graphql_service.specs.Service.{Service, root_of}
-use Rattle.graphql_service.specs.Answers.{Answers, data_of, not_thin, parse_error, IsLine, IsAccepted, root_type_of, from_root, outcome_of, refusal_line}
+use Rattle.graphql_service.specs.Answers.{Answers, no_request, data_of, not_thin, parse_error, IsLine, IsAccepted, root_type_of, from_root, outcome_of, refusal_line}
 use Rattle.graphql_service.proofs.Evaluations.{evaluates}
 use Rattle.graphql_service.proofs.Lines.{data_line-is_line, error_line-is_line}
 
@@ -58,7 +58,12 @@ pub data_is_line : (ms : Members) (r : Result (Vec ℕ Global) AllocError) → I
 data_is_line ms (Ok out) e = subst IsLine (sym e) (data_line-is_line ms)
 data_is_line ms (Err x) e = tt
 
-module _ (s : Service) (line : Bytes) (r : Request) (short : length line ≤ s.line_limit) (reads : request_of line ≡ Some r) where
+pub no_request_answers : (s : Service) (line : Bytes) (refusal : ThinRefusal) → length line ≤ s.line_limit → requested line ≡ Err refusal → (x : Result (Vec ℕ Global) AllocError)
+    → IfOk x (λ out. out.items ≡ refusal_line s refusal) → IfOk x (λ out. Answers s line out.items)
+no_request_answers s line refusal short none (Ok out) e = no_request refusal short none e
+no_request_answers s line refusal short none (Err x) e = tt
+
+module _ (s : Service) (line : Bytes) (r : Request) (short : length line ≤ s.line_limit) (reads : requested line ≡ Ok r) where
   pub parse_answers : (fault : Fault) (x : Result (Vec ℕ Global) AllocError) → IsRefused (chars r.query) fault
       → IfOk x (λ out. out.items ≡ refusal_line s (ParseError fault)) → IfOk x (λ out. Answers s line out.items)
   parse_answers fault (Ok out) refused e = parse_error r fault short reads refused e

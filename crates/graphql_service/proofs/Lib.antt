@@ -12,5 +12,4 @@ pub mod Views
 pub mod Turns
 pub mod Fittings
 pub mod Writings
-pub mod Requests
 pub mod Accepting

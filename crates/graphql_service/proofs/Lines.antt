@@ -9,7 +9,8 @@ use Rattle.std.proofs.lemmas.List.Folds.{list_any-append}
 use Rattle.graphql_text.specs.declared.position.SourcePosition.{SourcePosition}
 use Rattle.graphql_service.specs.Table.{Bytes}
 use Rattle.graphql_service.specs.Evaluation.{Value, Members, null, string, object, no_members, member}
-use Rattle.graphql_service.specs.Json.{hex_digit, escaped, json_text, json, json_members, data_line, locations, error_line}
+use Rattle.graphql_service.specs.Json.{json, json_members, data_line, locations, error_line}
+use Rattle.graphql_lines.specs.Json.{hex_digit, escaped, json_text}
 use Rattle.graphql_service.specs.Answers.{IsLine}
 
 abbrev has_feed : Bytes → Bool

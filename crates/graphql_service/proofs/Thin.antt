@@ -2,12 +2,12 @@
 use Rattle.std.proofs.Common.{◌≡◌, ℕ, zero, suc, ◌+◌, ◌-◌, ◌<◌, ◌≤◌, Bool, true, false, cond, not, ◌&&◌, is_some, ◌==◌, List, [], ◌∷◌, ◌++◌, length, get_or, map, drop, Option, Some, None, option_map, refl, sym, ap, ◌∙◌, append_assoc, append-nil, arith}
 use Rattle.std.proofs.lemmas.List.{at_drop_more, at_drop_all}
 use Rattle.graphql_grammar.specs.Input.{At}
-use Rattle.graphql_language.specs.declared.tree.selection.Field as fields
-use Rattle.graphql_language.specs.declared.tree.selection.FragmentSpread.{FragmentSpread}
-use Rattle.graphql_language.specs.declared.tree.selection.InlineFragment.{InlineFragment}
-use Rattle.graphql_language.specs.declared.tree.selection.Selection as selections
-use Rattle.graphql_language.specs.declared.tree.selection.Selection.TheVariants as selection
-use Rattle.graphql_language.proofs.SelectionEquations.{fold_field, fold_spread, fold_inline, fold_in_field}
+use Rattle.graphql_tree.specs.declared.selection.Field as fields
+use Rattle.graphql_tree.specs.declared.selection.FragmentSpread.{FragmentSpread}
+use Rattle.graphql_tree.specs.declared.selection.InlineFragment.{InlineFragment}
+use Rattle.graphql_tree.specs.declared.selection.Selection as selections
+use Rattle.graphql_tree.specs.declared.selection.Selection.TheVariants as selection
+use Rattle.graphql_tree.proofs.SelectionEquations.{fold_field, fold_spread, fold_inline, fold_in_field}
 use Rattle.graphql_service.specs.declared.selection.Selection.{Selection}
 use Rattle.graphql_service.specs.Selections.{Tree, Field, field_of, tree_of}
 use Rattle.graphql_service.specs.Documents.{with_field, set_of, own_set_of, selection_layer, field_layer, inline_layer, thin_field, thin_in_field, thin_set, thin_own_set, opens_at}

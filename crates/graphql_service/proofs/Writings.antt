@@ -6,7 +6,8 @@ use Rattle.graphql_service.specs.Selections.{tree_of, has_set}
 use Rattle.graphql_service.specs.Selections.{field_of}
 use Rattle.graphql_service.specs.Evaluation.{Value, Members, null, object}
 use Rattle.graphql_service.specs.Told.{told, told_object, told_value}
-use Rattle.graphql_service.specs.Json.{json, json_text, json_members}
+use Rattle.graphql_service.specs.Json.{json, json_members}
+use Rattle.graphql_lines.specs.Json.{json_text}
 use Rattle.graphql_service.proofs.Turns.{left_more, left_none}
 
 -- what parts the member at an index from the one before

@@ -1,17 +1,17 @@
 -- The answer line of a request line.
-use Rattle.std.specs.Prelude.{◌≡◌, ◌<◌, ◌≤◌, Bool, true, false, ◌==◌, [], ◌∷◌, ◌++◌, length, List, Option, Some, None, option_and_then}
+use Rattle.std.specs.Prelude.{◌≡◌, ◌<◌, ◌≤◌, Bool, true, false, ◌==◌, [], ◌∷◌, ◌++◌, length, List, Option, Some, None, Ok, Err, option_and_then}
 use Rattle.std.specs.List.{list_any}
 use Rattle.std.specs.Str.{chars}
 use Rattle.graphql_grammar.specs.Input.{Fault}
 use Rattle.graphql_service.specs.declared.refusal.ThinRefusal.{ThinRefusal}
-use Rattle.graphql_service.specs.declared.refusal.ThinRefusal.TheVariants.{LineTooLong, NotARequest, ParseError, NotThin}
+use Rattle.graphql_service.specs.declared.refusal.ThinRefusal.TheVariants.{LineTooLong, ParseError, NotThin}
 use Rattle.graphql_service.specs.Table.{Bytes, ObjectType, Record, type_named}
 use Rattle.graphql_service.specs.Selections.{Tree, is_distinct, fits, on_type}
 use Rattle.graphql_service.specs.Documents.{Definition, IsDocument, IsRefused, thin_document}
 use Rattle.graphql_service.specs.Evaluation.{Members, no_members, Outcome, settled, evaluate}
 use Rattle.graphql_service.specs.Json.{data_line, error_line}
 use Rattle.graphql_service.specs.Messages.{message, place_of}
-use Rattle.graphql_service.specs.Request.{Request, request_of}
+use Rattle.graphql_service.specs.Request.{Request, requested}
 use Rattle.graphql_service.specs.Service.{Service, root_of}
 
 abbrev pub refusal_line : Service → ThinRefusal → Bytes
@@ -48,12 +48,12 @@ outcome_of s set = from_root (evaluate s.types s.records [] set) (root_of s)
 -- the answer line of a line: the refusal that comes first, else data in which nothing failed
 pub data Answers (s : Service) (line answer : Bytes) : Type 0 where
   line_too_long : s.line_limit < length line → answer ≡ refusal_line s LineTooLong → Answers s line answer
-  not_a_request : length line ≤ s.line_limit → request_of line ≡ None → answer ≡ refusal_line s NotARequest → Answers s line answer
-  parse_error : (r : Request) (fault : Fault) → length line ≤ s.line_limit → request_of line ≡ Some r
+  no_request : (refusal : ThinRefusal) → length line ≤ s.line_limit → requested line ≡ Err refusal → answer ≡ refusal_line s refusal → Answers s line answer
+  parse_error : (r : Request) (fault : Fault) → length line ≤ s.line_limit → requested line ≡ Ok r
       → IsRefused (chars r.query) fault → answer ≡ refusal_line s (ParseError fault) → Answers s line answer
-  not_thin : (r : Request) (document : List Definition) → length line ≤ s.line_limit → request_of line ≡ Some r → IsDocument (chars r.query) document
+  not_thin : (r : Request) (document : List Definition) → length line ≤ s.line_limit → requested line ≡ Ok r → IsDocument (chars r.query) document
       → ((set : Tree) → IsAccepted s r document set → ⊥) → answer ≡ refusal_line s NotThin → Answers s line answer
-  data_of : (r : Request) (document : List Definition) (set : Tree) → length line ≤ s.line_limit → request_of line ≡ Some r → IsDocument (chars r.query) document
+  data_of : (r : Request) (document : List Definition) (set : Tree) → length line ≤ s.line_limit → requested line ≡ Ok r → IsDocument (chars r.query) document
       → IsAccepted s r document set → (outcome_of s set).failures ≡ [] → answer ≡ data_line (outcome_of s set).value → Answers s line answer
 
 -- one line: it ends with a line feed, and holds no other

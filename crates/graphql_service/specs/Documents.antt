@@ -4,15 +4,15 @@ use Rattle.graphql_scalars.specs.declared.default_scalar.DefaultScalarValue.{Def
 use Rattle.graphql_scalars.specs.declared.default_scalar.DefaultScalarValue.TheVariants.{Boolean}
 use Rattle.graphql_scalars.specs.DefaultScalar.{reads}
 use Rattle.graphql_grammar.specs.Input.{At, Fault}
-use Rattle.graphql_language.specs.declared.tree.document.Definition as definitions
-use Rattle.graphql_language.specs.declared.tree.document.Definition.TheVariants as definition
-use Rattle.graphql_language.specs.declared.tree.document.Operation.{Operation}
-use Rattle.graphql_language.specs.declared.tree.document.OperationType.{OperationType}
-use Rattle.graphql_language.specs.declared.tree.document.OperationType.TheVariants.{Query, Mutation, Subscription}
-use Rattle.graphql_language.specs.declared.tree.selection.Field as fields
-use Rattle.graphql_language.specs.declared.tree.selection.Selection.{Selection, fold-Selection}
-use Rattle.graphql_language.specs.declared.tree.selection.Selection.TheFolds.{fold-Field}
-use Rattle.graphql_language.specs.declared.tree.selection.Selection.TheOpen.{Selection-F, Field-F, InlineFragment-F}
+use Rattle.graphql_tree.specs.declared.document.Definition as definitions
+use Rattle.graphql_tree.specs.declared.document.Definition.TheVariants as definition
+use Rattle.graphql_tree.specs.declared.document.Operation.{Operation}
+use Rattle.graphql_tree.specs.declared.document.OperationType.{OperationType}
+use Rattle.graphql_tree.specs.declared.document.OperationType.TheVariants.{Query, Mutation, Subscription}
+use Rattle.graphql_tree.specs.declared.selection.Field as fields
+use Rattle.graphql_tree.specs.declared.selection.Selection.{Selection, fold-Selection}
+use Rattle.graphql_tree.specs.declared.selection.Selection.TheFolds.{fold-Field}
+use Rattle.graphql_tree.specs.declared.selection.Selection.TheOpen.{Selection-F, Field-F, InlineFragment-F}
 use Rattle.graphql_language.specs.Texts as texts
 use Rattle.graphql_service.specs.Selections.{Tree, none, field, Field}
 

@@ -1,24 +1,10 @@
 -- Answers as JSON texts (RFC 8259), byte by byte.
-use Rattle.std.specs.Prelude.{ℕ, ◌+◌, ◌-◌, ◌/◌, ◌%◌, nat_lt, [], ◌∷◌, ◌++◌, if◌then◌else◌, ◌==◌, codes, Option, Some, None}
+use Rattle.std.specs.Prelude.{◌+◌, [], ◌∷◌, ◌++◌, codes, Option, Some, None}
 use Rattle.std.specs.Fmt.{decimal}
-use Rattle.std.specs.List.{flat_map}
 use Rattle.graphql_text.specs.declared.position.SourcePosition.{SourcePosition}
+use Rattle.graphql_lines.specs.Json.{json_text}
 use Rattle.graphql_service.specs.Table.{Bytes}
 use Rattle.graphql_service.specs.Evaluation.{Value, Members, null, string, object, no_members, member}
-
-abbrev pub hex_digit : ℕ → ℕ
-hex_digit n = if nat_lt n 10 then 48 + n else 97 + (n - 10)
-
--- a byte of a text: the quote, the backslash and the controls are escaped, and nothing else is
-abbrev pub escaped : ℕ → Bytes
-escaped b =
-    if b == 34 then codes "\\\"" else (if b == 92 then codes "\\\\" else (if b == 8 then codes "\\b" else (if b == 12 then codes "\\f"
-    else (if b == 10 then codes "\\n" else (if b == 13 then codes "\\r" else (if b == 9 then codes "\\t"
-    else (if nat_lt b 32 then codes "\\u00" ++ hex_digit (b / 16) ∷ hex_digit (b % 16) ∷ [] else b ∷ [])))))))
-
--- a text between quotes
-abbrev pub json_text : Bytes → Bytes
-json_text bytes = 34 ∷ flat_map escaped bytes ++ 34 ∷ []
 
 abbrev mutual
   pub json : Value → Bytes

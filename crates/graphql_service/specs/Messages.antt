@@ -7,7 +7,7 @@ use Rattle.graphql_text.specs.declared.token.LexerError.TheVariants as lexical
 use Rattle.graphql_text.specs.declared.parse_error.ParseError as parse
 use Rattle.graphql_text.specs.declared.parse_error.ParseError.TheVariants as parse_error
 use Rattle.graphql_service.specs.declared.refusal.ThinRefusal.{ThinRefusal}
-use Rattle.graphql_service.specs.declared.refusal.ThinRefusal.TheVariants.{LineTooLong, NotARequest, ParseError, NotThin}
+use Rattle.graphql_service.specs.declared.refusal.ThinRefusal.TheVariants.{LineTooLong, NotARequest, BadNumber, ParseError, NotThin}
 use Rattle.graphql_service.specs.Table.{Bytes}
 
 -- the text of a lexical fault; want of memory is never told
@@ -33,6 +33,7 @@ fault_text parse_error.Memory = []
 abbrev pub message : ℕ → ThinRefusal → Bytes
 message limit LineTooLong = codes "Line is longer than " ++ decimal limit ++ codes " bytes"
 message limit NotARequest = codes "Line is not a request"
+message limit BadNumber = codes "A number in variables is not whole or does not fit 32 bits"
 message limit (ParseError fault) = fault_text fault.item
 message limit NotThin = codes "Request is outside the first path"
 
@@ -40,5 +41,6 @@ message limit NotThin = codes "Request is outside the first path"
 abbrev pub place_of : ThinRefusal → Option SourcePosition
 place_of LineTooLong = None
 place_of NotARequest = None
+place_of BadNumber = None
 place_of (ParseError fault) = Some fault.span.start
 place_of NotThin = None

@@ -1,6 +1,25 @@
 -- The request of the code, as plain data.
-use Rattle.graphql_service.specs.declared.request.Request.{Request}
+use Rattle.std.specs.Prelude.{◌≡◌, Result, Ok, Err, string_bytes, ⊤}
+use Rattle.std.specs.declared.alloc.AllocError.{AllocError}
+use Rattle.graphql_lines.specs.declared.refusal.LineRefusal.{LineRefusal}
+use Rattle.graphql_lines.specs.declared.refusal.LineRefusal.TheVariants as line
+use Rattle.graphql_service.specs.declared.refusal.ThinRefusal.{ThinRefusal}
+use Rattle.graphql_service.specs.declared.refusal.ThinRefusal.TheVariants.{LineTooLong, NotARequest, BadNumber}
+use Rattle.graphql_service.specs.declared.request.ThinRequest.{ThinRequest}
 use Rattle.graphql_service.specs.Request as spec
 
-abbrev pub request_view : Request → spec.Request
-request_view r = record { query = r.query.now; is_bare = r.is_bare }
+abbrev pub request_view : ThinRequest → spec.Request
+request_view r = record { query = string_bytes r.query; is_bare = r.is_bare }
+
+-- what was read of a line, as plain data
+abbrev pub read_view : Result ThinRequest ThinRefusal → Result spec.Request ThinRefusal
+read_view (Ok r) = Ok (request_view r)
+read_view (Err refusal) = Err refusal
+
+-- the refusal of a line, told as one of the thin service; want of memory is an error of its own
+abbrev pub TellsRefusal : {A : Type 0} → LineRefusal → Result (Result A ThinRefusal) AllocError → Type 0
+TellsRefusal line.LineTooLong result = result ≡ Ok (Err LineTooLong)
+TellsRefusal line.NotARequest result = result ≡ Ok (Err NotARequest)
+TellsRefusal line.BadNumber result = result ≡ Ok (Err BadNumber)
+TellsRefusal line.Memory (Ok read) = ⊥
+TellsRefusal line.Memory (Err e) = ⊤

@@ -9,9 +9,9 @@ ghost use Rattle.graphql_service.specs.Told.{told, told_value};
 ghost use Rattle.graphql_service.specs.Json.{json};
 
 use crate::index::ByName;
-use crate::json::push_text;
 use crate::selection::Selection;
 use crate::table::ThinRecord;
+use graphql_lines::text_to_json;
 use std::alloc::AllocError;
 
 /// Writes what a set gives on a record, as a JSON object at the end of `out`.
@@ -29,7 +29,7 @@ pub fn push_object(
         if i > 0 {
             out.push(b',')?;
         }
-        push_text(out, selection.name)?;
+        text_to_json(out, selection.name)?;
         out.push(b':')?;
         push_value(out, records, row, selection)?;
     }
@@ -53,7 +53,7 @@ fn push_value(
         return out.extend_from_slice(b"null");
     };
     if selection.set.is_empty() {
-        return push_text(out, value);
+        return text_to_json(out, value);
     }
     match records.get(value) {
         Some(next) => push_object(out, records, next, selection.set.as_slice()),

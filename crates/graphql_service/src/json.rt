@@ -4,49 +4,9 @@ ghost use Rattle.std.specs.Prelude.{◌≡◌, ◌<◌, ◌+◌, ◌++◌, OnOk}
 ghost use Rattle.std.specs.Fmt.{decimal};
 ghost use Rattle.graphql_service.specs.Json as spec;
 
+use graphql_lines::text_to_json;
 use graphql_text::SourcePosition;
 use std::alloc::{AllocError, Global};
-
-fn hex_digit(n: u8) -> u8
-    requires { n < 16 }
-    ensures { result ≡ spec.hex_digit n }
-{
-    if n < 10 { b'0' + n } else { b'a' + (n - 10) }
-}
-
-fn push_escaped(out: &mut Vec<u8>, byte: u8) -> Result<(), AllocError>
-    ensures { OnOk result (out.new.items ≡ out.old.items ++ spec.escaped byte) }
-{
-    match byte {
-        b'"' => out.extend_from_slice(b"\\\""),
-        b'\\' => out.extend_from_slice(b"\\\\"),
-        8 => out.extend_from_slice(b"\\b"),
-        12 => out.extend_from_slice(b"\\f"),
-        b'\n' => out.extend_from_slice(b"\\n"),
-        b'\r' => out.extend_from_slice(b"\\r"),
-        b'\t' => out.extend_from_slice(b"\\t"),
-        _ if byte < 32 => out.extend_from_slice(&[
-            b'\\',
-            b'u',
-            b'0',
-            b'0',
-            hex_digit(byte / 16),
-            hex_digit(byte % 16),
-        ]),
-        _ => out.extend_from_slice(&[byte]),
-    }
-}
-
-/// Writes a text between quotes, at the end of `out`.
-pub fn push_text(out: &mut Vec<u8>, text: &str) -> Result<(), AllocError>
-    ensures { OnOk result (out.new.items ≡ out.old.items ++ spec.json_text text.now) }
-{
-    out.extend_from_slice(b"\"")?;
-    'bytes: for byte in text.as_bytes() {
-        push_escaped(out, *byte)?;
-    }
-    out.extend_from_slice(b"\"")
-}
 
 /// Writes `front` and then a number, one more than `n`, in decimal, at the end of `out`.
 fn push_from_one(alloc: Global, out: &mut Vec<u8>, front: &[u8], n: usize) -> Result<(), AllocError>
@@ -85,7 +45,7 @@ pub fn push_error_line(
     ensures { OnOk result (out.new.items ≡ out.old.items ++ spec.error_line message.now place) }
 {
     out.extend_from_slice(b"{\"errors\":[{\"message\":")?;
-    push_text(out, message)?;
+    text_to_json(out, message)?;
     push_locations(alloc, out, place)?;
     out.extend_from_slice(b"}]}\n")
 }

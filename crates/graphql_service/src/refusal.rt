@@ -14,6 +14,8 @@ pub enum ThinRefusal {
     LineTooLong,
     /// The line is not UTF-8, no JSON that `serde_json` reads, or no request.
     NotARequest,
+    /// A number in `variables` is not held as a whole one, or lies outside 32 bits.
+    BadNumber,
     /// The query is no document: its first fault, at its place in the query.
     ParseError(Spanning<ParseError>),
     /// The query is a document, but no thin one that fits the types, or it came with the name of an
@@ -33,6 +35,10 @@ impl ThinRefusal {
         match self {
             ThinRefusal::LineTooLong => format!(in alloc; "Line is longer than {line_limit} bytes"),
             ThinRefusal::NotARequest => String::from_str(alloc, "Line is not a request"),
+            ThinRefusal::BadNumber => String::from_str(
+                alloc,
+                "A number in variables is not whole or does not fit 32 bits",
+            ),
             ThinRefusal::ParseError(fault) => fault_text(alloc, &fault.item),
             ThinRefusal::NotThin => String::from_str(alloc, "Request is outside the first path"),
         }

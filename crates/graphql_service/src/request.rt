@@ -3,28 +3,20 @@
 ghost use Rattle.std.specs.Prelude.{◌≡◌, option_map, IfOk};
 ghost use Rattle.serde_json.specs.View.{view};
 ghost use Rattle.graphql_service.specs.Request as spec;
-ghost use Rattle.graphql_service.specs.Requests.{request_view};
+ghost use Rattle.graphql_service.specs.Requests.{read_view, TellsRefusal};
 
+use crate::refusal::ThinRefusal;
+use graphql_lines::{GraphQLRequest, LineRefusal, json_of_line, request_in};
+use graphql_values::DefaultScalarValue;
 use serde_json::Value;
 use std::alloc::{AllocError, Global};
 
-/// A request as it stands in the JSON value of its line.
-#[derive(Clone, Copy, Debug)]
-pub struct Request<'v> {
-    pub query: &'v str,
+/// What a line asks.
+#[derive(Drop)]
+pub struct ThinRequest {
+    pub query: String,
     /// It has neither the name of an operation nor variables.
     pub is_bare: bool,
-}
-
-/// The JSON value of a line, or None where it is not UTF-8, no JSON, or nested too deep.
-pub fn value_of(alloc: Global, line: &[u8]) -> Result<Option<Value>, AllocError>
-    ensures { IfOk result (λ o. option_map view o ≡ spec.data_of line.now) }
-{
-    match Value::from_slice(alloc, line) {
-        Ok(value) => Ok(Some(value)),
-        Err(e) if e.is_memory() => Err(AllocError),
-        Err(_) => Ok(None),
-    }
 }
 
 fn is_absent(value: Option<&Value>) -> bool
@@ -33,34 +25,43 @@ fn is_absent(value: Option<&Value>) -> bool
     matches!(value, None | Some(Value::Null))
 }
 
-fn may_be_name(value: Option<&Value>) -> bool
-    ensures { result ≡ spec.may_be_name (option_map (λ v. view v.now) value.entry) }
+/// Whether a request has neither the name of an operation nor variables.
+fn is_bare(json: &Value) -> bool
+    ensures { result ≡ spec.is_bare (view json.now) }
 {
-    matches!(value, None | Some(Value::Null | Value::String(_)))
+    is_absent(json.get("operationName")) && is_absent(json.get("variables"))
 }
 
-fn may_be_variables(value: Option<&Value>) -> bool
-    ensures { result ≡ spec.may_be_variables (option_map (λ v. view v.now) value.entry) }
+/// The refusal of a line, as one of the thin service. The error is want of memory.
+fn refused(refusal: LineRefusal) -> Result<Result<ThinRequest, ThinRefusal>, AllocError>
+    ensures { TellsRefusal refusal result }
 {
-    matches!(value, None | Some(Value::Null | Value::Object(_)))
-}
-
-fn query_of(value: &Value) -> Option<&str>
-    ensures { option_map (λ s. s.now) result ≡ spec.query_of (view value.now) }
-{
-    value.get("query").and_then(Value::as_str)
-}
-
-/// The request that a value describes, or None where it describes none.
-pub fn request_in(value: &Value) -> Option<Request<'_>>
-    ensures { option_map request_view result ≡ spec.request_in (view value.now) }
-{
-    let query = query_of(value)?;
-    let name = value.get("operationName");
-    let variables = value.get("variables");
-    if !may_be_name(name) || !may_be_variables(variables) {
-        return None;
+    match refusal {
+        LineRefusal::LineTooLong => Ok(Err(ThinRefusal::LineTooLong)),
+        LineRefusal::NotARequest => Ok(Err(ThinRefusal::NotARequest)),
+        LineRefusal::BadNumber => Ok(Err(ThinRefusal::BadNumber)),
+        LineRefusal::Memory => Err(AllocError),
     }
-    let is_bare = is_absent(name) && is_absent(variables);
-    Some(Request { query, is_bare })
+}
+
+/// What a line asks, or why it is no request. The error is want of memory.
+pub fn read_request(
+    alloc: Global,
+    line: &[u8],
+) -> Result<Result<ThinRequest, ThinRefusal>, AllocError>
+    ensures { IfOk result (λ read. read_view read ≡ spec.requested line.now) }
+{
+    let json = match json_of_line(alloc, line) {
+        Ok(json) => json,
+        Err(refusal) => return refused(refusal),
+    };
+    let is_bare = is_bare(&json);
+    let request: Result<GraphQLRequest<DefaultScalarValue>, LineRefusal> = request_in(alloc, &json);
+    match request {
+        Ok(request) => Ok(Ok(ThinRequest {
+            query: request.query,
+            is_bare,
+        })),
+        Err(refusal) => refused(refusal),
+    }
 }

@@ -10,10 +10,10 @@ use crate::fault::{ThinFault, first_fault};
 use crate::fits::{fits, is_distinct};
 use crate::index::ByName;
 use crate::refusal::ThinRefusal;
-use crate::request::{Request, request_in, value_of};
+use crate::request::{ThinRequest, read_request};
 use crate::selection::Selection;
 use crate::table::{ThinRecord, ThinType};
-use graphql_language::Definition;
+use graphql_language::{Definition, release_document};
 use std::alloc::{AllocError, Global};
 
 /// Types, and records of them, over which request lines are answered.
@@ -74,17 +74,17 @@ impl ThinService {
         if line.len() > self.line_limit {
             return self.refused(alloc, ThinRefusal::LineTooLong);
         }
-        let Some(value) = value_of(alloc, line)? else {
-            return self.refused(alloc, ThinRefusal::NotARequest);
+        let request = match read_request(alloc, line)? {
+            Ok(request) => request,
+            Err(refusal) => return self.refused(alloc, refusal),
         };
-        let Some(request) = request_in(&value) else {
-            return self.refused(alloc, ThinRefusal::NotARequest);
-        };
-        let document = match parse(alloc, request.query)? {
+        let document = match parse(alloc, request.query.as_str())? {
             Ok(document) => document,
             Err(fault) => return self.refused(alloc, ThinRefusal::ParseError(fault)),
         };
-        match self.accepted(alloc, request, document.as_slice())? {
+        let accepted = self.accepted(alloc, &request, document.as_slice());
+        release_document(document);
+        match accepted? {
             Some(set) => self.data(alloc, set.as_slice()),
             None => self.refused(alloc, ThinRefusal::NotThin),
         }
@@ -113,15 +113,15 @@ impl ThinService {
     fn accepted<'v>(
         &self,
         alloc: Global,
-        request: Request<'v>,
+        request: &'v ThinRequest,
         document: &[Definition<'v>],
     ) -> Result<Option<Vec<Selection<'v>>>, AllocError>
-        ensures { IfOk result (λ o. AcceptsOrNone (service_of self.now) (request_view request.entry) document.now (option_map (λ v. tree_of v.items) o)) }
+        ensures { IfOk result (λ o. AcceptsOrNone (service_of self.now) (request_view request.now) document.now (option_map (λ v. tree_of v.items) o)) }
     {
         if !request.is_bare {
             return Ok(None);
         }
-        let Some(set) = thin_document(alloc, request.query, document)? else {
+        let Some(set) = thin_document(alloc, request.query.as_str(), document)? else {
             return Ok(None);
         };
         let Some(parent) = self.root_type() else {

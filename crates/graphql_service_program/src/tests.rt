@@ -17,6 +17,9 @@ fn answer(alloc: Global, service: &ThinService, line: &str) -> Result<String, Fa
 
 const NOT_A_REQUEST: &str = r#"{"errors":[{"message":"Line is not a request"}]}"#;
 
+const BAD_NUMBER: &str =
+    r#"{"errors":[{"message":"A number in variables is not whole or does not fit 32 bits"}]}"#;
+
 const NOT_THIN: &str = r#"{"errors":[{"message":"Request is outside the first path"}]}"#;
 
 const ANN: &str = r#"{"data":{"hero":{"name":"Ann"}}}"#;
@@ -145,6 +148,22 @@ fn refuses_what_is_no_request(rt: HostRuntime) -> Result<(), Fail> {
             NOT_THIN,
         ),
         (r#"{"query":"{ hero { name } }","variables":{}}"#, NOT_THIN),
+        (
+            r#"{"query":"{ hero { name } }","variables":{"x":1.0}}"#,
+            BAD_NUMBER,
+        ),
+        (
+            r#"{"query":"{","variables":{"x":[2147483648]}}"#,
+            BAD_NUMBER,
+        ),
+        (
+            r#"{"query":"{","variables":{"x":1.0},"operationName":5}"#,
+            NOT_A_REQUEST,
+        ),
+        (
+            r#"{"query":"{ hero { name } }","variables":{"x":1}}"#,
+            NOT_THIN,
+        ),
         (
             r#"{"query":"{ hero { name } }","operationName":null,"variables":null,"x":1.5}"#,
             ANN,

@@ -1,2 +1,7 @@
 pub mod InputValueEquations
 pub mod InputValueInduction
+pub mod VariableLemmas
+pub mod Growing
+pub mod ConversionLemmas
+pub mod SameValueLemmas
+pub mod SameValueLaws

@@ -5,12 +5,17 @@ ghost use Rattle.graphql_items.specs.Memory.{Gives};
 ghost use Rattle.graphql_values.specs.InputValues.{unplaced, unplaced_pair};
 ghost use Rattle.graphql_values.specs.declared.input_value.InputValue.TheVariants as value;
 
+mod clones;
+mod equality;
+mod parts;
 #[cfg(test)]
 mod tests;
+mod variables;
 
 use graphql_scalars::DefaultScalarValue;
 use graphql_text::{Items, Spanning, Text};
 use std::alloc::{AllocError, Global};
+pub use variables::Variables;
 
 /// A value that a document gives to an argument, a variable or an input field, before any type is
 /// known for it (GraphQL October 2021, 2.9 Input Values).

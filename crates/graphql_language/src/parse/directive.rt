@@ -10,9 +10,9 @@ ghost use Rattle.graphql_language.specs.ReadValues as values;
 ghost use Rattle.graphql_language.specs.ReadDirectives as spec;
 
 use crate::parse::value::named;
-use crate::tree::{Arguments, Directive};
 use graphql_grammar::{Cursor, Fault, Kind, keep};
 use graphql_text::{Items, Spanning, TextRef};
+use graphql_tree::{Arguments, Directive};
 use graphql_values::{InputValue, ScalarValue};
 use std::alloc::Global;
 
@@ -23,6 +23,7 @@ pub(crate) fn located_name<'a>(
 ) -> Result<Spanning<TextRef<'a>>, Fault>
     ensures reads { Reads (located steps.name cursor.old) result cursor.new }
     ensures no_more { left cursor.new ≤ left cursor.old }
+    ensures fewer { OnOk result (left cursor.new < left cursor.old) }
 {
     let start = cursor.start();
     let name = cursor.name(alloc)?;

@@ -1,17 +1,16 @@
 //! Documents (GraphQL October 2021, 2.2 Document, 2.3 Operations, 2.8 Fragments).
 
-ghost use Rattle.std.specs.Prelude.{◌≡◌, ◌≤◌, ◌<◌, OnOk};
-ghost use Rattle.graphql_grammar.specs.Kinds.{names};
-ghost use Rattle.graphql_grammar.specs.Input.{Reads, left};
+ghost use Rattle.std.specs.Prelude.{◌≡◌, ◌≤◌, ◌<◌, [], OnOk};
+ghost use Rattle.graphql_grammar.specs.Input.{Reads, Fills, left};
 ghost use Rattle.graphql_language.specs.ReadDocuments as spec;
 ghost use Rattle.graphql_language.specs.ReadDefinitions as parts;
 
 use crate::parse::directive::{directives, located_name};
 use crate::parse::selection::{fragment_name, selection_set, type_condition};
 use crate::parse::variable::variable_definitions;
-use crate::tree::{Definition, Fragment, Operation, OperationType, Selection};
 use graphql_grammar::{Cursor, Fault, Kind, keep};
 use graphql_text::{Items, Spanning, TextRef};
+use graphql_tree::{Definition, Fragment, Operation, OperationType, Selection, release_document};
 use graphql_values::ScalarValue;
 use std::alloc::Global;
 
@@ -30,6 +29,7 @@ pub(crate) fn document<'a, S: ScalarValue>(
     if cursor.kind() == Kind::EndOfFile {
         Ok(found)
     } else {
+        release_document(found);
         Err(cursor.refuse(alloc))
     }
 }
@@ -43,11 +43,30 @@ fn definitions<'a, S: ScalarValue>(
     ensures no_more { left cursor.new ≤ left cursor.old }
 {
     let mut found = Items::new(alloc);
-    keep(&mut found, definition(alloc, cursor)?)?;
-    'definitions: while begins_definition(cursor.kind()) {
-        keep(&mut found, definition(alloc, cursor)?)?;
+    match read_definitions(alloc, cursor, &mut found) {
+        Ok(()) => Ok(found),
+        Err(fault) => {
+            release_document(found);
+            Err(fault)
+        }
     }
-    Ok(found)
+}
+
+/// As `definitions`, into `found`, where a fault leaves the definitions before it.
+fn read_definitions<'a, S: ScalarValue>(
+    alloc: Global,
+    cursor: &mut Cursor<'a>,
+    found: &mut Items<Definition<'a, S>>,
+) -> Result<(), Fault>
+    requires { found.old ≡ [] }
+    ensures reads { Fills (parts.definitions S.reads S.of_bool cursor.old) result found.new cursor.new }
+    ensures no_more { left cursor.new ≤ left cursor.old }
+{
+    keep(found, definition(alloc, cursor)?)?;
+    'definitions: while begins_definition(cursor.kind()) {
+        keep(found, definition(alloc, cursor)?)?;
+    }
+    Ok(())
 }
 
 fn begins_definition(kind: Kind) -> bool
@@ -205,27 +224,10 @@ fn operation_name<'a>(
     ensures reads { Reads (parts.operation_name cursor.old) result cursor.new }
     ensures no_more { left cursor.new ≤ left cursor.old }
 {
-    if is_name(cursor.kind()) {
+    if cursor.kind().is_name() {
         let name = located_name(alloc, cursor)?;
         Ok(Some(name))
     } else {
         Ok(None)
     }
-}
-
-fn is_name(kind: Kind) -> bool
-    ensures { result ≡ names kind }
-{
-    matches!(
-        kind,
-        Kind::Name
-            | Kind::On
-            | Kind::Query
-            | Kind::Mutation
-            | Kind::Subscription
-            | Kind::Fragment
-            | Kind::True
-            | Kind::False
-            | Kind::Null
-    )
 }

@@ -1,25 +1,27 @@
 //! Selections (GraphQL October 2021, 2.4 Selection Sets, 2.5 Fields, 2.8 Fragments).
 //!
-//! Selection sets nest as deep as a text has tokens. So the two functions that call each other,
-//! `selection_set` and `selection`, keep little on the stack: what stands before a selection set
-//! is read by functions that return first, and is kept in a box.
+//! Selection sets nest as deep as a text has tokens, so a loop reads them: what is open is kept in a
+//! list, and not on the stack.
 
 ghost use Rattle.std.specs.Prelude.{◌≡◌, ◌≤◌, ◌<◌, IfOk, IfErr, OnOk, OnErr, ◌++◌, ◌∷◌, []};
 ghost use Rattle.graphql_grammar.specs.declared.kind.Kind.TheVariants as k;
 ghost use Rattle.graphql_grammar.specs.Kinds.{only, fragment_names};
-ghost use Rattle.graphql_grammar.specs.Input.{Reads, left};
+ghost use Rattle.graphql_grammar.specs.Input.{Reads, Fills, left};
 ghost use Rattle.graphql_grammar.specs.Input as input;
 ghost use Rattle.graphql_grammar.specs.Steps as steps;
 ghost use Rattle.graphql_language.specs.ReadSelections as spec;
 ghost use Rattle.graphql_language.specs.ReadHeads as heads;
-ghost use Rattle.graphql_language.specs.ReadHeads.{Adds, Begins, completed};
+ghost use Rattle.graphql_language.specs.ReadHeads.{Begins, completed};
 
 use crate::parse::directive::{arguments, directives, located_name};
-use crate::tree::{Arguments, Directive, Field, FragmentSpread, InlineFragment, Selection};
 use graphql_grammar::{Cursor, Fault, Kind, keep};
 use graphql_text::{Items, SourcePosition, Spanning, TextRef};
+use graphql_tree::{
+    Arguments, Directive, Field, FragmentSpread, InlineFragment, Selection, release_selections,
+};
 use graphql_values::ScalarValue;
 use std::alloc::{AllocError, Global};
+use std::mem;
 
 /// What stands of a field before its selection set.
 #[derive(Drop)]
@@ -46,11 +48,18 @@ enum Head<'a, S> {
     InlineFragment(InlineHead<'a, S>),
 }
 
+/// A selection set that is open: what stands before it, and the selections that were read of the set
+/// around it.
+#[derive(Drop)]
+struct Open<'a, S> {
+    head: Head<'a, S>,
+    around: Items<Selection<'a, S>>,
+}
+
 /// Reads a selection set (2.4 Selection Sets).
 ///
 /// An error is the fault of the first token that can't stand where it does, or what the scalar type
 /// says of a literal that it refuses, or `ParseError::Memory` where memory ran out.
-#[cycle(selection_sets)]
 pub(crate) fn selection_set<'a, S: ScalarValue>(
     alloc: Global,
     cursor: &mut Cursor<'a>,
@@ -59,70 +68,107 @@ pub(crate) fn selection_set<'a, S: ScalarValue>(
     ensures no_more { left cursor.new ≤ left cursor.old }
     ensures fewer { OnOk result (left cursor.new < left cursor.old) }
 {
-    cursor.expect(alloc, Kind::CurlyOpen)?;
+    let mut outer = Items::new(alloc);
     let mut found = Items::new(alloc);
-    selection(alloc, cursor, &mut found)?;
-    'items: for _turn in 0..cursor.left() {
-        if cursor.eat(Kind::CurlyClose) {
-            return Ok(found);
+    match read_sets(alloc, cursor, &mut outer, &mut found) {
+        Ok(()) => Ok(found),
+        Err(fault) => {
+            release_selections(found);
+            release_open(outer);
+            Err(fault)
         }
-        selection(alloc, cursor, &mut found)?;
     }
-    Err(cursor.refuse(alloc))
 }
 
-/// Reads a selection, and adds it to those that were found.
-#[cycle(selection_sets)]
-fn selection<'a, S: ScalarValue>(
+/// Reads a selection set into `found`. The sets that are open around the one that is read are kept
+/// in `outer`, the innermost last, where a fault leaves them.
+fn read_sets<'a, S: ScalarValue>(
     alloc: Global,
     cursor: &mut Cursor<'a>,
+    outer: &mut Items<Open<'a, S>>,
     found: &mut Items<Selection<'a, S>>,
 ) -> Result<(), Fault>
-    ensures reads { Adds (spec.selection S.reads S.of_bool cursor.old) result found.old found.new cursor.new }
+    requires outermost { outer.old ≡ [] }
+    requires empty { found.old ≡ [] }
+    ensures reads { Fills (spec.selection_set S.reads S.of_bool (spec.selection S.reads S.of_bool) cursor.old) result found.new cursor.new }
     ensures no_more { left cursor.new ≤ left cursor.old }
+    ensures fewer { OnOk result (left cursor.new < left cursor.old) }
 {
-    match begin(alloc, cursor, found)? {
-        Some(head) => {
-            let set = selection_set(alloc, cursor)?;
-            complete(found, head, set, cursor.end())?;
-            Ok(())
+    cursor.expect(alloc, Kind::CurlyOpen)?;
+    'selections: loop {
+        if cursor.kind() == Kind::CurlyClose && !found.is_empty() {
+            cursor.advance();
+            match outer.pop() {
+                Some(open) => close_set(open, found, cursor.end())?,
+                None => return Ok(()),
+            }
+        } else if let Some(head) = begin(alloc, cursor, found)? {
+            open_set(alloc, cursor, outer, found, head)?;
         }
-        None => Ok(()),
+    }
+}
+
+/// Opens the selection set that must stand behind this head. What was found goes to the set around
+/// it.
+fn open_set<'a, S: ScalarValue>(
+    alloc: Global,
+    cursor: &mut Cursor<'a>,
+    outer: &mut Items<Open<'a, S>>,
+    found: &mut Items<Selection<'a, S>>,
+    head: Head<'a, S>,
+) -> Result<(), Fault>
+    ensures reads { Reads (steps.expect k.CurlyOpen cursor.old) result cursor.new }
+    ensures no_more { left cursor.new ≤ left cursor.old }
+    ensures fewer { OnOk result (left cursor.new < left cursor.old) }
+    ensures opened { OnOk result (outer.new ≡ outer.old ++ record { head = head.entry; around = found.old } ∷ []) }
+    ensures empty { OnOk result (found.new ≡ []) }
+{
+    cursor.expect(alloc, Kind::CurlyOpen)?;
+    let around = mem::replace(found, Items::new(alloc));
+    keep(outer, Open { head, around })?;
+    Ok(())
+}
+
+/// Ends an open set, of which these selections were found, and which ends there: what is found then
+/// are the selections of the set around it, its own selection the last.
+fn close_set<'a, S: ScalarValue>(
+    open: Open<'a, S>,
+    found: &mut Items<Selection<'a, S>>,
+    end: SourcePosition,
+) -> Result<(), AllocError>
+    ensures { OnOk result (found.new ≡ open.entry.around ++ completed open.entry.head found.old end ∷ []) }
+{
+    let Open { head, around } = open;
+    let set = mem::replace(found, around);
+    match head {
+        Head::Field(head) => keep(found, field(head, Some(set), end)),
+        Head::InlineFragment(head) => keep(found, inline_fragment(head, set, end)),
+    }
+}
+
+/// Lets open sets go, with the selections that were read of the sets around them.
+fn release_open<S: Drop>(outer: Items<Open<'_, S>>) {
+    for open in outer {
+        let Open { around, .. } = open;
+        release_selections(around);
     }
 }
 
 /// Reads a selection as far as its selection set. One that has none is added to those that were
 /// found.
-#[inline(never)]
 fn begin<'a, S: ScalarValue>(
     alloc: Global,
     cursor: &mut Cursor<'a>,
     found: &mut Items<Selection<'a, S>>,
-) -> Result<Option<Box<Head<'a, S>>>, Fault>
+) -> Result<Option<Head<'a, S>>, Fault>
     ensures reads { Begins (heads.begun S.reads S.of_bool cursor.old) result found.old found.new cursor.new }
     ensures no_more { left cursor.new ≤ left cursor.old }
+    ensures fewer { OnOk result (left cursor.new < left cursor.old) }
 {
     if cursor.kind() == Kind::Ellipsis {
         begin_spread(alloc, cursor, found)
     } else {
         begin_field(alloc, cursor, found)
-    }
-}
-
-/// Adds a selection to those that were found, of what stands before its selection set, and the
-/// set, which ends there.
-#[inline(never)]
-fn complete<'a, S: ScalarValue>(
-    found: &mut Items<Selection<'a, S>>,
-    head: Box<Head<'a, S>>,
-    set: Items<Selection<'a, S>>,
-    end: SourcePosition,
-) -> Result<(), AllocError>
-    ensures ok { OnOk result (found.new ≡ found.old ++ completed head.entry.value set.entry end ∷ []) }
-{
-    match Box::into_inner(head) {
-        Head::Field(head) => keep(found, field(head, Some(set), end)),
-        Head::InlineFragment(head) => keep(found, inline_fragment(head, set, end)),
     }
 }
 
@@ -158,30 +204,19 @@ fn inline_fragment<'a, S>(
     Selection::InlineFragment(Spanning::start_end(head.start, end, item))
 }
 
-fn boxed<'a, S: ScalarValue>(
-    alloc: Global,
-    head: Head<'a, S>,
-) -> Result<Box<Head<'a, S>>, AllocError>
-    ensures { IfOk result (λ x. x.value ≡ head.entry) }
-{
-    match Box::new(alloc, head) {
-        Ok(head) => Ok(head),
-        Err(refused) => Err(AllocError::from(refused)),
-    }
-}
-
 /// Reads a field as far as its selection set.
 fn begin_field<'a, S: ScalarValue>(
     alloc: Global,
     cursor: &mut Cursor<'a>,
     found: &mut Items<Selection<'a, S>>,
-) -> Result<Option<Box<Head<'a, S>>>, Fault>
+) -> Result<Option<Head<'a, S>>, Fault>
     ensures reads { Begins (heads.field_begun S.reads S.of_bool cursor.old) result found.old found.new cursor.new }
     ensures no_more { left cursor.new ≤ left cursor.old }
+    ensures fewer { OnOk result (left cursor.new < left cursor.old) }
 {
     let head = field_head(alloc, cursor)?;
     if cursor.kind() == Kind::CurlyOpen {
-        Ok(Some(boxed(alloc, Head::Field(head))?))
+        Ok(Some(Head::Field(head)))
     } else {
         keep(found, field(head, None, cursor.end()))?;
         Ok(None)
@@ -193,37 +228,22 @@ fn begin_spread<'a, S: ScalarValue>(
     alloc: Global,
     cursor: &mut Cursor<'a>,
     found: &mut Items<Selection<'a, S>>,
-) -> Result<Option<Box<Head<'a, S>>>, Fault>
+) -> Result<Option<Head<'a, S>>, Fault>
     ensures reads { Begins (heads.spread_begun S.reads S.of_bool (input.peek cursor.old).span.start cursor.old) result found.old found.new cursor.new }
     ensures no_more { left cursor.new ≤ left cursor.old }
+    ensures fewer { OnOk result (left cursor.new < left cursor.old) }
 {
     let start = cursor.start();
     cursor.expect(alloc, Kind::Ellipsis)?;
-    if is_fragment_name(cursor.kind()) {
+    if cursor.kind().is_fragment_name() {
         let spread = fragment_spread(alloc, cursor)?;
         let spread = Spanning::start_end(start, cursor.end(), spread);
         keep(found, Selection::FragmentSpread(spread))?;
         Ok(None)
     } else {
         let head = inline_head(alloc, cursor, start)?;
-        Ok(Some(boxed(alloc, Head::InlineFragment(head))?))
+        Ok(Some(Head::InlineFragment(head)))
     }
-}
-
-fn is_fragment_name(kind: Kind) -> bool
-    ensures { result ≡ fragment_names kind }
-{
-    matches!(
-        kind,
-        Kind::Name
-            | Kind::Query
-            | Kind::Mutation
-            | Kind::Subscription
-            | Kind::Fragment
-            | Kind::True
-            | Kind::False
-            | Kind::Null
-    )
 }
 
 /// Reads a field (2.5 Fields) as far as its selection set.
@@ -233,6 +253,7 @@ fn field_head<'a, S: ScalarValue>(
 ) -> Result<FieldHead<'a, S>, Fault>
     ensures reads { Reads (heads.field_head S.reads S.of_bool cursor.old) result cursor.new }
     ensures no_more { left cursor.new ≤ left cursor.old }
+    ensures fewer { OnOk result (left cursor.new < left cursor.old) }
 {
     let start = cursor.start();
     let (alias, name) = field_names(alloc, cursor)?;
@@ -313,6 +334,7 @@ fn field_names<'a>(
 ) -> Result<(Option<Spanning<TextRef<'a>>>, Spanning<TextRef<'a>>), Fault>
     ensures reads { Reads (spec.field_names cursor.old) result cursor.new }
     ensures no_more { left cursor.new ≤ left cursor.old }
+    ensures fewer { OnOk result (left cursor.new < left cursor.old) }
 {
     let first = located_name(alloc, cursor)?;
     if cursor.eat(Kind::Colon) {

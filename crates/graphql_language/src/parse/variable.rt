@@ -10,9 +10,9 @@ ghost use Rattle.graphql_language.specs.ReadDirectives as spec;
 use crate::parse::directive::directives;
 use crate::parse::type_reference::type_reference;
 use crate::parse::value::value;
-use crate::tree::{VariableDefinition, VariableDefinitions};
 use graphql_grammar::{Cursor, Fault, Kind, keep};
 use graphql_text::{Items, Spanning, TextRef};
+use graphql_tree::{VariableDefinition, VariableDefinitions};
 use graphql_values::{InputValue, ScalarValue};
 use std::alloc::Global;
 

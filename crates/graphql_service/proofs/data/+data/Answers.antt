@@ -5,7 +5,8 @@ use Rattle.graphql_service.specs.Table.{record_of, value_at}
 use Rattle.graphql_service.specs.Selections.{tree_of, has_set}
 use Rattle.graphql_service.specs.Evaluation.{Value}
 use Rattle.graphql_service.specs.Told.{told}
-use Rattle.graphql_service.specs.Json.{json, json_text}
+use Rattle.graphql_service.specs.Json.{json}
+use Rattle.graphql_lines.specs.Json.{json_text}
 use Rattle.graphql_service.specs.Selections.{field_of}
 use Rattle.graphql_service.proofs.Lookups.{find_shown}
 use Rattle.graphql_service.proofs.Fittings.{has_set-tree_of}
@@ -28,9 +29,9 @@ push_object-members-preserved t c =
       | push_object-else-i-gt0 w ↦
           ap (λ v. v.items) w.out-is ∙ sym (ap (λ z. c.members.out.items ++ z) (parting_none i w.if-i-gt0.false) ∙ append-nil c.members.out.items)
     ] in
-    let pushed : c.push-in-members.new.self.items ≡ c.push_text.new.out.items ++ 58 ∷ [] = search rules in
-    member_written c.members.out.items (parting i) c.if-i-gt0.out.items (json_text (field_of s).0) c.push_text.new.out.items c.push-in-members.new.self.items
-    (json (member_value rs r s)) c.push_value.new.out.items _ parted c.in_ok-push_text.ensures pushed c.in_ok-push_value.ensures
+    let pushed : c.push-in-members.new.self.items ≡ c.text_to_json.new.out.items ++ 58 ∷ [] = search rules in
+    member_written c.members.out.items (parting i) c.if-i-gt0.out.items (json_text (field_of s).0) c.text_to_json.new.out.items c.push-in-members.new.self.items
+    (json (member_value rs r s)) c.push_value.new.out.items _ parted c.in_ok-text_to_json.ensures pushed c.in_ok-push_value.ensures
     ∙ ap (λ z. c.members.out.items ++ z) (sym (members_more rs r ss i s c.members-test.true c.index-set-i.is))
     ∙ c.members.invariant
 

@@ -1,6 +1,7 @@
 use Rattle.std.proofs.Common.{◌≡◌, ◌++◌, OnOk, codes, subst, rules}
 use Rattle.graphql_service.specs.Table.{Bytes}
-use Rattle.graphql_service.specs.Json.{json_text, locations}
+use Rattle.graphql_service.specs.Json.{locations}
+use Rattle.graphql_lines.specs.Json.{json_text}
 use Rattle.graphql_service.proofs.ErrorWritings.{error_written}
 use Rattle.graphql_service.proofs.json.push_error_line.Goals as goal
 
@@ -13,4 +14,4 @@ returns c =
     let first : a ≡ o ++ front = c.in_ok-extend_from_slice.ensures.items in
     let last : OnOk c.extend_from_slice-2.result (c.extend_from_slice-2.new.self.items ≡ end ++ codes "}]}\n") = search rules in
     let P : Bytes → Type 0 = λ v. OnOk c.extend_from_slice-2.result (c.extend_from_slice-2.new.self.items ≡ v) in
-    subst P (error_written o front a (json_text c.args.message.now) c.push_text.new.out.items (locations c.args.place) end (codes "}]}\n") first c.in_ok-push_text.ensures c.in_ok-push_locations.ensures) last
+    subst P (error_written o front a (json_text c.args.message.now) c.text_to_json.new.out.items (locations c.args.place) end (codes "}]}\n") first c.in_ok-text_to_json.ensures c.in_ok-push_locations.ensures) last

@@ -1,5 +1,5 @@
 use Rattle.std.proofs.Common.{true, false, ap, ◌∙◌, sym, subst, Ok}
-use Rattle.graphql_language.specs.declared.tree.document.Operation.{Operation}
+use Rattle.graphql_tree.specs.declared.document.Operation.{Operation}
 use Rattle.graphql_grammar.specs.declared.kind.Kind.TheVariants as k
 use Rattle.graphql_grammar.specs.Input.{Outcome, Reads}
 use Rattle.graphql_grammar.proofs.Parts.{exits_with}

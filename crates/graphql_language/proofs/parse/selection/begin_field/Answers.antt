@@ -3,7 +3,7 @@ use Rattle.graphql_text.specs.declared.position.SourcePosition.{SourcePosition}
 use Rattle.graphql_grammar.specs.declared.kind.Kind.TheVariants as k
 use Rattle.graphql_language.specs.ReadHeads.{field_with}
 use Rattle.graphql_language.proofs.KindTests.{asked_kind}
-use Rattle.graphql_language.proofs.SelectionParts.{begins_exit, opens_boxed, whole_kept, field_refused, field_opens, field_whole}
+use Rattle.graphql_language.proofs.SelectionParts.{begins_exit, whole_kept, field_refused, field_opens, field_whole}
 use Rattle.graphql_language.proofs.parse.selection.begin_field.Goals as goal
 
 pub returns-in_err-head-clause-reads : goal.returns-in_err-head-clause-reads
@@ -11,11 +11,10 @@ returns-in_err-head-clause-reads g c =
     begins_exit c.from_residual.result c.args.found.now c.args.found.now c.field_head.new.cursor c.from_residual.ensures.1 c.in_err-head.ensures.reads
     (field_refused g.S.ParseScalarValue.reads g.S.ScalarValue.of_bool c.args.cursor.now)
 
-pub returns-in_ok-boxed-clause-reads : goal.returns-in_ok-boxed-clause-reads
-returns-in_ok-boxed-clause-reads g c =
+pub returns-then-eq-clause-reads : goal.returns-then-eq-clause-reads
+returns-then-eq-clause-reads g c =
     let j = c.field_head.new.cursor in
-    let read = field_opens g.S.ParseScalarValue.reads g.S.ScalarValue.of_bool c.args.cursor.now c.in_ok-head.ensures.reads (asked_kind k.CurlyOpen j c.kind.result true c.kind.ensures c.if-eq.ensures) in
-    (opens_boxed read c.in_ok-boxed.ensures, refl)
+    (field_opens g.S.ParseScalarValue.reads g.S.ScalarValue.of_bool c.args.cursor.now c.in_ok-head.ensures.reads (asked_kind k.CurlyOpen j c.kind.result true c.kind.ensures c.if-eq.ensures), refl)
 
 pub returns-in_ok-keep-clause-reads : goal.returns-in_ok-keep-clause-reads
 returns-in_ok-keep-clause-reads g c =

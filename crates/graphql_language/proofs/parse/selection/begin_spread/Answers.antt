@@ -1,13 +1,13 @@
 use Rattle.std.proofs.Common.{◌≡◌, true, false, sym, ap, ◌∙◌, refl}
 use Rattle.graphql_text.specs.declared.position.SourcePosition.{SourcePosition}
-use Rattle.graphql_language.specs.declared.tree.selection.FragmentSpread.{FragmentSpread}
-use Rattle.graphql_language.specs.declared.tree.selection.Selection.TheVariants as s
+use Rattle.graphql_tree.specs.declared.selection.FragmentSpread.{FragmentSpread}
+use Rattle.graphql_tree.specs.declared.selection.Selection.TheVariants as s
 use Rattle.graphql_grammar.specs.Input.{At, peek}
 use Rattle.graphql_grammar.specs.Kinds.{fragment_names}
 use Rattle.graphql_grammar.specs.Steps.{sees}
 use Rattle.graphql_grammar.proofs.Turns.{sees_kind}
 use Rattle.graphql_language.specs.ReadHeads.{spread_of, spread_begun}
-use Rattle.graphql_language.proofs.SelectionParts.{begins_exit, opens_boxed, whole_kept, points_refused, begun_spread_refused, begun_spread, begun_inline_refused, begun_inline}
+use Rattle.graphql_language.proofs.SelectionParts.{begins_exit, whole_kept, points_refused, begun_spread_refused, begun_spread, begun_inline_refused, begun_inline}
 use Rattle.graphql_language.proofs.parse.selection.begin_spread.Goals as goal
 
 pub returns-in_err-expect-clause-reads : goal.returns-in_err-expect-clause-reads
@@ -47,13 +47,12 @@ returns-in_err-head-clause-reads g c =
     begins_exit c.from_residual-in_err-head.result c.args.found.now c.args.found.now c.inline_head.new.cursor c.from_residual-in_err-head.ensures.1 c.in_err-head.ensures.reads
     (λ refused. same ∙ begun_inline_refused reads of_bool c.start-start.result i c.in_ok-expect.ensures.reads seen refused)
 
-pub returns-in_ok-boxed-clause-reads : goal.returns-in_ok-boxed-clause-reads
-returns-in_ok-boxed-clause-reads g c =
+pub returns-in_ok-head-clause-reads : goal.returns-in_ok-head-clause-reads
+returns-in_ok-head-clause-reads g c =
     let reads = g.S.ParseScalarValue.reads in
     let of_bool = g.S.ScalarValue.of_bool in
     let i = c.args.cursor.now in
     let j = c.expect.new.self in
     let seen : sees fragment_names j ≡ false = sees_kind fragment_names j c.kind.result false c.kind.ensures (sym c.if-is_fragment_name.ensures) in
     let same = ap (λ (p : SourcePosition). spread_begun reads of_bool p i) (sym c.start-start.ensures) in
-    let read = begun_inline reads of_bool c.start-start.result i c.in_ok-expect.ensures.reads seen c.in_ok-head.ensures.reads in
-    (opens_boxed (same ∙ read) c.in_ok-boxed.ensures, refl)
+    (same ∙ begun_inline reads of_bool c.start-start.result i c.in_ok-expect.ensures.reads seen c.in_ok-head.ensures.reads, refl)

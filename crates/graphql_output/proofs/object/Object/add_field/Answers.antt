@@ -1,7 +1,5 @@
 use Rattle.std.proofs.Common.{◌≡◌, Some, None, ap, sym, subst, ◌∙◌}
-use Rattle.std.specs.List.{position}
-use Rattle.std.specs.Str.{bytes_eq}
-use Rattle.graphql_output.specs.Objects.{HasDistinctKeys, with_field}
+use Rattle.graphql_output.specs.Objects.{HasDistinctKeys}
 use Rattle.graphql_output.proofs.ObjectLemmas.{place, value_at, value_nowhere, put_at, put_last, distinct_after}
 use Rattle.graphql_output.proofs.object.Object.add_field.Goals as goal
 

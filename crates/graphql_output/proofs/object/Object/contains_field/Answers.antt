@@ -1,4 +1,3 @@
-use Rattle.std.proofs.Common.{◌∙◌}
 use Rattle.graphql_output.proofs.ObjectLemmas.{there_if_value}
 use Rattle.graphql_output.proofs.object.Object.contains_field.Goals as goal
 

@@ -1,4 +1,4 @@
-use Rattle.std.proofs.Common.{◌≡◌, Some, sym, ◌∙◌}
+use Rattle.std.proofs.Common.{sym, ◌∙◌}
 use Rattle.graphql_output.proofs.ObjectLemmas.{value_at, value_nowhere}
 use Rattle.graphql_output.proofs.object.Object.get_field_value.Goals as goal
 

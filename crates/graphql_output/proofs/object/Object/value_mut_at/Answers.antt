@@ -1,4 +1,4 @@
-use Rattle.std.proofs.Common.{◌≡◌, Some, refl, ap, sym, ◌∙◌, slice_set}
+use Rattle.std.proofs.Common.{Some, refl, ap, sym, ◌∙◌, slice_set}
 use Rattle.graphql_output.proofs.ObjectLemmas.{set_at, read_at}
 use Rattle.graphql_output.proofs.object.Object.value_mut_at.Goals as goal
 

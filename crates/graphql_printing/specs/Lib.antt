@@ -1,0 +1,5 @@
+pub mod Parts
+pub mod Laws
+pub mod Shown
+pub mod Writable
+pub mod WritableTypes

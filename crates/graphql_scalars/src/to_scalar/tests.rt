@@ -1,0 +1,41 @@
+use super::ToScalarValue;
+use crate::DefaultScalarValue;
+use graphql_text::Text;
+use std::alloc::{AllocError, Global};
+use std::rc::Rc;
+use std::test::Fail;
+
+/// The scalar of a value.
+fn scalar_of<T: ToScalarValue<DefaultScalarValue>>(
+    alloc: Global,
+    value: &T,
+) -> Result<DefaultScalarValue, AllocError> {
+    value.to_scalar_value(alloc)
+}
+
+#[test]
+fn values_are_scalars(rt: HostRuntime) -> Result<(), Fail> {
+    let alloc = rt.alloc();
+    assert_eq!(rt; scalar_of(alloc, &true)?, DefaultScalarValue::Boolean(true));
+    assert_eq!(rt; scalar_of(alloc, &-7)?, DefaultScalarValue::Int(-7));
+    assert_eq!(rt; scalar_of(alloc, &&-7)?, DefaultScalarValue::Int(-7));
+    assert_eq!(rt;
+        scalar_of(alloc, &Box::new(alloc, 7)?)?,
+        DefaultScalarValue::Int(7)
+    );
+    assert_eq!(rt;
+        scalar_of(alloc, &Rc::new(alloc, 7)?)?,
+        DefaultScalarValue::Int(7)
+    );
+    Ok(())
+}
+
+#[test]
+fn texts_are_scalars(rt: HostRuntime) -> Result<(), Fail> {
+    let alloc = rt.alloc();
+    let text = DefaultScalarValue::from(Text::from_str(alloc, "a\n")?);
+    assert_eq!(rt; scalar_of(alloc, &"a\n")?, text);
+    assert_eq!(rt; scalar_of(alloc, &String::from_str(alloc, "a\n")?)?, text);
+    assert_eq!(rt; scalar_of(alloc, &Text::from_str(alloc, "a\n")?)?, text);
+    Ok(())
+}

@@ -1,0 +1,5 @@
+pub mod SelectionEquations
+pub mod SelectionInduction
+pub mod UnlocatedEquations
+pub mod CountEquations
+pub mod ReleaseLemmas

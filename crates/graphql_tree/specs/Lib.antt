@@ -1,0 +1,4 @@
+pub mod Arguments
+pub mod Variables
+pub mod Unlocated
+pub mod Counts

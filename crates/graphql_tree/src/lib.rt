@@ -1,0 +1,18 @@
+//! The syntax trees of GraphQL documents, which borrow the names of the text that they were read from.
+//!
+//! Two trees that differ in places alone are one by `specs/Unlocated.antt`.
+#![tactic(auto)]
+
+mod directive;
+mod document;
+mod release;
+mod selection;
+#[cfg(test)]
+mod tests;
+mod variable;
+
+pub use directive::{Arguments, Directive};
+pub use document::{Definition, Fragment, Operation, OperationType, OwnedDocument};
+pub use release::{release_document, release_selections};
+pub use selection::{Field, FragmentSpread, InlineFragment, Selection};
+pub use variable::{VariableDefinition, VariableDefinitions};
