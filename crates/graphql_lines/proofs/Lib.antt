@@ -7,3 +7,4 @@ pub mod ReadBack
 pub mod Outline
 pub mod Keys
 pub mod BadNumbers
+pub mod Constants

@@ -1,4 +1,4 @@
--- What JSON keeps of values (GraphQL October 2021, 7.2 Serialization Format; RFC 8259).
+-- What JSON keeps of values, and which values it gives (GraphQL October 2021, 7.2 Serialization Format; RFC 8259).
 use Rattle.std.specs.Prelude.{◌≡◌, ◌≤◌, ◌↔◌, ℕ, suc, max, ℤ, Bool, true, IsTrue, List, [], ◌∷◌, ◌++◌, map, fold, Contains, Option, Some, None, option_map, unwrap_or}
 use Rattle.std.specs.List.{list_all}
 use Rattle.serde_json.specs.Data.{Num, Data, null, boolean, number, string, array, object, Items, no_items, item, Members, no_members, member, put}
@@ -9,6 +9,8 @@ use Rattle.graphql_output.specs.declared.value.Value.{Value, fold-Value}
 use Rattle.graphql_output.specs.declared.value.Value.TheOpen.{Value-F, Object-F}
 use Rattle.graphql_output.specs.declared.value.Value.TheVariants as value
 use Rattle.graphql_output.specs.Objects.{Pair, HasDistinctKeys, field_value}
+use Rattle.graphql_values.specs.declared.input_value.InputValue.{InputValue}
+use Rattle.graphql_values.specs.Variables.{variables_in}
 use Rattle.graphql_lines.specs.Json.{json}
 use Rattle.graphql_lines.specs.Variables.{has_32_bits, whole_of, input_of, fields_of}
 
@@ -112,3 +114,7 @@ module _ {S : Type 0} (of_bool : Bool → S) (of_int : ℤ → S) (of_text : Lis
   BadNumbersAreRefused =
       ((d : Data) → (input_of of_bool of_int of_text d ≡ None) ↔ HasBadNumber (numbers_in d))
       × ((ms : Members) → (fields_of of_bool of_int of_text ms ≡ None) ↔ HasBadNumber (numbers_in_members ms))
+
+  -- in a value that data stands for stands no variable (2.10 Variables)
+  abbrev pub JsonHoldsNoVariable : Type 0
+  JsonHoldsNoVariable = (d : Data) (v : InputValue S) → input_of of_bool of_int of_text d ≡ Some v → variables_in v ≡ []

@@ -1,6 +1,6 @@
 //! Laws of the definitions: each function's contract is a law, and its body does nothing.
 
-ghost use Rattle.graphql_lines.specs.Laws.{BadNumbersAreRefused, JsonReadsBack, KeysKeepValues};
+ghost use Rattle.graphql_lines.specs.Laws.{BadNumbersAreRefused, JsonHoldsNoVariable, JsonReadsBack, KeysKeepValues};
 
 use graphql_scalars::ScalarValue;
 
@@ -22,4 +22,10 @@ pub fn keys_keep_values<S: ScalarValue>()
 /// variables, so that `BadNumber` is told of no other.
 pub fn bad_numbers_are_refused<S: ScalarValue>()
     ensures { BadNumbersAreRefused S.of_bool S.of_int S.of_text }
+{}
+
+/// No variable stands in an input value that JSON data stand for (GraphQL October 2021, 2.10
+/// Variables).
+pub fn json_holds_no_variable<S: ScalarValue>()
+    ensures { JsonHoldsNoVariable S.of_bool S.of_int S.of_text }
 {}

@@ -2,15 +2,15 @@
 //! Serialization Format; RFC 8259).
 #![tactic(auto)]
 
-mod json;
 pub mod laws;
 mod refusal;
 mod request;
 #[cfg(test)]
 mod tests;
+mod to_json;
 mod variables;
 
-pub use json::{text_to_json, value_to_json};
 pub use refusal::LineRefusal;
 pub use request::{GraphQLRequest, json_of_line, request_from_line, request_in};
+pub use to_json::{text_to_json, value_to_json};
 pub use variables::variables_from_json;

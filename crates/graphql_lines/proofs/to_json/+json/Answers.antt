@@ -2,7 +2,7 @@ use Rattle.std.proofs.Common.{rules, arith, ◌≡◌, ◌++◌, [], ◌∙◌, 
 use Rattle.graphql_lines.specs.Json.{json, joined, comma_unless, member_json}
 use Rattle.graphql_lines.proofs.Joins.{item_written, object_is, closed}
 use Rattle.std.proofs.lemmas.Result.{on_ok_weaker}
-use Rattle.graphql_lines.proofs.json.+json.Goals as goal
+use Rattle.graphql_lines.proofs.to_json.+json.Goals as goal
 
 pub list_to_json-items-preserved : goal.list_to_json-items-preserved
 list_to_json-items-preserved g t c =

@@ -1,6 +1,6 @@
 use Rattle.std.proofs.Common.{◌≡◌, ◌++◌, [], drop, map, codes}
 use Rattle.graphql_lines.specs.Json.{json, joined, comma_unless, member_json}
-use Rattle.graphql_lines.proofs.json.+json.Given as goal
+use Rattle.graphql_lines.proofs.to_json.+json.Given as goal
 
 -- what was written, and then what is left to be, is the whole
 abbrev pub invariant-list_to_json-items : goal.invariant-list_to_json-items
