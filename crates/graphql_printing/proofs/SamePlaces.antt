@@ -1,7 +1,6 @@
 -- Values that are alike once their places are left out are the same value.
-use Rattle.std.proofs.Common.{◌≡◌, ℕ, ◌<◌, Bool, List, length, get_or, map, sym, subst, refl, arith}
+use Rattle.std.proofs.Common.{◌≡◌, ◌<◌, Bool, List, length, get_or, map, sym, subst, refl, arith}
 use Rattle.std.specs.Cmp.{IsEquivalence}
-use Rattle.std.specs.List.{Any}
 use Rattle.std.proofs.lemmas.List.{get_or-map, length-map}
 use Rattle.graphql_values.specs.declared.input_value.InputValue.{InputValue}
 use Rattle.graphql_values.specs.declared.input_value.InputValue.TheVariants as v
