@@ -1,7 +1,7 @@
 //! Values (GraphQL October 2021, 2.9 Input Values).
 //!
 //! Values nest as deep as a text has tokens, and the functions that call one another keep what they
-//! read on the stack. So what they read of single tokens is read by functions that stay calls.
+//! read on the stack. So a value that holds no other is read by a function that stays a call.
 
 ghost use Rattle.std.specs.Prelude.{◌≡◌, ◌<◌, ◌≤◌, OnOk};
 ghost use Rattle.graphql_values.specs.declared.input_value.InputValue.TheVariants as v;
@@ -125,7 +125,6 @@ pub(crate) fn key<'a>(
 }
 
 /// As `key`, with the name as a text of its own.
-#[inline(never)]
 fn owned_key(alloc: Global, cursor: &mut Cursor<'_>) -> Result<Spanning<Text>, Fault>
     ensures reads { Reads (parts.key cursor.old) result cursor.new }
     ensures no_more { left cursor.new ≤ left cursor.old }
