@@ -4,6 +4,8 @@ pub mod VariableLemmas
 pub mod Growing
 pub mod ConversionLemmas
 pub mod SameValueLemmas
+pub mod LikesBack
+pub mod NameLemmas
 pub mod SameValueLaws
 pub mod ShownLemmas
 pub mod InputOfOutputLemmas

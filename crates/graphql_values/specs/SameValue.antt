@@ -1,10 +1,14 @@
 -- Input values that are the same wherever they stand (GraphQL October 2021, 2.9 Input Values; 2.9.8 Input Object Values: fields are unordered).
-use Rattle.std.specs.Prelude.{◌≡◌, List, [], ◌∷◌, length, Bool, true}
-use Rattle.std.specs.List.{Contains}
+use Rattle.std.specs.Prelude.{◌≡◌, ◌≢◌, List, [], ◌∷◌, length, Bool, true}
+use Rattle.std.specs.List.{AllPairs, Contains}
 use Rattle.graphql_items.specs.declared.text.Text.{Text}
 use Rattle.graphql_values.specs.declared.input_value.InputValue.{InputValue}
 use Rattle.graphql_values.specs.declared.input_value.InputValue.TheVariants as value
 use Rattle.graphql_values.specs.InputValues.{Placed, Pair}
+
+-- no name stands twice (GraphQL October 2021, 5.6.3 Input Object Field Uniqueness)
+abbrev pub UniqueNames : {A : Type 0} → List (Pair A) → Type 0
+UniqueNames {A} ps = AllPairs (λ p q. p.0.item ≢ q.0.item) ps
 
 mutual
   pub data SameValue (S : Type 0) (eq : S → S → Bool) : InputValue S → InputValue S → Type 0 where

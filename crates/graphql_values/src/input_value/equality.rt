@@ -2,7 +2,7 @@
 
 ghost use Rattle.std.specs.Prelude.{◌≡◌, ◌↔◌, IsTrue};
 ghost use Rattle.std.specs.List.{Any};
-ghost use Rattle.graphql_values.specs.SameValue.{SameValue, SameItems, HaveLikes, AreLikes};
+ghost use Rattle.graphql_values.specs.SameValue.{SameValue, SameItems, HaveLikes, AreLikes, UniqueNames};
 
 use super::InputValue;
 use graphql_text::{Items, Spanning, Text};
@@ -10,8 +10,11 @@ use graphql_text::{Items, Spanning, Text};
 impl<S: PartialEq> InputValue<S> {
     /// Whether the two are the same value, wherever they stand in a text: scalars by their own
     /// equality, enums and variables by name, lists item by item, input objects by their fields,
-    /// whose order does not count (GraphQL October 2021, 2.9 Input Values). The fields are compared
-    /// each with each. Takes no memory.
+    /// whose order does not count (GraphQL October 2021, 2.9 Input Values). Takes no memory. Takes
+    /// time for each field of an object with each of the other's, once, where no name stands twice
+    /// in an object; where a name does, the fields are compared in both directions, which doubles
+    /// the work with each level of such objects (GraphQL refuses them: 5.6.3 Input Object Field
+    /// Uniqueness).
     pub fn unlocated_eq(&self, other: &InputValue<S>) -> bool
         ensures { IsTrue result ↔ SameValue S S.eq self.now other.now }
     {
@@ -44,7 +47,9 @@ fn same_value<S: PartialEq>(left: &InputValue<S>, right: &InputValue<S>) -> bool
         },
         InputValue::Object(pairs) => match right {
             InputValue::Object(others) => {
-                pairs.len() == others.len() && have_likes(pairs, others) && are_likes(pairs, others)
+                pairs.len() == others.len()
+                    && have_likes(pairs, others)
+                    && (has_unique_names(pairs) || are_likes(pairs, others))
             }
             _ => false,
         },
@@ -131,6 +136,31 @@ fn is_like<S: PartialEq>(
 {
     for pair in left.as_slice() {
         if pair.0.item.is(name.as_str()) && same_value(&pair.1.item, value) {
+            return true;
+        }
+    }
+    false
+}
+
+/// Whether no name stands twice (GraphQL October 2021, 5.6.3 Input Object Field Uniqueness).
+fn has_unique_names<S>(pairs: &Items<(Spanning<Text>, Spanning<InputValue<S>>)>) -> bool
+    ensures { IsTrue result ↔ UniqueNames pairs.now }
+{
+    let fields = pairs.as_slice();
+    for (index, pair) in fields.iter().enumerate() {
+        if has_name(&fields[..index], &pair.0.item) {
+            return false;
+        }
+    }
+    true
+}
+
+/// Whether one of the fields has the name.
+fn has_name<S>(fields: &[(Spanning<Text>, Spanning<InputValue<S>>)], name: &Text) -> bool
+    ensures { IsTrue result ↔ Any (λ p. p.0.item ≡ name.now) fields.now }
+{
+    for pair in fields {
+        if pair.0.item.is(name.as_str()) {
             return true;
         }
     }

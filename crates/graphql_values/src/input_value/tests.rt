@@ -1,5 +1,6 @@
 use super::InputValue;
 use graphql_text::{Items, Spanning, Text};
+use std::alloc::{AllocError, Global};
 use std::test::Fail;
 
 #[test]
@@ -70,5 +71,25 @@ fn values_are_shown(rt: HostRuntime) -> Result<(), Fail> {
         object.to_string(alloc)?.as_str(),
         "{k: [$v, JEDI, null, \"a\"b\"], l: 1}"
     );
+    Ok(())
+}
+
+/// An object of one field, which is an object of one field, and so on.
+fn nested(alloc: Global, depth: usize) -> Result<InputValue, AllocError> {
+    let mut value = InputValue::scalar(1);
+    for _ in 0..depth {
+        let mut fields = Vec::new(alloc);
+        fields.push((Text::from_str(alloc, "k")?, value))?;
+        value = InputValue::object(alloc, fields)?;
+    }
+    Ok(value)
+}
+
+#[test]
+fn deep_objects_are_compared(rt: HostRuntime) -> Result<(), Fail> {
+    let alloc = rt.alloc();
+    let left = nested(alloc, 60)?;
+    assert!(rt; left.unlocated_eq(&nested(alloc, 60)?));
+    assert!(rt; !left.unlocated_eq(&nested(alloc, 59)?));
     Ok(())
 }

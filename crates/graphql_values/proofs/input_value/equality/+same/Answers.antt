@@ -1,10 +1,11 @@
-use Rattle.std.proofs.Common.{◌≡◌, ◌<◌, List, length, get_or, Bool, true, false, eqb, refl, ap, sym, subst, ◌∙◌, arith}
+use Rattle.std.proofs.Common.{◌≡◌, length, true, eqb, refl, ap, sym, subst, ◌∙◌, arith}
 use Rattle.std.specs.List.{Any}
 use Rattle.std.proofs.lemmas.Bool.{false≢true}
 use Rattle.std.proofs.lemmas.Bool.Decides.{nat_tests}
-use Rattle.graphql_values.specs.InputValues.{Placed, Pair}
+use Rattle.graphql_values.specs.InputValues.{Pair}
 use Rattle.graphql_values.specs.declared.input_value.InputValue.{InputValue}
 use Rattle.graphql_values.proofs.SameValueLemmas.{IsLike, Same, refuted, found_at, one_more, all_of, holds_of, items_from, items_length, items_here, have_from, have_at, are_from, are_at, null_case, scalar_case, enum_case, variable_case, list_case, object_case}
+use Rattle.graphql_values.proofs.LikesBack.{likes_back}
 use Rattle.graphql_values.proofs.input_value.equality.+same.Goals as goal
 use Rattle.graphql_values.proofs.input_value.equality.+same.Goals.{has_like-else-is-via-then-is+else-same_value, has_like-else-is-via-else-is, is_like-else-is-via-then-is+else-same_value, is_like-else-is-via-else-is, same_value-then-len, same_value-else-len}
 
@@ -99,13 +100,27 @@ same_value-returns-in-Variable-right g t c =
 pub same_value-returns-in-List-right : goal.same_value-returns-in-List-right
 same_value-returns-in-List-right g t c = list_case g.S.PartialEq.eq c.same_items.result c.args.left.now c.args.right.now c.in-List.items c.in-List-right.others c.in-List.is c.in-List-right.is c.same_items.ensures
 
-pub same_value-returns-then-have_likes : goal.same_value-returns-then-have_likes
-same_value-returns-then-have_likes g t c =
+pub same_value-returns-then-has_unique_names : goal.same_value-returns-then-has_unique_names
+same_value-returns-then-has_unique_names g t c =
     let eq = g.S.PartialEq.eq in
     elim c.if-len.branch [
       | same_value-then-len w ↦
           let e : length c.in-Object.pairs ≡ length c.in-Object-right.others = omega arith in
-          object_case eq c.are_likes.result c.args.left.now c.args.right.now c.in-Object.pairs c.in-Object-right.others c.in-Object.is c.in-Object-right.is e (w.have_likes.ensures.0 (sym w.value-is ∙ c.if-have_likes.true)) c.are_likes.ensures
+          let have = w.have_likes.ensures.0 (sym w.value-is ∙ c.if-have_likes.true) in
+          object_case eq c.has_unique_names.result c.args.left.now c.args.right.now c.in-Object.pairs c.in-Object-right.others c.in-Object.is c.in-Object-right.is e have (λ _. likes_back eq c.in-Object.pairs c.in-Object-right.others e (c.has_unique_names.ensures.0 c.if-has_unique_names.true) have, λ _. c.if-has_unique_names.true)
+      | same_value-else-len w ↦
+          let e : eqb c.len.result c.len-in-Object-right.result ≡ true = sym w.value-is ∙ c.if-have_likes.true in
+          absurd (grind (arith, nat_tests))
+    ]
+
+pub same_value-returns-else-has_unique_names : goal.same_value-returns-else-has_unique_names
+same_value-returns-else-has_unique_names g t c =
+    let eq = g.S.PartialEq.eq in
+    elim c.if-len.branch [
+      | same_value-then-len w ↦
+          let e : length c.in-Object.pairs ≡ length c.in-Object-right.others = omega arith in
+          let have = w.have_likes.ensures.0 (sym w.value-is ∙ c.if-have_likes.true) in
+          object_case eq c.are_likes.result c.args.left.now c.args.right.now c.in-Object.pairs c.in-Object-right.others c.in-Object.is c.in-Object-right.is e have c.are_likes.ensures
       | same_value-else-len w ↦
           let e : eqb c.len.result c.len-in-Object-right.result ≡ true = sym w.value-is ∙ c.if-have_likes.true in
           absurd (grind (arith, nat_tests))
