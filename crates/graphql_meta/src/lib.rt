@@ -2,5 +2,10 @@
 #![tactic(auto)]
 
 mod check;
+mod meta;
 
 pub use check::{Check, SchemaScalar, TypeCheck};
+pub use meta::{
+    Argument, DeprecationStatus, EnumMeta, EnumValue, Field, InputObjectMeta, InterfaceMeta,
+    ListMeta, MetaType, NullableMeta, ObjectMeta, PlaceholderMeta, ScalarMeta, TypeKind, UnionMeta,
+};
