@@ -15,6 +15,8 @@ mod nullable;
 mod object;
 mod placeholder;
 mod scalar;
+#[cfg(test)]
+mod tests;
 mod type_kind;
 mod type_of;
 mod union_type;
