@@ -1,0 +1,5 @@
+pub mod Checks
+pub mod Deprecation
+pub mod Names
+pub mod Types
+pub mod Kinds

@@ -1,0 +1,82 @@
+//! The fields of objects and interfaces.
+
+ghost use Rattle.std.specs.Prelude.{◌≡◌, ◌++◌, [], ◌∷◌, Some};
+ghost use Rattle.graphql_items.specs.Memory.{Gives};
+ghost use Rattle.graphql_meta.specs.Names.{is_reserved};
+ghost use Rattle.graphql_meta.specs.Types.{arguments_of};
+ghost use Rattle.graphql_meta.specs.declared.meta.deprecation.DeprecationStatus.TheVariants as status;
+
+use super::names::is_reserved;
+use super::{Argument, DeprecationStatus};
+use graphql_text::{Items, Text};
+use graphql_types::Type;
+use std::alloc::{AllocError, Global};
+
+/// A field of an object or an interface (GraphQL October 2021, 3.6 Objects).
+#[derive(Drop)]
+pub struct Field<S> {
+    /// The name.
+    pub name: Text,
+
+    /// What it is for, in words.
+    pub description: Option<Text>,
+
+    /// The arguments, in order. `None` is the same as no argument.
+    pub arguments: Option<Items<Argument<S>>>,
+
+    /// The type of its values.
+    pub field_type: Type<Text>,
+
+    /// Whether it is deprecated.
+    pub deprecation_status: DeprecationStatus,
+}
+
+impl<S> Field<S> {
+    /// The same with this description.
+    pub fn description(mut self, description: Text) -> Field<S>
+        ensures { result ≡ record self { description = Some description } }
+    {
+        self.description = Some(description);
+        self
+    }
+
+    /// The same with one more argument, behind the others. An error is want of memory.
+    pub fn argument(self, alloc: Global, argument: Argument<S>) -> Result<Field<S>, AllocError>
+    where
+        S: Drop,
+        ensures { Gives result (record self { arguments = Some (arguments_of self ++ argument ∷ []) }) }
+    {
+        let Field {
+            name,
+            description,
+            arguments,
+            field_type,
+            deprecation_status,
+        } = self;
+        let mut arguments = arguments.unwrap_or(Items::new(alloc));
+        arguments.push(argument)?;
+        Ok(Field {
+            name,
+            description,
+            arguments: Some(arguments),
+            field_type,
+            deprecation_status,
+        })
+    }
+
+    /// The same, deprecated, for this reason where one is given.
+    pub fn deprecated(mut self, reason: Option<Text>) -> Field<S>
+        ensures { result ≡ record self { deprecation_status = status.Deprecated reason } }
+    {
+        self.deprecation_status = DeprecationStatus::Deprecated(reason);
+        self
+    }
+
+    /// Whether its name is one that the standard keeps for introspection: it begins with two
+    /// underscores (GraphQL October 2021, 4 Introspection, Reserved Names).
+    pub fn is_builtin(&self) -> bool
+        ensures { result ≡ is_reserved self.now.name }
+    {
+        is_reserved(self.name.as_str())
+    }
+}

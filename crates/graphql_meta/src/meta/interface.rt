@@ -1,0 +1,61 @@
+//! The metadata of interfaces.
+
+ghost use Rattle.std.specs.Prelude.{◌≡◌, [], Some, None};
+ghost use Rattle.graphql_meta.specs.declared.meta.MetaType.TheVariants as meta;
+
+use super::{Field, MetaType};
+use graphql_text::{Items, Text};
+use std::alloc::Global;
+
+/// What a schema says of an interface (GraphQL October 2021, 3.7 Interfaces).
+#[derive(Drop)]
+pub struct InterfaceMeta<S> {
+    /// The name.
+    pub name: Text,
+
+    /// What it is for, in words.
+    pub description: Option<Text>,
+
+    /// The fields, in order.
+    pub fields: Items<Field<S>>,
+
+    /// The names of the interfaces that it implements, in order.
+    pub interface_names: Items<Text>,
+}
+
+impl<S> InterfaceMeta<S> {
+    /// The interface of this name and these fields, which implements no interface. Takes no memory.
+    pub fn new(alloc: Global, name: Text, fields: Items<Field<S>>) -> InterfaceMeta<S>
+        ensures { result ≡ record { name = name; description = None; fields = fields; interface_names = [] } }
+    {
+        InterfaceMeta {
+            name,
+            description: None,
+            fields,
+            interface_names: Items::new(alloc),
+        }
+    }
+
+    /// The same with this description.
+    pub fn description(mut self, description: Text) -> InterfaceMeta<S>
+        ensures { result ≡ record self { description = Some description } }
+    {
+        self.description = Some(description);
+        self
+    }
+
+    /// The same with these as all the interfaces that it implements, by name.
+    pub fn interfaces(mut self, names: Items<Text>) -> InterfaceMeta<S>
+        ensures { result ≡ record self { interface_names = names } }
+    {
+        self.interface_names = names;
+        self
+    }
+
+    /// It as the metadata of a type.
+    pub fn into_meta<C>(self) -> MetaType<S, C>
+        ensures { result ≡ meta.Interface self }
+    {
+        MetaType::Interface(self)
+    }
+}

@@ -1,0 +1,54 @@
+//! References to the types of metadata.
+
+ghost use Rattle.std.specs.Prelude.{◌≡◌, [], ◌∷◌};
+ghost use Rattle.graphql_items.specs.Memory.{Gives};
+ghost use Rattle.graphql_types.specs.declared.type_modifier.TypeModifier.TheVariants as modifier;
+ghost use Rattle.graphql_meta.specs.Types.{type_of};
+
+use super::MetaType;
+use graphql_text::{Items, Text};
+use graphql_types::Type;
+use std::alloc::{AllocError, Global};
+
+impl<S, C> MetaType<S, C> {
+    /// The reference to this type (GraphQL October 2021, 2.11 Type References), without `null` among
+    /// its values but where the metadata adds it: a named type is `name!`, a list of `T` is `[T]!`. A
+    /// placeholder is the reference that it holds. An error is want of memory.
+    pub fn as_type(&self, alloc: Global) -> Result<Type<Text>, AllocError>
+        ensures { Gives result (type_of self.now) }
+    {
+        match self {
+            MetaType::Scalar(meta) => named(alloc, &meta.name),
+            MetaType::List(meta) => {
+                let items = copy_of(alloc, &meta.of_type)?;
+                items.wrap_list(meta.expected_size)?.wrap_non_null()
+            }
+            MetaType::Nullable(meta) => Ok(copy_of(alloc, &meta.of_type)?.nullable()),
+            MetaType::Object(meta) => named(alloc, &meta.name),
+            MetaType::Enum(meta) => named(alloc, &meta.name),
+            MetaType::Interface(meta) => named(alloc, &meta.name),
+            MetaType::Union(meta) => named(alloc, &meta.name),
+            MetaType::InputObject(meta) => named(alloc, &meta.name),
+            MetaType::Placeholder(meta) => copy_of(alloc, &meta.of_type),
+        }
+    }
+}
+
+/// The type of this name, without `null`.
+fn named(alloc: Global, name: &Text) -> Result<Type<Text>, AllocError>
+    ensures { Gives result (record { name = name.now; modifiers = modifier.NonNull ∷ [] }) }
+{
+    Type::new(alloc, name.clone()?).wrap_non_null()
+}
+
+/// The same reference once more.
+fn copy_of(alloc: Global, of_type: &Type<Text>) -> Result<Type<Text>, AllocError>
+    ensures { Gives result of_type.now }
+{
+    let mut modifiers = Items::new(alloc);
+    modifiers.extend_from_slice(of_type.modifiers())?;
+    Ok(Type {
+        name: of_type.name.clone()?,
+        modifiers,
+    })
+}

@@ -1,0 +1,48 @@
+//! The metadata of unions.
+
+ghost use Rattle.std.specs.Prelude.{◌≡◌, Some, None};
+ghost use Rattle.graphql_meta.specs.declared.meta.MetaType.TheVariants as meta;
+
+use super::MetaType;
+use graphql_text::{Items, Text};
+
+/// What a schema says of a union (GraphQL October 2021, 3.8 Unions).
+#[derive(Drop)]
+pub struct UnionMeta {
+    /// The name.
+    pub name: Text,
+
+    /// What it is for, in words.
+    pub description: Option<Text>,
+
+    /// The names of its member types, in order.
+    pub of_type_names: Items<Text>,
+}
+
+impl UnionMeta {
+    /// The union of this name and of the member types of these names.
+    pub fn new(name: Text, of_type_names: Items<Text>) -> UnionMeta
+        ensures { result ≡ record { name = name; description = None; of_type_names = of_type_names } }
+    {
+        UnionMeta {
+            name,
+            description: None,
+            of_type_names,
+        }
+    }
+
+    /// The same with this description.
+    pub fn description(mut self, description: Text) -> UnionMeta
+        ensures { result ≡ record self { description = Some description } }
+    {
+        self.description = Some(description);
+        self
+    }
+
+    /// It as the metadata of a type.
+    pub fn into_meta<S, C>(self) -> MetaType<S, C>
+        ensures { result ≡ meta.Union self }
+    {
+        MetaType::Union(self)
+    }
+}
