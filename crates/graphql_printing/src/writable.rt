@@ -60,6 +60,7 @@ fn scalar_passes(scalar: &DefaultScalarValue) -> bool
     }
 }
 
+/// Whether an integer has 32 bits, as every `i32` does: contracts see an integer of any size.
 fn has_32_bits(value: i32) -> bool
     ensures { result ≡ fits_test value }
 {
