@@ -18,7 +18,8 @@ use Rattle.graphql_output.specs.Objects.{Pair}
 use Rattle.graphql_output.specs.ValueEquations.{on_value}
 use Rattle.graphql_lines.specs.Json.{joined, json_text, member_json, text_or_null, bool_or, int_or, scalar_json}
 use Rattle.graphql_lines.specs.Variables.{has_32_bits}
-use Rattle.graphql_lines.specs.Laws.{items_of, with_fields, greatest, data_of_scalar}
+use Rattle.serde_json.specs.View.{items_of}
+use Rattle.graphql_lines.specs.Laws.{with_fields, greatest, data_of_scalar}
 use Rattle.graphql_lines.proofs.Written.{same_text}
 
 -- the text is the print of the tree, which nests n deep and, where the integers fit, is read as the data

@@ -3,6 +3,7 @@ use Rattle.std.specs.Prelude.{◌≡◌, ◌≤◌, ◌↔◌, ℕ, suc, max, �
 use Rattle.std.specs.List.{list_all}
 use Rattle.serde_json.specs.Data.{Num, Data, null, boolean, number, string, array, object, Items, no_items, item, Members, no_members, member, put}
 use Rattle.serde_json.specs.Find.{of_integer, get}
+use Rattle.serde_json.specs.View.{items_of}
 use Rattle.serde_json.specs.Read.{read, max_depth}
 use Rattle.graphql_output.specs.declared.object.Object.{Object}
 use Rattle.graphql_output.specs.declared.value.Value.{Value, fold-Value}
@@ -13,11 +14,6 @@ use Rattle.graphql_values.specs.declared.input_value.InputValue.{InputValue}
 use Rattle.graphql_values.specs.Variables.{variables_in}
 use Rattle.graphql_lines.specs.Json.{json}
 use Rattle.graphql_lines.specs.Variables.{has_32_bits, whole_of, input_of, fields_of}
-
--- the items of an array, in order
-abbrev pub items_of : List Data → Items
-items_of [] = no_items
-items_of (d ∷ ds) = item d (items_of ds)
 
 -- the members with these fields put in, one by one: of fields of one key the last stays
 abbrev pub with_fields : Members → List (Pair Data) → Members
