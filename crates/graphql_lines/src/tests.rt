@@ -1,4 +1,4 @@
-use crate::{GraphQLRequest, LineRefusal, request_from_line, value_to_json};
+use crate::{GraphQLRequest, LineRefusal, laws, request_from_line, value_to_json};
 use graphql_items::{Items, Text};
 use graphql_output::{DefaultScalarValue, Object, Value};
 use graphql_values::InputValue;
@@ -148,4 +148,12 @@ fn values_are_written_in_their_order(rt: HostRuntime) -> Result<(), Fail> {
         "> {\"b\":1,\"a\":\"\\\"\\n\\u0001/\u{7f}é\",\"c\":[null,true,-7]}"
     );
     Ok(())
+}
+
+#[test]
+fn laws_hold_of_the_default_scalars() {
+    laws::json_reads_back::<DefaultScalarValue>();
+    laws::keys_keep_values::<DefaultScalarValue>();
+    laws::bad_numbers_are_refused::<DefaultScalarValue>();
+    laws::json_holds_no_variable::<DefaultScalarValue>();
 }

@@ -1,7 +1,7 @@
 ghost use Rattle.std.specs.Prelude.{◌≡◌, IfOk};
 ghost use Rattle.graphql_items.specs.Memory.{Gives};
 
-use crate::{DefaultScalarValue, IntoValue, Object, Value};
+use crate::{DefaultScalarValue, IntoValue, Object, Value, laws};
 use graphql_items::{Items, Text};
 use graphql_scalars::ToScalarValue;
 use std::alloc::{AllocError, Global};
@@ -150,4 +150,13 @@ fn other_values_become_values(rt: HostRuntime) -> Result<(), Fail> {
     let itself: Value = Value::scalar(6);
     check_shown(&rt, alloc, &made(alloc, itself)?, "6")?;
     Ok(())
+}
+
+#[test]
+fn laws_hold_of_the_default_scalars() {
+    laws::equal_by_fields::<DefaultScalarValue>();
+    laws::equal_in_any_order::<DefaultScalarValue>();
+    laws::made_distinct::<DefaultScalarValue>();
+    laws::put_under::<DefaultScalarValue>();
+    laws::keys_keep_places::<DefaultScalarValue>();
 }
