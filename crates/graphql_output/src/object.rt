@@ -1,6 +1,6 @@
 //! Objects: fields with their values.
 
-ghost use Rattle.std.specs.Prelude.{◌≡◌, [], IfOk, OnOk, OnErr, length, is_some, position, ◌<◌, ◌^◌, slice_get};
+ghost use Rattle.std.specs.Prelude.{◌≡◌, [], None, IfOk, OnOk, OnErr, length, is_some, position, ◌<◌, ◌^◌, slice_get};
 ghost use Rattle.std.specs.Borrow.{sem};
 ghost use Rattle.std.specs.Option.{option_copied, option_copied_mut, option_map};
 ghost use Rattle.std.specs.Str.{bytes_eq};
@@ -78,6 +78,7 @@ impl<S> Object<S> {
         ensures old { IfOk result (λ old. old ≡ field_value self.old.fields key) }
         ensures fields { OnOk result (self.new.fields ≡ with_field self.old.fields key value) }
         ensures err { OnErr result (self.new ≡ self.old) }
+        ensures absent { OnErr result (field_value self.old.fields key ≡ None) }
         ensures distinct { HasDistinctKeys self.old.fields → HasDistinctKeys self.new.fields }
     {
         match self.place_of(key.as_str()) {

@@ -1,4 +1,4 @@
-use Rattle.std.proofs.Common.{◌≡◌, Some, None, ap, sym, subst, ◌∙◌}
+use Rattle.std.proofs.Common.{◌≡◌, Some, None, Result, Ok, Err, OnErr, ap, sym, subst, ◌∙◌}
 use Rattle.graphql_output.specs.Objects.{HasDistinctKeys}
 use Rattle.graphql_output.proofs.ObjectLemmas.{place, value_at, value_nowhere, put_at, put_last, distinct_after}
 use Rattle.graphql_output.proofs.object.Object.add_field.Goals as goal
@@ -28,3 +28,12 @@ returns-in_ok-push-in-None-clause-fields g c = c.in_ok-push-in-None.ensures.ok �
 
 pub returns-in_ok-push-in-None-clause-distinct : goal.returns-in_ok-push-in-None-clause-distinct
 returns-in_ok-push-in-None-clause-distinct g c distinct = subst HasDistinctKeys (sym (returns-in_ok-push-in-None-clause-fields g c)) (distinct_after c.args.key c.args.value c.args.self.now.fields distinct)
+
+-- what holds anyhow holds of an error
+of_error : {T E P : Type 0} (r : Result T E) → P → OnErr r P
+of_error (Ok x) p = tt
+of_error (Err e) p = p
+
+pub returns-in_err-push-in-None-clause-absent : goal.returns-in_err-push-in-None-clause-absent
+returns-in_err-push-in-None-clause-absent g c =
+    of_error c.from_residual.result (value_nowhere c.args.key c.args.self.now.fields (ap (λ k. place k c.args.self.now.fields) (sym c.as_str.ensures) ∙ sym c.place_of.ensures ∙ c.in-None.is))
