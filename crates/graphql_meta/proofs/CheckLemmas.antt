@@ -1,5 +1,8 @@
 -- What a function that accepts or refuses says of a value, and of the values that are the same.
-use Rattle.std.specs.Prelude.{Bool, List, ℕ, Result, Ok, Err}
+use denote.Param.Members.{lent}
+use Rattle.std.specs.Prelude.{◌≡◌, ◌↔◌, Bool, Result, Ok, Err}
+use Rattle.std.proofs.Common.{subst}
+use Rattle.std.specs.declared.dyn_box.DynBox.{DynBox}
 use Rattle.std.specs.Borrow.{Bor}
 use Rattle.std.specs.Cmp.{IsEquivalence}
 use Rattle.graphql_scalars.specs.declared.check_error.CheckError.{CheckError}
@@ -16,9 +19,19 @@ module _ {S : Type 0} {eq : S → S → Bool} (laws : IsEquivalence eq) {says : 
       λ accepted. consistent p.now accepted (m, record { shown = p; shows = same_as_itself eq laws p.now; said = said })
   answer_tells p (Err Memory) consistent said = tt
 
-  -- a function is consistent where its answers tell of something that holds alike of values that are the same
-  pub consistent_by : (P : InputValue S → Type 0) → ((a b : InputValue S) → SameValue S eq a b → P a → P b)
-      → ((p : Bor (InputValue S)) → says p (Ok tt) → P p.now) → ((p : Bor (InputValue S)) (m : List ℕ) → says p (Err (Message m)) → P p.now → ⊥) → IsConsistent eq says
-  consistent_by P alike accepts refuses value accepted refused =
-      let back = refused.1 in
-      refuses back.shown refused.0 back.said (alike value _ (either_way eq laws _ _ back.shows) (alike _ value accepted.shows (accepts accepted.shown accepted.said)))
+  -- where a function's answers tell whether the value has a property, which values have alike that are the same
+  module _ (P : InputValue S → Type 0) (alike : (a b : InputValue S) → SameValue S eq a b → P a → P b) (tell : (p : Bor (InputValue S)) (r : Result (Unit {0}) CheckError) → says p r → Tells r (P p.now)) where
+    -- it is consistent
+    pub consistent_by : IsConsistent eq says
+    consistent_by value accepted refused =
+        let back = refused.1 in
+        tell back.shown (Err (Message refused.0)) back.said (alike value _ (either_way eq laws _ _ back.shows) (alike _ value accepted.shows (tell accepted.shown (Ok tt) accepted.said)))
+
+    -- if it may accept each value that has the property, it accepts these and no others
+    pub accepted_by : ((p : Bor (InputValue S)) → P p.now → says p (Ok tt)) → (v : InputValue S) → Accepts eq says v ↔ P v
+    accepted_by may_accept v =
+        (λ accepted. alike accepted.shown.now v accepted.shows (tell accepted.shown (Ok tt) accepted.said), λ held. record { shown = lent v; shows = same_as_itself eq laws v; said = may_accept (lent v) held })
+
+-- a box of which it is known which function is in it
+pub known_box : {X Z : Type 0} {F : X → Type 0} (b : DynBox X Z F) {at : X} (is : b.vtable ≡ at) → b ≡ record { ptr = b.ptr; vtable = at; alloc = b.alloc; value = subst F is b.value }
+known_box {F = F} b is k = record { ptr = b.ptr; vtable = is k; alloc = b.alloc; value = coe 0 k (i. F (is i)) b.value }

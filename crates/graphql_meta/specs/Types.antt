@@ -6,6 +6,7 @@ use Rattle.graphql_types.specs.declared.type_modifier.TypeModifier.{TypeModifier
 use Rattle.graphql_types.specs.declared.type_modifier.TypeModifier.TheVariants as modifier
 use Rattle.graphql_types.specs.declared.type_reference.«Type».{«Type»}
 use Rattle.graphql_meta.specs.declared.meta.argument.Argument.{Argument}
+use Rattle.graphql_meta.specs.declared.meta.enum_value.EnumValue.{EnumValue}
 use Rattle.graphql_meta.specs.declared.meta.field.Field.{Field}
 use Rattle.graphql_meta.specs.declared.meta.MetaType.{MetaType}
 use Rattle.graphql_meta.specs.declared.meta.MetaType.TheVariants as meta
@@ -57,6 +58,22 @@ module _ {S C : Type 0} where
   abbrev pub input_fields_of : MetaType S C → List (Argument S)
   input_fields_of (meta.InputObject m) = m.input_fields
   input_fields_of _ = []
+
+  -- the interfaces that an object or an interface lists (3.6 Objects, 3.7 Interfaces)
+  abbrev pub interfaces_of : MetaType S C → List Text
+  interfaces_of (meta.Object m) = m.interface_names
+  interfaces_of (meta.Interface m) = m.interface_names
+  interfaces_of _ = []
+
+  -- the members of a union (3.8 Unions)
+  abbrev pub members_of : MetaType S C → List Text
+  members_of (meta.Union m) = m.of_type_names
+  members_of _ = []
+
+  -- the values that an enum declares (3.9 Enums)
+  abbrev pub values_of : MetaType S C → List EnumValue
+  values_of (meta.Enum m) = m.values
+  values_of _ = []
 
   -- what accepts or refuses the values that are given to the type
   abbrev pub check_of : MetaType S C → Option C

@@ -44,7 +44,10 @@ impl TypeCheck {
     /// The check that asks this function. Takes no memory: the caller makes the box.
     ///
     /// The function may be called on every value, and of values that are the same wherever they
-    /// stand it accepts all or refuses all, want of memory aside.
+    /// stand it accepts all or refuses all, want of memory aside. That follows from a clause of the
+    /// closure, by which its answers tell whether a property holds of the value: of any property
+    /// that such values have alike, by the lemma `consistent_by`, and so of each property of
+    /// scalars, by `scalar_consistent`.
     pub fn new(function: Function) -> TypeCheck
         requires callable { Function.IsAlwaysCallable function }
         requires consistent { IsConsistent ⟦<DefaultScalarValue as PartialEq>⟧.eq (Function.post function) }

@@ -1,10 +1,16 @@
-//! The metadata of a schema's types, and the checks of its scalars, enums and input objects.
+//! The metadata of a schema's types and directives, and the checks of its scalars, enums and input
+//! objects.
 #![tactic(auto)]
 
 mod check;
+mod directive;
+mod directive_location;
 mod meta;
+pub mod scalar_checks;
 
 pub use check::{Check, SchemaScalar, TypeCheck};
+pub use directive::DirectiveType;
+pub use directive_location::DirectiveLocation;
 pub use meta::{
     Argument, DeprecationStatus, EnumMeta, EnumValue, Field, InputObjectMeta, InterfaceMeta,
     ListMeta, MetaType, NullableMeta, ObjectMeta, PlaceholderMeta, ScalarMeta, TypeKind, UnionMeta,

@@ -13,6 +13,7 @@ mod lookups;
 mod names;
 mod nullable;
 mod object;
+mod parts;
 mod placeholder;
 mod scalar;
 #[cfg(test)]

@@ -41,8 +41,8 @@ impl<S, C> MetaType<S, C> {
         }
     }
 
-    /// Where a scalar's values are specified, where the schema says it (GraphQL October 2021, 3.5.5
-    /// Custom Scalars). All other types have no such place.
+    /// Where a scalar's values are specified, where the schema says it (GraphQL October 2021, 3.5
+    /// Scalars, Custom Scalars). All other types have no such place.
     pub fn specified_by_url(&self) -> Option<&str>
         ensures { option_map (λ url. url.now) result ≡ url_of self.now }
     {

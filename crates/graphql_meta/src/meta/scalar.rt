@@ -15,7 +15,7 @@ pub struct ScalarMeta<C> {
     /// What it is for, in words.
     pub description: Option<Text>,
 
-    /// Where a custom scalar's values are specified (3.5.5 Custom Scalars).
+    /// Where a custom scalar's values are specified (3.5 Scalars, Custom Scalars).
     pub specified_by_url: Option<Text>,
 
     /// Which values it accepts.

@@ -66,6 +66,7 @@ fn fields_are_made(rt: HostRuntime) -> Result<(), Fail> {
     let field = hero(alloc)?;
     assert!(rt; field.deprecation_status.is_deprecated() && !field.is_builtin());
     assert_eq!(rt; field.deprecation_status.reason(), Some("Two heroes"));
+    assert_eq!(rt; field.arguments().len(), 1);
     let value = EnumValue::new(Text::from_str(alloc, "RED")?);
     assert!(rt; !value.deprecation_status.is_deprecated());
     let value = value
@@ -95,6 +96,8 @@ fn objects_are_made(rt: HostRuntime) -> Result<(), Fail> {
         None => assert!(rt; false),
     }
     assert!(rt; meta.field_by_name("Hero").is_none());
+    assert!(rt; meta.fields().len() == 1 && meta.interface_names().len() == 1);
+    assert!(rt; meta.member_names().is_empty() && meta.enum_values().is_empty());
     assert!(rt; meta.input_field_by_name("hero").is_none());
     Ok(())
 }
@@ -114,6 +117,7 @@ fn interfaces_and_unions_are_made(rt: HostRuntime) -> Result<(), Fail> {
     )?);
     let any: Meta = union.into_meta();
     assert!(rt; any.is_abstract() && any.is_composite() && any.is_builtin());
+    assert_eq!(rt; any.member_names().len(), 1);
     assert_eq!(rt; any.as_type(alloc)?.to_string(alloc)?.as_str(), "__Any!");
     Ok(())
 }
@@ -142,6 +146,7 @@ fn types_with_checks_are_made(rt: HostRuntime) -> Result<(), Fail> {
     );
     let point: Meta = point.into_meta();
     assert!(rt; point.is_input() && point.input_field_by_name("__x").is_some());
+    assert!(rt; point.input_fields().len() == 1 && color.enum_values().len() == 1);
     Ok(())
 }
 
