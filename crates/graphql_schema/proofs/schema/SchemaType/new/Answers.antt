@@ -1,0 +1,21 @@
+use Rattle.std.proofs.Common.{refl, subst, IsPermutation}
+use Rattle.std.specs.Option.{option_map}
+use Rattle.std.proofs.lemmas.Result.{err_from_is_err_and}
+use Rattle.graphql_schema.specs.Schemas.{roots_named}
+use Rattle.graphql_schema_types.proofs.Rearranged.{refused, made, roots_same}
+use Rattle.graphql_schema.proofs.schema.SchemaType.new.Goals as goal
+
+pub returns-in_err-find_fault : goal.returns-in_err-find_fault
+returns-in_err-find_fault g c =
+    let error = err_from_is_err_and c.from_residual-in_err-find_fault.result c.from_residual-in_err-find_fault.ensures.1 in
+    let named = roots_named c.args.query.now (option_map (λ name. name.now) c.args.mutation) (option_map (λ name. name.now) c.args.subscription) in
+    rw (error.1, error.2)
+    (refused c.args.metadata named c.in_ok-types.types (subst (λ xs. IsPermutation xs c.in_ok-types.types) c.in_ok-completed.ensures c.in_ok-types.ensures.permutation) _
+    (roots_same c.in_ok-query.ensures c.in_ok-mutation.ensures c.in_ok-subscription.ensures) c.in_err-find_fault.field-0.0 c.in_err-find_fault.ensures)
+
+pub returns : goal.returns
+returns g c =
+    let named = roots_named c.args.query.now (option_map (λ name. name.now) c.args.mutation) (option_map (λ name. name.now) c.args.subscription) in
+    let moved = subst (λ xs. IsPermutation xs c.in_ok-types.types) c.in_ok-completed.ensures c.in_ok-types.ensures.permutation in
+    let same = roots_same c.in_ok-query.ensures c.in_ok-mutation.ensures c.in_ok-subscription.ensures in
+    (made c.args.metadata named c.in_ok-types.types moved _ same c.in_ok-find_fault.ensures, record { description = refl; types = moved; roots = same; directives = c.in_ok-directives.ensures })

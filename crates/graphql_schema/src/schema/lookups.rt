@@ -1,0 +1,90 @@
+//! What a schema tells of itself: its types, its roots and its directives by name.
+
+ghost use Rattle.std.specs.Prelude.{◌≡◌, true, Some};
+ghost use Rattle.std.specs.Option.{option_map, option_copied, option_and_then};
+ghost use Rattle.graphql_schema_types.specs.Lookups.{type_named, is_object, is_given};
+ghost use Rattle.graphql_schema_types.specs.NameMaps.{named, passes, IsByName};
+
+use super::SchemaType;
+use graphql_meta::{DirectiveType, MetaType};
+use graphql_text::Text;
+
+impl<S, C> SchemaType<S, C> {
+    /// What the schema is for, in words, where it says it (GraphQL October 2021, 3.3 Descriptions).
+    pub fn description(&self) -> Option<&str>
+        ensures { option_map (λ text. text.now) result ≡ self.now.description }
+    {
+        match &self.description {
+            Some(text) => Some(text.as_str()),
+            None => None,
+        }
+    }
+
+    /// Gives the schema this description, in place of what it had.
+    pub fn set_description(&mut self, description: Text)
+        ensures described { self.new.description ≡ Some description }
+        ensures others { (self.new.types ≡ self.old.types) × (self.new.query ≡ self.old.query) × (self.new.mutation ≡ self.old.mutation) × (self.new.subscription ≡ self.old.subscription) × (self.new.directives ≡ self.old.directives) }
+    {
+        self.description = Some(description);
+    }
+
+    /// The metadata of the type of this name (GraphQL October 2021, 3.3 Schema: all types have
+    /// different names).
+    pub fn concrete_type_by_name(&self, name: &str) -> Option<&MetaType<S, C>>
+        ensures { option_copied result ≡ type_named self.now.types name.now }
+    {
+        self.types.get(name)
+    }
+
+    /// The metadata of the query root, an object (GraphQL October 2021, 3.3.1 Root Operation Types).
+    pub fn concrete_query_type(&self) -> &MetaType<S, C>
+        ensures query { type_named self.now.types self.now.query ≡ Some result.now }
+        ensures object { is_object result.now ≡ true }
+    {
+        match self.types.get(self.query.as_str()) {
+            Some(meta) => meta,
+            None => unreachable!(),
+        }
+    }
+
+    /// The metadata of the mutation root, an object, if the schema has one.
+    pub fn concrete_mutation_type(&self) -> Option<&MetaType<S, C>>
+        ensures root { option_copied result ≡ option_and_then (type_named self.now.types) self.now.mutation }
+        ensures object { passes is_object (option_copied result) ≡ is_given self.now.mutation }
+    {
+        self.root(&self.mutation)
+    }
+
+    /// The metadata of the subscription root, an object, if the schema has one.
+    pub fn concrete_subscription_type(&self) -> Option<&MetaType<S, C>>
+        ensures root { option_copied result ≡ option_and_then (type_named self.now.types) self.now.subscription }
+        ensures object { passes is_object (option_copied result) ≡ is_given self.now.subscription }
+    {
+        self.root(&self.subscription)
+    }
+
+    /// The metadata of the type that has the name, if one is given.
+    fn root<'a>(&'a self, name: &'a Option<Text>) -> Option<&'a MetaType<S, C>>
+        ensures { option_copied result ≡ option_and_then (type_named self.now.types) name.now }
+    {
+        match name {
+            Some(name) => self.types.get(name.as_str()),
+            None => None,
+        }
+    }
+
+    /// The directive of this name, without its `@` (GraphQL October 2021, 3.13 Directives).
+    pub fn directive_by_name(&self, name: &str) -> Option<&DirectiveType<S>>
+        ensures { option_copied result ≡ named (λ directive. directive.name) self.now.directives name.now }
+    {
+        self.directives.get(name)
+    }
+
+    /// The directives, each once, in the order of the bytes of their names.
+    pub fn directive_list(&self) -> &[DirectiveType<S>]
+        ensures all { result.now ≡ self.now.directives }
+        ensures by_name { IsByName (λ directive. directive.name) result.now }
+    {
+        self.directives.as_slice()
+    }
+}

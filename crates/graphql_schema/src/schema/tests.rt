@@ -1,0 +1,5 @@
+mod checks;
+mod examples;
+mod executable;
+mod lookups;
+mod refusals;
