@@ -86,6 +86,15 @@ fn no_interface(alloc: Global) -> Types {
     with(types(alloc)?, implementor(alloc, "Human", fields, "Query"))
 }
 
+/// A union's member that is no object, and a listed interface that is none.
+fn no_member_and_no_interface(alloc: Global) -> Types {
+    let fields = one_field(alloc, "name", "String")?;
+    with(
+        no_member(alloc)?,
+        implementor(alloc, "Human", fields, "Query"),
+    )
+}
+
 /// Two faults each, of which the earlier one is told.
 #[test]
 fn the_first_fault_is_told(rt: HostRuntime) -> Result<(), Fail> {
@@ -122,7 +131,10 @@ fn types_at_the_wrong_place_are_refused(rt: HostRuntime) -> Result<(), Fail> {
     let refusal = told(alloc, schema(alloc, no_member(alloc), Some("Nobody")))?;
     assert_eq!(rt; refusal.as_str(), "Root type \"Nobody\" is no object");
     let no_place = "is no object among a union's members, or no interface among those listed";
-    let refusal = told(alloc, schema(alloc, no_member(alloc), None))?;
+    let refusal = told(
+        alloc,
+        schema(alloc, no_member_and_no_interface(alloc), None),
+    )?;
     assert_eq!(rt;
         refusal.as_str(),
         format!(in alloc; "Type \"String\" {no_place}")?.as_str()
