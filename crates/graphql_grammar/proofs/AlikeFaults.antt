@@ -8,7 +8,7 @@ use Rattle.graphql_text.specs.declared.token.ScalarToken.{ScalarToken}
 use Rattle.graphql_text.specs.declared.parse_error.ParseError.{ParseError}
 use Rattle.graphql_grammar.specs.Input.{Located, Fault, first, unexpected}
 use Rattle.graphql_grammar.specs.Ahead.{mk}
-use Rattle.graphql_grammar.specs.Faults.{IsScalar, BadScalar, GoodScalar, Begins, FaultOf, unexpected_token, refused_scalar, FirstFault}
+use Rattle.graphql_grammar.specs.Faults.{IsScalar, BadScalar, GoodScalar, Begins, FaultOf, unexpected_token, refused_scalar, FirstFaultyToken}
 use Rattle.graphql_grammar.specs.Alike.{tokens_of, SameTokens, Corresponding}
 use Rattle.graphql_grammar.proofs.Alike.{same_first}
 
@@ -103,8 +103,8 @@ module _ {S A : Type 0} (reads : ScalarToken → Result S ParseError) (Tree : Li
       (subst (λ z. Corresponding ((before ++ rest) ++ end_at f ∷ []) ((l ++ r) ++ end_at g ∷ []) z (first g r).span) (sym at) (first_corresponds before l rest r f g h u)))
 
   -- where a text is refused, one with the same tokens is refused with the same fault, at the corresponding token
-  pub first_fault_again : (ts us : List Located) (f g : Span) (s u : SourcePosition) (e : Fault) → SameTokens ts us → FirstFault reads Tree (mk ts f s) e
-      → (d : Fault) × FirstFault reads Tree (mk us g u) d × (d.item ≡ e.item) × Corresponding (ts ++ end_at f ∷ []) (us ++ end_at g ∷ []) e.span d.span
+  pub first_fault_again : (ts us : List Located) (f g : Span) (s u : SourcePosition) (e : Fault) → SameTokens ts us → FirstFaultyToken reads Tree (mk ts f s) e
+      → (d : Fault) × FirstFaultyToken reads Tree (mk us g u) d × (d.item ≡ e.item) × Corresponding (ts ++ end_at f ∷ []) (us ++ end_at g ∷ []) e.span d.span
   first_fault_again ts us f g s u e h at = let c = same_split at.before at.rest us (sym (ap tokens_of at.front) ∙ h) in (
     moved g c.1 e,
     record {

@@ -1,5 +1,6 @@
 -- What a cursor answers, as the steps of productions say it.
-use Rattle.std.proofs.Common.{◌≡◌, ◌≢◌, ◌<◌, ◌≤◌, ◌+◌, ◌-◌, ℕ, Bool, true, false, if◌then◌else◌, List, [], ◌∷◌, ◌++◌, length, length-drop, drop, slice_get, slice_index_or, codes, Some, None, Ok, Err, refl, sym, ap, ◌∙◌, subst, ◌⊎◌, inl, inr, arith}
+use Rattle.std.proofs.Common.{◌≡◌, ◌≢◌, ◌<◌, ◌≤◌, ◌+◌, ◌-◌, ℕ, Bool, true, false, if◌then◌else◌, List, [], ◌∷◌, ◌++◌, length, length-drop, drop, slice_get, slice_index_or, codes, Some, None, Result, Ok, Err, IfErr, refl, sym, ap, ◌∙◌, subst, ◌⊎◌, inl, inr, arith}
+use Rattle.std.specs.Prelude.{IsErrAnd}
 use Rattle.std.specs.Str.{bytes_eq}
 use denote.Enum.Bare.{same_true}
 use Rattle.std.proofs.lemmas.List.{drop_all, at_drop_more, same_from_push}
@@ -12,14 +13,17 @@ use Rattle.graphql_text.specs.declared.parse_error.ParseError.TheVariants.{Memor
 use Rattle.graphql_text.specs.Position.{origin}
 use Rattle.graphql_text.specs.Spelling.{source_of}
 use Rattle.graphql_text.specs.Tokens.{is_end}
-use Rattle.graphql_text.specs.Grammar.{Divides, IsDivided}
+use Rattle.graphql_text.specs.Grammar.{Divides, IsDivided, IsBroken}
+use Rattle.graphql_text.specs.Reading as text
+use Rattle.graphql_text.specs.Refusals.{parse_error_of}
+use Rattle.graphql_items.specs.Memory.{UnlessMemory}
 use Rattle.graphql_grammar.specs.declared.kind.Kind.{Kind}
 use Rattle.graphql_grammar.specs.declared.kind.Kind.TheVariants as k
 use Rattle.graphql_grammar.specs.contracts.kind.Kind.{the_type}
 use Rattle.graphql_grammar.specs.Kinds.{Kinds, kind, word_kind, only, names, fragment_names}
-use Rattle.graphql_grammar.specs.Input.{Located, Input, Fault, IsFault, first, peek, peek_kind, left, next, unexpected, refusal}
+use Rattle.graphql_grammar.specs.Input.{Located, Input, Fault, IsMemory, StandsFor, first, peek, peek_kind, left, next, unexpected, refusal}
 use Rattle.graphql_grammar.specs.Steps.{sees, token, name_of, name, name_in}
-use Rattle.graphql_grammar.specs.Cursor.{NoEnd, IsStart, after}
+use Rattle.graphql_grammar.specs.Cursor.{NoEnd, IsStart, IsLexical, after}
 
 -- ---- what stands next
 
@@ -260,6 +264,17 @@ starts text ts front last d e =
     record { divided = subst D whole d; no_end = subst P parts.0 (divides_no_end [] text d.front d.before d.rest d.divides); end = refl }
 
 -- a refusal is about what stands next
-pub refused_stands : (i : Input) (e : Fault) → IsFault (refusal i) e → e.item ≢ Memory → (peek i).span ≡ e.span
+pub refused_stands : (i : Input) (e : Fault) → StandsFor (refusal i) e → e.item ≢ Memory → (peek i).span ≡ e.span
 unfolding refusal
 refused_stands i e is m = ap (λ (f : Fault). f.span) (is m)
+
+-- a lexical fault as the reason why a text can't be read
+pub lexical_told : (source : List ℕ) (fault : text.Refusal) (e : Fault) → UnlessMemory text.IsMemory fault (IsBroken source fault)
+    → e ≡ record { item = parse_error_of fault.item; span = fault.span } → UnlessMemory IsMemory e (IsLexical source e)
+lexical_told source fault e told is = λ (known : ¬ (IsMemory e)). (fault, told (λ (lacks : text.IsMemory fault). known (ap (λ (f : Fault). f.item) is ∙ ap parse_error_of lacks)), is)
+
+-- a call that fails by it
+pub lexical_refused : {A : Type 0} (source : List ℕ) (fault : text.Refusal) (result : Result A Fault) → UnlessMemory text.IsMemory fault (IsBroken source fault)
+    → IsErrAnd result (λ e. e ≡ record { item = parse_error_of fault.item; span = fault.span }) → IfErr result (λ e. UnlessMemory IsMemory e (IsLexical source e))
+lexical_refused source fault (Ok x) told is = tt
+lexical_refused source fault (Err e) told is = lexical_told source fault e told is

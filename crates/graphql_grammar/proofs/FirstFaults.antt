@@ -11,7 +11,7 @@ use Rattle.graphql_grammar.specs.Kinds.{Kinds, kind}
 use Rattle.graphql_grammar.specs.Input.{Input, Located, Fault, Parser, Outcome, left}
 use Rattle.graphql_grammar.specs.Ahead.{mk, Free, Like, kind_ahead, refused_at}
 use Rattle.graphql_grammar.specs.Relations.{end_of}
-use Rattle.graphql_grammar.specs.Faults.{IsScalar, BadScalar, GoodScalar, Begins, unexpected_token, refused_scalar, FirstFault, Spelled, OnlyTree, Longest, Sought, Found}
+use Rattle.graphql_grammar.specs.Faults.{IsScalar, BadScalar, GoodScalar, Begins, unexpected_token, refused_scalar, FirstFaultyToken, Spelled, OnlyTree, Longest, Sought, Found}
 use Rattle.graphql_grammar.proofs.Stops.{Stop, done, refused, unread, Continues}
 use Rattle.graphql_grammar.proofs.Law.{Law, least}
 
@@ -75,7 +75,7 @@ module _ {S A : Type 0} (reads : ScalarToken → Result S ParseError) {solid : B
   begun : (f : Span) (e : SourcePosition) (ts : List Located) (a : Located) (b : Begins reads Tree (ts ++ a ∷ [])) → (x : A) × (j : Input) × (p (mk (ts ++ a ∷ b.more) f e) ≡ Ok (x, j))
   begun f e ts a b = (b.tree, mk [] f (end_of e ((ts ++ a ∷ []) ++ b.more)), ap (λ ws. p (mk ws f e)) (sym (append-nil (ts ++ a ∷ b.more)) ∙ ap (λ ws. ws ++ []) (sym (append_assoc ts (a ∷ []) b.more))) ∙ complete _ b.tree b.spells [] free f e)
 
-  fault_by : (f : Span) (e : SourcePosition) (xs : List Located) (err : Fault) → Stop (BadScalar reads) (GoodScalar reads) (least solid) (Free stops) Tree p f e xs → p (mk xs f e) ≡ Err err → FirstFault reads Tree (mk xs f e) err
+  fault_by : (f : Span) (e : SourcePosition) (xs : List Located) (err : Fault) → Stop (BadScalar reads) (GoodScalar reads) (least solid) (Free stops) Tree p f e xs → p (mk xs f e) ≡ Err err → FirstFaultyToken reads Tree (mk xs f e) err
   fault_by f e xs err (done seen rest y is many r on) h = absurd (let q = sym h ∙ ap (λ ws. p (mk ws f e)) is ∙ on rest (inl refl) in cc)
   fault_by f e xs err (refused seen rest is halts on) h =
       let same : Path (Outcome A) (Err err) (Err (refused_at f rest)) = sym h ∙ ap (λ ws. p (mk ws f e)) is ∙ halts rest refl in
@@ -102,7 +102,7 @@ module _ {S A : Type 0} (reads : ScalarToken → Result S ParseError) {solid : B
       }
 
   -- where nothing is read, the first faulty token
-  pub first_fault : (i : Input) (err : Fault) → p i ≡ Err err → FirstFault reads Tree i err
+  pub first_fault : (i : Input) (err : Fault) → p i ≡ Err err → FirstFaultyToken reads Tree i err
   first_fault i err h = fault_by i.finish i.end i.ahead err ((law (suc (length i.ahead))).runs.stop i.ahead i.finish i.end (omega arith)) h
 
   -- tokens spell one tree at most

@@ -12,3 +12,4 @@ pub mod Turns
 pub mod Parts
 pub mod Alike
 pub mod AlikeFaults
+pub mod KindTests

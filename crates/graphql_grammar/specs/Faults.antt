@@ -52,7 +52,7 @@ module _ {S : Type 0} (reads : ScalarToken → Result S ParseError) where
       refused_scalar : (a : Located) (more : List Located) → rest ≡ a ∷ more → BadScalar a e → ((b : Located) → GoodScalar b → Begins (before ++ b ∷ [])) → FaultOf f before rest e
 
     -- The fault of the first token that no tree could have there. With no such token the text ends too early.
-    pub record FirstFault (i : Input) (e : Fault) : Type 0 where
+    pub record FirstFaultyToken (i : Input) (e : Fault) : Type 0 where
       pub before : List Located
       pub rest : List Located
       pub front : i.ahead ≡ before ++ rest
@@ -76,7 +76,7 @@ module _ {S : Type 0} (reads : ScalarToken → Result S ParseError) where
     -- what is read where a tree is looked for: the longest front that spells one, else the first faulty token
     abbrev pub Sought : Input → Outcome A → Type 0
     Sought i (Ok p) = Spelled i p.0 p.1 × Longest i p.0 p.1
-    Sought i (Err e) = FirstFault i e
+    Sought i (Err e) = FirstFaultyToken i e
 
     -- no other tree is spelled there
     pub record OnlyTree (i : Input) (x : A) : Type 0 where
@@ -85,4 +85,4 @@ module _ {S : Type 0} (reads : ScalarToken → Result S ParseError) where
     -- the same where no other tree is spelled in front
     abbrev pub Found : Input → Outcome A → Type 0
     Found i (Ok p) = Spelled i p.0 p.1 × OnlyTree i p.0
-    Found i (Err e) = FirstFault i e
+    Found i (Err e) = FirstFaultyToken i e

@@ -1,5 +1,5 @@
 -- What a parser reads from, and parsers.
-use Rattle.std.specs.Prelude.{◌≡◌, ◌≢◌, ℕ, List, [], ◌∷◌, length, drop, Result, Ok, Err}
+use Rattle.std.specs.Prelude.{◌≡◌, ℕ, List, [], ◌∷◌, length, drop, Result, Ok, Err}
 use Rattle.graphql_text.specs.declared.position.Span.{Span}
 use Rattle.graphql_text.specs.declared.position.SourcePosition.{SourcePosition}
 use Rattle.graphql_text.specs.declared.spanning.Spanning.{Spanning}
@@ -8,6 +8,7 @@ use Rattle.graphql_text.specs.declared.token.Token.TheVariants as t
 use Rattle.graphql_text.specs.declared.parse_error.ParseError.{ParseError}
 use Rattle.graphql_text.specs.declared.parse_error.ParseError.TheVariants.{Memory, UnexpectedToken, UnexpectedEndOfFile}
 use Rattle.graphql_text.specs.Spelling.{source_of}
+use Rattle.graphql_items.specs.Memory.{UnlessMemory, MeetsBy}
 use Rattle.graphql_grammar.specs.declared.kind.Kind.{Kind}
 use Rattle.graphql_grammar.specs.Kinds.{kind}
 
@@ -68,6 +69,10 @@ infixl 10 ◌>>=◌
 abbrev pub ◌>>=◌ : {A B : Type 0} → Parser A → (A → Parser B) → Parser B
 p >>= f = λ i. and_then (p i) f
 
+infixl 10 ◌>>◌
+abbrev pub ◌>>◌ : {A B : Type 0} → Parser A → Parser B → Parser B
+p >> q = p >>= (λ _. q)
+
 abbrev pub pure : {A : Type 0} → A → Parser A
 pure a = λ i. Ok (a, i)
 
@@ -84,21 +89,23 @@ refuse = λ i. Err (refusal i)
 
 -- ---- what functions that parse ensure
 
--- the parser's outcome, want of memory aside
+-- an error that tells nothing of what is read
+abbrev pub IsMemory : Fault → Type 0
+IsMemory e = e.item ≡ Memory
+
+-- the parser's outcome
 abbrev pub Reads : {A : Type 0} → Outcome A → Result A Fault → Input → Type 0
-Reads outcome (Ok a) new = outcome ≡ Ok (a, new)
-Reads outcome (Err e) new = e.item ≢ Memory → outcome ≡ Err e
+Reads outcome result new = MeetsBy (λ a. (a, new)) IsMemory result outcome
 
 -- the same of a function that fills a list
 abbrev pub Fills : {A : Type 0} → Outcome (List A) → Result (Unit {0}) Fault → List A → Input → Type 0
-Fills outcome (Ok u) found new = outcome ≡ Ok (found, new)
-Fills outcome (Err e) found new = e.item ≢ Memory → outcome ≡ Err e
+Fills outcome result found new = MeetsBy (λ u. (found, new)) IsMemory result outcome
 
--- an error that stands for this one, want of memory aside
-abbrev pub IsFault : Fault → Fault → Type 0
-IsFault wanted e = e.item ≢ Memory → wanted ≡ e
+-- an error that stands for this one
+abbrev pub StandsFor : Fault → Fault → Type 0
+StandsFor wanted e = UnlessMemory IsMemory e (wanted ≡ e)
 
--- what stands next is what the error is about, want of memory aside
+-- what stands next is what the error is about
 abbrev pub StandsAt : {A : Type 0} → Result A Fault → Input → Type 0
 StandsAt (Ok a) i = Unit {0}
-StandsAt (Err e) i = e.item ≢ Memory → (peek i).span ≡ e.span
+StandsAt (Err e) i = UnlessMemory IsMemory e ((peek i).span ≡ e.span)

@@ -3,17 +3,14 @@
 ghost use Rattle.std.specs.Prelude.{◌≡◌, ◌≢◌, ◌-◌, ◌<◌, ◌≤◌, [], ◌∷◌, ◌++◌, slice_get, IfOk, IfErr, OnOk, OnErr};
 ghost use Rattle.std.specs.Option.{option_copied};
 ghost use Rattle.std.specs.Str.{chars};
-ghost use Rattle.graphql_text.specs.declared.parse_error.ParseError.TheVariants.{Memory};
+ghost use Rattle.graphql_items.specs.Memory.{UnlessMemory};
 ghost use Rattle.graphql_grammar.specs.declared.kind.Kind.TheVariants as k;
 ghost use Rattle.graphql_grammar.specs.Kinds.{only, fragment_names};
 ghost use Rattle.graphql_grammar.specs.Input as spec;
-ghost use Rattle.graphql_grammar.specs.Input.{Reads, IsFault, StandsAt, left, next, refusal};
+ghost use Rattle.graphql_grammar.specs.Input.{IsMemory, Reads, StandsFor, StandsAt, left, next, refusal};
 ghost use Rattle.graphql_grammar.specs.Steps as steps;
 ghost use Rattle.graphql_grammar.specs.Steps.{sees};
 ghost use Rattle.graphql_grammar.specs.Cursor.{IsStart, IsLexical, after};
-
-#[cfg(test)]
-mod tests;
 
 use crate::kind::{Kind, kind_of};
 use graphql_text::{Items, ParseError, SourcePosition, Span, Spanning, TextRef, Token, lex_all};
@@ -53,7 +50,7 @@ impl<'a> Cursor<'a> {
     /// An error is the text's first lexical fault, or `ParseError::Memory` where memory ran out.
     pub fn new(alloc: Global, source: &'a str) -> Result<Cursor<'a>, Fault>
         ensures start { IfOk result (λ cursor. IsStart (chars source.now) cursor) }
-        ensures fault { IfErr result (λ e. e.item ≢ Memory → IsLexical (chars source.now) e) }
+        ensures fault { IfErr result (λ e. UnlessMemory IsMemory e (IsLexical (chars source.now) e)) }
     {
         let mut tokens = lex_all(alloc, source)?;
         let Some(last) = tokens.pop() else {
@@ -147,7 +144,7 @@ impl<'a> Cursor<'a> {
     /// text, or `ParseError::UnexpectedEndOfFile`. `ParseError::Memory` comes only where memory ran
     /// out.
     pub fn refuse(&self, alloc: Global) -> Fault
-        ensures { IsFault (refusal self.now) result }
+        ensures { StandsFor (refusal self.now) result }
     {
         let next = self.peek();
         match next.item {

@@ -6,10 +6,6 @@ ghost use Rattle.std.specs.Iterator.Runs.{EveryRun, ItemsMapTo};
 
 mod compares;
 mod lends;
-#[cfg(test)]
-mod nested_tests;
-#[cfg(test)]
-mod tests;
 mod traits;
 
 use std::alloc::{AllocError, AllocFailed, Global};

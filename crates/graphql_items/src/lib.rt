@@ -7,8 +7,6 @@
 #![tactic(auto)]
 
 mod items;
-#[cfg(test)]
-mod memory_tests;
 mod text;
 
 pub use items::Items;

@@ -3,8 +3,6 @@ ghost use Rattle.std.specs.Char.{encode_utf8};
 ghost use Rattle.std.specs.Str.{bytes_eq};
 
 mod compares;
-#[cfg(test)]
-mod tests;
 mod traits;
 
 use std::alloc::{AllocError, Global};

@@ -56,11 +56,11 @@ module _ {S : Type 0} (reads : ScalarToken → Result S ParseError) (of_bool : B
   Doc = DocumentOf S reads of_bool
 
   -- a document of these tokens, which differs in places alone
-  abbrev Again : List Located → List (Definition S) → Type 0
-  Again us x = (y : List (Definition S)) × Doc us y × (unlocated_document y ≡ unlocated_document x)
+  abbrev SpellsAgain : List Located → List (Definition S) → Type 0
+  SpellsAgain us x = (y : List (Definition S)) × Doc us y × (unlocated_document y ≡ unlocated_document x)
 
   read_again : (us : List Located) (x : List (Definition S)) (f : Span) (e : SourcePosition) (o : Outcome (List (Definition S))) → document reads of_bool (mk us f origin) ≡ o
-      → SameOutcome unlocated_document (Ok (x, mk [] f e)) o → Again us x
+      → SameOutcome unlocated_document (Ok (x, mk [] f e)) o → SpellsAgain us x
   read_again us x f e (Ok p) r h =
       let s = spelled reads Doc (document reads of_bool) (law_document reads of_bool) refl (mk us f origin) p.0 p.1 r in
       let whole : us ≡ s.tokens = s.front ∙ ap (λ ws. s.tokens ++ ws) (no_tokens p.1.ahead h.1) ∙ append-nil s.tokens in
@@ -68,7 +68,7 @@ module _ {S : Type 0} (reads : ScalarToken → Result S ParseError) (of_bool : B
   read_again us x f e (Err d) r h = absurd h
 
   -- what some tokens spell the same tokens spell elsewhere, places aside
-  document_again : (ts us : List Located) (x : List (Definition S)) → SameTokens ts us → Doc ts x → Again us x
+  document_again : (ts us : List Located) (x : List (Definition S)) → SameTokens ts us → Doc ts x → SpellsAgain us x
   document_again ts us x h d = let f : Span = record { start = origin; end = origin } in
       let read = (law_document reads of_bool (suc (length ts))).reads ts x d (omega arith) [] refl f origin in
       let same = (even_document reads of_bool).at (mk (ts ++ []) f origin) (mk us f origin) (ap tokens_of (append-nil ts) ∙ h) in

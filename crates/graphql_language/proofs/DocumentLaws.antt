@@ -19,8 +19,8 @@ use Rattle.graphql_grammar.proofs.Recursion.{uses_law}
 use Rattle.graphql_grammar.proofs.Ends.{not_end, law_finished}
 use Rattle.graphql_language.specs.ReadDocuments.{operation_words, operation_type_of, definition_kinds, query_of, full_operation, operation, fragment, definition, document}
 use Rattle.graphql_language.specs.Documents.{FullOperationOf, OperationOf, FragmentOf, DefinitionOf, DocumentOf}
-use Rattle.graphql_language.proofs.ValueLaws.{law_placed_name}
-use Rattle.graphql_language.proofs.DirectiveLaws.{law_directives, law_variables}
+use Rattle.graphql_value_syntax.proofs.ValueLaws.{law_placed_name}
+use Rattle.graphql_value_syntax.proofs.DirectiveLaws.{law_directives, law_variables}
 use Rattle.graphql_language.proofs.SelectionLaws.{law_fragment_name, law_condition, law_set}
 
 module _ {S : Type 0} (reads : ScalarToken → Result S ParseError) (of_bool : Bool → S) where

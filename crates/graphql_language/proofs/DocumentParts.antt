@@ -18,7 +18,7 @@ use Rattle.graphql_grammar.specs.Steps.{sees, expect, name_in, located, optional
 use Rattle.graphql_grammar.proofs.Cursors.{token_yes, token_no}
 use Rattle.graphql_grammar.proofs.Parts.{then_read, then_refused, when_yes, when_no}
 use Rattle.graphql_grammar.proofs.Turns.{AllLeft, all_starts}
-use Rattle.graphql_language.specs.ReadDirectives.{directives, variable_definitions}
+use Rattle.graphql_value_syntax.specs.ReadDirectives.{directives, variable_definitions}
 use Rattle.graphql_language.specs.ReadSelections.{type_condition}
 use Rattle.graphql_language.specs.ReadDocuments.{operation_words, operation_type_of, type_by, definition_kinds, set, query_of, full_operation, operation, fragment, definition, document}
 use Rattle.graphql_language.specs.ReadDefinitions.{operation_type, operation_name, operation_parts, fragment_parts, definitions}

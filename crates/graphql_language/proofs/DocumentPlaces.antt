@@ -18,7 +18,7 @@ use Rattle.graphql_language.specs.ReadSelections.{Names, field_names, type_condi
 use Rattle.graphql_language.specs.ReadDocuments.{operation_words, operation_type_of, definition_kinds, query_of, set, full_operation, operation, fragment, definition, document}
 use Rattle.graphql_tree.specs.Unlocated.{without_place, unlocated_name, unlocated_arguments, unlocated_directives, unlocated_spread, unlocated_selection, unlocated_field, unlocated_inline, unlocated_operation, unlocated_fragment, unlocated_definition, unlocated_document}
 use Rattle.graphql_tree.proofs.UnlocatedEquations.{unlocated_selection_field, unlocated_selection_spread, unlocated_selection_inline, unlocated_in_field, unlocated_in_inline}
-use Rattle.graphql_language.proofs.Places.{even_placed, even_expect, even_name, even_arguments, even_directives, even_variables}
+use Rattle.graphql_value_syntax.proofs.Places.{even_placed, even_expect, even_name, even_arguments, even_directives, even_variables}
 
 -- ---- names of fields and fragments
 

@@ -2,14 +2,14 @@
 use Rattle.std.proofs.Common.{◌≡◌, Option, Some, None, List, Result, Ok, MatchOption, sym, subst}
 use Rattle.graphql_text.specs.declared.token.Token.{Token}
 use Rattle.graphql_grammar.specs.Input.{At, Located, Fault}
-use Rattle.graphql_language.specs.Parser.{State, Again, Gives, Calls, OpeningToken, MaybeToken}
+use Rattle.graphql_language.specs.Parser.{State, RefusesAgain, CallsFresh, Calls, OpeningToken, MaybeToken}
 use Rattle.graphql_language.specs.Lists.{Call, Until, enclosed, Delimited, listed}
 
 -- where the closing token does not stand, the parser stays
 pub skipped_none : (wanted : Token) (s m : State) → Calls (MaybeToken wanted) s (Ok None) m → m.input ≡ s.input
 skipped_none wanted s m calls = on s.refused calls
   where
-    on : (o : Option Fault) → MatchOption o (Gives (MaybeToken wanted) s.input (Ok None) m) (λ e. Again {A = Option Located} e (Ok None) × (m ≡ s)) → m.input ≡ s.input
+    on : (o : Option Fault) → MatchOption o (CallsFresh (MaybeToken wanted) s.input (Ok None) m) (λ e. RefusesAgain {A = Option Located} e (Ok None) × (m ≡ s)) → m.input ≡ s.input
     on None gives = gives.0.2
     on (Some e) again = absurd again.0
 

@@ -17,7 +17,7 @@ use Rattle.graphql_language.specs.ReadSelections.{selection_set, selection}
 use Rattle.graphql_language.specs.ReadHeads.{whole, opens, completed, ending, begun}
 use Rattle.graphql_language.proofs.SelectionDepth.{takes_selection, selection_at_end}
 use Rattle.graphql_language.proofs.SelectionLevels.{selection_refused, selection_whole, selection_inside_refused, selection_opens}
-use Rattle.graphql_language.proofs.ValueDepth.{value_uses}
+use Rattle.graphql_value_syntax.proofs.ValueDepth.{value_uses}
 
 -- what was found before is what stands around a set that opens
 pub opened_in : {S : Type 0} {more : List (Open S)} {base : List (Selection S)} (outer : List (Open S)) (found : List (Selection S)) (x : Head S) → base ≡ found → more ≡ outer ++ record { head = x; around = base } ∷ [] → more ≡ outer ++ record { head = x; around = found } ∷ []

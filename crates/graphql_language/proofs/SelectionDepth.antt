@@ -14,8 +14,8 @@ use Rattle.graphql_grammar.proofs.Loops.{Takes}
 use Rattle.graphql_grammar.proofs.Recursion.{Uses, Agree, agree_self, agree_fewer, agree_pure, agree_bind, agree_made, agree_located, agree_when, agree_optional, agree_token, agree_some_between, unfolds, uses_fix}
 use Rattle.graphql_tree.specs.declared.selection.Selection.{Selection}
 use Rattle.graphql_tree.specs.declared.selection.Selection.TheVariants as s
-use Rattle.graphql_language.specs.ReadValues.{value}
-use Rattle.graphql_language.specs.ReadDirectives.{some_of, arguments, directive, directives}
+use Rattle.graphql_value_syntax.specs.ReadValues.{value}
+use Rattle.graphql_value_syntax.specs.ReadDirectives.{some_of, arguments, directive, directives}
 use Rattle.graphql_language.specs.ReadSelections.{field_names, type_condition, fragment_spread, inlines, spreads, selection_of, made_field, selection_set, inline_fragment, spread, field, selection_layer, selection_from, selection}
 
 -- ---- parts that do not call themselves

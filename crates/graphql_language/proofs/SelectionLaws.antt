@@ -23,14 +23,14 @@ use Rattle.graphql_grammar.proofs.Law.{Law, law_bind, law_pure, law_made, law_is
 use Rattle.graphql_grammar.proofs.Choices.{law_token, law_expect, law_when, law_optional, law_located}
 use Rattle.graphql_grammar.proofs.Loops.{law_some_between}
 use Rattle.graphql_grammar.proofs.Begins.{BeginsWith, begins_token, begins_bind, begins_when, begins_located, begins_same}
-use Rattle.graphql_language.specs.ReadDirectives.{directives}
+use Rattle.graphql_value_syntax.specs.ReadDirectives.{directives}
 use Rattle.graphql_language.specs.ReadSelections.{field_names, type_condition, Spread, spreads, inlines, made_spread, selection_of, fragment_spread, made_field, selection_set, inline_fragment, spread, field, selection_layer, selection_from, selection}
-use Rattle.graphql_language.specs.Values.{spanned}
-use Rattle.graphql_language.specs.Directives.{Sign, ArgumentsOf, DirectivesOf}
+use Rattle.graphql_value_syntax.specs.Values.{spanned}
+use Rattle.graphql_value_syntax.specs.Directives.{Sign, ArgumentsOf, DirectivesOf}
 use Rattle.graphql_language.specs.Selections.{FragmentNamed, TypeConditionOf, NamesOf, Stands, SelectionOf, of_field, of_spread, of_inline, FieldOf, of_parts, InlineOf, of_inline_parts, MaybeSetOf, no_set, some_set, SetOf, of_set, SelectionsOf, one_selection, more_selections}
-use Rattle.graphql_language.proofs.ValueDepth.{value_uses}
-use Rattle.graphql_language.proofs.ValueLaws.{law_placed_name}
-use Rattle.graphql_language.proofs.DirectiveLaws.{law_arguments, law_directives}
+use Rattle.graphql_value_syntax.proofs.ValueDepth.{value_uses}
+use Rattle.graphql_value_syntax.proofs.ValueLaws.{law_placed_name}
+use Rattle.graphql_value_syntax.proofs.DirectiveLaws.{law_arguments, law_directives}
 use Rattle.graphql_language.proofs.SelectionDepth.{selection_unfolds, takes_selection, selection_at_end}
 
 -- what a selection begins with

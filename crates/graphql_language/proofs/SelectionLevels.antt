@@ -16,10 +16,10 @@ use Rattle.graphql_grammar.specs.Kinds.{only, fragment_names}
 use Rattle.graphql_grammar.specs.Input.{At, Input, Fault, Outcome, Parser, and_then, ◌>>=◌, pure, peek}
 use Rattle.graphql_grammar.specs.Steps.{sees, when, until, expect, name_in, placed, located, optional}
 use Rattle.graphql_grammar.proofs.Parts.{then_refused}
-use Rattle.graphql_language.specs.ReadDirectives.{arguments, directives}
+use Rattle.graphql_value_syntax.specs.ReadDirectives.{arguments, directives}
 use Rattle.graphql_language.specs.ReadSelections.{Names, field_names, type_condition, Spread, spreads, inlines, selection_of, made_field, fragment_spread, selection_set, inline_fragment, spread, field, selection_layer, selection}
 use Rattle.graphql_language.specs.ReadHeads.{Begun, whole, opens, head_of, field_with, inline_with, spread_of, completed, ending, whole_ending, field_parts, field_head, spread_parts, inline_head, spread_begun, field_begun, begun, rest_of}
-use Rattle.graphql_language.proofs.ValueDepth.{value_uses}
+use Rattle.graphql_value_syntax.proofs.ValueDepth.{value_uses}
 use Rattle.graphql_language.proofs.SelectionDepth.{selection_unfolds}
 
 module _ {S : Type 0} (reads : ScalarToken → Result S ParseError) (of_bool : Bool → S) (p : Parser (Selection S)) where

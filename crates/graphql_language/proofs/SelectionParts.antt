@@ -21,24 +21,24 @@ use Rattle.graphql_grammar.specs.Steps.{sees, when, expect, name, name_in, locat
 use Rattle.graphql_grammar.specs.Cursor.{after}
 use Rattle.graphql_grammar.proofs.Cursors.{token_yes, after_yes, after_no}
 use Rattle.graphql_grammar.proofs.Parts.{then_read, then_refused, when_yes, when_no}
-use Rattle.graphql_language.specs.ReadDirectives.{arguments, directives}
+use Rattle.graphql_value_syntax.specs.ReadDirectives.{arguments, directives}
 use Rattle.graphql_language.specs.ReadSelections.{Names, field_names, type_condition}
-use Rattle.graphql_language.specs.ReadHeads.{Begun, whole, opens, Begins, head_of, field_with, spread_of, whole_ending, field_parts, field_head, spread_parts, inline_head, spread_begun, field_begun, begun}
+use Rattle.graphql_language.specs.ReadHeads.{Begun, whole, opens, BeginsSelection, head_of, field_with, spread_of, whole_ending, field_parts, field_head, spread_parts, inline_head, spread_begun, field_begun, begun}
 
 -- the exit of a `?`: the fault of a part is the fault of the whole
 pub begins_exit : {S B : Type 0} {o : Outcome (Begun S)} {p : Outcome B} {e : Fault} (r : Result (Option (Head S)) Fault) (old new : List (Selection S)) (j : Input)
-    → IsErrAnd r (λ f. f ≡ e) → (e.item ≢ Memory → p ≡ Err e) → (p ≡ Err e → o ≡ Err e) → Begins o r old new j
+    → IsErrAnd r (λ f. f ≡ e) → (e.item ≢ Memory → p ≡ Err e) → (p ≡ Err e → o ≡ Err e) → BeginsSelection o r old new j
 begins_exit (Ok u) old new j same part all = absurd same
 begins_exit {S} {B} {o} {p} {e} (Err f) old new j same part all = let P : Fault → Type 0 = λ x. x.item ≢ Memory → o ≡ Err x in subst P (sym same) (λ told. all (part told))
 
 -- parsers that answer the same
-pub begins_same : {S : Type 0} {o p : Outcome (Begun S)} (r : Result (Option (Head S)) Fault) (old new : List (Selection S)) (j : Input) → o ≡ p → Begins p r old new j → Begins o r old new j
-begins_same {S} {o} {p} r old new j same h = let P : Outcome (Begun S) → Type 0 = λ u. Begins u r old new j in subst P (sym same) h
+pub begins_same : {S : Type 0} {o p : Outcome (Begun S)} (r : Result (Option (Head S)) Fault) (old new : List (Selection S)) (j : Input) → o ≡ p → BeginsSelection p r old new j → BeginsSelection o r old new j
+begins_same {S} {o} {p} r old new j same h = let P : Outcome (Begun S) → Type 0 = λ u. BeginsSelection u r old new j in subst P (sym same) h
 
-pub begins_some : {S : Type 0} {o : Outcome (Begun S)} (r : Option (Head S)) (x : Head S) (old new : List (Selection S)) (j : Input) → r ≡ Some x → Begins o (Ok r) old new j → (o ≡ Ok (opens x, j)) × (new ≡ old)
-begins_some {S} {o} r x old new j is h = let P : Option (Head S) → Type 0 = λ u. Begins o (Ok u) old new j in subst P is h
+pub begins_some : {S : Type 0} {o : Outcome (Begun S)} (r : Option (Head S)) (x : Head S) (old new : List (Selection S)) (j : Input) → r ≡ Some x → BeginsSelection o (Ok r) old new j → (o ≡ Ok (opens x, j)) × (new ≡ old)
+begins_some {S} {o} r x old new j is h = let P : Option (Head S) → Type 0 = λ u. BeginsSelection o (Ok u) old new j in subst P is h
 
-pub begins_none : {S : Type 0} {o : Outcome (Begun S)} (r : Option (Head S)) (old new : List (Selection S)) (j : Input) → ((x : Head S) → r ≢ Some x) → Begins o (Ok r) old new j
+pub begins_none : {S : Type 0} {o : Outcome (Begun S)} (r : Option (Head S)) (old new : List (Selection S)) (j : Input) → ((x : Head S) → r ≢ Some x) → BeginsSelection o (Ok r) old new j
     → (x : Selection S) × (o ≡ Ok (whole x, j)) × (new ≡ old ++ x ∷ [])
 begins_none (Some x) old new j none h = absurd (none x refl)
 begins_none None old new j none h = h

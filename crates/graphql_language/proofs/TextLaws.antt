@@ -13,7 +13,7 @@ use Rattle.graphql_grammar.specs.Kinds.{only}
 use Rattle.graphql_grammar.specs.Input.{Input, Located, Fault, Outcome, Reads, ◌>>=◌}
 use Rattle.graphql_grammar.specs.Steps.{finished, all}
 use Rattle.graphql_grammar.specs.Ahead.{mk, kind_ahead}
-use Rattle.graphql_grammar.specs.Faults.{Begins, FirstFault}
+use Rattle.graphql_grammar.specs.Faults.{Begins, FirstFaultyToken}
 use Rattle.graphql_grammar.specs.Cursor.{NoEnd, IsStart}
 use Rattle.graphql_text.proofs.GrammarLaws as lexical
 use Rattle.graphql_grammar.proofs.Cursors.{end_or_not, starts}
@@ -44,7 +44,7 @@ module _ {S A : Type 0} (reads : ScalarToken → Result S ParseError) (Tree : Li
   fits_by before [] x no_more too_short d = too_short refl x (subst (λ us. Tree us x) (append-nil before) d)
   fits_by before (a ∷ more) x no_more too_short d = no_more a more refl (record { more = more; tree = x; spells = subst (λ us. Tree us x) (sym (append_assoc before (a ∷ []) more)) d })
 
-  fits : (ts : List Located) (finish : Span) (x : A) (e : Fault) → FirstFault reads Tree (mk ts finish origin) e → Tree ts x → ⊥
+  fits : (ts : List Located) (finish : Span) (x : A) (e : Fault) → FirstFaultyToken reads Tree (mk ts finish origin) e → Tree ts x → ⊥
   fits ts finish x e f d = fits_by f.before f.rest x f.impossible f.too_short (subst (λ us. Tree us x) f.front d)
 
 module _ {S : Type 0} (reads : ScalarToken → Result S ParseError) (of_bool : Bool → S) where
@@ -75,7 +75,7 @@ module _ {S : Type 0} (reads : ScalarToken → Result S ParseError) (of_bool : B
     tokens = i.ahead;
     finish = i.finish;
     cut = start.divided;
-    first = subst (λ (s : Input). FirstFault reads Doc s e) (start_is text i start) (first_fault reads Doc (document reads of_bool) (law_document reads of_bool) refl i e r);
+    first = subst (λ (s : Input). FirstFaultyToken reads Doc s e) (start_is text i start) (first_fault reads Doc (document reads of_bool) (law_document reads of_bool) refl i e r);
   })
 
   -- ---- laws

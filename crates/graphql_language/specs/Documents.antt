@@ -10,7 +10,7 @@ use Rattle.graphql_grammar.specs.declared.kind.Kind.TheVariants as k
 use Rattle.graphql_grammar.specs.Input.{At, Located}
 use Rattle.graphql_grammar.specs.Relations.{TokenOf, Then, Made, Placed, OptionOf, SomeOf, EitherOf}
 use Rattle.graphql_language.specs.ReadDocuments.{operation_words, operation_type_of, query_of}
-use Rattle.graphql_language.specs.Directives.{Sign, Named, DirectivesOf, VariableDefinitionsOf}
+use Rattle.graphql_value_syntax.specs.Directives.{Sign, Named, DirectivesOf, VariableDefinitionsOf}
 use Rattle.graphql_language.specs.Selections.{FragmentNamed, TypeConditionOf, SetOf}
 
 module _ (S : Type 0) (reads : ScalarToken → Result S ParseError) (of_bool : Bool → S) where

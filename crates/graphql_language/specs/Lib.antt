@@ -1,14 +1,6 @@
-pub mod ReadParts
-pub mod ReadValues
-pub mod ReadTypes
-pub mod ReadWraps
-pub mod ReadDirectives
 pub mod ReadSelections
 pub mod ReadHeads
 pub mod ReadDocuments
-pub mod Values
-pub mod Types
-pub mod Directives
 pub mod Selections
 pub mod Documents
 pub mod Parser

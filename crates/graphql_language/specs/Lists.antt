@@ -5,7 +5,7 @@ use Rattle.std.specs.Borrow.{MutBor}
 use Rattle.graphql_text.specs.declared.token.Token.{Token}
 use Rattle.graphql_text.specs.declared.parse_error.ParseError.TheVariants.{Memory}
 use Rattle.graphql_grammar.specs.Input.{At, Located, Fault}
-use Rattle.graphql_language.specs.Parser.{State, Calls, OpeningToken, MaybeToken, Keeps}
+use Rattle.graphql_language.specs.Parser.{State, Calls, OpeningToken, MaybeToken, KeepsRefusal}
 
 -- what a call may answer, from one state of the parser to another
 abbrev pub Call : Type 0 → Type 1
@@ -22,13 +22,13 @@ pub record Item {F A : Type 0} (function : Function F A) (f : F) (s : State) (r 
   pub answer : Result A Fault
   pub after : MutBor State
   pub met : function.post f (shown, tt) (answer, (after, tt))
-  pub keeps : Keeps answer after.now r t
+  pub keeps : KeepsRefusal answer after.now r t
 
 -- want of memory, by which the parser has failed
 pub record Full (s : State) (f : Fault) (t : State) : Type 0 where
   pub fault : Fault
   pub memory : fault.item ≡ Memory
-  pub keeps : Keeps {A = Unit {0}} (Err fault) s (Err f) t
+  pub keeps : KeepsRefusal {A = Unit {0}} (Err fault) s (Err f) t
 
 module _ {A : Type 0} (closing : Token) (item : Call A) where
   -- items up to the closing token, behind those that were found; with them the closing token

@@ -2,9 +2,9 @@
 use Rattle.std.specs.Prelude.{◌≡◌, ◌≢◌, Option, Some, None, Result, Ok, Err, MatchOption}
 use Rattle.graphql_text.specs.declared.token.Token.{Token}
 use Rattle.graphql_text.specs.declared.token.Token.TheVariants.{EndOfFile}
-use Rattle.graphql_text.specs.declared.parse_error.ParseError.TheVariants.{Memory}
+use Rattle.graphql_items.specs.Memory.{UnlessMemory}
 use Rattle.graphql_grammar.specs.Input as input
-use Rattle.graphql_grammar.specs.Input.{Input, Located, Fault, Outcome, IsFault, peek, next, refusal}
+use Rattle.graphql_grammar.specs.Input.{Input, Located, Fault, Outcome, IsMemory, StandsFor, peek, next, refusal}
 
 pub record State : Type 0 where
   pub input : Input
@@ -44,40 +44,40 @@ MaybeToken wanted i (Err e) = ((peek i).item ≢ wanted) × ((peek i).item ≡ E
 -- ---- what calls ensure, want of memory aside
 
 -- the fault that was given, once more
-abbrev pub Again : {A : Type 0} → Fault → Result A Fault → Type 0
-Again e (Ok x) = ⊥
-Again e (Err f) = IsFault e f
+abbrev pub RefusesAgain : {A : Type 0} → Fault → Result A Fault → Type 0
+RefusesAgain e (Ok x) = ⊥
+RefusesAgain e (Err f) = StandsFor e f
 
 -- it refuses by a fault, which the parser keeps, and stands at the token that the fault is about
 pub record Fails {A : Type 0} (rule : Rule A) (i : Input) (f : Fault) (new : State) : Type 0 where
   pub fault : Fault
   pub kept : new.refused ≡ Some fault
-  pub told : IsFault fault f
-  pub refuses : fault.item ≢ Memory → rule i (Err fault)
-  pub stands : fault.item ≢ Memory → (peek new.input).span ≡ fault.span
+  pub told : StandsFor fault f
+  pub refuses : UnlessMemory IsMemory fault (rule i (Err fault))
+  pub stands : UnlessMemory IsMemory fault ((peek new.input).span ≡ fault.span)
 
 -- of a parser that has not failed
-abbrev pub Gives : {A : Type 0} → Rule A → Input → Result A Fault → State → Type 0
-Gives rule i (Ok x) new = rule i (Ok (x, new.input)) × (new.refused ≡ None)
-Gives rule i (Err f) new = Fails rule i f new
+abbrev pub CallsFresh : {A : Type 0} → Rule A → Input → Result A Fault → State → Type 0
+CallsFresh rule i (Ok x) new = rule i (Ok (x, new.input)) × (new.refused ≡ None)
+CallsFresh rule i (Err f) new = Fails rule i f new
 
 -- a parser that has failed answers its refusal again, and stays
 abbrev pub Calls : {A : Type 0} → Rule A → State → Result A Fault → State → Type 0
-Calls rule old result new = MatchOption old.refused (Gives rule old.input result new) (λ e. Again e result × (new ≡ old))
+Calls rule old result new = MatchOption old.refused (CallsFresh rule old.input result new) (λ e. RefusesAgain e result × (new ≡ old))
 
 -- ---- the parts of a call
 
 -- nothing where nothing was refused, else that refusal
 abbrev pub Ready : State → Result (Unit {0}) Fault → Type 0
 Ready s (Ok u) = s.refused ≡ None
-Ready s (Err f) = (e : Fault) × (s.refused ≡ Some e) × IsFault e f
+Ready s (Err f) = (e : Fault) × (s.refused ≡ Some e) × StandsFor e f
 
 -- what was read of an input; a refusal is about the token that stands next
-abbrev pub Meets : {A : Type 0} → Rule A → Input → Result A Fault → Input → Type 0
-Meets rule i (Ok x) j = rule i (Ok (x, j))
-Meets rule i (Err e) j = e.item ≢ Memory → rule i (Err e) × ((peek j).span ≡ e.span)
+abbrev pub ReadsBy : {A : Type 0} → Rule A → Input → Result A Fault → Input → Type 0
+ReadsBy rule i (Ok x) j = rule i (Ok (x, j))
+ReadsBy rule i (Err e) j = UnlessMemory IsMemory e (rule i (Err e) × ((peek j).span ≡ e.span))
 
 -- the same answer; of a fault the parser keeps that it has failed by it
-abbrev pub Keeps : {A : Type 0} → Result A Fault → State → Result A Fault → State → Type 0
-Keeps (Ok x) old result new = (result ≡ Ok x) × (new ≡ old)
-Keeps (Err e) old result new = Again e result × (new ≡ record { input = old.input; refused = Some e })
+abbrev pub KeepsRefusal : {A : Type 0} → Result A Fault → State → Result A Fault → State → Type 0
+KeepsRefusal (Ok x) old result new = (result ≡ Ok x) × (new ≡ old)
+KeepsRefusal (Err e) old result new = RefusesAgain e result × (new ≡ record { input = old.input; refused = Some e })

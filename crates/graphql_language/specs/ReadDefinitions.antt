@@ -8,9 +8,9 @@ use Rattle.graphql_tree.specs.declared.document.Fragment as fragments
 use Rattle.graphql_tree.specs.declared.document.Definition.{Definition}
 use Rattle.graphql_grammar.specs.declared.kind.Kind.TheVariants as k
 use Rattle.graphql_grammar.specs.Kinds.{only, names, fragment_names}
-use Rattle.graphql_grammar.specs.Input.{At, Parser, ◌>>=◌, pure}
+use Rattle.graphql_grammar.specs.Input.{At, Parser, ◌>>=◌, ◌>>◌, pure}
 use Rattle.graphql_grammar.specs.Steps.{when, token, expect, name, name_in, located, optional, all}
-use Rattle.graphql_language.specs.ReadDirectives.{directives}
+use Rattle.graphql_value_syntax.specs.ReadDirectives.{directives}
 use Rattle.graphql_language.specs.ReadSelections.{type_condition}
 use Rattle.graphql_language.specs.ReadDocuments.{operation_words, operation_type_of, definition_kinds, set, query_of, full_operation, definition}
 
@@ -23,13 +23,20 @@ operation_name = optional names (located name)
 module _ {S : Type 0} (reads : ScalarToken → Result S ParseError) (of_bool : Bool → S) where
   -- an operation, without its place
   unfoldable pub operation_parts : Parser (Operation S)
-  operation_parts = when (only k.CurlyOpen) (set reads of_bool >>= (λ ss. pure (query_of ss))) (full_operation reads of_bool)
+  operation_parts = when (only k.CurlyOpen) (do ss ← set reads of_bool; pure (query_of ss)) (full_operation reads of_bool)
 
   -- a fragment, without its place
   unfoldable pub fragment_parts : Parser (fragments.Fragment S)
-  fragment_parts = expect k.Fragment >>= (λ u. located (name_in fragment_names) >>= (λ n. type_condition >>= (λ c. directives reads of_bool false >>= (λ ds. set reads of_bool >>= (λ ss.
-      pure (record { name = n; type_condition = c; directives = ds; selection_set = ss }))))))
+  fragment_parts = do
+    expect k.Fragment
+    n ← located (name_in fragment_names)
+    c ← type_condition
+    ds ← directives reads of_bool false
+    ss ← set reads of_bool
+    pure (record { name = n; type_condition = c; directives = ds; selection_set = ss })
 
   -- one definition at least
   unfoldable pub definitions : Parser (List (Definition S))
-  definitions = definition reads of_bool >>= (λ x. all definition_kinds (definition reads of_bool) (x ∷ []))
+  definitions = do
+    x ← definition reads of_bool
+    all definition_kinds (definition reads of_bool) (x ∷ [])

@@ -13,9 +13,9 @@ use Rattle.graphql_tree.specs.declared.selection.Selection.{Selection}
 use Rattle.graphql_grammar.specs.declared.kind.Kind.{Kind}
 use Rattle.graphql_grammar.specs.declared.kind.Kind.TheVariants as k
 use Rattle.graphql_grammar.specs.Kinds.{Kinds, kind, only, names, fragment_names}
-use Rattle.graphql_grammar.specs.Input.{At, Parser, ◌>>=◌, pure}
+use Rattle.graphql_grammar.specs.Input.{At, Parser, ◌>>=◌, ◌>>◌, pure}
 use Rattle.graphql_grammar.specs.Steps.{when, token, expect, name, name_in, located, optional, all, finished}
-use Rattle.graphql_language.specs.ReadDirectives.{directives, variable_definitions}
+use Rattle.graphql_value_syntax.specs.ReadDirectives.{directives, variable_definitions}
 use Rattle.graphql_language.specs.ReadSelections.{selection, selection_set, type_condition}
 
 -- the words that begin an operation
@@ -51,19 +51,32 @@ module _ {S : Type 0} (reads : ScalarToken → Result S ParseError) (of_bool : B
   set = selection_set reads of_bool (selection reads of_bool)
 
   unfoldable pub full_operation : Parser (Operation S)
-  full_operation = token operation_words operation_type_of >>= (λ t. optional names (located name) >>= (λ n. optional (only k.ParenOpen) (variable_definitions reads of_bool) >>= (λ vs. directives reads of_bool false >>= (λ ds. set >>= (λ ss.
-      pure (record { operation_type = t; name = n; variable_definitions = vs; directives = ds; selection_set = ss }))))))
+  full_operation = do
+    t ← token operation_words operation_type_of
+    n ← optional names (located name)
+    vs ← optional (only k.ParenOpen) (variable_definitions reads of_bool)
+    ds ← directives reads of_bool false
+    ss ← set
+    pure (record { operation_type = t; name = n; variable_definitions = vs; directives = ds; selection_set = ss })
 
   unfoldable pub operation : Parser (At (Operation S))
-  operation = located (when (only k.CurlyOpen) (set >>= (λ ss. pure (query_of ss))) full_operation)
+  operation = located (when (only k.CurlyOpen) (do ss ← set; pure (query_of ss)) full_operation)
 
   unfoldable pub fragment : Parser (At (fragments.Fragment S))
-  fragment = located (expect k.Fragment >>= (λ u. located (name_in fragment_names) >>= (λ n. type_condition >>= (λ c. directives reads of_bool false >>= (λ ds. set >>= (λ ss.
-      pure (record { name = n; type_condition = c; directives = ds; selection_set = ss })))))))
+  fragment = located do
+    expect k.Fragment
+    n ← located (name_in fragment_names)
+    c ← type_condition
+    ds ← directives reads of_bool false
+    ss ← set
+    pure (record { name = n; type_condition = c; directives = ds; selection_set = ss })
 
   unfoldable pub definition : Parser (Definition S)
-  definition = when (only k.Fragment) (fragment >>= (λ x. pure (d.Fragment x))) (operation >>= (λ x. pure (d.Operation x)))
+  definition = when (only k.Fragment) (do x ← fragment; pure (d.Fragment x)) (do x ← operation; pure (d.Operation x))
 
   -- one definition at least, and then the end of the text
   unfoldable pub document : Parser (List (Definition S))
-  document = definition >>= (λ x. all definition_kinds definition (x ∷ []) >>= (λ xs. finished xs))
+  document = do
+    x ← definition
+    xs ← all definition_kinds definition (x ∷ [])
+    finished xs

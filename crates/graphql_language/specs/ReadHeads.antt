@@ -1,9 +1,9 @@
 -- How a selection begins: all of it, or what stands before its selection set (GraphQL October 2021, 2.4 Selection Sets, 2.5 Fields, 2.8 Fragments).
-use Rattle.std.specs.Prelude.{◌≡◌, ◌≢◌, Bool, false, List, [], ◌∷◌, ◌++◌, Option, Some, None, Result, Ok, Err}
+use Rattle.std.specs.Prelude.{◌≡◌, Bool, false, List, [], ◌∷◌, ◌++◌, Option, Some, None, Result, Ok, Err}
 use Rattle.graphql_text.specs.declared.position.SourcePosition.{SourcePosition}
 use Rattle.graphql_text.specs.declared.token.ScalarToken.{ScalarToken}
 use Rattle.graphql_text.specs.declared.parse_error.ParseError.{ParseError}
-use Rattle.graphql_text.specs.declared.parse_error.ParseError.TheVariants.{Memory}
+use Rattle.graphql_items.specs.Memory.{UnlessMemory}
 use Rattle.graphql_tree.specs.declared.directive.Arguments.{Arguments}
 use Rattle.graphql_tree.specs.declared.directive.Directive.{Directive}
 use Rattle.graphql_tree.specs.declared.selection.FragmentSpread.{FragmentSpread}
@@ -15,9 +15,9 @@ use Rattle.graphql_language.specs.declared.parse.selection.Head.{Head}
 use Rattle.graphql_language.specs.declared.parse.selection.Head.TheVariants as h
 use Rattle.graphql_grammar.specs.declared.kind.Kind.TheVariants as k
 use Rattle.graphql_grammar.specs.Kinds.{only, fragment_names}
-use Rattle.graphql_grammar.specs.Input.{At, Input, Fault, Outcome, Parser, ◌>>=◌, pure, peek}
+use Rattle.graphql_grammar.specs.Input.{At, Input, Fault, Outcome, IsMemory, Parser, ◌>>=◌, ◌>>◌, pure, peek}
 use Rattle.graphql_grammar.specs.Steps.{when, expect, name_in, located, optional}
-use Rattle.graphql_language.specs.ReadDirectives.{arguments, directives}
+use Rattle.graphql_value_syntax.specs.ReadDirectives.{arguments, directives}
 use Rattle.graphql_language.specs.ReadSelections.{Names, field_names, type_condition, made_field, selection_set}
 
 -- a selection with no selection set, or what stands before one
@@ -52,23 +52,37 @@ module _ {S : Type 0} where
 
 module _ {S : Type 0} (reads : ScalarToken → Result S ParseError) (of_bool : Bool → S) where
   unfoldable pub field_parts : SourcePosition → Parser (FieldHead S)
-  field_parts p = field_names >>= (λ ns. optional (only k.ParenOpen) (arguments reads of_bool false) >>= (λ args. directives reads of_bool false >>= (λ ds. pure (head_of p ns args ds))))
+  field_parts p = do
+    ns ← field_names
+    args ← optional (only k.ParenOpen) (arguments reads of_bool false)
+    ds ← directives reads of_bool false
+    pure (head_of p ns args ds)
 
   unfoldable pub field_head : Parser (FieldHead S)
   field_head = λ i. field_parts (peek i).span.start i
 
   unfoldable pub spread_parts : Parser (FragmentSpread S)
-  spread_parts = located (name_in fragment_names) >>= (λ n. directives reads of_bool false >>= (λ ds. pure (record { name = n; directives = ds })))
+  spread_parts = do
+    n ← located (name_in fragment_names)
+    ds ← directives reads of_bool false
+    pure (record { name = n; directives = ds })
 
   unfoldable pub inline_head : SourcePosition → Parser (InlineHead S)
-  inline_head p = optional (only k.On) type_condition >>= (λ c. directives reads of_bool false >>= (λ ds. pure (record { start = p; type_condition = c; directives = ds })))
+  inline_head p = do
+    c ← optional (only k.On) type_condition
+    ds ← directives reads of_bool false
+    pure (record { start = p; type_condition = c; directives = ds })
 
   -- what stands behind three points, which stand there
   unfoldable pub spread_begun : SourcePosition → Parser (Begun S)
-  spread_begun p = expect k.Ellipsis >>= (λ u. when fragment_names (spread_parts >>= (λ x. whole_ending (spread_of x p))) (inline_head p >>= (λ x. pure (opens (h.InlineFragment x)))))
+  spread_begun p = do
+    expect k.Ellipsis
+    when fragment_names (do x ← spread_parts; whole_ending (spread_of x p)) (do x ← inline_head p; pure (opens (h.InlineFragment x)))
 
   unfoldable pub field_begun : Parser (Begun S)
-  field_begun = field_head >>= (λ x. when (only k.CurlyOpen) (pure (opens (h.Field x))) (whole_ending (field_with x None)))
+  field_begun = do
+    x ← field_head
+    when (only k.CurlyOpen) (pure (opens (h.Field x))) (whole_ending (field_with x None))
 
   unfoldable pub begun : Parser (Begun S)
   begun = when (only k.Ellipsis) (λ i. spread_begun (peek i).span.start i) field_begun
@@ -76,12 +90,14 @@ module _ {S : Type 0} (reads : ScalarToken → Result S ParseError) (of_bool : B
   -- the rest of a selection
   abbrev pub rest_of : Parser (Selection S) → Begun S → Parser (Selection S)
   rest_of inner (whole x) = pure x
-  rest_of inner (opens x) = selection_set reads of_bool inner >>= (λ ss. ending (completed x ss))
+  rest_of inner (opens x) = do
+    ss ← selection_set reads of_bool inner
+    ending (completed x ss)
 
 -- ---- what functions that add to a list ensure
 
 -- a whole selection stands at the end of the list; what stands before a selection set is handed out
-abbrev pub Begins : {S : Type 0} → Outcome (Begun S) → Result (Option (Head S)) Fault → List (Selection S) → List (Selection S) → Input → Type 0
-Begins outcome (Ok (Some x)) old new i = (outcome ≡ Ok (opens x, i)) × (new ≡ old)
-Begins {S} outcome (Ok None) old new i = (x : Selection S) × (outcome ≡ Ok (whole x, i)) × (new ≡ old ++ x ∷ [])
-Begins outcome (Err e) old new i = e.item ≢ Memory → outcome ≡ Err e
+abbrev pub BeginsSelection : {S : Type 0} → Outcome (Begun S) → Result (Option (Head S)) Fault → List (Selection S) → List (Selection S) → Input → Type 0
+BeginsSelection outcome (Ok (Some x)) old new i = (outcome ≡ Ok (opens x, i)) × (new ≡ old)
+BeginsSelection {S} outcome (Ok None) old new i = (x : Selection S) × (outcome ≡ Ok (whole x, i)) × (new ≡ old ++ x ∷ [])
+BeginsSelection outcome (Err e) old new i = UnlessMemory IsMemory e (outcome ≡ Err e)

@@ -11,20 +11,24 @@ use Rattle.graphql_tree.specs.declared.selection.Selection.{Selection}
 use Rattle.graphql_tree.specs.declared.selection.Selection.TheVariants as s
 use Rattle.graphql_grammar.specs.declared.kind.Kind.TheVariants as k
 use Rattle.graphql_grammar.specs.Kinds.{only, fragment_names}
-use Rattle.graphql_grammar.specs.Input.{At, Parser, ◌>>=◌, pure, refuse, left}
+use Rattle.graphql_grammar.specs.Input.{At, Parser, ◌>>=◌, ◌>>◌, pure, refuse, left}
 use Rattle.graphql_grammar.specs.Steps.{when, expect, name, name_in, located, optional, some_between}
-use Rattle.graphql_language.specs.ReadDirectives.{arguments, directives}
+use Rattle.graphql_value_syntax.specs.ReadDirectives.{arguments, directives}
 
 -- an alias and a name, or a name alone
 abbrev pub Names : Type 0
 Names = Option (At (List ℕ)) × At (List ℕ)
 
 unfoldable pub field_names : Parser Names
-field_names = located name >>= (λ a. when (only k.Colon) (expect k.Colon >>= (λ u. located name >>= (λ b. pure (Some a, b)))) (pure (None, a)))
+field_names = do
+  a ← located name
+  when (only k.Colon) (do expect k.Colon; b ← located name; pure (Some a, b)) (pure (None, a))
 
 -- the type to which a fragment applies
 unfoldable pub type_condition : Parser (At (List ℕ))
-type_condition = expect k.On >>= (λ u. located name)
+type_condition = do
+  expect k.On
+  located name
 
 -- what stands behind three points: the spread of a fragment, or an inline fragment
 pub data Spread (S : Type 0) : Type 0 where
@@ -44,23 +48,37 @@ module _ {S : Type 0} where
 
 module _ {S : Type 0} (reads : ScalarToken → Result S ParseError) (of_bool : Bool → S) where
   unfoldable pub fragment_spread : Parser (Spread S)
-  fragment_spread = located (name_in fragment_names) >>= (λ n. directives reads of_bool false >>= (λ ds. pure (spreads (record { name = n; directives = ds }))))
+  fragment_spread = do
+    n ← located (name_in fragment_names)
+    ds ← directives reads of_bool false
+    pure (spreads (record { name = n; directives = ds }))
 
   module _ (inner : Parser (Selection S)) where
     unfoldable pub selection_set : Parser (List (Selection S))
     selection_set = some_between k.CurlyOpen k.CurlyClose inner
 
     unfoldable pub inline_fragment : Parser (Spread S)
-    inline_fragment = optional (only k.On) type_condition >>= (λ c. directives reads of_bool false >>= (λ ds. selection_set >>= (λ ss. pure (inlines (record { type_condition = c; directives = ds; selection_set = ss })))))
+    inline_fragment = do
+      c ← optional (only k.On) type_condition
+      ds ← directives reads of_bool false
+      ss ← selection_set
+      pure (inlines (record { type_condition = c; directives = ds; selection_set = ss }))
 
     unfoldable pub spread : Parser (At (Spread S))
-    spread = located (expect k.Ellipsis >>= (λ u. when fragment_names fragment_spread inline_fragment))
+    spread = located do
+      expect k.Ellipsis
+      when fragment_names fragment_spread inline_fragment
 
     unfoldable pub field : Parser (Field S)
-    field = field_names >>= (λ ns. optional (only k.ParenOpen) (arguments reads of_bool false) >>= (λ args. directives reads of_bool false >>= (λ ds. optional (only k.CurlyOpen) selection_set >>= (λ ss. pure (made_field ns args ds ss)))))
+    field = do
+      ns ← field_names
+      args ← optional (only k.ParenOpen) (arguments reads of_bool false)
+      ds ← directives reads of_bool false
+      ss ← optional (only k.CurlyOpen) selection_set
+      pure (made_field ns args ds ss)
 
     unfoldable pub selection_layer : Parser (Selection S)
-    selection_layer = when (only k.Ellipsis) (spread >>= (λ x. pure (selection_of x))) (located field >>= (λ x. pure (s.Field x)))
+    selection_layer = when (only k.Ellipsis) (do x ← spread; pure (selection_of x)) (do x ← located field; pure (s.Field x))
 
   unfoldable pub selection_from : ℕ → Parser (Selection S)
   selection_from zero = refuse

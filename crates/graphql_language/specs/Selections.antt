@@ -14,8 +14,8 @@ use Rattle.graphql_grammar.specs.Input.{At, Located}
 use Rattle.graphql_grammar.specs.Steps.{name_of}
 use Rattle.graphql_grammar.specs.Relations.{span_of, TokenOf, Nothing, Then, Made, Placed, OptionOf, EitherOf}
 use Rattle.graphql_language.specs.ReadSelections.{Names}
-use Rattle.graphql_language.specs.Values.{Is}
-use Rattle.graphql_language.specs.Directives.{Sign, Named, ArgumentsOf, DirectivesOf}
+use Rattle.graphql_value_syntax.specs.Values.{Is}
+use Rattle.graphql_value_syntax.specs.Directives.{Sign, Named, ArgumentsOf, DirectivesOf}
 
 -- FragmentName : Name but `on`
 abbrev pub FragmentNamed : List Located → At (List ℕ) → Type 0

@@ -8,7 +8,7 @@ use Rattle.graphql_text.specs.Position.{origin}
 use Rattle.graphql_text.specs.Grammar.{IsDivided}
 use Rattle.graphql_grammar.specs.Input.{Located, Fault}
 use Rattle.graphql_grammar.specs.Ahead.{mk}
-use Rattle.graphql_grammar.specs.Faults.{FirstFault}
+use Rattle.graphql_grammar.specs.Faults.{FirstFaultyToken}
 use Rattle.graphql_grammar.specs.Cursor.{IsLexical}
 use Rattle.graphql_tree.specs.declared.document.Definition.{Definition}
 use Rattle.graphql_language.specs.Documents.{DocumentOf}
@@ -34,7 +34,7 @@ module _ (S : Type 0) (reads : ScalarToken → Result S ParseError) (of_bool : B
     pub tokens : List Located
     pub finish : Span
     pub cut : IsCut text tokens finish
-    pub first : FirstFault reads (DocumentOf S reads of_bool) (mk tokens finish origin) fault
+    pub first : FirstFaultyToken reads (DocumentOf S reads of_bool) (mk tokens finish origin) fault
 
   -- a lexical fault comes before every other
   abbrev pub IsRefused : List ℕ → Fault → Type 0

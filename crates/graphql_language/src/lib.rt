@@ -1,4 +1,6 @@
-//! The language layer of GraphQL: the parser of documents, and what it stands on.
+//! The language layer of GraphQL: the parser of documents, and the types that its users name, from
+//! here or from the crates below: places, tokens and faults; the trees of documents; values that go
+//! in and come out, and how they are made of others.
 //!
 //! [`parse_document_source`] gives the tree of a text, or the text's first fault. What a document is,
 //! production by production, is said by the relations in `specs/Documents.antt` and the files that it
@@ -10,6 +12,11 @@ mod parse;
 mod parser;
 mod source;
 
+pub use graphql_output_values::{IntoValue, Object, Value};
+pub use graphql_scalars::{
+    CheckError, DefaultScalarValue, FromScalarValue, ParseScalarResult, ParseScalarValue, Scalar,
+    ScalarValue, ToScalarValue, TryToPrimitive, WrongInputScalarTypeError,
+};
 pub use graphql_text::{
     Items, Lexer, LexerError, LexerResult, OptionParseResult, ParseError, ParseResult, ScalarToken,
     SourcePosition, Span, Spanning, Text, TextRef, Token, UnlocatedParseResult, lex_all,
@@ -20,8 +27,9 @@ pub use graphql_tree::{
     release_document, release_selections,
 };
 pub use graphql_values::{
-    BorrowedType, DefaultScalarValue, InputValue, Name, NameParseError, ParseScalarResult,
-    ParseScalarValue, ScalarValue, Type, TypeModifier, TypeModifiers,
+    BorrowedType, FromInputValue, FromInputValueArrayError, FromInputValueVecError, InputValue,
+    IntoInputValue, Name, NameParseError, ToInputValue, Type, TypeModifier, TypeModifiers,
+    Variables,
 };
 pub use parser::{Parser, parse_type, parse_value_literal};
 pub use source::parse_document_source;

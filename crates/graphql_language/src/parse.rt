@@ -1,11 +1,7 @@
 //! How documents are read: a function for each production of the grammar, which reads it from the
 //! tokens ahead (GraphQL October 2021, 2 Language).
 
-mod directive;
 mod document;
 mod selection;
-pub(crate) mod type_reference;
-pub(crate) mod value;
-mod variable;
 
 pub(crate) use document::document;

@@ -3,17 +3,15 @@
 ghost use Rattle.std.specs.Prelude.{◌≡◌, ◌≢◌, ◌<◌, ◌≤◌, None, IfOk, IfErr, OnOk, OnErr};
 ghost use Rattle.std.specs.Str.{chars};
 ghost use Rattle.graphql_text.specs.declared.token.Token.TheVariants as t;
-ghost use Rattle.graphql_text.specs.declared.parse_error.ParseError.TheVariants.{Memory};
+ghost use Rattle.graphql_items.specs.Memory.{UnlessMemory};
 ghost use Rattle.graphql_grammar.specs.Input as spec;
-ghost use Rattle.graphql_grammar.specs.Input.{IsFault, left};
+ghost use Rattle.graphql_grammar.specs.Input.{IsMemory, StandsFor, left};
 ghost use Rattle.graphql_grammar.specs.Steps.{located, name};
 ghost use Rattle.graphql_grammar.specs.Cursor.{IsStart, IsLexical};
-ghost use Rattle.graphql_language.specs.Parser.{By, Calls, NextToken, ThisToken, MaybeToken, Ready, Keeps};
+ghost use Rattle.graphql_language.specs.Parser.{By, Calls, NextToken, ThisToken, MaybeToken, Ready, KeepsRefusal};
 
 mod lists;
 mod literals;
-#[cfg(test)]
-mod tests;
 mod tokens;
 
 use graphql_grammar::{Cursor, Fault};
@@ -42,7 +40,7 @@ impl<'a> Model for Parser<'a> {
 
 /// The same fault, or want of memory.
 fn again(fault: &Fault) -> Fault
-    ensures { IsFault fault.now result }
+    ensures { StandsFor fault.now result }
 {
     match fault.clone() {
         Ok(fault) => fault,
@@ -57,7 +55,7 @@ impl<'a> Parser<'a> {
     pub fn new(alloc: Global, source: &'a str) -> Result<Parser<'a>, Fault>
         ensures start { IfOk result (λ parser. IsStart (chars source.now) parser.input) }
         ensures fresh { IfOk result (λ parser. parser.refused ≡ None) }
-        ensures fault { IfErr result (λ e. e.item ≢ Memory → IsLexical (chars source.now) e) }
+        ensures fault { IfErr result (λ e. UnlessMemory IsMemory e (IsLexical (chars source.now) e)) }
     {
         Ok(Parser {
             alloc,
@@ -131,7 +129,7 @@ impl<'a> Parser<'a> {
 
     /// The same answer. By a refusal the parser has failed.
     pub(crate) fn keep_refusal<T>(&mut self, answer: Result<T, Fault>) -> Result<T, Fault>
-        ensures { Keeps answer self.old result self.new }
+        ensures { KeepsRefusal answer self.old result self.new }
     {
         match answer {
             Ok(item) => Ok(item),

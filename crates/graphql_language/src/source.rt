@@ -1,14 +1,10 @@
 //! Whole texts.
 
-ghost use Rattle.std.specs.Prelude.{◌≢◌, IfOk, IfErr};
+ghost use Rattle.std.specs.Prelude.{IfOk, IfErr};
 ghost use Rattle.std.specs.Str.{chars};
-ghost use Rattle.graphql_text.specs.declared.parse_error.ParseError.TheVariants.{Memory};
+ghost use Rattle.graphql_items.specs.Memory.{UnlessMemory};
+ghost use Rattle.graphql_grammar.specs.Input.{IsMemory};
 ghost use Rattle.graphql_language.specs.Texts.{IsDocument, OnlyDocument, IsRefused};
-
-#[cfg(test)]
-mod place_tests;
-#[cfg(test)]
-mod tests;
 
 use crate::parse::document;
 use graphql_grammar::Cursor;
@@ -35,7 +31,7 @@ pub fn parse_document_source<'a, S: ScalarValue>(
     // They spell no other.
     ensures only { IfOk result (λ tree. OnlyDocument S S.reads S.of_bool (chars source.now) tree) }
     // The text is no document, and this is its first fault.
-    ensures fault { IfErr result (λ e. e.item ≢ Memory → IsRefused S S.reads S.of_bool (chars source.now) e) }
+    ensures fault { IfErr result (λ e. UnlessMemory IsMemory e (IsRefused S S.reads S.of_bool (chars source.now) e)) }
 {
     match Cursor::new(alloc, source) {
         Ok(mut cursor) => document(alloc, &mut cursor),

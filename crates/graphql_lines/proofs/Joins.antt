@@ -2,20 +2,21 @@
 use Rattle.std.proofs.Common.{◌≡◌, ℕ, ◌+◌, ◌<◌, Bool, false, ℤ, Option, List, [], ◌∷◌, ◌++◌, map, drop, length, get_or, codes, sym, ap, ◌∙◌, append_assoc, append-nil, ◌≤◌}
 use Rattle.std.proofs.lemmas.List.{at_drop_more, at_drop_all}
 use Rattle.std.proofs.lemmas.Simd.{map-map}
-use Rattle.graphql_output.specs.declared.object.Object.{Object}
-use Rattle.graphql_output.specs.ValueEquations.{on_value, fold_fields}
+use Rattle.graphql_output_values.specs.declared.object.Object.{Object}
+use Rattle.graphql_output_values.specs.ValueEquations.{on_value, fold_fields}
 use Rattle.graphql_lines.specs.Json.{joined, comma_unless, json_text, member_json, json, object_json, json_layer, fields_layer}
+use Rattle.graphql_scalars.specs.ScalarAnswers.{ScalarAnswer}
 
 -- a member, written part by part
 pub member_written : (before key value : List ℕ) → ((before ++ json_text key) ++ codes ":") ++ value ≡ before ++ member_json (key, value)
 member_written before key value = append_assoc (before ++ json_text key) (codes ":") value ∙ append_assoc before (json_text key) (codes ":" ++ value)
 
 -- the JSON of an object, by its members
-module _ {S : Type 0} (as_int : S → Option ℤ) (as_bool : S → Option Bool) (as_text : S → Option (List ℕ)) where
-  pub object_is : (o : Object S) → object_json as_int as_bool as_text o ≡ 123 ∷ joined [] (map (λ p. member_json (p.0, json as_int as_bool as_text p.1)) o.fields) ++ 125 ∷ []
+module _ {S : Type 0} (answer : S → ScalarAnswer) where
+  pub object_is : (o : Object S) → object_json answer o ≡ 123 ∷ joined [] (map (λ p. member_json (p.0, json answer p.1)) o.fields) ++ 125 ∷ []
   object_is o =
-      fold_fields (json_layer as_int as_bool as_text) (fields_layer as_int as_bool as_text) o
-      ∙ ap (λ ms. 123 ∷ joined [] ms ++ 125 ∷ []) (map-map member_json (on_value (json as_int as_bool as_text)) o.fields)
+      fold_fields (json_layer answer) (fields_layer answer) o
+      ∙ ap (λ ms. 123 ∷ joined [] ms ++ 125 ∷ []) (map-map member_json (on_value (json answer)) o.fields)
 
 module _ {A : Type 0} (part : A → List ℕ) where
   -- what was written, and then what is left to be, is the whole: also once one part more was written

@@ -6,9 +6,10 @@ use Rattle.std.proofs.lemmas.Slice.Eq.{bytes_eq-Decides}
 use Rattle.serde_json.specs.Data.{Data, Members, no_members, put}
 use Rattle.serde_json.specs.Find.{get, get_member}
 use Rattle.serde_json.proofs.Views.{get_member-put, get_member-put_other}
-use Rattle.graphql_output.specs.Objects.{Pair, HasDistinctKeys, field_value}
-use Rattle.graphql_output.specs.ValueEquations.{on_value, fold_object, fold_fields}
+use Rattle.graphql_output_values.specs.Objects.{Pair, HasDistinctKeys, field_value}
+use Rattle.graphql_output_values.specs.ValueEquations.{on_value, fold_object, fold_fields}
 use Rattle.graphql_lines.specs.Laws.{with_fields, data_layer, data_fields, data_of_value, KeysKeepValues}
+use Rattle.graphql_scalars.specs.ScalarAnswers.{ScalarAnswer}
 
 -- the first of these, where there is one
 abbrev first_of_both : Option Data → Option Data → Option Data
@@ -40,9 +41,9 @@ or_none : (o : Option Data) → first_of_both o None ≡ o
 or_none None = refl
 or_none (Some d) = refl
 
-module _ {S : Type 0} (as_int : S → Option ℤ) (as_bool : S → Option Bool) (as_text : S → Option (List ℕ)) where
-  pub keys_keep_values : KeysKeepValues as_int as_bool as_text
+module _ {S : Type 0} (answer : S → ScalarAnswer) where
+  pub keys_keep_values : KeysKeepValues answer
   keys_keep_values o key apart =
-      ap (get key) (fold_object (data_layer as_int as_bool as_text) (data_fields as_int as_bool as_text) o ∙ fold_fields (data_layer as_int as_bool as_text) (data_fields as_int as_bool as_text) o)
-      ∙ found (data_of_value as_int as_bool as_text) key o.fields no_members apart
+      ap (get key) (fold_object (data_layer answer) (data_fields answer) o ∙ fold_fields (data_layer answer) (data_fields answer) o)
+      ∙ found (data_of_value answer) key o.fields no_members apart
       ∙ or_none _

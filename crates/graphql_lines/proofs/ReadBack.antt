@@ -14,13 +14,14 @@ use Rattle.serde_json.specs.Find.{of_integer}
 use Rattle.serde_json.specs.Read.{number_of, of_json, of_items, of_members}
 use Rattle.serde_json.specs.Written.{comma_if}
 use Rattle.serde_json.proofs.Numbers.{number_of-decimal, number_of-negative}
-use Rattle.graphql_output.specs.Objects.{Pair}
-use Rattle.graphql_output.specs.ValueEquations.{on_value}
+use Rattle.graphql_output_values.specs.Objects.{Pair}
+use Rattle.graphql_output_values.specs.ValueEquations.{on_value}
 use Rattle.graphql_lines.specs.Json.{joined, json_text, member_json, text_or_null, bool_or, int_or, scalar_json}
 use Rattle.graphql_lines.specs.Variables.{has_32_bits}
 use Rattle.serde_json.specs.View.{items_of}
 use Rattle.graphql_lines.specs.Laws.{with_fields, greatest, data_of_scalar}
 use Rattle.graphql_lines.proofs.Written.{same_text}
+use Rattle.graphql_scalars.specs.ScalarAnswers.{ScalarAnswer, as_int, as_bool, as_text}
 
 -- the text is the print of the tree, which nests n deep and, where the integers fit, is read as the data
 pub record Keeps (text : List ℕ) (j : json.Json) (d : Data) (n : ℕ) (fits : Bool) : Type 0 where
@@ -53,9 +54,9 @@ unfolding print_from
 printed_text text true ts = ap (λ s. 44 ∷ (s ++ print_from true ts)) (sym (same_text text))
 printed_text text false ts = ap (λ s. s ++ print_from true ts) (sym (same_text text))
 
-module _ {S : Type 0} (as_int : S → Option ℤ) (as_bool : S → Option Bool) (as_text : S → Option (List ℕ)) where
+module _ {S : Type 0} (answer : S → ScalarAnswer) where
   abbrev text_by : Option ℤ → Option Bool → Option (List ℕ) → List ℕ
-  text_by i b t = int_or as_int as_bool as_text i (bool_or as_int as_bool as_text b (text_or_null as_int as_bool as_text t))
+  text_by i b t = int_or answer i (bool_or answer b (text_or_null answer t))
 
   printed_scalar : (i : Option ℤ) (b : Option Bool) (t : Option (List ℕ)) (later : Bool) (ts : List Token)
       → print_from later (json_tokens (scalar_tree i b t) ++ ts) ≡ comma_if later ++ (text_by i b t ++ print_from true ts)
@@ -76,8 +77,8 @@ module _ {S : Type 0} (as_int : S → Option ℤ) (as_bool : S → Option Bool) 
   keeps_by None None (Some text) = record { printed = printed_scalar None None (Some text); nests = refl; numbers = λ h. tt; reads = λ h. refl }
   keeps_by None None None = record { printed = printed_scalar None None None; nests = refl; numbers = λ h. tt; reads = λ h. refl }
 
-  pub keeps_scalar : (s : S) → Keeps (scalar_json as_int as_bool as_text s) (scalar_tree (as_int s) (as_bool s) (as_text s)) (data_of_scalar as_int as_bool as_text s) 0 (unwrap_or (option_map has_32_bits (as_int s)) true)
-  keeps_scalar s = keeps_by (as_int s) (as_bool s) (as_text s)
+  pub keeps_scalar : (s : S) → Keeps (scalar_json answer s) (scalar_tree (as_int (answer s)) (as_bool (answer s)) (as_text (answer s))) (data_of_scalar answer s) 0 (unwrap_or (option_map has_32_bits (as_int (answer s))) true)
+  keeps_scalar s = keeps_by (as_int (answer s)) (as_bool (answer s)) (as_text (answer s))
 
   pub keeps_null : Keeps (codes "null") json.null null 0 true
   keeps_null = keeps_by None None None

@@ -1,5 +1,5 @@
 -- What a line describes, by what is read of it.
-use Rattle.std.proofs.Common.{◌≡◌, ℕ, ℤ, List, [], Bool, true, false, cond, Option, Some, None, Err, Ok, option_map, refl, sym, ap, ◌∙◌, String, Global, HashMap, string_bytes, codes, rules}
+use Rattle.std.proofs.Common.{◌≡◌, ℕ, ℤ, List, [], Bool, true, false, cond, Option, Some, None, Ok, option_map, refl, sym, ap, ◌∙◌, String, Global, HashMap, string_bytes, codes, rules}
 use Rattle.std.specs.Map.{lookup}
 use Rattle.std.specs.Str.{IsUtf8, is_utf8, bytes_eq}
 use Rattle.std.proofs.lemmas.Str.{is_utf8-from_IsUtf8, IsUtf8-from_is_utf8}
@@ -12,8 +12,8 @@ use Rattle.graphql_values.specs.declared.input_value.InputValue.{InputValue}
 use Rattle.graphql_lines.specs.declared.refusal.LineRefusal.{LineRefusal}
 use Rattle.graphql_lines.specs.declared.refusal.LineRefusal.TheVariants.{LineTooLong, NotARequest, BadNumber, Memory}
 use Rattle.graphql_lines.specs.declared.request.GraphQLRequest.{GraphQLRequest}
-use Rattle.graphql_lines.specs.Variables.{HasValues, GivesVariables, members_of_variables}
-use Rattle.graphql_lines.specs.Request.{data_of, query_in, name_in, variables_in, request_in, Answers}
+use Rattle.graphql_lines.specs.Variables.{HasValues, IsDue, AnswersVariables, members_of_variables}
+use Rattle.graphql_lines.specs.Request.{data_of, query_in, name_in, variables_in, request_in, AnswersRequest}
 
 pub data_of-read : (line : List ℕ) (d : Data) → IsUtf8 line → read line ≡ Some d → Some d ≡ data_of line
 data_of-read line d u r = sym (ap (λ b. cond b (read line) None) (is_utf8-from_IsUtf8 line u) ∙ r)
@@ -39,13 +39,13 @@ module _ {S : Type 0} (of_bool : Bool → S) (of_int : ℤ → S) (of_text : Lis
     asks : (asked : Option Members) → variables_in (get (codes "variables") d) ≡ asked → request_in d ≡ option_map (λ ms. record { query = query; operation_name = name; variables = ms }) asked
     asks asked e = rw (is_query, is_name, e) refl
 
-    pub refused : (H : Type 0) (e : LineRefusal) → GivesVariables of_bool of_int of_text {H = H} (variables_in (get (codes "variables") d)) (Err e) → Answers of_bool of_int of_text (request_in d) (Err e)
-    refused H LineTooLong told = told
-    refused H NotARequest told = asks None told
-    refused H BadNumber told = (record { query = query; operation_name = name; variables = told.0 }, asks (Some told.0) told.1, told.2)
-    refused H Memory told = tt
+    pub refused : (e : LineRefusal) → IsDue of_bool of_int of_text (λ ms. ms) (variables_in (get (codes "variables") d)) e → IsDue of_bool of_int of_text (λ q. q.variables) (request_in d) e
+    refused LineTooLong due = due
+    refused NotARequest due = asks None due
+    refused BadNumber due = (record { query = query; operation_name = name; variables = due.0 }, asks (Some due.0) due.1, due.2)
+    refused Memory due = due
 
     pub described : (r : GraphQLRequest S) → string_bytes r.query ≡ query → option_map (λ text. string_bytes text) r.operation_name ≡ name
-        → GivesVariables of_bool of_int of_text (variables_in (get (codes "variables") d)) (Ok r.variables) → Answers of_bool of_int of_text (request_in d) (Ok r)
+        → AnswersVariables of_bool of_int of_text (Ok r.variables) (variables_in (get (codes "variables") d)) → AnswersRequest of_bool of_int of_text (Ok r) (request_in d)
     described r same_query same_name told =
         (record { query = query; operation_name = name; variables = told.0 }, asks (Some told.0) told.1, record { query = same_query; operation_name = same_name; variables = told.2 })

@@ -2,9 +2,10 @@
 use Rattle.std.specs.Prelude.{ℕ, ◌+◌, ◌-◌, ◌/◌, ◌%◌, ◌==◌, nat_lt, ℤ, Bool, true, false, List, [], ◌∷◌, ◌++◌, map, if◌then◌else◌, codes, Option, Some, None}
 use Rattle.std.specs.Fmt.{signed_decimal}
 use Rattle.std.specs.List.{flat_map}
-use Rattle.graphql_output.specs.declared.object.Object.{Object, fold-Object}
-use Rattle.graphql_output.specs.declared.value.Value.{Value, fold-Value}
-use Rattle.graphql_output.specs.declared.value.Value.TheOpen.{Value-F, Object-F}
+use Rattle.graphql_output_values.specs.declared.object.Object.{Object, fold-Object}
+use Rattle.graphql_output_values.specs.declared.value.Value.{Value, fold-Value}
+use Rattle.graphql_output_values.specs.declared.value.Value.TheOpen.{Value-F, Object-F}
+use Rattle.graphql_scalars.specs.ScalarAnswers.{ScalarAnswer, as_int, as_bool, as_text}
 
 abbrev pub hex_digit : ℕ → ℕ
 hex_digit n = if nat_lt n 10 then 48 + n else 97 + (n - 10)
@@ -33,7 +34,7 @@ comma_unless is_first = if is_first then [] else codes ","
 abbrev pub member_json : List ℕ × List ℕ → List ℕ
 member_json p = json_text p.0 ++ 58 ∷ p.1
 
-module _ {S : Type 0} (as_int : S → Option ℤ) (as_bool : S → Option Bool) (as_text : S → Option (List ℕ)) where
+module _ {S : Type 0} (answer : S → ScalarAnswer) where
   abbrev pub text_or_null : Option (List ℕ) → List ℕ
   text_or_null (Some text) = json_text text
   text_or_null None = codes "null"
@@ -49,7 +50,7 @@ module _ {S : Type 0} (as_int : S → Option ℤ) (as_bool : S → Option Bool) 
 
   -- a scalar is asked for an integer, then for a boolean, then for a text
   abbrev pub scalar_json : S → List ℕ
-  scalar_json s = int_or (as_int s) (bool_or (as_bool s) (text_or_null (as_text s)))
+  scalar_json s = int_or (as_int (answer s)) (bool_or (as_bool (answer s)) (text_or_null (as_text (answer s))))
 
   -- one layer, the JSON of whose parts stands
   abbrev pub json_layer : Value-F S (List ℕ) (List ℕ) → List ℕ

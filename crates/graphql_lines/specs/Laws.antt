@@ -5,15 +5,16 @@ use Rattle.serde_json.specs.Data.{Num, Data, null, boolean, number, string, arra
 use Rattle.serde_json.specs.Find.{of_integer, get}
 use Rattle.serde_json.specs.View.{items_of}
 use Rattle.serde_json.specs.Read.{read, max_depth}
-use Rattle.graphql_output.specs.declared.object.Object.{Object}
-use Rattle.graphql_output.specs.declared.value.Value.{Value, fold-Value}
-use Rattle.graphql_output.specs.declared.value.Value.TheOpen.{Value-F, Object-F}
-use Rattle.graphql_output.specs.declared.value.Value.TheVariants as value
-use Rattle.graphql_output.specs.Objects.{Pair, HasDistinctKeys, field_value}
+use Rattle.graphql_output_values.specs.declared.object.Object.{Object}
+use Rattle.graphql_output_values.specs.declared.value.Value.{Value, fold-Value}
+use Rattle.graphql_output_values.specs.declared.value.Value.TheOpen.{Value-F, Object-F}
+use Rattle.graphql_output_values.specs.declared.value.Value.TheVariants as value
+use Rattle.graphql_output_values.specs.Objects.{Pair, HasDistinctKeys, field_value}
 use Rattle.graphql_values.specs.declared.input_value.InputValue.{InputValue}
 use Rattle.graphql_values.specs.Variables.{variables_in}
 use Rattle.graphql_lines.specs.Json.{json}
 use Rattle.graphql_lines.specs.Variables.{has_32_bits, whole_of, input_of, fields_of}
+use Rattle.graphql_scalars.specs.ScalarAnswers.{ScalarAnswer, as_int, as_bool, as_text}
 
 -- the members with these fields put in, one by one: of fields of one key the last stays
 abbrev pub with_fields : Members → List (Pair Data) → Members
@@ -39,11 +40,11 @@ module _ {S : Type 0} where
   abbrev pub nesting : Value S → ℕ
   nesting = fold-Value S ℕ ℕ nesting_layer nesting_fields
 
-module _ {S : Type 0} (as_int : S → Option ℤ) where
+module _ {S : Type 0} (answer : S → ScalarAnswer) where
   -- the same of whether each integer has 32 bits (3.5.1 Int)
   abbrev pub fits_layer : Value-F S Bool Bool → Bool
   fits_layer Value-F.Null = true
-  fits_layer (Value-F.Scalar s) = unwrap_or (option_map has_32_bits (as_int s)) true
+  fits_layer (Value-F.Scalar s) = unwrap_or (option_map has_32_bits (as_int (answer s))) true
   fits_layer (Value-F.List items) = list_all (λ fits. fits) items
   fits_layer (Value-F.Object o) = o
 
@@ -54,11 +55,11 @@ module _ {S : Type 0} (as_int : S → Option ℤ) where
   abbrev pub fits_32_bits : Value S → Bool
   fits_32_bits = fold-Value S Bool Bool fits_layer fits_fields
 
-module _ {S : Type 0} (as_int : S → Option ℤ) (as_bool : S → Option Bool) (as_text : S → Option (List ℕ)) where
+module _ {S : Type 0} (answer : S → ScalarAnswer) where
   -- a scalar is asked for an integer, then for a boolean, then for a text, and is null where it has none of them
   abbrev pub data_of_scalar : S → Data
   data_of_scalar s =
-      unwrap_or (option_map (λ z. number (of_integer z)) (as_int s)) (unwrap_or (option_map boolean (as_bool s)) (unwrap_or (option_map string (as_text s)) null))
+      unwrap_or (option_map (λ z. number (of_integer z)) (as_int (answer s))) (unwrap_or (option_map boolean (as_bool (answer s))) (unwrap_or (option_map string (as_text (answer s))) null))
 
   -- one layer, of whose parts the data stands, and an object
   abbrev pub data_layer : Value-F S Data Data → Data
@@ -76,7 +77,7 @@ module _ {S : Type 0} (as_int : S → Option ℤ) (as_bool : S → Option Bool) 
 
   -- what is written of a value is read as the value's data, unless it nests deeper than is read, or an integer has more than 32 bits
   abbrev pub JsonReadsBack : Type 0
-  JsonReadsBack = (v : Value S) → nesting v ≤ max_depth → IsTrue (fits_32_bits as_int v) → read (json as_int as_bool as_text v) ≡ Some (data_of_value v)
+  JsonReadsBack = (v : Value S) → nesting v ≤ max_depth → IsTrue (fits_32_bits answer v) → read (json answer v) ≡ Some (data_of_value v)
 
   -- where an object's keys are distinct, each stands for its own value (7.2.2 Serialized Map Ordering)
   abbrev pub KeysKeepValues : Type 0

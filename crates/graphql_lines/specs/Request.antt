@@ -1,13 +1,12 @@
 -- The request that a line describes, as `serde_json` reads it (GraphQL October 2021, 6.1 Executing Requests).
-use Rattle.std.specs.Prelude.{◌≡◌, ℕ, ℤ, Bool, List, if◌then◌else◌, Option, Some, None, Result, Ok, Err, option_map, option_and_then, codes, string_bytes, ⊤}
+use Rattle.std.specs.Prelude.{◌≡◌, ℕ, ℤ, Bool, List, if◌then◌else◌, Option, Some, None, Result, option_map, option_and_then, codes, string_bytes}
 use Rattle.std.specs.Str.{is_utf8}
 use Rattle.serde_json.specs.Data.{Data, null, boolean, number, string, array, object, Members, no_members}
 use Rattle.serde_json.specs.Read.{read}
 use Rattle.serde_json.specs.Find.{get, as_str}
 use Rattle.graphql_lines.specs.declared.refusal.LineRefusal.{LineRefusal}
-use Rattle.graphql_lines.specs.declared.refusal.LineRefusal.TheVariants.{LineTooLong, NotARequest, BadNumber, Memory}
 use Rattle.graphql_lines.specs.declared.request.GraphQLRequest.{GraphQLRequest}
-use Rattle.graphql_lines.specs.Variables.{fields_of, HasValues, members_of_variables}
+use Rattle.graphql_lines.specs.Variables.{HasValues, members_of_variables, AnswersAsked}
 
 -- what a line asks: the text of the query, the operation's name, the members of its variables
 pub record Request : Type 0 where
@@ -49,15 +48,11 @@ request_of line = option_and_then request_in (data_of line)
 
 module _ {S : Type 0} (of_bool : Bool → S) (of_int : ℤ → S) (of_text : List ℕ → S) where
   -- the request holds what was asked, its variables as values
-  pub record Holds (asked : Request) (r : GraphQLRequest S) : Type 0 where
+  pub record HoldsRequest (asked : Request) (r : GraphQLRequest S) : Type 0 where
     pub query : string_bytes r.query ≡ asked.query
     pub operation_name : option_map (λ name. string_bytes name) r.operation_name ≡ asked.operation_name
     pub variables : HasValues of_bool of_int of_text asked.variables r.variables
 
-  -- what is answered of what may be a request; want of memory tells nothing
-  abbrev pub Answers : Option Request → Result (GraphQLRequest S) LineRefusal → Type 0
-  Answers asked (Ok r) = (q : Request) × (asked ≡ Some q) × Holds q r
-  Answers asked (Err NotARequest) = asked ≡ None
-  Answers asked (Err BadNumber) = (q : Request) × (asked ≡ Some q) × (fields_of of_bool of_int of_text q.variables ≡ None)
-  Answers asked (Err LineTooLong) = ⊥
-  Answers asked (Err Memory) = ⊤
+  -- the request that may be asked, or the refusal that is due; want of memory tells nothing
+  abbrev pub AnswersRequest : Result (GraphQLRequest S) LineRefusal → Option Request → Type 0
+  AnswersRequest result asked = AnswersAsked of_bool of_int of_text HoldsRequest (λ q. q.variables) result asked

@@ -1,10 +1,11 @@
 -- Variables' values, as JSON gives them (GraphQL October 2021, 7.2 Serialization Format, 3.5 Scalars).
-use Rattle.std.specs.Prelude.{ℕ, ◌^◌, ℤ, pos, negsuc, nat_lt, Bool, if◌then◌else◌, List, [], ◌∷◌, Option, Some, None, option_map, option_and_then, IsSome, String, ◌≡◌, Result, Ok, Err, ⊤}
+use Rattle.std.specs.Prelude.{ℕ, ◌^◌, ℤ, pos, negsuc, nat_lt, Bool, if◌then◌else◌, List, [], ◌∷◌, Option, Some, None, option_map, option_and_then, IsSome, String, ◌≡◌, Result}
 use Rattle.std.specs.HashMap.{HashMap}
 use Rattle.std.specs.declared.alloc.Global.{Global}
 use Rattle.std.specs.HashMap.{get_by_text}
 use Rattle.serde_json.specs.Data.{Num, Data, null, boolean, number, string, array, object, Items, no_items, item, Members, no_members, member}
 use Rattle.serde_json.specs.Find.{as_i64, get_member}
+use Rattle.graphql_items.specs.Memory.{Answers}
 use Rattle.graphql_values.specs.declared.input_value.InputValue.{InputValue}
 use Rattle.graphql_values.specs.declared.input_value.InputValue.TheVariants as value
 use Rattle.graphql_lines.specs.declared.refusal.LineRefusal.{LineRefusal}
@@ -56,11 +57,19 @@ module _ {S : Type 0} (of_bool : Bool → S) (of_int : ℤ → S) (of_text : Lis
     pub fit : IsSome (fields_of ms)
     pub values : (name : List ℕ) → get_by_text variables name ≡ option_and_then input_of (get_member name ms)
 
-  -- What is answered of what may be the members of variables: none of them, where the value is of another kind. Want of
-  -- memory tells nothing.
-  abbrev pub GivesVariables : {H : Type 0} → Option Members → Result (HashMap (String Global) (InputValue S) H) LineRefusal → Type 0
-  GivesVariables asked (Ok variables) = (ms : Members) × (asked ≡ Some ms) × HasValues ms variables
-  GivesVariables asked (Err NotARequest) = asked ≡ None
-  GivesVariables asked (Err BadNumber) = (ms : Members) × (asked ≡ Some ms) × (fields_of ms ≡ None)
-  GivesVariables asked (Err LineTooLong) = ⊥
-  GivesVariables asked (Err Memory) = ⊤
+  -- A refusal is due: nothing is asked where the JSON is of another kind, or a number in the variables of what is asked is
+  -- no whole one of 32 bits.
+  abbrev pub IsDue : {A : Type 0} → (A → Members) → Option A → LineRefusal → Type 0
+  IsDue variables asked LineTooLong = ⊥
+  IsDue variables asked NotARequest = asked ≡ None
+  IsDue {A} variables asked BadNumber = (a : A) × (asked ≡ Some a) × (fields_of (variables a) ≡ None)
+  IsDue variables asked Memory = ⊥
+
+  -- a value that means what is asked, or the refusal that is due; want of memory tells nothing
+  abbrev pub AnswersAsked : {A X : Type 0} → (A → X → Type 0) → (A → Members) → Result X LineRefusal → Option A → Type 0
+  AnswersAsked {A} Means variables result asked =
+      Answers (λ x. (a : A) × (asked ≡ Some a) × Means a x) (IsDue variables asked) (λ e. e ≡ Memory) result
+
+  -- the values of what may be the members of variables
+  abbrev pub AnswersVariables : {H : Type 0} → Result (HashMap (String Global) (InputValue S) H) LineRefusal → Option Members → Type 0
+  AnswersVariables result asked = AnswersAsked (λ ms variables. HasValues ms variables) (λ ms. ms) result asked

@@ -8,13 +8,13 @@ use graphql_scalars::ScalarValue;
 /// October 2021, 7.2 Serialization Format), where lists and objects nest no deeper than 127, as deep as
 /// it reads, and integers have 32 bits, as those that `try_to_int` answers do.
 pub fn json_reads_back<S: ScalarValue>()
-    ensures { JsonReadsBack S.as_int S.as_bool S.as_text }
+    ensures { JsonReadsBack S.answer }
 {}
 
 /// Where an object's keys are distinct, its data has under each of them the data of its own value, and
 /// under no other key anything (GraphQL October 2021, 7.2.2 Serialized Map Ordering).
 pub fn keys_keep_values<S: ScalarValue>()
-    ensures { KeysKeepValues S.as_int S.as_bool S.as_text }
+    ensures { KeysKeepValues S.answer }
 {}
 
 /// JSON data stand for no input value exactly where a number anywhere in them is not held as a whole

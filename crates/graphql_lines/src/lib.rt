@@ -5,8 +5,6 @@
 pub mod laws;
 mod refusal;
 mod request;
-#[cfg(test)]
-mod tests;
 mod to_json;
 mod variables;
 

@@ -1,10 +1,10 @@
 //! Requests, one a line.
 
-ghost use Rattle.std.specs.Prelude.{◌≡◌, ◌≢◌, option_map, option_and_then, Some, IfOk, IfErr, IsNone, string_bytes};
-ghost use Rattle.graphql_items.specs.Memory.{Gives};
+ghost use Rattle.std.specs.Prelude.{◌≡◌, option_map, Some, IsNone, string_bytes};
+ghost use Rattle.graphql_items.specs.Memory.{Answers};
 ghost use Rattle.serde_json.specs.View.{view};
 ghost use Rattle.graphql_lines.specs.declared.refusal.LineRefusal.TheVariants.{NotARequest, Memory};
-ghost use Rattle.graphql_lines.specs.Variables.{GivesVariables};
+ghost use Rattle.graphql_lines.specs.Variables.{AnswersVariables};
 ghost use Rattle.graphql_lines.specs.Request as spec;
 
 use crate::refusal::LineRefusal;
@@ -32,8 +32,8 @@ pub struct GraphQLRequest<S = DefaultScalarValue> {
 /// `NotARequest` where the line is not UTF-8, or no JSON that `serde_json` reads; `Memory` where
 /// memory ran out.
 pub fn json_of_line(alloc: Global, line: &[u8]) -> Result<Value, LineRefusal>
-    ensures ok { IfOk result (λ value. Some (view value) ≡ spec.data_of line.now) }
-    ensures err { IfErr result (λ e. e ≢ Memory → (e ≡ NotARequest) × IsNone (spec.data_of line.now)) }
+    ensures { Answers (λ value. Some (view value) ≡ spec.data_of line.now)
+        (λ e. (e ≡ NotARequest) × IsNone (spec.data_of line.now)) (λ e. e ≡ Memory) result }
 {
     match Value::from_slice(alloc, line) {
         Ok(value) => Ok(value),
@@ -51,8 +51,9 @@ fn query_in(value: &Value) -> Option<&str>
 
 /// The name of an operation, which may be missing or null.
 fn name_in(alloc: Global, value: Option<&Value>) -> Result<Option<String>, LineRefusal>
-    ensures ok { IfOk result (λ name. Some (option_map (λ text. string_bytes text) name) ≡ spec.name_in (option_map (λ v. view v.now) value.entry)) }
-    ensures err { IfErr result (λ e. e ≢ Memory → (e ≡ NotARequest) × IsNone (spec.name_in (option_map (λ v. view v.now) value.entry))) }
+    ensures { let asked = spec.name_in (option_map (λ v. view v.now) value.entry) in
+        Answers (λ name. Some (option_map (λ text. string_bytes text) name) ≡ asked)
+        (λ e. (e ≡ NotARequest) × IsNone asked) (λ e. e ≡ Memory) result }
 {
     match value {
         None | Some(Value::Null) => Ok(None),
@@ -66,7 +67,8 @@ fn variables_in<S: ScalarValue>(
     alloc: Global,
     value: Option<&Value>,
 ) -> Result<Variables<S>, LineRefusal>
-    ensures { GivesVariables S.of_bool S.of_int S.of_text (spec.variables_in (option_map (λ v. view v.now) value.entry)) result }
+    ensures { AnswersVariables S.of_bool S.of_int S.of_text result
+        (spec.variables_in (option_map (λ v. view v.now) value.entry)) }
 {
     match value {
         None => Ok(HashMap::new(alloc)),
@@ -84,7 +86,7 @@ pub fn request_in<S: ScalarValue>(
     alloc: Global,
     value: &Value,
 ) -> Result<GraphQLRequest<S>, LineRefusal>
-    ensures { spec.Answers S.of_bool S.of_int S.of_text (spec.request_in (view value.now)) result }
+    ensures { spec.AnswersRequest S.of_bool S.of_int S.of_text result (spec.request_in (view value.now)) }
 {
     let Some(query) = query_in(value) else {
         return Err(LineRefusal::NotARequest);
@@ -114,7 +116,7 @@ pub fn request_from_line<S: ScalarValue>(
     alloc: Global,
     line: &[u8],
 ) -> Result<GraphQLRequest<S>, LineRefusal>
-    ensures { spec.Answers S.of_bool S.of_int S.of_text (spec.request_of line.now) result }
+    ensures { spec.AnswersRequest S.of_bool S.of_int S.of_text result (spec.request_of line.now) }
 {
     let value = json_of_line(alloc, line)?;
     request_in(alloc, &value)

@@ -4,7 +4,7 @@ ghost use Rattle.std.specs.Prelude.{◌≡◌, ◌<◌, ◌++◌, ◌∷◌, [],
 ghost use Rattle.graphql_lines.specs.Json as spec;
 
 use graphql_items::Text;
-use graphql_output::{Object, Value};
+use graphql_output_values::{Object, Value};
 use graphql_scalars::ScalarValue;
 use itoa::Buffer;
 use std::alloc::AllocError;
@@ -54,7 +54,7 @@ pub fn text_to_json(out: &mut Vec<u8>, text: &str) -> Result<(), AllocError>
 
 /// Writes a scalar by what it answers: an integer, else a boolean, else a text, else `null`.
 fn scalar_to_json<S: ScalarValue>(out: &mut Vec<u8>, scalar: &S) -> Result<(), AllocError>
-    ensures { OnOk result (out.new.items ≡ out.old.items ++ spec.scalar_json S.as_int S.as_bool S.as_text scalar.now) }
+    ensures { OnOk result (out.new.items ≡ out.old.items ++ spec.scalar_json S.answer scalar.now) }
 {
     if let Some(value) = scalar.try_to_int() {
         let mut digits = Buffer::new();
@@ -86,7 +86,7 @@ fn part(out: &mut Vec<u8>, is_first: bool) -> Result<(), AllocError>
 /// memory: then `out` may hold a part of it.
 #[cycle(json)]
 pub fn value_to_json<S: ScalarValue>(out: &mut Vec<u8>, value: &Value<S>) -> Result<(), AllocError>
-    ensures { OnOk result (out.new.items ≡ out.old.items ++ spec.json S.as_int S.as_bool S.as_text value.now) }
+    ensures { OnOk result (out.new.items ≡ out.old.items ++ spec.json S.answer value.now) }
 {
     match value {
         Value::Null => out.extend_from_slice(b"null"),
@@ -98,7 +98,7 @@ pub fn value_to_json<S: ScalarValue>(out: &mut Vec<u8>, value: &Value<S>) -> Res
 
 #[cycle(json)]
 fn list_to_json<S: ScalarValue>(out: &mut Vec<u8>, items: &[Value<S>]) -> Result<(), AllocError>
-    ensures { OnOk result (out.new.items ≡ out.old.items ++ (91 ∷ spec.joined [] (map (spec.json S.as_int S.as_bool S.as_text) items.now) ++ 93 ∷ [])) }
+    ensures { OnOk result (out.new.items ≡ out.old.items ++ (91 ∷ spec.joined [] (map (spec.json S.answer) items.now) ++ 93 ∷ [])) }
 {
     out.extend_from_slice(b"[")?;
     let mut is_first = true;
@@ -112,7 +112,7 @@ fn list_to_json<S: ScalarValue>(out: &mut Vec<u8>, items: &[Value<S>]) -> Result
 
 #[cycle(json)]
 fn object_to_json<S: ScalarValue>(out: &mut Vec<u8>, object: &Object<S>) -> Result<(), AllocError>
-    ensures { OnOk result (out.new.items ≡ out.old.items ++ spec.object_json S.as_int S.as_bool S.as_text object.now) }
+    ensures { OnOk result (out.new.items ≡ out.old.items ++ spec.object_json S.answer object.now) }
 {
     out.extend_from_slice(b"{")?;
     let mut is_first = true;
@@ -129,7 +129,7 @@ fn member_to_json<S: ScalarValue>(
     out: &mut Vec<u8>,
     field: &(Text, Value<S>),
 ) -> Result<(), AllocError>
-    ensures { OnOk result (out.new.items ≡ out.old.items ++ spec.member_json (field.now.0, spec.json S.as_int S.as_bool S.as_text field.now.1)) }
+    ensures { OnOk result (out.new.items ≡ out.old.items ++ spec.member_json (field.now.0, spec.json S.answer field.now.1)) }
 {
     text_to_json(out, field.0.as_str())?;
     out.extend_from_slice(b":")?;

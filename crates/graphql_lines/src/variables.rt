@@ -1,12 +1,12 @@
 //! Variables' values from JSON.
 
-ghost use Rattle.std.specs.Prelude.{◌≡◌, ◌≢◌, Some, None, IfOk, IfErr, OnOk, option_map};
+ghost use Rattle.std.specs.Prelude.{◌≡◌, Some, None, OnOk, option_map};
 ghost use Rattle.std.specs.HashMap.{Updates};
 ghost use Rattle.std.specs.String.{string_eq};
-ghost use Rattle.graphql_items.specs.Memory.{Gives};
+ghost use Rattle.graphql_items.specs.Memory.{Answers, Gives};
 ghost use Rattle.serde_json.specs.View.{view, number_view, items_view, members_view};
 ghost use Rattle.graphql_values.specs.declared.input_value.InputValue.TheVariants as value;
-ghost use Rattle.graphql_lines.specs.declared.refusal.LineRefusal.TheVariants.{NotARequest, BadNumber, Memory};
+ghost use Rattle.graphql_lines.specs.declared.refusal.LineRefusal.TheVariants.{BadNumber, Memory};
 ghost use Rattle.graphql_lines.specs.Variables as spec;
 
 use crate::refusal::LineRefusal;
@@ -118,8 +118,9 @@ fn values_by_name<S: ScalarValue>(
     alloc: Global,
     members: &Map<String, Value>,
 ) -> Result<Variables<S>, LineRefusal>
-    ensures ok { IfOk result (λ variables. spec.HasValues S.of_bool S.of_int S.of_text (members_view members.now.entries) variables) }
-    ensures err { IfErr result (λ e. e ≢ Memory → (e ≡ BadNumber) × (spec.fields_of S.of_bool S.of_int S.of_text (members_view members.now.entries) ≡ None)) }
+    ensures { let ms = members_view members.now.entries in
+        Answers (λ variables. spec.HasValues S.of_bool S.of_int S.of_text ms variables)
+        (λ e. (e ≡ BadNumber) × (spec.fields_of S.of_bool S.of_int S.of_text ms ≡ None)) (λ e. e ≡ Memory) result }
 {
     let mut variables = HashMap::new(alloc);
     'members: for (key, member) in members.iter() {
@@ -143,7 +144,7 @@ pub fn variables_from_json<S: ScalarValue>(
     alloc: Global,
     json: &Value,
 ) -> Result<Variables<S>, LineRefusal>
-    ensures { spec.GivesVariables S.of_bool S.of_int S.of_text (spec.members_of_variables (view json.now)) result }
+    ensures { spec.AnswersVariables S.of_bool S.of_int S.of_text result (spec.members_of_variables (view json.now)) }
 {
     match json {
         Value::Null => Ok(HashMap::new(alloc)),

@@ -11,7 +11,9 @@ use Rattle.graphql_scalars.specs.contracts.default_scalar.DefaultScalarValueEq.T
 use Rattle.graphql_values.specs.declared.input_value.InputValue.{InputValue}
 use Rattle.graphql_values.specs.SameValue.{SameValue, same_null, same_scalar, same_enum, same_variable, same_list, same_object}
 use Rattle.graphql_values.specs.ConversionLaws.{same_scalar as same_inside}
-use Rattle.graphql_meta.specs.Checks.{Says, Tells, Accepts, IsConsistent}
+use Rattle.graphql_items.specs.Memory.{Told}
+use Rattle.graphql_scalars.specs.declared.check_error.CheckError.TheVariants.{Memory}
+use Rattle.graphql_meta.specs.Checks.{CheckRelation, Accepts, IsConsistent}
 use Rattle.graphql_meta.specs.ScalarChecks.{IsScalar}
 use Rattle.graphql_meta.proofs.CheckLemmas.{consistent_by, accepted_by}
 
@@ -33,7 +35,7 @@ module _ (P : DefaultScalarValue → Type 0) where
   scalars_alike _ _ (same_object ps qs long have are) held = absurd (search rules)
 
 -- where a function's answers tell whether the value is a scalar of which P holds
-module _ (P : DefaultScalarValue → Type 0) {says : Says DefaultScalarValue} (tell : (p : Bor (InputValue DefaultScalarValue)) (r : Result (Unit {0}) CheckError) → says p r → Tells r (IsScalar P p.now)) where
+module _ (P : DefaultScalarValue → Type 0) {says : CheckRelation DefaultScalarValue} (tell : (p : Bor (InputValue DefaultScalarValue)) (r : Result (Unit {0}) CheckError) → says p r → Told (λ e. e ≡ Memory) r (IsScalar P p.now)) where
   -- it is consistent
   pub scalar_consistent : IsConsistent partial_eq.ghosts.eq says
   scalar_consistent = consistent_by lawful.laws (IsScalar P) (scalars_alike P) tell

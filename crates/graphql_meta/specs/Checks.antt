@@ -2,28 +2,22 @@
 use Rattle.std.specs.Prelude.{Bool, List, ℕ, Result, Ok, Err}
 use Rattle.std.specs.Borrow.{Bor}
 use Rattle.graphql_scalars.specs.declared.check_error.CheckError.{CheckError}
-use Rattle.graphql_scalars.specs.declared.check_error.CheckError.TheVariants.{Message, Memory}
+use Rattle.graphql_scalars.specs.declared.check_error.CheckError.TheVariants.{Message}
 use Rattle.graphql_values.specs.declared.input_value.InputValue.{InputValue}
 use Rattle.graphql_values.specs.SameValue.{SameValue}
 use Rattle.graphql_values.proofs.SameValueLaws.{by_a_third}
 use Rattle.std.specs.Cmp.{IsEquivalence}
 
--- what an answer tells of whether the value is accepted; want of memory tells nothing
-abbrev pub Tells : Result (Unit {0}) CheckError → Type 0 → Type 0
-Tells (Ok _) Accepted = Accepted
-Tells (Err (Message m)) Accepted = Accepted → ⊥
-Tells (Err Memory) Accepted = Unit {0}
-
 -- what a function may answer at a reference
-abbrev pub Says : Type 0 → Type 1
-Says S = Bor (InputValue S) → Result (Unit {0}) CheckError → Type 0
+abbrev pub CheckRelation : Type 0 → Type 1
+CheckRelation S = Bor (InputValue S) → Result (Unit {0}) CheckError → Type 0
 
-module _ {S : Type 0} (eq : S → S → Bool) (says : Says S) where
+module _ {S : Type 0} (eq : S → S → Bool) (says : CheckRelation S) where
   -- it may give this answer at a value that is the same, places aside
   pub record MayAnswer (value : InputValue S) (answer : Result (Unit {0}) CheckError) : Type 0 where
-    pub shown : Bor (InputValue S)
-    pub shows : SameValue S eq shown.now value
-    pub said : says shown answer
+    pub reference : Bor (InputValue S)
+    pub same : SameValue S eq reference.now value
+    pub answers : says reference answer
 
   abbrev pub Accepts : InputValue S → Type 0
   Accepts value = MayAnswer value (Ok tt)
@@ -36,5 +30,5 @@ module _ {S : Type 0} (eq : S → S → Bool) (says : Says S) where
   IsConsistent = (value : InputValue S) → Accepts value → Refuses value → ⊥
 
 -- what is accepted is accepted wherever it stands
-pub accepts_same : {S : Type 0} {eq : S → S → Bool} {says : Says S} → IsEquivalence eq → (a b : InputValue S) → SameValue S eq a b → Accepts eq says a → Accepts eq says b
-accepts_same {S} {eq} laws a b same accepted = record { shown = accepted.shown; shows = by_a_third eq laws _ a b accepted.shows same; said = accepted.said }
+pub accepts_same : {S : Type 0} {eq : S → S → Bool} {says : CheckRelation S} → IsEquivalence eq → (a b : InputValue S) → SameValue S eq a b → Accepts eq says a → Accepts eq says b
+accepts_same {S} {eq} laws a b same accepted = record { reference = accepted.reference; same = by_a_third eq laws _ a b accepted.same same; answers = accepted.answers }

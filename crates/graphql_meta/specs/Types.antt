@@ -1,30 +1,27 @@
 -- What a schema says of its types (GraphQL October 2021, 3.4 Types).
-use Rattle.std.specs.Prelude.{◌++◌, List, [], ◌∷◌, Option, Some, None}
+use Rattle.std.specs.Prelude.{◌++◌, List, [], ◌∷◌, Option, Some, None, unwrap_or}
 use Rattle.graphql_items.specs.declared.text.Text.{Text}
-use Rattle.graphql_types.specs.TypeReference.{nullable}
-use Rattle.graphql_types.specs.declared.type_modifier.TypeModifier.{TypeModifier}
-use Rattle.graphql_types.specs.declared.type_modifier.TypeModifier.TheVariants as modifier
-use Rattle.graphql_types.specs.declared.type_reference.«Type».{«Type»}
+use Rattle.graphql_type_references.specs.TypeReference.{nullable}
+use Rattle.graphql_type_references.specs.declared.type_modifier.TypeModifier.{TypeModifier}
+use Rattle.graphql_type_references.specs.declared.type_modifier.TypeModifier.TheVariants as modifier
+use Rattle.graphql_type_references.specs.declared.type_reference.«Type».{«Type»}
 use Rattle.graphql_meta.specs.declared.meta.argument.Argument.{Argument}
 use Rattle.graphql_meta.specs.declared.meta.enum_value.EnumValue.{EnumValue}
 use Rattle.graphql_meta.specs.declared.meta.field.Field.{Field}
 use Rattle.graphql_meta.specs.declared.meta.MetaType.{MetaType}
 use Rattle.graphql_meta.specs.declared.meta.MetaType.TheVariants as meta
 
-abbrev pub given : {A : Type 0} → Option (List A) → List A
-given (Some arguments) = arguments
-given None = []
-
 -- the arguments of a field
 abbrev pub arguments_of : {S : Type 0} → Field S → List (Argument S)
-arguments_of field = given field.arguments
+arguments_of field = unwrap_or field.arguments []
 
 -- a reference to a type that can have any name
 abbrev pub TypeOf : Type 0
 TypeOf = «Type» Text (List TypeModifier)
 
-abbrev pub named : Text → TypeOf
-named name = record { name = name; modifiers = modifier.NonNull ∷ [] }
+-- the reference to the type of a name, without `null`
+abbrev pub reference_to : Text → TypeOf
+reference_to name = record { name = name; modifiers = modifier.NonNull ∷ [] }
 
 module _ {S C : Type 0} where
   abbrev pub name_of : MetaType S C → Option Text
@@ -35,6 +32,10 @@ module _ {S C : Type 0} where
   name_of (meta.Union m) = Some m.name
   name_of (meta.InputObject m) = Some m.name
   name_of _ = None
+
+  -- the name by which a type is found; what has none has the empty one
+  abbrev pub own_name : MetaType S C → Text
+  own_name m = unwrap_or (name_of m) []
 
   abbrev pub description_of : MetaType S C → Option Text
   description_of (meta.Scalar m) = m.description
@@ -84,12 +85,12 @@ module _ {S C : Type 0} where
 
   -- the reference to the type (2.11 Type References): no null is among its values but where the metadata adds it
   abbrev pub type_of : MetaType S C → TypeOf
-  type_of (meta.Scalar m) = named m.name
-  type_of (meta.Object m) = named m.name
-  type_of (meta.Enum m) = named m.name
-  type_of (meta.Interface m) = named m.name
-  type_of (meta.Union m) = named m.name
-  type_of (meta.InputObject m) = named m.name
+  type_of (meta.Scalar m) = reference_to m.name
+  type_of (meta.Object m) = reference_to m.name
+  type_of (meta.Enum m) = reference_to m.name
+  type_of (meta.Interface m) = reference_to m.name
+  type_of (meta.Union m) = reference_to m.name
+  type_of (meta.InputObject m) = reference_to m.name
   type_of (meta.List m) = record { name = m.of_type.name; modifiers = m.of_type.modifiers ++ modifier.List m.expected_size ∷ modifier.NonNull ∷ [] }
   type_of (meta.Nullable m) = record { name = m.of_type.name; modifiers = nullable m.of_type.modifiers }
   type_of (meta.Placeholder m) = m.of_type

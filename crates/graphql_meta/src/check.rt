@@ -1,7 +1,9 @@
 //! Checks: whether a value is one of a scalar, an enum or an input object.
 
 ghost use Rattle.std.specs.Prelude.{◌≡◌};
-ghost use Rattle.graphql_meta.specs.Checks.{Tells, IsConsistent};
+ghost use Rattle.graphql_items.specs.Memory.{Told};
+ghost use Rattle.graphql_scalars.specs.declared.check_error.CheckError.TheVariants.{Memory};
+ghost use Rattle.graphql_meta.specs.Checks.{IsConsistent};
 
 use graphql_scalars::CheckError;
 use graphql_values::{DefaultScalarValue, InputValue, ScalarValue};
@@ -18,7 +20,7 @@ pub trait Check<S: PartialEq> {
     /// Whether it accepts the value: `Ok` where it does. `CheckError::Message` says why it does not.
     /// `CheckError::Memory` is want of memory, and tells nothing of the value.
     fn check(&self, value: &InputValue<S>) -> Result<(), CheckError>
-        ensures { Tells result (accepts self.now value.now) };
+        ensures { Told (λ e. e ≡ Memory) result (accepts self.now value.now) };
 
     /// Of values that are the same wherever they stand, it accepts all or none.
     ghost respects_same: { (c : Self) (a b : InputValue S) → SameValue S S.eq a b → accepts c a → accepts c b };

@@ -3,9 +3,6 @@
 ghost use Rattle.std.specs.Prelude.{◌≡◌, ◌↔◌, Some, None, IsTrue};
 ghost use Rattle.std.specs.List.{Contains};
 
-#[cfg(test)]
-mod tests;
-
 use crate::directive_location::DirectiveLocation;
 use crate::meta::Argument;
 use graphql_text::{Items, Text};

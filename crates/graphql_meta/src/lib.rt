@@ -6,6 +6,7 @@ mod check;
 mod directive;
 mod directive_location;
 mod meta;
+mod names;
 pub mod scalar_checks;
 
 pub use check::{Check, SchemaScalar, TypeCheck};

@@ -16,8 +16,6 @@ mod object;
 mod parts;
 mod placeholder;
 mod scalar;
-#[cfg(test)]
-mod tests;
 mod type_kind;
 mod type_of;
 mod union_type;

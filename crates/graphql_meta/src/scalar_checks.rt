@@ -6,19 +6,16 @@
 
 ghost use Rattle.std.specs.Prelude.{◌≡◌, ◌≢◌, IfErr, codes};
 ghost use Rattle.graphql_scalars.specs.declared.check_error.CheckError.TheVariants.{Memory};
-ghost use Rattle.graphql_meta.specs.Checks.{Tells};
+ghost use Rattle.graphql_items.specs.Memory.{Told};
 ghost use Rattle.graphql_meta.specs.ScalarChecks.{IsInt, IsString, IsBoolean, IsId, SaysWhy};
 
-#[cfg(test)]
-mod tests;
-
 use graphql_scalars::{CheckError, Scalar, WrongInputScalarTypeError};
-use graphql_text::{Text, TextRef};
-use graphql_values::{DefaultScalarValue, InputValue};
+use graphql_text::TextRef;
+use graphql_values::{DefaultScalarValue, InputValue, no_scalar};
 use std::alloc::Global;
 
 /// Why a value is none of the type of this name, or want of memory.
-fn refused(alloc: Global, type_name: &str, value: &InputValue<DefaultScalarValue>) -> CheckError
+fn refusal(alloc: Global, type_name: &str, value: &InputValue<DefaultScalarValue>) -> CheckError
     ensures { result ≢ Memory → SaysWhy type_name.now value.now result }
 {
     if let InputValue::Scalar(scalar) = value {
@@ -28,10 +25,7 @@ fn refused(alloc: Global, type_name: &str, value: &InputValue<DefaultScalarValue
         };
         return error.to_check_error(alloc);
     }
-    match format!(in alloc; "Expected GraphQL scalar, found: {value}") {
-        Ok(text) => CheckError::Message(Text::from_string(text)),
-        Err(_) => CheckError::Memory,
-    }
+    no_scalar(alloc, value)
 }
 
 /// Whether the value is one of the type `Int`: an integer (3.5.1 Int).
@@ -39,12 +33,12 @@ fn refused(alloc: Global, type_name: &str, value: &InputValue<DefaultScalarValue
 /// `CheckError::Message` says why it is none. `CheckError::Memory` is want of memory, which only a
 /// refusal takes, and tells nothing of the value.
 pub fn int_check(alloc: Global, value: &InputValue<DefaultScalarValue>) -> Result<(), CheckError>
-    ensures tells { Tells result (IsInt value.now) }
+    ensures tells { Told (λ e. e ≡ Memory) result (IsInt value.now) }
     ensures says_why { IfErr result (λ e. e ≢ Memory → SaysWhy (codes "Int") value.now e) }
 {
     match value {
         InputValue::Scalar(DefaultScalarValue::Int(_)) => Ok(()),
-        _ => Err(refused(alloc, "Int", value)),
+        _ => Err(refusal(alloc, "Int", value)),
     }
 }
 
@@ -53,12 +47,12 @@ pub fn int_check(alloc: Global, value: &InputValue<DefaultScalarValue>) -> Resul
 /// `CheckError::Message` says why it is none. `CheckError::Memory` is want of memory, which only a
 /// refusal takes, and tells nothing of the value.
 pub fn string_check(alloc: Global, value: &InputValue<DefaultScalarValue>) -> Result<(), CheckError>
-    ensures tells { Tells result (IsString value.now) }
+    ensures tells { Told (λ e. e ≡ Memory) result (IsString value.now) }
     ensures says_why { IfErr result (λ e. e ≢ Memory → SaysWhy (codes "String") value.now e) }
 {
     match value {
         InputValue::Scalar(DefaultScalarValue::String(_)) => Ok(()),
-        _ => Err(refused(alloc, "String", value)),
+        _ => Err(refusal(alloc, "String", value)),
     }
 }
 
@@ -70,12 +64,12 @@ pub fn boolean_check(
     alloc: Global,
     value: &InputValue<DefaultScalarValue>,
 ) -> Result<(), CheckError>
-    ensures tells { Tells result (IsBoolean value.now) }
+    ensures tells { Told (λ e. e ≡ Memory) result (IsBoolean value.now) }
     ensures says_why { IfErr result (λ e. e ≢ Memory → SaysWhy (codes "Boolean") value.now e) }
 {
     match value {
         InputValue::Scalar(DefaultScalarValue::Boolean(_)) => Ok(()),
-        _ => Err(refused(alloc, "Boolean", value)),
+        _ => Err(refusal(alloc, "Boolean", value)),
     }
 }
 
@@ -84,11 +78,11 @@ pub fn boolean_check(
 /// `CheckError::Message` says why it is none. `CheckError::Memory` is want of memory, which only a
 /// refusal takes, and tells nothing of the value.
 pub fn id_check(alloc: Global, value: &InputValue<DefaultScalarValue>) -> Result<(), CheckError>
-    ensures tells { Tells result (IsId value.now) }
+    ensures tells { Told (λ e. e ≡ Memory) result (IsId value.now) }
     ensures says_why { IfErr result (λ e. e ≢ Memory → SaysWhy (codes "String` or `Int") value.now e) }
 {
     match value {
         InputValue::Scalar(DefaultScalarValue::String(_) | DefaultScalarValue::Int(_)) => Ok(()),
-        _ => Err(refused(alloc, "String` or `Int", value)),
+        _ => Err(refusal(alloc, "String` or `Int", value)),
     }
 }

@@ -8,10 +8,10 @@ use Rattle.std.proofs.lemmas.Str.Parse.{IsNumeralModel, numerals_by_value, tells
 use mir.Syntax.{w32}
 use Rattle.graphql_scalars.specs.IntValue.{natural_up_to, int_value}
 
-abbrev AreDigits : List ℕ → Type 0
+abbrev pub AreDigits : List ℕ → Type 0
 AreDigits ds = all_ascii_digits ds ≡ true
 
-numerals : IsNumeralModel AreDigits (digits_value 10)
+pub numerals : IsNumeralModel AreDigits (digits_value 10)
 numerals = numerals_by_value AreDigits tells_all_ascii_digits
 
 both : {A : Type 0} (a b : Bool) (x : A) → a ≡ true → b ≡ true → (if a && b then Some x else None) ≡ Some x
@@ -28,7 +28,7 @@ within n most h = grind (arith, nat_tests)
 within_is : (n most : ℕ) → nat_le n most ≡ true → n ≤ most
 within_is n most h = grind (arith, nat_tests)
 
-natural_some : (most : ℕ) (ds : List ℕ) → AreDigits ds → 0 < length ds → digits_value 10 ds ≤ most → natural_up_to most ds ≡ Some (digits_value 10 ds)
+pub natural_some : (most : ℕ) (ds : List ℕ) → AreDigits ds → 0 < length ds → digits_value 10 ds ≤ most → natural_up_to most ds ≡ Some (digits_value 10 ds)
 natural_some most [] are one le = absurd (omega arith)
 natural_some most (d ∷ ds) are one le = both (all_ascii_digits (d ∷ ds)) (nat_le (digits_value 10 (d ∷ ds)) most) (digits_value 10 (d ∷ ds)) are (within _ _ le)
 

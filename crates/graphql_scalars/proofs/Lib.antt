@@ -1,3 +1,4 @@
 pub mod IntLemmas
 pub mod StringLemmas
 pub mod StringMeaning
+pub mod JoinLemmas

@@ -4,7 +4,7 @@ use Rattle.std.specs.Prelude.{encode_utf8_all}
 use Rattle.std.specs.Char.{is_ascii_alphanumeric, encode_utf8}
 use Rattle.graphql_items.specs.Memory.{◌>>=◌}
 use Rattle.graphql_text.specs.declared.parse_error.ParseError.{ParseError}
-use Rattle.graphql_scalars.specs.StringValue.{letters, escape, escape_and_rest, preceded_by, decoded_behind, decoded}
+use Rattle.graphql_scalars.specs.StringValue.{letters, escape, escape_and_rest, preceded_by, decoded_behind, decoded_characters}
 
 -- ---- letters
 
@@ -21,7 +21,7 @@ letters_more n c cs h = rw h refl
 
 -- ---- decoding
 
-pub behind_is_drop : (n : ℕ) (cs : List ℕ) → decoded_behind n cs ≡ decoded (drop n cs)
+pub behind_is_drop : (n : ℕ) (cs : List ℕ) → decoded_behind n cs ≡ decoded_characters (drop n cs)
 behind_is_drop zero cs = refl
 behind_is_drop (suc n) [] = refl
 behind_is_drop (suc n) (c ∷ cs) = behind_is_drop n cs
@@ -38,26 +38,26 @@ continued_more front c (Err e) = refl
 abbrev ok_pair : ℕ × List ℕ → Result (ℕ × List ℕ) ParseError
 ok_pair p = Ok p
 
-decoded_escape : (xs : List ℕ) → decoded (92 ∷ xs) ≡ (escape_and_rest xs >>= (λ (p : ℕ × List ℕ). preceded_by p.0 (decoded p.1)))
+decoded_escape : (xs : List ℕ) → decoded_characters (92 ∷ xs) ≡ (escape_and_rest xs >>= (λ (p : ℕ × List ℕ). preceded_by p.0 (decoded_characters p.1)))
 unfolding escape_and_rest
 decoded_escape xs = by (escape xs)
   where
     by : (r : Result (ℕ × ℕ) ParseError)
-        → (r >>= (λ (e : ℕ × ℕ). preceded_by e.0 (decoded_behind e.1 xs))) ≡ ((r >>= (λ (e : ℕ × ℕ). ok_pair (e.0, drop e.1 xs))) >>= (λ (p : ℕ × List ℕ). preceded_by p.0 (decoded p.1)))
+        → (r >>= (λ (e : ℕ × ℕ). preceded_by e.0 (decoded_behind e.1 xs))) ≡ ((r >>= (λ (e : ℕ × ℕ). ok_pair (e.0, drop e.1 xs))) >>= (λ (p : ℕ × List ℕ). preceded_by p.0 (decoded_characters p.1)))
     by (Ok e) = ap (preceded_by e.0) (behind_is_drop e.1 xs)
     by (Err e) = refl
 
 -- an escape is read
 pub escape_read : (front rest xs : List ℕ) (c : ℕ) (behind : List ℕ) → rest ≡ 92 ∷ xs → escape_and_rest xs ≡ Ok (c, behind)
-    → continued (front ++ encode_utf8 c) (decoded behind) ≡ continued front (decoded rest)
+    → continued (front ++ encode_utf8 c) (decoded_characters behind) ≡ continued front (decoded_characters rest)
 escape_read front rest xs c behind is read =
-    sym (continued_more front c (decoded behind))
-    ∙ ap (continued front) (sym (ap decoded is ∙ decoded_escape xs ∙ ap (λ (r : Result (ℕ × List ℕ) ParseError). r >>= (λ (p : ℕ × List ℕ). preceded_by p.0 (decoded p.1))) read))
+    sym (continued_more front c (decoded_characters behind))
+    ∙ ap (continued front) (sym (ap decoded_characters is ∙ decoded_escape xs ∙ ap (λ (r : Result (ℕ × List ℕ) ParseError). r >>= (λ (p : ℕ × List ℕ). preceded_by p.0 (decoded_characters p.1))) read))
 
 -- an escape is refused
-pub escape_refused : (front rest xs : List ℕ) (e : ParseError) → rest ≡ 92 ∷ xs → escape_and_rest xs ≡ Err e → continued front (decoded rest) ≡ Err e
+pub escape_refused : (front rest xs : List ℕ) (e : ParseError) → rest ≡ 92 ∷ xs → escape_and_rest xs ≡ Err e → continued front (decoded_characters rest) ≡ Err e
 escape_refused front rest xs e is refused =
-    ap (continued front) (ap decoded is ∙ decoded_escape xs ∙ ap (λ (r : Result (ℕ × List ℕ) ParseError). r >>= (λ (p : ℕ × List ℕ). preceded_by p.0 (decoded p.1))) refused)
+    ap (continued front) (ap decoded_characters is ∙ decoded_escape xs ∙ ap (λ (r : Result (ℕ × List ℕ) ParseError). r >>= (λ (p : ℕ × List ℕ). preceded_by p.0 (decoded_characters p.1))) refused)
 
 -- a letter of a code is read
 pub letter_read : (front rest cs : List ℕ) (c i : ℕ) → rest ≡ c ∷ cs → is_ascii_alphanumeric c ≡ true → i < 4

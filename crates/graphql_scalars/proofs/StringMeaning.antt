@@ -9,7 +9,7 @@ use Rattle.graphql_items.specs.Memory.{◌>>=◌}
 use Rattle.graphql_text.specs.declared.parse_error.ParseError.{ParseError}
 use Rattle.graphql_text.specs.Strings.{is_escape}
 use Rattle.graphql_text.specs.Grammar.{Piece, character, escaped, code, ArePieces, IsPiece, IsCode, spelling, spellings, hex_value, is_string_character}
-use Rattle.graphql_scalars.specs.StringValue.{hex_digit, character as code_point, code_character, escaped_character, escape, code_at, known, given, letters, preceded_by, decoded_behind, decoded, string_value}
+use Rattle.graphql_scalars.specs.StringValue.{hex_digit, character as code_point, code_character, escaped_character, escape, code_at, escape_or_refusal, and_then, letters, preceded_by, decoded_behind, decoded_characters, string_value}
 use Rattle.graphql_scalars.specs.DefaultScalar.{text_of}
 use Rattle.graphql_scalars.specs.Laws.{meaning, StringsMeanTheirPieces}
 
@@ -71,10 +71,10 @@ hex_below c h = grind (arith, nat_tests)
 four : (a b c d w x y z : ℕ) → hex_digit a ≡ Some w → hex_digit b ≡ Some x → hex_digit c ≡ Some y → hex_digit d ≡ Some z
     → code_character a b c d ≡ code_point (4096 * w + 256 * x + 16 * y + z)
 four a b c d w x y z p q r s =
-    ap (λ o. given o (λ w. given (hex_digit b) (λ x. given (hex_digit c) (λ y. given (hex_digit d) (λ z. code_point (4096 * w + 256 * x + 16 * y + z)))))) p
-    ∙ ap (λ o. given o (λ x. given (hex_digit c) (λ y. given (hex_digit d) (λ z. code_point (4096 * w + 256 * x + 16 * y + z))))) q
-    ∙ ap (λ o. given o (λ y. given (hex_digit d) (λ z. code_point (4096 * w + 256 * x + 16 * y + z)))) r
-    ∙ ap (λ o. given o (λ z. code_point (4096 * w + 256 * x + 16 * y + z))) s
+    ap (λ o. and_then o (λ w. and_then (hex_digit b) (λ x. and_then (hex_digit c) (λ y. and_then (hex_digit d) (λ z. code_point (4096 * w + 256 * x + 16 * y + z)))))) p
+    ∙ ap (λ o. and_then o (λ x. and_then (hex_digit c) (λ y. and_then (hex_digit d) (λ z. code_point (4096 * w + 256 * x + 16 * y + z))))) q
+    ∙ ap (λ o. and_then o (λ y. and_then (hex_digit d) (λ z. code_point (4096 * w + 256 * x + 16 * y + z)))) r
+    ∙ ap (λ o. and_then o (λ z. code_point (4096 * w + 256 * x + 16 * y + z))) s
 
 code_point_is : (n : ℕ) → scalar n ≡ true → code_point n ≡ Some n
 unfolding code_point
@@ -96,32 +96,32 @@ code_is_known a b c d (digits, single) =
 -- ---- whole texts
 
 -- an escape that is read, and what is behind it
-escape_then : (rest : List ℕ) (m n : ℕ) → escape rest ≡ Ok (m, n) → decoded (92 ∷ rest) ≡ preceded_by m (decoded_behind n rest)
+escape_then : (rest : List ℕ) (m n : ℕ) → escape rest ≡ Ok (m, n) → decoded_characters (92 ∷ rest) ≡ preceded_by m (decoded_behind n rest)
 escape_then rest m n h = ap (λ (r : Result (ℕ × ℕ) ParseError). r >>= (λ (e : ℕ × ℕ). preceded_by e.0 (decoded_behind e.1 rest))) h
 
 escape_of_one : (c : ℕ) (rest : List ℕ) → IsKnown c → escape (c ∷ rest) ≡ Ok (meaning (escaped c), 1)
 unfolding escape
 escape_of_one c rest k =
-    ap (λ b. if b then known (code_at rest) 5 (117 ∷ letters 4 rest) else known (escaped_character c) 1 (c ∷ [])) k.no_code
-    ∙ ap (λ o. known o 1 (c ∷ [])) k.stands
+    ap (λ b. if b then escape_or_refusal (code_at rest) 5 (117 ∷ letters 4 rest) else escape_or_refusal (escaped_character c) 1 (c ∷ [])) k.no_code
+    ∙ ap (λ o. escape_or_refusal o 1 (c ∷ [])) k.stands
 
 escape_of_code : (a b c d m : ℕ) (rest : List ℕ) → code_character a b c d ≡ Some m → escape (117 ∷ a ∷ b ∷ c ∷ d ∷ rest) ≡ Ok (m, 5)
 unfolding escape
-escape_of_code a b c d m rest h = ap (λ o. known o 5 (117 ∷ letters 4 (a ∷ b ∷ c ∷ d ∷ rest))) h
+escape_of_code a b c d m rest h = ap (λ o. escape_or_refusal o 5 (117 ∷ letters 4 (a ∷ b ∷ c ∷ d ∷ rest))) h
 
-decoded_piece : (x : Piece) (rest : List ℕ) → IsPiece x → decoded (spelling x ++ rest) ≡ preceded_by (meaning x) (decoded rest)
+decoded_piece : (x : Piece) (rest : List ℕ) → IsPiece x → decoded_characters (spelling x ++ rest) ≡ preceded_by (meaning x) (decoded_characters rest)
 decoded_piece (character c) rest is =
-    ap (λ b. if b then escape rest >>= (λ (e : ℕ × ℕ). preceded_by e.0 (decoded_behind e.1 rest)) else preceded_by c (decoded rest)) (plain_is_no_backslash c is)
+    ap (λ b. if b then escape rest >>= (λ (e : ℕ × ℕ). preceded_by e.0 (decoded_behind e.1 rest)) else preceded_by c (decoded_characters rest)) (plain_is_no_backslash c is)
 decoded_piece (escaped c) rest is = escape_then (c ∷ rest) (meaning (escaped c)) 1 (escape_of_one c rest (escape_is_known c is))
 decoded_piece (code a b c d) rest is =
     let m = meaning (code a b c d) in
     escape_then (117 ∷ a ∷ b ∷ c ∷ d ∷ rest) m 5 (escape_of_code a b c d m rest (code_is_known a b c d is))
 
-decoded_pieces : (xs : List Piece) → ArePieces xs → decoded (spellings xs) ≡ Ok (map meaning xs)
+decoded_pieces : (xs : List Piece) → ArePieces xs → decoded_characters (spellings xs) ≡ Ok (map meaning xs)
 decoded_pieces [] are = refl
 decoded_pieces (x ∷ xs) are = decoded_piece x (spellings xs) are.0 ∙ ap (preceded_by (meaning x)) (decoded_pieces xs are.1)
 
 pub strings_mean_their_pieces : StringsMeanTheirPieces
 unfolding string_value
 strings_mean_their_pieces text pieces are spelled =
-    ap (λ r. text_of (r >>= (λ cs. Ok (encode_utf8_all cs)))) (ap decoded spelled ∙ decoded_pieces pieces are)
+    ap (λ r. text_of (r >>= (λ cs. Ok (encode_utf8_all cs)))) (ap decoded_characters spelled ∙ decoded_pieces pieces are)

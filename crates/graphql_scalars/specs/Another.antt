@@ -1,9 +1,9 @@
--- A scalar in another type of scalars.
-use Rattle.std.specs.Prelude.{ℕ, ℤ, Bool, List, Option, Some, None}
-use Rattle.std.specs.Option.{option_map}
+-- A scalar of another type.
+use Rattle.std.specs.Prelude.{ℕ, ℤ, Bool, List}
+use Rattle.graphql_scalars.specs.ScalarAnswers.{ScalarAnswer, integer, boolean, text}
 
--- what is made of the first answer: of an integer, else of a boolean, else of a text
-abbrev pub of_first_answer : {T : Type 0} → (ℤ → T) → (Bool → T) → (List ℕ → T) → Option ℤ → Option Bool → Option (List ℕ) → Option T
-of_first_answer of_int of_bool of_text (Some n) as_bool as_text = Some (of_int n)
-of_first_answer of_int of_bool of_text None (Some b) as_text = Some (of_bool b)
-of_first_answer of_int of_bool of_text None None as_text = option_map of_text as_text
+-- the scalar that is made of an answer
+abbrev pub of_answer : {T : Type 0} → (ℤ → T) → (Bool → T) → (List ℕ → T) → ScalarAnswer → T
+of_answer of_int of_bool of_text (integer n) = of_int n
+of_answer of_int of_bool of_text (boolean b) = of_bool b
+of_answer of_int of_bool of_text (text t) = of_text t

@@ -8,11 +8,11 @@ abbrev pub message : CheckError → List ℕ
 message (Message text) = text
 message Memory = []
 
--- the error as it is printed
-abbrev pub printed : CheckError → List ℕ
-printed (Message text) = text
-printed Memory = codes "Out of memory"
+-- the text of the error
+abbrev pub error_text : CheckError → List ℕ
+error_text (Message text) = text
+error_text Memory = codes "Out of memory"
 
--- what is said of a scalar that is none of the type of this name, by the scalar as it is shown
+-- what is said of a scalar that is none of the type of this name, by the text of the scalar
 abbrev pub wrong_type : List ℕ → List ℕ → List ℕ
 wrong_type type_name found = codes "Expected `" ++ type_name ++ codes "`, found: " ++ found

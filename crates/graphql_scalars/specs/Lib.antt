@@ -2,7 +2,8 @@ pub mod Reading
 pub mod IntValue
 pub mod StringValue
 pub mod DefaultScalar
-pub mod Shown
+pub mod ScalarAnswers
+pub mod ScalarText
 pub mod CheckErrors
 pub mod Conversions
 pub mod Another

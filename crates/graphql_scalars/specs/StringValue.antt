@@ -30,13 +30,13 @@ hex_digit c = if is_ascii_hexdigit c then Some (digit_value c) else None
 unfoldable pub character : ℕ → Option ℕ
 character n = if scalar n then Some n else None
 
-abbrev pub given : {A B : Type 0} → Option A → (A → Option B) → Option B
-given o f = option_and_then f o
+abbrev pub and_then : {A B : Type 0} → Option A → (A → Option B) → Option B
+and_then o f = option_and_then f o
 
 -- the character of four hexadecimal digits
 abbrev pub code_character : ℕ → ℕ → ℕ → ℕ → Option ℕ
 code_character a b c d =
-    given (hex_digit a) (λ w. given (hex_digit b) (λ x. given (hex_digit c) (λ y. given (hex_digit d) (λ z.
+    and_then (hex_digit a) (λ w. and_then (hex_digit b) (λ x. and_then (hex_digit c) (λ y. and_then (hex_digit d) (λ z.
     character (4096 * w + 256 * x + 16 * y + z)))))
 
 -- the letters and digits, at most n, that come next
@@ -50,9 +50,9 @@ abbrev pub unknown_escape : List ℕ → ParseError
 unknown_escape cs = LexerError (UnknownEscapeSequence (92 ∷ encode_utf8_all cs))
 
 -- the character of an escape of n characters behind its backslash, or its refusal
-abbrev pub known : Option ℕ → ℕ → List ℕ → Result (ℕ × ℕ) ParseError
-known (Some c) n cs = Ok (c, n)
-known None n cs = Err (unknown_escape cs)
+abbrev pub escape_or_refusal : Option ℕ → ℕ → List ℕ → Result (ℕ × ℕ) ParseError
+escape_or_refusal (Some c) n cs = Ok (c, n)
+escape_or_refusal None n cs = Err (unknown_escape cs)
 
 -- the character of the four hexadecimal digits that come next
 abbrev pub code_at : List ℕ → Option ℕ
@@ -62,7 +62,7 @@ code_at cs = None
 -- of what stands behind a backslash: the character, and how many characters stand for it there
 unfoldable pub escape : List ℕ → Result (ℕ × ℕ) ParseError
 escape [] = Err (LexerError UnterminatedString)
-escape (c ∷ cs) = if c == 117 then known (code_at cs) 5 (117 ∷ letters 4 cs) else known (escaped_character c) 1 (c ∷ [])
+escape (c ∷ cs) = if c == 117 then escape_or_refusal (code_at cs) 5 (117 ∷ letters 4 cs) else escape_or_refusal (escaped_character c) 1 (c ∷ [])
 
 -- the same, with what stands behind the escape
 unfoldable pub escape_and_rest : List ℕ → Result (ℕ × List ℕ) ParseError
@@ -79,9 +79,9 @@ decoded_behind zero (c ∷ cs) =
     if c == 92 then escape cs >>= (λ e. preceded_by e.0 (decoded_behind e.1 cs)) else preceded_by c (decoded_behind 0 cs)
 
 -- the characters that these stand for
-abbrev pub decoded : List ℕ → Result (List ℕ) ParseError
-decoded cs = decoded_behind 0 cs
+abbrev pub decoded_characters : List ℕ → Result (List ℕ) ParseError
+decoded_characters cs = decoded_behind 0 cs
 
 -- the text that the source text of a string stands for
 unfoldable pub string_value : List ℕ → Result (List ℕ) ParseError
-string_value text = decoded (chars text) >>= (λ cs. Ok (encode_utf8_all cs))
+string_value text = decoded_characters (chars text) >>= (λ cs. Ok (encode_utf8_all cs))

@@ -2,14 +2,11 @@
 
 ghost use Rattle.std.specs.Prelude.{◌≡◌, ◌≢◌, Some};
 ghost use Rattle.graphql_scalars.specs.CheckErrors as spec;
-ghost use Rattle.graphql_scalars.specs.Shown.{shown};
+ghost use Rattle.graphql_scalars.specs.ScalarText.{scalar_text};
 ghost use Rattle.graphql_scalars.specs.declared.check_error.CheckError.TheVariants.{Message, Memory};
 
-#[cfg(test)]
-mod tests;
-
+use crate::lent_scalar::Scalar;
 use crate::scalar::ScalarValue;
-use crate::shown::Scalar;
 use graphql_text::{Text, TextRef};
 use std::alloc::{AllocError, Global};
 use std::error::Error;
@@ -47,7 +44,7 @@ impl From<AllocError> for CheckError {
 
 /// Writes what is wrong with the value, and `Out of memory` where memory ran out.
 impl fmt::Display for CheckError {
-    ghost output = { λ e. Some (spec.printed e) };
+    ghost output = { λ e. Some (spec.error_text e) };
 
     fn fmt<W: fmt::Write>(&self, f: &mut fmt::Formatter<W>) -> fmt::Result {
         match self {
@@ -73,7 +70,7 @@ pub struct WrongInputScalarTypeError<'a, S> {
 impl<'a, S: ScalarValue> WrongInputScalarTypeError<'a, S> {
     /// The error with this one's text as its message, or want of memory.
     pub fn to_check_error(&self, alloc: Global) -> CheckError
-        ensures { result ≢ Memory → result ≡ Message (spec.wrong_type self.now.type_name (shown S.as_int S.as_bool S.as_text self.now.input)) }
+        ensures { result ≢ Memory → result ≡ Message (spec.wrong_type self.now.type_name (scalar_text (S.answer self.now.input))) }
     {
         match self.to_string(alloc) {
             Ok(text) => CheckError::Message(Text::from_string(text)),
@@ -84,7 +81,7 @@ impl<'a, S: ScalarValue> WrongInputScalarTypeError<'a, S> {
 
 /// Writes which type was expected, and which scalar was found.
 impl<'a, S: ScalarValue> fmt::Display for WrongInputScalarTypeError<'a, S> {
-    ghost output = { λ e. Some (spec.wrong_type e.type_name (shown S.as_int S.as_bool S.as_text e.input)) };
+    ghost output = { λ e. Some (spec.wrong_type e.type_name (scalar_text (S.answer e.input))) };
 
     fn fmt<W: fmt::Write>(&self, f: &mut fmt::Formatter<W>) -> fmt::Result {
         let type_name = &self.type_name;

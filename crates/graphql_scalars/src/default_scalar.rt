@@ -1,15 +1,13 @@
 //! The scalars of a schema that declares none of its own.
 
 ghost use Rattle.std.specs.Prelude.{◌≡◌, Some, refl, string_bytes};
-ghost use Rattle.graphql_scalars.specs.Reading.{Answers};
+ghost use Rattle.graphql_items.specs.Memory.{Meets};
+ghost use Rattle.graphql_scalars.specs.Reading.{IsMemory};
 ghost use Rattle.graphql_scalars.specs.DefaultScalar as spec;
-ghost use Rattle.graphql_scalars.specs.Shown.{plain};
+ghost use Rattle.graphql_scalars.specs.ScalarText.{plain_text};
 ghost use Rattle.graphql_scalars.specs.IntValue.{int_value};
 ghost use Rattle.graphql_scalars.specs.StringValue.{string_value};
 ghost use Rattle.graphql_scalars.specs.declared.default_scalar.DefaultScalarValue.TheVariants.{Int, String, Boolean};
-
-#[cfg(test)]
-mod tests;
 
 use crate::int_value::int_value;
 use crate::scalar::{ParseScalarResult, ParseScalarValue, ScalarValue};
@@ -80,7 +78,7 @@ impl Clone for DefaultScalarValue {
 /// Writes an integer in decimal, a boolean as `true` or `false`, and a text as it stands, without
 /// quotes.
 impl fmt::Display for DefaultScalarValue {
-    ghost output = { λ scalar. Some (plain spec.as_int spec.as_bool spec.as_text scalar) };
+    ghost output = { λ scalar. Some (plain_text (spec.answer scalar)) };
 
     fn fmt<W: fmt::Write>(&self, f: &mut fmt::Formatter<W>) -> fmt::Result {
         match self {
@@ -92,8 +90,8 @@ impl fmt::Display for DefaultScalarValue {
 }
 
 /// The refusal of a token, by its source text.
-fn refused(alloc: Global, token: &ScalarToken<'_>) -> ParseScalarResult<DefaultScalarValue>
-    ensures { Answers (spec.refused token.now) result }
+fn refusal(alloc: Global, token: &ScalarToken<'_>) -> ParseScalarResult<DefaultScalarValue>
+    ensures { Meets IsMemory result (spec.refusal_of token.now) }
 {
     match token.to_string(alloc) {
         Ok(source) => Err(ParseError::UnexpectedToken(Text::from_string(source))),
@@ -103,7 +101,7 @@ fn refused(alloc: Global, token: &ScalarToken<'_>) -> ParseScalarResult<DefaultS
 
 /// The scalar of a string with this source text.
 fn text_scalar(alloc: Global, source: &str) -> ParseScalarResult<DefaultScalarValue>
-    ensures { Answers (spec.text_of (string_value source.now)) result }
+    ensures { Meets IsMemory result (spec.text_of (string_value source.now)) }
 {
     match string_value(alloc, source) {
         Ok(text) => Ok(DefaultScalarValue::String(text)),
@@ -117,11 +115,11 @@ fn int_scalar(
     source: &str,
     token: &ScalarToken<'_>,
 ) -> ParseScalarResult<DefaultScalarValue>
-    ensures { Answers (spec.int_or (int_value source.now) (spec.refused token.now)) result }
+    ensures { Meets IsMemory result (spec.int_or (int_value source.now) (spec.refusal_of token.now)) }
 {
     match int_value(source) {
         Some(value) => Ok(DefaultScalarValue::Int(value)),
-        None => refused(alloc, token),
+        None => refusal(alloc, token),
     }
 }
 
@@ -149,7 +147,7 @@ impl ParseScalarValue<DefaultScalarValue> for std::string::String {
     fn from_str(alloc: Global, token: &ScalarToken<'_>) -> ParseScalarResult<DefaultScalarValue> {
         match token {
             ScalarToken::String(source) => text_scalar(alloc, source.as_str()),
-            ScalarToken::Int(_) | ScalarToken::Float(_) => refused(alloc, token),
+            ScalarToken::Int(_) | ScalarToken::Float(_) => refusal(alloc, token),
         }
     }
 }
@@ -161,17 +159,17 @@ impl ParseScalarValue<DefaultScalarValue> for i32 {
     fn from_str(alloc: Global, token: &ScalarToken<'_>) -> ParseScalarResult<DefaultScalarValue> {
         match token {
             ScalarToken::Int(source) => int_scalar(alloc, source.as_str(), token),
-            ScalarToken::String(_) | ScalarToken::Float(_) => refused(alloc, token),
+            ScalarToken::String(_) | ScalarToken::Float(_) => refusal(alloc, token),
         }
     }
 }
 
 /// Reads nothing: `true` and `false` are names, and no scalar tokens.
 impl ParseScalarValue<DefaultScalarValue> for bool {
-    ghost reads = { spec.refused };
+    ghost reads = { spec.refusal_of };
 
     fn from_str(alloc: Global, token: &ScalarToken<'_>) -> ParseScalarResult<DefaultScalarValue> {
-        refused(alloc, token)
+        refusal(alloc, token)
     }
 }
 
@@ -182,11 +180,7 @@ impl ScalarValue for DefaultScalarValue {
 
     ghost of_text = { String };
 
-    ghost as_bool = { spec.as_bool };
-
-    ghost as_int = { spec.as_int };
-
-    ghost as_text = { spec.as_text };
+    ghost answer = { spec.answer };
 
     ghost clones = { λ x y is. is };
 
@@ -195,8 +189,6 @@ impl ScalarValue for DefaultScalarValue {
     ghost int_answers = { λ n. refl };
 
     ghost text_answers = { λ text. refl };
-
-    ghost one_answers = { spec.one_answers };
 
     fn from_bool(value: bool) -> DefaultScalarValue {
         DefaultScalarValue::Boolean(value)

@@ -3,17 +3,16 @@
 ghost use Rattle.std.specs.Prelude.{◌≡◌, Some, codes, string_bytes};
 ghost use Rattle.std.specs.declared.alloc.AllocError.{AllocError};
 ghost use Rattle.std.proofs.Common.{rules};
-ghost use Rattle.graphql_scalars.specs.Conversions.{ConvertsTo, Refused};
-ghost use Rattle.graphql_scalars.specs.Shown.{shown};
+ghost use Rattle.graphql_items.specs.Memory.{Answers};
+ghost use Rattle.graphql_scalars.specs.Conversions.{Refused};
+ghost use Rattle.graphql_scalars.specs.ScalarText.{scalar_text};
+ghost use Rattle.graphql_scalars.specs.ScalarAnswers.{as_int, as_bool, as_text};
 ghost use Rattle.graphql_scalars.specs.declared.check_error.CheckError.TheVariants.{Memory};
 
-#[cfg(test)]
-mod tests;
-
 use crate::check_error::CheckError;
+use crate::lent_scalar::Scalar;
 use crate::primitives::TryToPrimitive;
 use crate::scalar::ScalarValue;
-use crate::shown::Scalar;
 use graphql_text::Text;
 use std::alloc::{AllocError, Global};
 use std::rc::Rc;
@@ -34,7 +33,7 @@ pub trait FromScalarValue<'s, S>: Sized {
 
     /// What the scalar means, or why it means nothing here.
     fn from_scalar_value(alloc: Global, scalar: &'s S) -> Result<Self, Self::Error>
-        ensures { ConvertsTo (means scalar.now) (refuses scalar.now) is_memory result };
+        ensures { Answers (means scalar.now) (refuses scalar.now) is_memory result };
 
     /// No scalar both means a value and is refused.
     ghost apart: { (s : S) (x : Self) (e : Self.Error) → means s x → refuses s e → ⊥ };
@@ -47,9 +46,9 @@ pub trait FromScalarValue<'s, S>: Sized {
 impl<'s, S: ScalarValue> FromScalarValue<'s, S> for bool {
     type Error = CheckError;
 
-    ghost means = { λ s value. S.as_bool s ≡ Some value };
+    ghost means = { λ s value. as_bool (S.answer s) ≡ Some value };
 
-    ghost refuses = { λ s e. Refused (codes "Boolean") (shown S.as_int S.as_bool S.as_text s) (S.as_bool s) e };
+    ghost refuses = { λ s e. Refused (codes "Boolean") (scalar_text (S.answer s)) (as_bool (S.answer s)) e };
 
     ghost is_memory = { λ e. e ≡ Memory };
 
@@ -66,9 +65,9 @@ impl<'s, S: ScalarValue> FromScalarValue<'s, S> for bool {
 impl<'s, S: ScalarValue> FromScalarValue<'s, S> for i32 {
     type Error = CheckError;
 
-    ghost means = { λ s value. S.as_int s ≡ Some value };
+    ghost means = { λ s value. as_int (S.answer s) ≡ Some value };
 
-    ghost refuses = { λ s e. Refused (codes "Int") (shown S.as_int S.as_bool S.as_text s) (S.as_int s) e };
+    ghost refuses = { λ s e. Refused (codes "Int") (scalar_text (S.answer s)) (as_int (S.answer s)) e };
 
     ghost is_memory = { λ e. e ≡ Memory };
 
@@ -85,9 +84,9 @@ impl<'s, S: ScalarValue> FromScalarValue<'s, S> for i32 {
 impl<'s, S: ScalarValue> FromScalarValue<'s, S> for &'s str {
     type Error = CheckError;
 
-    ghost means = { λ s text. S.as_text s ≡ Some text.now };
+    ghost means = { λ s text. as_text (S.answer s) ≡ Some text.now };
 
-    ghost refuses = { λ s e. Refused (codes "String") (shown S.as_int S.as_bool S.as_text s) (S.as_text s) e };
+    ghost refuses = { λ s e. Refused (codes "String") (scalar_text (S.answer s)) (as_text (S.answer s)) e };
 
     ghost is_memory = { λ e. e ≡ Memory };
 
@@ -104,9 +103,9 @@ impl<'s, S: ScalarValue> FromScalarValue<'s, S> for &'s str {
 impl<'s, S: ScalarValue> FromScalarValue<'s, S> for String {
     type Error = CheckError;
 
-    ghost means = { λ s text. S.as_text s ≡ Some (string_bytes text) };
+    ghost means = { λ s text. as_text (S.answer s) ≡ Some (string_bytes text) };
 
-    ghost refuses = { λ s e. Refused (codes "String") (shown S.as_int S.as_bool S.as_text s) (S.as_text s) e };
+    ghost refuses = { λ s e. Refused (codes "String") (scalar_text (S.answer s)) (as_text (S.answer s)) e };
 
     ghost is_memory = { λ e. e ≡ Memory };
 
@@ -123,9 +122,9 @@ impl<'s, S: ScalarValue> FromScalarValue<'s, S> for String {
 impl<'s, S: ScalarValue> FromScalarValue<'s, S> for Text {
     type Error = CheckError;
 
-    ghost means = { λ s text. S.as_text s ≡ Some text };
+    ghost means = { λ s text. as_text (S.answer s) ≡ Some text };
 
-    ghost refuses = { λ s e. Refused (codes "String") (shown S.as_int S.as_bool S.as_text s) (S.as_text s) e };
+    ghost refuses = { λ s e. Refused (codes "String") (scalar_text (S.answer s)) (as_text (S.answer s)) e };
 
     ghost is_memory = { λ e. e ≡ Memory };
 
@@ -158,7 +157,7 @@ impl<'s, S> FromScalarValue<'s, S> for &'s S {
     }
 }
 
-/// The scalar itself, lent, as it is shown. None is refused, and no memory is taken.
+/// The scalar itself, lent, as messages name it. None is refused, and no memory is taken.
 impl<'s, S> FromScalarValue<'s, S> for Scalar<'s, S> {
     type Error = CheckError;
 

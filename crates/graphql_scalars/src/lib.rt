@@ -7,16 +7,16 @@ mod default_scalar;
 mod from_scalar;
 mod int_value;
 pub mod laws;
+mod lent_scalar;
 mod primitives;
 mod scalar;
-mod shown;
 mod string_value;
 mod to_scalar;
 
 pub use check_error::{CheckError, WrongInputScalarTypeError};
 pub use default_scalar::DefaultScalarValue;
 pub use from_scalar::FromScalarValue;
+pub use lent_scalar::Scalar;
 pub use primitives::TryToPrimitive;
 pub use scalar::{ParseScalarResult, ParseScalarValue, ScalarValue};
-pub use shown::Scalar;
 pub use to_scalar::ToScalarValue;

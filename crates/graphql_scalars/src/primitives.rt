@@ -4,16 +4,15 @@ ghost use Rattle.std.specs.Prelude.{◌≡◌, ◌≢◌, Some, codes, string_by
 ghost use Rattle.std.specs.declared.alloc.AllocError.{AllocError};
 ghost use Rattle.std.proofs.Common.{rules};
 ghost use Rattle.graphql_scalars.specs.CheckErrors as spec;
-ghost use Rattle.graphql_scalars.specs.Conversions.{ConvertsTo, Refused};
-ghost use Rattle.graphql_scalars.specs.Shown.{shown};
+ghost use Rattle.graphql_items.specs.Memory.{Answers};
+ghost use Rattle.graphql_scalars.specs.Conversions.{Refused};
+ghost use Rattle.graphql_scalars.specs.ScalarText.{scalar_text};
+ghost use Rattle.graphql_scalars.specs.ScalarAnswers.{as_int, as_bool, as_text};
 ghost use Rattle.graphql_scalars.specs.declared.check_error.CheckError.TheVariants.{Message, Memory};
 
-#[cfg(test)]
-mod tests;
-
 use crate::check_error::{CheckError, WrongInputScalarTypeError};
+use crate::lent_scalar::Scalar;
 use crate::scalar::ScalarValue;
-use crate::shown::Scalar;
 use graphql_text::TextRef;
 use std::alloc::{AllocError, Global};
 
@@ -34,7 +33,7 @@ pub trait TryToPrimitive<'me, T> {
 
     /// The value that the scalar means, or why it means none.
     fn try_to_primitive(&'me self, alloc: Global) -> Result<T, Self::Error>
-        ensures { ConvertsTo (means self.now) (refuses self.now) is_memory result };
+        ensures { Answers (means self.now) (refuses self.now) is_memory result };
 
     /// No scalar both means a value and is refused.
     ghost apart: { (s : Self) (x : T) (e : Self.Error) → means s x → refuses s e → ⊥ };
@@ -44,8 +43,8 @@ pub trait TryToPrimitive<'me, T> {
 }
 
 /// The refusal of a scalar that is no value of the type of this name.
-fn refused<S: ScalarValue>(alloc: Global, type_name: &str, scalar: &S) -> CheckError
-    ensures { result ≢ Memory → result ≡ Message (spec.wrong_type type_name.now (shown S.as_int S.as_bool S.as_text scalar.now)) }
+fn refusal<S: ScalarValue>(alloc: Global, type_name: &str, scalar: &S) -> CheckError
+    ensures { result ≢ Memory → result ≡ Message (spec.wrong_type type_name.now (scalar_text (S.answer scalar.now))) }
 {
     let error = WrongInputScalarTypeError {
         type_name: TextRef::new(type_name),
@@ -58,9 +57,9 @@ fn refused<S: ScalarValue>(alloc: Global, type_name: &str, scalar: &S) -> CheckE
 impl<'me, S: ScalarValue> TryToPrimitive<'me, bool> for S {
     type Error = CheckError;
 
-    ghost means = { λ s value. S.as_bool s ≡ Some value };
+    ghost means = { λ s value. as_bool (S.answer s) ≡ Some value };
 
-    ghost refuses = { λ s e. Refused (codes "Boolean") (shown S.as_int S.as_bool S.as_text s) (S.as_bool s) e };
+    ghost refuses = { λ s e. Refused (codes "Boolean") (scalar_text (S.answer s)) (as_bool (S.answer s)) e };
 
     ghost is_memory = { λ e. e ≡ Memory };
 
@@ -71,7 +70,7 @@ impl<'me, S: ScalarValue> TryToPrimitive<'me, bool> for S {
     fn try_to_primitive(&'me self, alloc: Global) -> Result<bool, CheckError> {
         match self.try_to_bool() {
             Some(value) => Ok(value),
-            None => Err(refused(alloc, "Boolean", self)),
+            None => Err(refusal(alloc, "Boolean", self)),
         }
     }
 }
@@ -80,9 +79,9 @@ impl<'me, S: ScalarValue> TryToPrimitive<'me, bool> for S {
 impl<'me, S: ScalarValue> TryToPrimitive<'me, i32> for S {
     type Error = CheckError;
 
-    ghost means = { λ s value. S.as_int s ≡ Some value };
+    ghost means = { λ s value. as_int (S.answer s) ≡ Some value };
 
-    ghost refuses = { λ s e. Refused (codes "Int") (shown S.as_int S.as_bool S.as_text s) (S.as_int s) e };
+    ghost refuses = { λ s e. Refused (codes "Int") (scalar_text (S.answer s)) (as_int (S.answer s)) e };
 
     ghost is_memory = { λ e. e ≡ Memory };
 
@@ -93,7 +92,7 @@ impl<'me, S: ScalarValue> TryToPrimitive<'me, i32> for S {
     fn try_to_primitive(&'me self, alloc: Global) -> Result<i32, CheckError> {
         match self.try_to_int() {
             Some(value) => Ok(value),
-            None => Err(refused(alloc, "Int", self)),
+            None => Err(refusal(alloc, "Int", self)),
         }
     }
 }
@@ -102,9 +101,9 @@ impl<'me, S: ScalarValue> TryToPrimitive<'me, i32> for S {
 impl<'me, S: ScalarValue> TryToPrimitive<'me, &'me str> for S {
     type Error = CheckError;
 
-    ghost means = { λ s text. S.as_text s ≡ Some text.now };
+    ghost means = { λ s text. as_text (S.answer s) ≡ Some text.now };
 
-    ghost refuses = { λ s e. Refused (codes "String") (shown S.as_int S.as_bool S.as_text s) (S.as_text s) e };
+    ghost refuses = { λ s e. Refused (codes "String") (scalar_text (S.answer s)) (as_text (S.answer s)) e };
 
     ghost is_memory = { λ e. e ≡ Memory };
 
@@ -115,7 +114,7 @@ impl<'me, S: ScalarValue> TryToPrimitive<'me, &'me str> for S {
     fn try_to_primitive(&'me self, alloc: Global) -> Result<&'me str, CheckError> {
         match self.try_as_str() {
             Some(text) => Ok(text),
-            None => Err(refused(alloc, "String", self)),
+            None => Err(refusal(alloc, "String", self)),
         }
     }
 }
@@ -124,9 +123,9 @@ impl<'me, S: ScalarValue> TryToPrimitive<'me, &'me str> for S {
 impl<'me, S: ScalarValue> TryToPrimitive<'me, String> for S {
     type Error = CheckError;
 
-    ghost means = { λ s text. S.as_text s ≡ Some (string_bytes text) };
+    ghost means = { λ s text. as_text (S.answer s) ≡ Some (string_bytes text) };
 
-    ghost refuses = { λ s e. Refused (codes "String") (shown S.as_int S.as_bool S.as_text s) (S.as_text s) e };
+    ghost refuses = { λ s e. Refused (codes "String") (scalar_text (S.answer s)) (as_text (S.answer s)) e };
 
     ghost is_memory = { λ e. e ≡ Memory };
 
@@ -137,7 +136,7 @@ impl<'me, S: ScalarValue> TryToPrimitive<'me, String> for S {
     fn try_to_primitive(&'me self, alloc: Global) -> Result<String, CheckError> {
         match self.try_as_str() {
             Some(text) => Ok(String::from_str(alloc, text)?),
-            None => Err(refused(alloc, "String", self)),
+            None => Err(refusal(alloc, "String", self)),
         }
     }
 }

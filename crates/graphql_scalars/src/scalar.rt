@@ -1,16 +1,13 @@
 //! Scalars, how they are read from the tokens of a text, and what they answer.
 
-ghost use Rattle.std.specs.Prelude.{◌≡◌, ℤ, Option, Some, Result, Bool, List, ℕ, string_bytes, IsSome, IfSome, ◌⊎◌};
+ghost use Rattle.std.specs.Prelude.{◌≡◌, ℤ, Result, Bool, List, ℕ, string_bytes, IfSome};
 ghost use Rattle.std.specs.Option.{option_map};
 ghost use Rattle.graphql_text.specs.declared.token.ScalarToken.{ScalarToken};
 ghost use Rattle.graphql_text.specs.declared.parse_error.ParseError.{ParseError};
-ghost use Rattle.graphql_items.specs.Memory.{Gives, GivesBy};
-ghost use Rattle.graphql_scalars.specs.Another.{of_first_answer};
-ghost use Rattle.graphql_scalars.specs.Conversions.{ConvertsTo};
-ghost use Rattle.graphql_scalars.specs.Reading.{Answers};
-
-#[cfg(test)]
-mod tests;
+ghost use Rattle.graphql_items.specs.Memory.{Answers, Gives, GivesBy, Meets};
+ghost use Rattle.graphql_scalars.specs.Another.{of_answer};
+ghost use Rattle.graphql_scalars.specs.Reading.{IsMemory};
+ghost use Rattle.graphql_scalars.specs.ScalarAnswers.{ScalarAnswer, integer, boolean, text, as_int, as_bool, as_text};
 
 use crate::from_scalar::FromScalarValue;
 use graphql_text::{ParseError, ScalarToken, Text};
@@ -28,7 +25,7 @@ pub trait ParseScalarValue<S> {
     /// What the token means, or why it means nothing here. `ParseError::Memory` is want of memory,
     /// and tells nothing of the token.
     fn from_str(alloc: Global, token: &ScalarToken<'_>) -> ParseScalarResult<S>
-        ensures { Answers (reads token.now) result };
+        ensures { Meets IsMemory result (reads token.now) };
 }
 
 /// A type that holds every scalar of a schema (GraphQL October 2021, 3.5 Scalars). Each of its
@@ -44,14 +41,8 @@ pub trait ScalarValue: ParseScalarValue<Self> + Clone + Eq {
     /// The scalar of a text, by its bytes.
     ghost of_text: { List ℕ → Self };
 
-    /// The boolean that a scalar answers, if it answers one.
-    ghost as_bool: { Self → Option Bool };
-
-    /// The integer that a scalar answers, if it answers one.
-    ghost as_int: { Self → Option ℤ };
-
-    /// The text that a scalar answers, if it answers one.
-    ghost as_text: { Self → Option (List ℕ) };
+    /// What a scalar answers: an integer, a boolean or a text.
+    ghost answer: { Self → ScalarAnswer };
 
     /// The scalar of `true` or `false`. Takes no memory.
     fn from_bool(value: bool) -> Self
@@ -67,24 +58,24 @@ pub trait ScalarValue: ParseScalarValue<Self> + Clone + Eq {
 
     /// The boolean that the scalar answers, if it answers one (3.5.4 Boolean).
     fn try_to_bool(&self) -> Option<bool>
-        ensures { result ≡ as_bool self.now };
+        ensures { result ≡ as_bool (answer self.now) };
 
     /// The integer that the scalar answers, if it answers one (3.5.1 Int).
     fn try_to_int(&self) -> Option<i32>
-        ensures { result ≡ as_int self.now };
+        ensures { result ≡ as_int (answer self.now) };
 
     /// The text that the scalar answers, if it answers one (3.5.3 String).
     fn try_as_str(&self) -> Option<&str>
-        ensures { option_map (λ text. text.now) result ≡ as_text self.now };
+        ensures { option_map (λ text. text.now) result ≡ as_text (answer self.now) };
 
     /// The text that the scalar answers, if it answers one, as a text of its own. Takes no memory.
     fn try_into_string(self) -> Option<String>
-        ensures { option_map (λ text. string_bytes text) result ≡ as_text self };
+        ensures { option_map (λ text. string_bytes text) result ≡ as_text (answer self) };
 
     /// The text that the scalar answers, if it answers one, as a text of its own. An error is want of
     /// memory.
     final fn try_to_string(&self, alloc: Global) -> Result<Option<String>, AllocError>
-        ensures { GivesBy (λ text. option_map (λ t. string_bytes t) text) result (as_text self.now) }
+        ensures { GivesBy (λ text. option_map (λ t. string_bytes t) text) result (as_text (answer self.now)) }
     {
         match self.try_as_str() {
             Some(text) => Ok(Some(Text::from_str(alloc, text)?.into_string())),
@@ -97,7 +88,7 @@ pub trait ScalarValue: ParseScalarValue<Self> + Clone + Eq {
         &'a self,
         alloc: Global,
     ) -> Result<T, T::Error>
-        ensures { ConvertsTo (T.means self.now) (T.refuses self.now) T.is_memory result }
+        ensures { Answers (T.means self.now) (T.refuses self.now) T.is_memory result }
     {
         T::from_scalar_value(alloc, self)
     }
@@ -107,7 +98,7 @@ pub trait ScalarValue: ParseScalarValue<Self> + Clone + Eq {
     final fn into_another<T: ScalarValue>(self) -> T
     where
         Self: Drop,
-        ensures { of_first_answer T.of_int T.of_bool T.of_text (as_int self) (as_bool self) (as_text self) ≡ Some result }
+        ensures { result ≡ of_answer T.of_int T.of_bool T.of_text (answer self) }
     {
         if let Some(value) = self.try_to_int() {
             return T::from_int(value);
@@ -132,14 +123,11 @@ pub trait ScalarValue: ParseScalarValue<Self> + Clone + Eq {
     ghost clones: { (x y : Self) → Self.is_clone x y → y ≡ x };
 
     /// The scalar of a boolean answers it.
-    ghost bool_answers: { (b : Bool) → as_bool (of_bool b) ≡ Some b };
+    ghost bool_answers: { (b : Bool) → answer (of_bool b) ≡ boolean b };
 
     /// The scalar of an integer answers it.
-    ghost int_answers: { (n : ℤ) → as_int (of_int n) ≡ Some n };
+    ghost int_answers: { (n : ℤ) → answer (of_int n) ≡ integer n };
 
     /// The scalar of a text answers it.
-    ghost text_answers: { (text : List ℕ) → as_text (of_text text) ≡ Some text };
-
-    /// Each scalar answers.
-    ghost one_answers: { (s : Self) → IsSome (as_int s) ⊎ (IsSome (as_bool s) ⊎ IsSome (as_text s)) };
+    ghost text_answers: { (t : List ℕ) → answer (of_text t) ≡ text t };
 }

@@ -1,10 +1,9 @@
 //! What strings stand for.
 
-ghost use Rattle.std.specs.Prelude.{◌≡◌, ◌<◌, ◌≢◌, ◌∷◌, [], length, drop, encode_utf8_all, Some, None, MatchOption, IfSome, IfOk};
+ghost use Rattle.std.specs.Prelude.{◌≡◌, ◌<◌, ◌∷◌, [], length, drop, encode_utf8_all, Some, None, MatchOption, IfSome, IfOk};
 ghost use Rattle.std.specs.Str.{chars};
-ghost use Rattle.graphql_items.specs.Memory.{Gives};
-ghost use Rattle.graphql_text.specs.declared.parse_error.ParseError.TheVariants.{Memory};
-ghost use Rattle.graphql_scalars.specs.Reading.{Answers, AnswersBy};
+ghost use Rattle.graphql_items.specs.Memory.{Gives, Meets, MeetsBy, UnlessMemory};
+ghost use Rattle.graphql_scalars.specs.Reading.{IsMemory};
 ghost use Rattle.graphql_scalars.specs.StringValue as spec;
 
 use graphql_text::{LexerError, ParseError, Text, first_character};
@@ -79,7 +78,7 @@ fn code_letters(alloc: Global, text: &str) -> Result<Text, AllocError>
 
 /// The refusal of the code that stands behind a backslash and `u` at the head of a text.
 fn unknown_code(alloc: Global, text: &str) -> ParseError
-    ensures { result ≢ Memory → result ≡ spec.unknown_escape (117 ∷ spec.letters 4 (chars text.now)) }
+    ensures { UnlessMemory IsMemory result (result ≡ spec.unknown_escape (117 ∷ spec.letters 4 (chars text.now))) }
 {
     match code_letters(alloc, text) {
         Ok(escape) => ParseError::LexerError(LexerError::UnknownEscapeSequence(escape)),
@@ -89,7 +88,7 @@ fn unknown_code(alloc: Global, text: &str) -> ParseError
 
 /// The refusal of a backslash before this character.
 fn unknown_character(alloc: Global, character: char) -> ParseError
-    ensures { result ≢ Memory → result ≡ spec.unknown_escape (character ∷ []) }
+    ensures { UnlessMemory IsMemory result (result ≡ spec.unknown_escape (character ∷ [])) }
 {
     let mut escape = Text::new(alloc);
     match escape.push('\\') {
@@ -119,7 +118,7 @@ fn code_at(text: &str) -> Option<(char, &str)>
 /// The character of the escape whose backslash stands before a text, and what follows the escape.
 #[tactic(auto, unfolding(crate::specs::StringValue::escape, crate::specs::StringValue::escape_and_rest))]
 fn escape<'a>(alloc: Global, text: &'a str) -> Result<(char, &'a str), ParseError>
-    ensures escape { AnswersBy (λ p. (p.0, chars p.1.now)) (spec.escape_and_rest (chars text.now)) result }
+    ensures escape { MeetsBy (λ p. (p.0, chars p.1.now)) IsMemory result (spec.escape_and_rest (chars text.now)) }
     ensures shorter { IfOk result (λ p. length p.1.now < length text.now) }
 {
     let Some((first, rest)) = first_character(text) else {
@@ -142,7 +141,7 @@ fn escape<'a>(alloc: Global, text: &'a str) -> Result<(char, &'a str), ParseErro
 /// 2.9.4 String Value). An error is a bad escape, or want of memory.
 #[tactic(auto, unfolding(crate::specs::StringValue::string_value))]
 pub(crate) fn string_value(alloc: Global, text: &str) -> Result<Text, ParseError>
-    ensures { Answers (spec.string_value text.now) result }
+    ensures { Meets IsMemory result (spec.string_value text.now) }
 {
     let mut value = Text::new(alloc);
     let mut rest = text;

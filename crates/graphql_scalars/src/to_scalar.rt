@@ -3,9 +3,6 @@
 ghost use Rattle.std.specs.Prelude.{◌≡◌, string_bytes};
 ghost use Rattle.graphql_items.specs.Memory.{Gives};
 
-#[cfg(test)]
-mod tests;
-
 use crate::scalar::ScalarValue;
 use graphql_text::Text;
 use std::alloc::{AllocError, Global};

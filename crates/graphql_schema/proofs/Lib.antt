@@ -12,3 +12,4 @@ mod SubtypesLemmas
 pub mod DirectivesArguments
 pub mod DirectivesConditions
 mod SubtypesPossible
+pub mod TypeTypes

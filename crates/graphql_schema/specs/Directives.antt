@@ -1,9 +1,10 @@
 -- Which directives a schema takes, and which are conditions of the standard (GraphQL October 2021, 3.13.1 @skip, 3.13.2 @include, 3.4.2 Input and Output Types).
 use Rattle.std.specs.Prelude.{◌≡◌, ◌↔◌, ◌&&◌, ◌++◌, not, List, [], ◌∷◌, Bool, true, false, Option, None, MatchOption, codes}
+use Rattle.std.specs.Option.{is_some}
 use Rattle.std.specs.List.{list_any, list_all, All, Contains}
 use Rattle.std.specs.Str.{bytes_eq}
-use Rattle.graphql_types.specs.declared.type_modifier.TypeModifier.{TypeModifier}
-use Rattle.graphql_types.specs.declared.type_modifier.TypeModifier.TheVariants as modifier
+use Rattle.graphql_type_references.specs.declared.type_modifier.TypeModifier.{TypeModifier}
+use Rattle.graphql_type_references.specs.declared.type_modifier.TypeModifier.TheVariants as modifier
 use Rattle.graphql_meta.specs.declared.meta.MetaType.{MetaType}
 use Rattle.graphql_meta.specs.declared.meta.argument.Argument.{Argument}
 use Rattle.graphql_meta.specs.declared.directive.DirectiveType.{DirectiveType}
@@ -11,12 +12,12 @@ use Rattle.graphql_meta.specs.declared.directive_location.DirectiveLocation.{Dir
 use Rattle.graphql_meta.specs.contracts.directive_location.DirectiveLocation.{the_type}
 use Rattle.graphql_meta.specs.Kinds.{IsInput}
 use Rattle.graphql_meta.specs.Types.{TypeOf}
-use Rattle.graphql_schema_types.specs.declared.error.SchemaError.{SchemaError}
-use Rattle.graphql_schema_types.specs.declared.error.SchemaError.TheVariants as error
-use Rattle.graphql_schema_types.specs.NameMaps.{Bytes, passes}
-use Rattle.graphql_schema_types.specs.Lookups.{is_given, type_named, argument_type_name}
+use Rattle.graphql_schema_faults.specs.declared.error.SchemaError.{SchemaError}
+use Rattle.graphql_schema_faults.specs.declared.error.SchemaError.TheVariants as error
+use Rattle.graphql_names.specs.Names.{Bytes, passes}
+use Rattle.graphql_schema_faults.specs.Lookups.{type_named, argument_type_name}
 use denote.Enum.Bare.{sameb}
-pub use Rattle.graphql_schema_types.specs.Directives.{directive_named, selections, required}
+pub use Rattle.graphql_schema.specs.StandardDirectives.{directive_named, selections, required_argument}
 
 abbrev pub same_place : DirectiveLocation → DirectiveLocation → Bool
 same_place = sameb the_type
@@ -35,7 +36,7 @@ is_required_boolean type_of = bytes_eq type_of.name (codes "Boolean") && is_non_
 module _ {S : Type 0} where
   -- it is `if: Boolean!`, without a default
   abbrev pub is_condition_argument : Argument S → Bool
-  is_condition_argument argument = bytes_eq argument.name (codes "if") && is_required_boolean argument.arg_type && not (is_given argument.default_value)
+  is_condition_argument argument = bytes_eq argument.name (codes "if") && is_required_boolean argument.arg_type && not (is_some argument.default_value)
 
   abbrev pub is_condition_only : List (Argument S) → Bool
   is_condition_only (argument ∷ []) = is_condition_argument argument
@@ -53,16 +54,11 @@ module _ {S : Type 0} where
   pub record IsCondition (d : DirectiveType S) : Type 0 where
     pub once : d.is_repeatable ≡ false
     pub places : (place : DirectiveLocation) → Contains d.locations place ↔ Contains selections place
-    pub argument : (description : Option Bytes) × (d.arguments ≡ record (required (codes "if") (codes "Boolean")) { description = description } ∷ [])
+    pub argument : (description : Option Bytes) × (d.arguments ≡ record (required_argument (codes "if") (codes "Boolean")) { description = description } ∷ [])
 
   -- there are `skip` and `include`, and both are conditions
   abbrev pub HasConditions : List (DirectiveType S) → Type 0
   HasConditions directives = MatchOption (directive_named directives (codes "skip")) ⊥ IsCondition × MatchOption (directive_named directives (codes "include")) ⊥ IsCondition
-
--- this fault, or want of memory, which tells nothing
-abbrev pub OrMemory : (SchemaError → Type 0) → SchemaError → Type 0
-OrMemory IsFault error.Memory = Unit {0}
-OrMemory IsFault e = IsFault e
 
 module _ {S C : Type 0} where
   -- its type is a scalar, an enum or an input object of the schema (3.4.2 Input and Output Types)

@@ -1,9 +1,9 @@
 //! Schemas.
 
 ghost use Rattle.std.proofs.Props.{props};
-ghost use Rattle.graphql_schema_types.specs.Faults.{Roots, IsFaultless};
-ghost use Rattle.graphql_schema_types.specs.Lookups.{own_name};
-ghost use Rattle.graphql_schema_types.specs.NameMaps.{IsByName};
+ghost use Rattle.graphql_schema_faults.specs.Faults.{Roots, IsFaultless};
+ghost use Rattle.graphql_schema_faults.specs.Lookups.{own_name};
+ghost use Rattle.graphql_names.specs.Names.{IsByName};
 
 mod directives;
 mod executable;
@@ -12,12 +12,10 @@ mod making;
 mod possible;
 mod references;
 mod subtypes;
-#[cfg(test)]
-mod tests;
 mod type_lists;
 
 use graphql_meta::{DirectiveType, MetaType, SchemaScalar};
-use graphql_schema_types::NameMap;
+use graphql_names::NameMap;
 use graphql_text::Text;
 
 /// A schema: types that are looked up by their names, which of them are the roots, and directives

@@ -7,7 +7,7 @@ use Rattle.std.proofs.lemmas.Slice.Eq.{bytes_eq-Decides}
 use Rattle.graphql_service.specs.declared.fault.ThinFault.{ThinFault}
 use Rattle.graphql_service.specs.declared.fault.ThinFault.TheVariants.{DuplicateName, UnknownType, UnknownField, BadLink}
 use Rattle.graphql_service.specs.Table.{Bytes, Kind, text, link, ObjectType, Record, at_name, type_named, record_with, kind_at, value_at}
-use Rattle.graphql_service.specs.Faults.{has_duplicate_name, has_unknown_type, has_unknown_field, is_of_type, keeps_kind, fields_declared, has_bad_link, first_fault}
+use Rattle.graphql_service.specs.Faults.{has_duplicate_field, has_unknown_type, has_unknown_field, is_of_type, keeps_kind, fields_declared, has_bad_link, fault_within}
 use Rattle.graphql_service.specs.Selections.{Tree, none, field, has_set, on_type, kind_fits, fits}
 use Rattle.graphql_service.specs.Evaluation.{Members, object, Outcome, settled, failed, as_object, with_member, follow, complete, evaluate}
 use Rattle.graphql_service.specs.Told.{told_object, told_value, told}
@@ -57,9 +57,9 @@ completes types records path run tell true suits below (Some (link n)) (Some id)
         refl admitted
 
 -- parts with no fault have no bad link
-pub no_bad_link : (types : List ObjectType) (records : List Record) (root_id : Bytes) → first_fault types records root_id ≡ None → has_bad_link types records ≡ false
+pub no_bad_link : (types : List ObjectType) (records : List Record) (root_id : Bytes) → fault_within types records root_id ≡ None → has_bad_link types records ≡ false
 no_bad_link types records root_id e =
-    by_tests (has_duplicate_name types records) (has_unknown_type types records) (has_unknown_field types records) (has_bad_link types records) _ e
+    by_tests (has_duplicate_field types records) (has_unknown_type types records) (has_unknown_field types records) (has_bad_link types records) _ e
   where
     by_tests : (a b c d : Bool) (last : Option ThinFault) → cond a (Some DuplicateName) (cond b (Some UnknownType) (cond c (Some UnknownField) (cond d (Some BadLink) last))) ≡ None → d ≡ false
     by_tests true b c d last e = cc
@@ -88,7 +88,7 @@ keeps types records good id r t found typed n k declared =
     refl declared
 
 -- over parts with no fault a set that fits gives what is told, and nothing fails
-pub evaluates : (types : List ObjectType) (records : List Record) (root_id : Bytes) → first_fault types records root_id ≡ None
+pub evaluates : (types : List ObjectType) (records : List Record) (root_id : Bytes) → fault_within types records root_id ≡ None
     → (set : Tree) (path : List Bytes) (id : Bytes) (r : Record) (t : ObjectType) → record_with records id ≡ Some r
     → type_named types r.type_name ≡ Some t → fits types t set ≡ true → evaluate types records path set r ≡ settled (told records set r)
 evaluates types records root_id good none path id r t found typed suited = refl

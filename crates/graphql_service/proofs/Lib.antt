@@ -7,7 +7,7 @@ pub mod Evaluations
 pub mod ErrorWritings
 pub mod Lines
 pub mod Repeats
-pub mod Places
+pub mod Rearranged
 pub mod Views
 pub mod Turns
 pub mod Fittings

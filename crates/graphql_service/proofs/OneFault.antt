@@ -17,7 +17,7 @@ use Rattle.graphql_scalars.specs.declared.default_scalar.DefaultScalarValue.TheV
 use Rattle.graphql_scalars.specs.DefaultScalar.{reads}
 use Rattle.graphql_grammar.specs.Input.{Input, Located, Fault}
 use Rattle.graphql_grammar.specs.Ahead.{mk}
-use Rattle.graphql_grammar.specs.Faults.{BadScalar, GoodScalar, Begins, FaultOf, unexpected_token, refused_scalar, FirstFault}
+use Rattle.graphql_grammar.specs.Faults.{BadScalar, GoodScalar, Begins, FaultOf, unexpected_token, refused_scalar, FirstFaultyToken}
 use Rattle.graphql_language.specs.Texts.{IsUngrammatical}
 use Rattle.graphql_language.specs.Documents.{DocumentOf}
 use Rattle.graphql_service.specs.Documents.{Definition, IsRefused}
@@ -82,7 +82,7 @@ module _ {S A : Type 0} (reads : ScalarToken → Result S ParseError) (Trees : L
     same_fault rest e f (refused_scalar a more at bad some) (refused_scalar b others is worse any) =
         let u : a ∷ more ≡ b ∷ others = sym at ∙ is in let same : a ≡ b = cc in same_bad a b e f same bad worse
 
-  first_once : (good : (b : Located) × GoodScalar reads b) (i : Input) (e f : Fault) → FirstFault reads Trees i e → FirstFault reads Trees i f → e ≡ f
+  first_once : (good : (b : Located) × GoodScalar reads b) (i : Input) (e f : Fault) → FirstFaultyToken reads Trees i e → FirstFaultyToken reads Trees i f → e ≡ f
   first_once good i e f x y = on (fronts x.before x.rest y.before y.rest (sym x.front ∙ y.front))
     where
       on : Fronts x.before x.rest y.before y.rest → e ≡ f
@@ -105,8 +105,8 @@ ungrammatical_once : (text : List ℕ) (e f : Fault) → IsUngrammatical Default
 ungrammatical_once text e f x y =
     let same = same_from_push x.tokens y.tokens _ _ (lexical.one_list text _ _ x.cut y.cut) in
     let finish : x.finish ≡ y.finish = ap (λ (z : Located). z.span) same.1 in
-    let there = subst (λ zs. FirstFault reads Doc (mk zs x.finish origin) e) same.0 x.first in
-    first_once reads Doc a_scalar (mk y.tokens y.finish origin) e f (subst (λ z. FirstFault reads Doc (mk y.tokens z origin) e) finish there) y.first
+    let there = subst (λ zs. FirstFaultyToken reads Doc (mk zs x.finish origin) e) same.0 x.first in
+    first_once reads Doc a_scalar (mk y.tokens y.finish origin) e f (subst (λ z. FirstFaultyToken reads Doc (mk y.tokens z origin) e) finish there) y.first
 
 pub one_fault : (text : List ℕ) (e f : Fault) → IsRefused text e → IsRefused text f → e ≡ f
 one_fault text e f (inl x) (inl y) = x.2 ∙ ap (λ (z : Refusal). record { item = parse_error_of z.item; span = z.span }) (lexical.one_fault text x.0 y.0 x.1 y.1) ∙ sym y.2

@@ -8,10 +8,6 @@ pub list_any-map : {X Y : Type 0} (p : Y → Bool) (f : X → Y) (xs : List X) �
 list_any-map p f [] = refl
 list_any-map p f (x ∷ xs) = ap (λ b. p (f x) || b) (list_any-map p f xs)
 
-pub map-map : {X Y Z : Type 0} (g : Y → Z) (f : X → Y) (xs : List X) → map g (map f xs) ≡ map (λ x. g (f x)) xs
-map-map g f [] = refl
-map-map g f (x ∷ xs) = ap (λ ys. g (f x) ∷ ys) (map-map g f xs)
-
 -- where every element passes
 pub list_any-every : {X Y : Type 0} (f : X → Y) (xs : List X) → not (nat_eq (length xs) 0) ≡ list_any (λ _. true) (map f xs)
 list_any-every f [] = refl

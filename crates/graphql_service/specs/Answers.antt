@@ -46,15 +46,15 @@ abbrev pub outcome_of : Service → Tree → Outcome Members
 outcome_of s set = from_root (evaluate s.types s.records [] set) (root_of s)
 
 -- the answer line of a line: the refusal that comes first, else data in which nothing failed
-pub data Answers (s : Service) (line answer : Bytes) : Type 0 where
-  line_too_long : s.line_limit < length line → answer ≡ refusal_line s LineTooLong → Answers s line answer
-  no_request : (refusal : ThinRefusal) → length line ≤ s.line_limit → requested line ≡ Err refusal → answer ≡ refusal_line s refusal → Answers s line answer
+pub data IsAnswerTo (s : Service) (line answer : Bytes) : Type 0 where
+  line_too_long : s.line_limit < length line → answer ≡ refusal_line s LineTooLong → IsAnswerTo s line answer
+  no_request : (refusal : ThinRefusal) → length line ≤ s.line_limit → requested line ≡ Err refusal → answer ≡ refusal_line s refusal → IsAnswerTo s line answer
   parse_error : (r : Request) (fault : Fault) → length line ≤ s.line_limit → requested line ≡ Ok r
-      → IsRefused (chars r.query) fault → answer ≡ refusal_line s (ParseError fault) → Answers s line answer
+      → IsRefused (chars r.query) fault → answer ≡ refusal_line s (ParseError fault) → IsAnswerTo s line answer
   not_thin : (r : Request) (document : List Definition) → length line ≤ s.line_limit → requested line ≡ Ok r → IsDocument (chars r.query) document
-      → ((set : Tree) → IsAccepted s r document set → ⊥) → answer ≡ refusal_line s NotThin → Answers s line answer
+      → ((set : Tree) → IsAccepted s r document set → ⊥) → answer ≡ refusal_line s NotThin → IsAnswerTo s line answer
   data_of : (r : Request) (document : List Definition) (set : Tree) → length line ≤ s.line_limit → requested line ≡ Ok r → IsDocument (chars r.query) document
-      → IsAccepted s r document set → (outcome_of s set).failures ≡ [] → answer ≡ data_line (outcome_of s set).value → Answers s line answer
+      → IsAccepted s r document set → (outcome_of s set).failures ≡ [] → answer ≡ data_line (outcome_of s set).value → IsAnswerTo s line answer
 
 -- one line: it ends with a line feed, and holds no other
 pub record IsLine (bytes : Bytes) : Type 0 where

@@ -7,11 +7,14 @@ use Rattle.graphql_service.specs.declared.fault.ThinFault.TheVariants.{Duplicate
 use Rattle.graphql_service.specs.Names.{repeats}
 use Rattle.graphql_service.specs.Table.{Bytes, Kind, text, link, ObjectType, Record, type_named, record_with, kind_at, value_at}
 
--- two types of one name, two fields of one name in a type, two records of one id, or two fields of one name in a record
+-- two types of one name, or two records of one id
 abbrev pub has_duplicate_name : List ObjectType → List Record → Bool
-has_duplicate_name types records =
-    repeats (map (λ t. t.name) types) || list_any (λ t. repeats (map (λ f. f.0) t.fields)) types
-    || repeats (map (λ r. r.id) records) || list_any (λ r. repeats (map (λ f. f.0) r.fields)) records
+has_duplicate_name types records = repeats (map (λ t. t.name) types) || repeats (map (λ r. r.id) records)
+
+-- two fields of one name in a type, or in a record
+abbrev pub has_duplicate_field : List ObjectType → List Record → Bool
+has_duplicate_field types records =
+    list_any (λ t. repeats (map (λ f. f.0) t.fields)) types || list_any (λ r. repeats (map (λ f. f.0) r.fields)) records
 
 abbrev pub is_type : List ObjectType → Bytes → Bool
 is_type types name = is_some (type_named types name)
@@ -52,10 +55,14 @@ abbrev pub has_bad_link : List ObjectType → List Record → Bool
 has_bad_link types records =
     list_any (λ r. list_any (λ f. not (keeps_kind records f.1 (value_at r f.0))) (fields_declared (type_named types r.type_name))) records
 
-abbrev pub first_fault : List ObjectType → List Record → Bytes → Option ThinFault
-first_fault types records root_id =
-    if has_duplicate_name types records then Some DuplicateName
+-- the first fault of types of different names and records of different ids
+abbrev pub fault_within : List ObjectType → List Record → Bytes → Option ThinFault
+fault_within types records root_id =
+    if has_duplicate_field types records then Some DuplicateName
     else (if has_unknown_type types records then Some UnknownType
     else (if has_unknown_field types records then Some UnknownField
     else (if has_bad_link types records then Some BadLink
     else (if is_some (record_with records root_id) then None else Some BadRoot))))
+
+abbrev pub first_fault : List ObjectType → List Record → Bytes → Option ThinFault
+first_fault types records root_id = if has_duplicate_name types records then Some DuplicateName else fault_within types records root_id

@@ -4,11 +4,11 @@ use Rattle.graphql_service.specs.Table.{Bytes, ObjectType, Record}
 use Rattle.graphql_service.specs.Selections.{Tree, field_names}
 use Rattle.graphql_service.specs.Evaluation.{Members, no_members, member, evaluate}
 use Rattle.graphql_service.specs.Service.{Service}
-use Rattle.graphql_service.specs.Answers.{Answers}
+use Rattle.graphql_service.specs.Answers.{IsAnswerTo}
 
 -- a line has no two answers
 abbrev pub OneAnswer : Type 0
-OneAnswer = (s : Service) (line a b : Bytes) → Answers s line a → Answers s line b → a ≡ b
+OneAnswer = (s : Service) (line a b : Bytes) → IsAnswerTo s line a → IsAnswerTo s line b → a ≡ b
 
 -- the names of members, in order
 abbrev pub member_names : Members → List Bytes

@@ -1,6 +1,5 @@
 pub mod Table
 pub mod Names
-pub mod Places
 pub mod Faults
 pub mod Selections
 pub mod Documents

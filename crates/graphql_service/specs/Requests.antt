@@ -1,5 +1,5 @@
 -- The request of the code, as plain data.
-use Rattle.std.specs.Prelude.{◌≡◌, Result, Ok, Err, string_bytes, ⊤}
+use Rattle.std.specs.Prelude.{Result, Ok, Err, string_bytes, alloc_error}
 use Rattle.std.specs.declared.alloc.AllocError.{AllocError}
 use Rattle.graphql_lines.specs.declared.refusal.LineRefusal.{LineRefusal}
 use Rattle.graphql_lines.specs.declared.refusal.LineRefusal.TheVariants as line
@@ -16,10 +16,9 @@ abbrev pub read_view : Result ThinRequest ThinRefusal → Result spec.Request Th
 read_view (Ok r) = Ok (request_view r)
 read_view (Err refusal) = Err refusal
 
--- the refusal of a line, told as one of the thin service; want of memory is an error of its own
-abbrev pub TellsRefusal : {A : Type 0} → LineRefusal → Result (Result A ThinRefusal) AllocError → Type 0
-TellsRefusal line.LineTooLong result = result ≡ Ok (Err LineTooLong)
-TellsRefusal line.NotARequest result = result ≡ Ok (Err NotARequest)
-TellsRefusal line.BadNumber result = result ≡ Ok (Err BadNumber)
-TellsRefusal line.Memory (Ok read) = ⊥
-TellsRefusal line.Memory (Err e) = ⊤
+-- the refusal of a line, as one of the thin service; want of memory is an error of its own
+abbrev pub thin_refusal : {A : Type 0} → LineRefusal → Result (Result A ThinRefusal) AllocError
+thin_refusal line.LineTooLong = Ok (Err LineTooLong)
+thin_refusal line.NotARequest = Ok (Err NotARequest)
+thin_refusal line.BadNumber = Ok (Err BadNumber)
+thin_refusal line.Memory = Err alloc_error

@@ -1,8 +1,9 @@
 -- A service, as plain data.
-use Rattle.std.specs.Prelude.{◌≡◌, ℕ, List, map, Option, Some, None, Result, Ok, Err, string_bytes}
+use Rattle.std.specs.Prelude.{◌≡◌, ℕ, List, map, Option, Some, None, Result, string_bytes, IsPermutation}
+use Rattle.graphql_items.specs.Memory.{Answers}
 use Rattle.graphql_service.specs.declared.service.ThinService.{ThinService}
 use Rattle.graphql_service.specs.declared.fault.ThinFault.{ThinFault}
-use Rattle.graphql_service.specs.declared.fault.ThinFault.TheVariants.{DuplicateName, UnknownType, UnknownField, BadLink, BadRoot, Memory}
+use Rattle.graphql_service.specs.declared.fault.ThinFault.TheVariants.{Memory}
 use Rattle.graphql_service.specs.Faults.{first_fault}
 use Rattle.graphql_service.specs.Table.{Bytes, ObjectType, Record, type_of, record_of, record_with}
 
@@ -19,18 +20,15 @@ service_of s = record { types = map type_of s.types; records = map record_of s.r
 abbrev pub root_of : Service → Option Record
 root_of s = record_with s.records s.root_id
 
--- what a fault tells: it is the first that stands; want of memory tells nothing
-abbrev pub Tells : Option ThinFault → ThinFault → Type 0
-Tells first DuplicateName = first ≡ Some DuplicateName
-Tells first UnknownType = first ≡ Some UnknownType
-Tells first UnknownField = first ≡ Some UnknownField
-Tells first BadLink = first ≡ Some BadLink
-Tells first BadRoot = first ≡ Some BadRoot
-Tells first Memory = Unit {0}
+-- the same parts, types and records in any order
+pub record IsRearranged (parts s : Service) : Type 0 where
+  pub types : IsPermutation parts.types s.types
+  pub records : IsPermutation parts.records s.records
+  pub root_id : s.root_id ≡ parts.root_id
+  pub line_limit : s.line_limit ≡ parts.line_limit
 
--- a service over these parts where they have no fault, else their first fault
-abbrev pub Makes : List ObjectType → List Record → Bytes → ℕ → Result ThinService ThinFault → Type 0
-Makes types records root_id line_limit (Ok s) =
-    (first_fault types records root_id ≡ None)
-    × (service_of s ≡ record { types = types; records = records; root_id = root_id; line_limit = line_limit })
-Makes types records root_id line_limit (Err fault) = Tells (first_fault types records root_id) fault
+-- a service over these parts where they have no fault, else their first fault; want of memory tells nothing
+abbrev pub Makes : Service → Result ThinService ThinFault → Type 0
+Makes parts result =
+    let first = first_fault parts.types parts.records parts.root_id in
+    Answers (λ s. (first ≡ None) × IsRearranged parts (service_of s)) (λ fault. first ≡ Some fault) (λ fault. fault ≡ Memory) result

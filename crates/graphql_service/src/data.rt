@@ -8,17 +8,17 @@ ghost use Rattle.graphql_service.specs.Evaluation.{object};
 ghost use Rattle.graphql_service.specs.Told.{told, told_value};
 ghost use Rattle.graphql_service.specs.Json.{json};
 
-use crate::index::ByName;
 use crate::selection::Selection;
 use crate::table::ThinRecord;
 use graphql_lines::text_to_json;
+use graphql_names::NameMap;
 use std::alloc::AllocError;
 
 /// Writes what a set gives on a record, as a JSON object at the end of `out`.
 #[cycle(data)]
 pub fn push_object(
     out: &mut Vec<u8>,
-    records: &ByName<ThinRecord>,
+    records: &NameMap<ThinRecord>,
     row: &ThinRecord,
     set: &[Selection],
 ) -> Result<(), AllocError>
@@ -41,7 +41,7 @@ pub fn push_object(
 #[cycle(data)]
 fn push_value(
     out: &mut Vec<u8>,
-    records: &ByName<ThinRecord>,
+    records: &NameMap<ThinRecord>,
     row: &ThinRecord,
     selection: &Selection,
 ) -> Result<(), AllocError>

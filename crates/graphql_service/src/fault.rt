@@ -6,9 +6,9 @@ ghost use Rattle.graphql_service.specs.Table.{kind_of, type_of, record_of, type_
 ghost use Rattle.graphql_service.specs.Names.{repeats};
 ghost use Rattle.graphql_service.specs.Faults as spec;
 
-use crate::index::ByName;
 use crate::names::repeats;
 use crate::table::{ThinKind, ThinRecord, ThinType};
+use graphql_names::NameMap;
 use std::alloc::{AllocError, Global};
 
 /// Why a service can't be made of these types and records: the first that stands, in this order.
@@ -71,42 +71,27 @@ fn some_record_repeats(alloc: Global, records: &[ThinRecord]) -> Result<bool, Al
     Ok(false)
 }
 
-fn type_names_repeat(alloc: Global, types: &[ThinType]) -> Result<bool, AllocError>
-    ensures { IfOk result (λ b. b ≡ repeats (map (λ t. t.name) (map type_of types.now))) }
-{
-    let names: Vec<&str> = types.iter().map(|t| t.name.as_str()).collect(alloc)?;
-    repeats(alloc, names.as_slice())
-}
-
-fn ids_repeat(alloc: Global, records: &[ThinRecord]) -> Result<bool, AllocError>
-    ensures { IfOk result (λ b. b ≡ repeats (map (λ r. r.id) (map record_of records.now))) }
-{
-    let ids: Vec<&str> = records.iter().map(|r| r.id.as_str()).collect(alloc)?;
-    repeats(alloc, ids.as_slice())
-}
-
-fn has_duplicate_name(
+/// Whether two fields of one name are in a type, or in a record.
+fn has_duplicate_field(
     alloc: Global,
-    types: &ByName<ThinType>,
-    records: &ByName<ThinRecord>,
+    types: &NameMap<ThinType>,
+    records: &NameMap<ThinRecord>,
 ) -> Result<bool, AllocError>
-    ensures { IfOk result (λ b. b ≡ spec.has_duplicate_name (map type_of types.now) (map record_of records.now)) }
+    ensures { IfOk result (λ b. b ≡ spec.has_duplicate_field (map type_of types.now) (map record_of records.now)) }
 {
     Ok(
-        type_names_repeat(alloc, types.as_slice())?
-            || some_type_repeats(alloc, types.as_slice())?
-            || ids_repeat(alloc, records.as_slice())?
+        some_type_repeats(alloc, types.as_slice())?
             || some_record_repeats(alloc, records.as_slice())?,
     )
 }
 
-fn is_type(types: &ByName<ThinType>, name: &str) -> bool
+fn is_type(types: &NameMap<ThinType>, name: &str) -> bool
     ensures { result ≡ spec.is_type (map type_of types.now) name.now }
 {
     types.get(name).is_some()
 }
 
-fn names_type(types: &ByName<ThinType>, kind: &ThinKind) -> bool
+fn names_type(types: &NameMap<ThinType>, kind: &ThinKind) -> bool
     ensures { result ≡ spec.names_type (map type_of types.now) (kind_of kind.now) }
 {
     match kind {
@@ -116,13 +101,13 @@ fn names_type(types: &ByName<ThinType>, kind: &ThinKind) -> bool
 }
 
 /// Whether a link of the type names a type that is not there.
-fn links_nowhere(types: &ByName<ThinType>, t: &ThinType) -> bool
+fn links_nowhere(types: &NameMap<ThinType>, t: &ThinType) -> bool
     ensures { result ≡ list_any (λ f. not (spec.names_type (map type_of types.now) f.1)) (type_of t.now).fields }
 {
     t.fields.iter().any(|f| !names_type(types, &f.1))
 }
 
-fn has_unknown_type(types: &ByName<ThinType>, records: &ByName<ThinRecord>) -> bool
+fn has_unknown_type(types: &NameMap<ThinType>, records: &NameMap<ThinRecord>) -> bool
     ensures { result ≡ spec.has_unknown_type (map type_of types.now) (map record_of records.now) }
 {
     types.as_slice().iter().any(|t| links_nowhere(types, t))
@@ -139,7 +124,7 @@ fn declares(t: &ThinType, field: &str) -> bool
 }
 
 /// Whether a record has a field that its type does not declare.
-fn strays(types: &ByName<ThinType>, row: &ThinRecord) -> bool
+fn strays(types: &NameMap<ThinType>, row: &ThinRecord) -> bool
     ensures { let r = record_of row.now in
         result ≡ list_any (λ f. not (is_some (kind_at (map type_of types.now) r.type_name f.0))) r.fields }
 {
@@ -149,14 +134,14 @@ fn strays(types: &ByName<ThinType>, row: &ThinRecord) -> bool
     }
 }
 
-fn has_unknown_field(types: &ByName<ThinType>, records: &ByName<ThinRecord>) -> bool
+fn has_unknown_field(types: &NameMap<ThinType>, records: &NameMap<ThinRecord>) -> bool
     ensures { result ≡ spec.has_unknown_field (map type_of types.now) (map record_of records.now) }
 {
     records.as_slice().iter().any(|r| strays(types, r))
 }
 
 /// Whether an id is that of a record of the type named.
-fn leads_to(records: &ByName<ThinRecord>, type_name: &str, id: &str) -> bool
+fn leads_to(records: &NameMap<ThinRecord>, type_name: &str, id: &str) -> bool
     ensures { result ≡ spec.leads_to (map record_of records.now) type_name.now (Some id.now) }
 {
     match records.get(id) {
@@ -166,7 +151,7 @@ fn leads_to(records: &ByName<ThinRecord>, type_name: &str, id: &str) -> bool
 }
 
 /// Whether a field's value is one that its kind allows.
-fn keeps_kind(records: &ByName<ThinRecord>, kind: &ThinKind, value: Option<&str>) -> bool
+fn keeps_kind(records: &NameMap<ThinRecord>, kind: &ThinKind, value: Option<&str>) -> bool
     ensures { result ≡ spec.keeps_kind (map record_of records.now) (kind_of kind.now) (option_map (λ v. v.now) value.entry) }
 {
     match (kind, value) {
@@ -176,7 +161,7 @@ fn keeps_kind(records: &ByName<ThinRecord>, kind: &ThinKind, value: Option<&str>
 }
 
 /// Whether a link of the record leads to no record of the link's type.
-fn misleads(types: &ByName<ThinType>, records: &ByName<ThinRecord>, row: &ThinRecord) -> bool
+fn misleads(types: &NameMap<ThinType>, records: &NameMap<ThinRecord>, row: &ThinRecord) -> bool
     ensures { let r = record_of row.now in let ts = map type_of types.now in
         result ≡ list_any (λ f. not (spec.keeps_kind (map record_of records.now) f.1 (value_at r f.0))) (spec.fields_declared (type_named ts r.type_name)) }
 {
@@ -189,7 +174,7 @@ fn misleads(types: &ByName<ThinType>, records: &ByName<ThinRecord>, row: &ThinRe
     }
 }
 
-fn has_bad_link(types: &ByName<ThinType>, records: &ByName<ThinRecord>) -> bool
+fn has_bad_link(types: &NameMap<ThinType>, records: &NameMap<ThinRecord>) -> bool
     ensures { result ≡ spec.has_bad_link (map type_of types.now) (map record_of records.now) }
 {
     records
@@ -198,16 +183,17 @@ fn has_bad_link(types: &ByName<ThinType>, records: &ByName<ThinRecord>) -> bool
         .any(|r| misleads(types, records, r))
 }
 
-/// The first fault of types and records, in the order of [`ThinFault`].
-pub fn first_fault(
+/// The first fault of types of different names and records of different ids, in the order of
+/// [`ThinFault`]. The error is want of memory.
+pub fn fault_within(
     alloc: Global,
-    types: &ByName<ThinType>,
-    records: &ByName<ThinRecord>,
+    types: &NameMap<ThinType>,
+    records: &NameMap<ThinRecord>,
     root_id: &str,
 ) -> Result<Option<ThinFault>, AllocError>
-    ensures { IfOk result (λ f. f ≡ spec.first_fault (map type_of types.now) (map record_of records.now) root_id.now) }
+    ensures { IfOk result (λ f. f ≡ spec.fault_within (map type_of types.now) (map record_of records.now) root_id.now) }
 {
-    if has_duplicate_name(alloc, types, records)? {
+    if has_duplicate_field(alloc, types, records)? {
         return Ok(Some(ThinFault::DuplicateName));
     }
     if has_unknown_type(types, records) {

@@ -6,10 +6,10 @@ ghost use Rattle.graphql_service.specs.Table.{type_of, at_name};
 ghost use Rattle.graphql_service.specs.declared.selection.Selection.{out-Selection};
 ghost use Rattle.graphql_service.specs.Selections as spec;
 
-use crate::index::ByName;
 use crate::names::repeats;
 use crate::selection::Selection;
 use crate::table::{ThinKind, ThinType};
+use graphql_names::NameMap;
 use std::alloc::{AllocError, Global};
 
 /// Whether no name stands twice in a set, nor in a set below it.
@@ -37,7 +37,7 @@ fn names_repeat(alloc: Global, set: &[Selection]) -> Result<bool, AllocError>
 
 /// Whether the fields of a set are those of a type, and so in each set below.
 #[cycle(fits)]
-pub fn fits(types: &ByName<ThinType>, parent: &ThinType, set: &[Selection]) -> bool
+pub fn fits(types: &NameMap<ThinType>, parent: &ThinType, set: &[Selection]) -> bool
     ensures { result ≡ spec.fits (map type_of types.now) (type_of parent.now) (spec.tree_of set.now) }
 {
     'fields: for selection in set {
@@ -49,7 +49,7 @@ pub fn fits(types: &ByName<ThinType>, parent: &ThinType, set: &[Selection]) -> b
 }
 
 #[cycle(fits)]
-fn field_fits(types: &ByName<ThinType>, parent: &ThinType, selection: &Selection) -> bool
+fn field_fits(types: &NameMap<ThinType>, parent: &ThinType, selection: &Selection) -> bool
     ensures { let s = out-Selection selection.now in let ts = map type_of types.now in
         result ≡ spec.kind_fits ts (spec.has_set (spec.tree_of s.set.items)) (λ t. spec.fits ts t (spec.tree_of s.set.items))
         (at_name (type_of parent.now).fields s.name.now) }

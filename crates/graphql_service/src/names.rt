@@ -1,20 +1,26 @@
-//! Names that stand in a row.
+//! Names that stand twice, and items by their names.
 
-ghost use Rattle.std.specs.Prelude.{◌≡◌, map, IfOk};
+ghost use Rattle.std.specs.Prelude.{◌≡◌, map, true, MatchOption};
+ghost use Rattle.graphql_items.specs.Memory.{Gives};
 ghost use Rattle.graphql_service.specs.Names as spec;
 
+use graphql_items::Items;
+use graphql_names::{NameMap, Named, repeated_name};
 use std::alloc::{AllocError, Global};
-use std::collections::HashSet;
 
-/// Whether a name stands twice.
+/// Whether a name stands twice. An error is want of memory.
 pub fn repeats(alloc: Global, names: &[&str]) -> Result<bool, AllocError>
-    ensures { IfOk result (λ b. b ≡ spec.repeats (map (λ n. n.now) names.now)) }
+    ensures { Gives result (spec.repeats (map (λ n. n.now) names.now)) }
 {
-    let mut seen: HashSet<&str> = HashSet::new(alloc);
-    'names: for name in names {
-        if !seen.insert(*name)? {
-            return Ok(true);
-        }
+    Ok(repeated_name(alloc, names)?.is_some())
+}
+
+/// These items by their names, or None where two have one name.
+pub fn by_name<T: Named + Drop>(items: Vec<T>) -> Option<NameMap<T>>
+    ensures { MatchOption result (spec.repeats (map T.name_of items.items) ≡ true) (spec.AreByName T.name_of items.items) }
+{
+    match NameMap::from_items(Items::from_vec(items)) {
+        Ok(map) => Some(map),
+        Err(_) => None,
     }
-    Ok(false)
 }

@@ -3,7 +3,6 @@
 ghost use Rattle.std.specs.Prelude.{◌≡◌, ◌++◌, IfOk, OnOk, string_bytes};
 
 use crate::json::push_error_line;
-use crate::message::fault_text;
 use graphql_text::{ParseError, SourcePosition, Spanning};
 use std::alloc::{AllocError, Global};
 
@@ -39,7 +38,7 @@ impl ThinRefusal {
                 alloc,
                 "A number in variables is not whole or does not fit 32 bits",
             ),
-            ThinRefusal::ParseError(fault) => fault_text(alloc, &fault.item),
+            ThinRefusal::ParseError(fault) => fault.item.to_string(alloc),
             ThinRefusal::NotThin => String::from_str(alloc, "Request is outside the first path"),
         }
     }

@@ -1,9 +1,10 @@
 //! Reads a request from its line.
 
-ghost use Rattle.std.specs.Prelude.{◌≡◌, option_map, IfOk};
+ghost use Rattle.std.specs.Prelude.{◌≡◌, option_map};
+ghost use Rattle.graphql_items.specs.Memory.{GivesBy};
 ghost use Rattle.serde_json.specs.View.{view};
 ghost use Rattle.graphql_service.specs.Request as spec;
-ghost use Rattle.graphql_service.specs.Requests.{read_view, TellsRefusal};
+ghost use Rattle.graphql_service.specs.Requests.{read_view, thin_refusal};
 
 use crate::refusal::ThinRefusal;
 use graphql_lines::{GraphQLRequest, LineRefusal, json_of_line, request_in};
@@ -34,7 +35,7 @@ fn is_bare(json: &Value) -> bool
 
 /// The refusal of a line, as one of the thin service. The error is want of memory.
 fn refused(refusal: LineRefusal) -> Result<Result<ThinRequest, ThinRefusal>, AllocError>
-    ensures { TellsRefusal refusal result }
+    ensures { result ≡ thin_refusal refusal }
 {
     match refusal {
         LineRefusal::LineTooLong => Ok(Err(ThinRefusal::LineTooLong)),
@@ -49,7 +50,7 @@ pub fn read_request(
     alloc: Global,
     line: &[u8],
 ) -> Result<Result<ThinRequest, ThinRefusal>, AllocError>
-    ensures { IfOk result (λ read. read_view read ≡ spec.requested line.now) }
+    ensures { GivesBy read_view result (spec.requested line.now) }
 {
     let json = match json_of_line(alloc, line) {
         Ok(json) => json,

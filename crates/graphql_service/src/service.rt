@@ -2,28 +2,29 @@
 
 ghost use Rattle.std.specs.Prelude.{◌≡◌, ◌++◌, map, None, IfOk, OnOk, option_map, string_bytes};
 ghost use Rattle.graphql_service.specs.Table.{type_of, record_of};
-ghost use Rattle.graphql_service.specs.Faults.{first_fault};
+ghost use Rattle.graphql_service.specs.Faults.{fault_within};
 
 use crate::data::push_object;
 use crate::document::{parse, thin_document};
-use crate::fault::{ThinFault, first_fault};
+use crate::fault::{ThinFault, fault_within};
 use crate::fits::{fits, is_distinct};
-use crate::index::ByName;
+use crate::names::by_name;
 use crate::refusal::ThinRefusal;
 use crate::request::{ThinRequest, read_request};
 use crate::selection::Selection;
 use crate::table::{ThinRecord, ThinType};
 use graphql_language::{Definition, release_document};
+use graphql_names::NameMap;
 use std::alloc::{AllocError, Global};
 
 /// Types, and records of them, over which request lines are answered.
-#[derive(Debug, Drop)]
+#[derive(Drop)]
 pub struct ThinService {
-    types: ByName<ThinType>,
-    records: ByName<ThinRecord>,
+    types: NameMap<ThinType>,
+    records: NameMap<ThinRecord>,
     root_id: String,
     line_limit: usize,
-    ghost sound: { first_fault (map type_of types) (map record_of records) (string_bytes root_id) ≡ None },
+    ghost sound: { fault_within (map type_of types) (map record_of records) (string_bytes root_id) ≡ None },
 }
 
 impl ThinService {
@@ -33,12 +34,13 @@ impl ThinService {
     ghost use Rattle.graphql_service.specs.Evaluation.{object};
     ghost use Rattle.graphql_service.specs.Told.{told_root};
     ghost use Rattle.graphql_service.specs.Json.{json, data_line};
-    ghost use Rattle.graphql_service.specs.Answers.{Answers, IsLine, AcceptsOrNone, refusal_line, root_type_of};
+    ghost use Rattle.graphql_service.specs.Answers.{IsAnswerTo, IsLine, AcceptsOrNone, refusal_line, root_type_of};
 
     /// A service over these types and records, whose requests are answered on the record of
     /// `root_id`, and whose lines have at most `line_limit` bytes.
     ///
-    /// Each fault is answered where it is the first that stands, in the order of [`ThinFault`].
+    /// Each fault is answered where it is the first that stands, in the order of [`ThinFault`]. The
+    /// service holds the types in the order of their names, and the records in that of their ids.
     pub fn new(
         alloc: Global,
         types: Vec<ThinType>,
@@ -46,11 +48,20 @@ impl ThinService {
         root_id: String,
         line_limit: usize,
     ) -> Result<ThinService, ThinFault>
-        ensures { Makes (map type_of types.items) (map record_of records.items) (string_bytes root_id) line_limit result }
+        ensures { Makes (record {
+          types = map type_of types.items;
+          records = map record_of records.items;
+          root_id = string_bytes root_id;
+          line_limit = line_limit;
+        }) result }
     {
-        let types = ByName::new(alloc, types)?;
-        let records = ByName::new(alloc, records)?;
-        match first_fault(alloc, &types, &records, root_id.as_str())? {
+        let Some(types) = by_name(types) else {
+            return Err(ThinFault::DuplicateName);
+        };
+        let Some(records) = by_name(records) else {
+            return Err(ThinFault::DuplicateName);
+        };
+        match fault_within(alloc, &types, &records, root_id.as_str())? {
             Some(fault) => Err(fault),
             None => Ok(ThinService {
                 types,
@@ -68,7 +79,7 @@ impl ThinService {
     /// The line is `{"query": ..}` as JSON, and is given without its line feed. The only error is
     /// want of memory, after which nothing has changed.
     pub fn answer(&self, alloc: Global, line: &[u8]) -> Result<Vec<u8>, AllocError>
-        ensures answers { IfOk result (λ out. Answers (service_of self.now) line.now out.items) }
+        ensures answers { IfOk result (λ out. IsAnswerTo (service_of self.now) line.now out.items) }
         ensures line { IfOk result (λ out. IsLine out.items) }
     {
         if line.len() > self.line_limit {

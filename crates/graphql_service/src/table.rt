@@ -6,7 +6,7 @@ ghost use Rattle.std.specs.Option.{option_copied};
 ghost use Rattle.std.specs.Str.{bytes_eq};
 ghost use Rattle.graphql_service.specs.Table as spec;
 
-use crate::index::Named;
+use graphql_names::Named;
 
 /// What a field holds.
 #[derive(Debug, Drop)]

@@ -2,6 +2,8 @@
 #![tactic(auto)]
 
 mod failure;
+#[cfg(test)]
+mod line_tests;
 mod sample;
 mod serve;
 #[cfg(test)]

@@ -3,17 +3,11 @@
 use crate::failure::Failure;
 use crate::serve::serve;
 use crate::{LINE_LIMIT, sample};
-use graphql_service::{ThinKind, ThinRecord, ThinService, ThinType};
+use graphql_service::ThinService;
 use std::alloc::{AllocError, Global};
 use std::io::{self, Read, Write};
+use std::process::Abort;
 use std::test::Fail;
-
-/// The answer to a line, without its line feed.
-fn answer(alloc: Global, service: &ThinService, line: &str) -> Result<String, Fail> {
-    let mut bytes = service.answer(alloc, line.as_bytes())?;
-    let _feed = bytes.pop();
-    Ok(String::from_utf8(bytes).ok().ok_or("not UTF-8")?)
-}
 
 const NOT_A_REQUEST: &str = r#"{"errors":[{"message":"Line is not a request"}]}"#;
 
@@ -24,250 +18,195 @@ const NOT_THIN: &str = r#"{"errors":[{"message":"Request is outside the first pa
 
 const ANN: &str = r#"{"data":{"hero":{"name":"Ann"}}}"#;
 
-#[test]
-fn answers_worked_requests(rt: HostRuntime) -> Result<(), Fail> {
-    let service = sample::service(rt.alloc(), LINE_LIMIT)
-        .ok()
-        .ok_or("no sample")?;
-    let rows = [
-        (r#"{"query":"{ hero { name } }"}"#, ANN),
-        (
-            r#"{"query":"{ hero { friend { friend { name } } id } }"}"#,
-            r#"{"data":{"hero":{"friend":{"friend":null},"id":"h1"}}}"#,
-        ),
-        (r#"{"query":"{ hero { name name } }"}"#, NOT_THIN),
-        (r#"{"query":"{ hero }"}"#, NOT_THIN),
-        (r#"{"query":5}"#, NOT_A_REQUEST),
-        (
-            r#"{"query":"{hero{id,name}}# end"}"#,
-            r#"{"data":{"hero":{"id":"h1","name":"Ann"}}}"#,
-        ),
-        (
-            "{\"query\":\"\\uFEFF{ # a comment\\r hero\\t{\\nname } }\"}",
-            ANN,
-        ),
-        (r#"{"query":"{ hero { name { id } } }"}"#, NOT_THIN),
-        (r#"{"query":"{ hero { age } }"}"#, NOT_THIN),
-        (r#"{"query":"{ hero { x: name } }"}"#, NOT_THIN),
-        (r#"{"query":"query { hero { name } }"}"#, NOT_THIN),
-        (r#"{"query":"{ hero(first: 1) { id } }"}"#, NOT_THIN),
-        (r#"{"query":"{ hero { ... on Human { id } } }"}"#, NOT_THIN),
-        (r#"{"query":"{ hero { id @skip(if: true) } }"}"#, NOT_THIN),
-        (r#"{"query":"{ hero { id } } { hero { id } }"}"#, NOT_THIN),
-    ];
-    for (line, want) in rows {
-        let got = answer(rt.alloc(), &service, line)?;
-        assert_eq!(rt; got.as_str(), want, "at {line}");
-    }
-    Ok(())
+/// Lines, and their answers over the sample.
+const ANSWERS: [(&str, &str); 29] = [
+    (r#"{"query":"{ hero { name } }"}"#, ANN),
+    (
+        r#"{"query":"{ hero { friend { friend { name } } id } }"}"#,
+        r#"{"data":{"hero":{"friend":{"friend":null},"id":"h1"}}}"#,
+    ),
+    (
+        r#"{"query":"{hero{id,name}}# end"}"#,
+        r#"{"data":{"hero":{"id":"h1","name":"Ann"}}}"#,
+    ),
+    (
+        "{\"query\":\"\\uFEFF{ # a comment\\r hero\\t{\\nname } }\"}",
+        ANN,
+    ),
+    (
+        r#"{"query":"{ hero { name } }","operationName":null,"variables":null,"x":1.5}"#,
+        ANN,
+    ),
+    (r#"{"query":"{ hero { name name } }"}"#, NOT_THIN),
+    (r#"{"query":"{ hero }"}"#, NOT_THIN),
+    (r#"{"query":"{ hero { name { id } } }"}"#, NOT_THIN),
+    (r#"{"query":"{ hero { age } }"}"#, NOT_THIN),
+    (r#"{"query":"{ hero { x: name } }"}"#, NOT_THIN),
+    (r#"{"query":"query { hero { name } }"}"#, NOT_THIN),
+    (r#"{"query":"{ hero(first: 1) { id } }"}"#, NOT_THIN),
+    (r#"{"query":"{ hero { ... on Human { id } } }"}"#, NOT_THIN),
+    (r#"{"query":"{ hero { id @skip(if: true) } }"}"#, NOT_THIN),
+    (r#"{"query":"{ hero { id } } { hero { id } }"}"#, NOT_THIN),
+    (
+        r#"{"query":"{ hero { name } }","operationName":"A"}"#,
+        NOT_THIN,
+    ),
+    (r#"{"query":"{ hero { name } }","variables":{}}"#, NOT_THIN),
+    (
+        r#"{"query":"{ hero { name } }","variables":{"x":1}}"#,
+        NOT_THIN,
+    ),
+    ("", NOT_A_REQUEST),
+    ("\r", NOT_A_REQUEST),
+    ("[]", NOT_A_REQUEST),
+    ("{}", NOT_A_REQUEST),
+    (r#"{"query":5}"#, NOT_A_REQUEST),
+    (r#"{"query":"{ hero { name } }""#, NOT_A_REQUEST),
+    (
+        r#"{"query":"{ hero { name } }","operationName":5}"#,
+        NOT_A_REQUEST,
+    ),
+    (
+        r#"{"query":"{ hero { name } }","variables":[]}"#,
+        NOT_A_REQUEST,
+    ),
+    (
+        r#"{"query":"{","variables":{"x":1.0},"operationName":5}"#,
+        NOT_A_REQUEST,
+    ),
+    (
+        r#"{"query":"{ hero { name } }","variables":{"x":1.0}}"#,
+        BAD_NUMBER,
+    ),
+    (
+        r#"{"query":"{","variables":{"x":[2147483648]}}"#,
+        BAD_NUMBER,
+    ),
+];
+
+/// What stands behind `"query":` in a line, and the text and the place of its first fault.
+const FAULTS: [(&str, &str, u8, u8); 14] = [
+    (r#""""#, "Unexpected end of input", 1, 1),
+    (r#""{ hero {""#, "Unexpected end of input", 1, 9),
+    (r#""{ }""#, r#"Unexpected \"}\""#, 1, 3),
+    (r#""{ } %""#, r#"Unknown character \"%\""#, 1, 5),
+    (r#""{ hero { name } } x""#, r#"Unexpected \"x\""#, 1, 19),
+    (
+        r#""{ hero { ñame } }""#,
+        r#"Unknown character \"ñ\""#,
+        1,
+        10,
+    ),
+    (r#""{\n  hero\n{ %""#, r#"Unknown character \"%\""#, 3, 3),
+    (
+        r#""{ hero(first: 2147483648) { id } }""#,
+        r#"Unexpected \"2147483648\""#,
+        1,
+        15,
+    ),
+    (
+        r#""{ hero(name: -) }""#,
+        r#"Unexpected character \")\""#,
+        1,
+        15,
+    ),
+    (r#""{ hero(name: \"""#, "Unterminated string literal", 1, 15),
+    (
+        r#""{ hero(name: \"\u0001\") }""#,
+        r#"Unknown character \"\u0001\" in string literal"#,
+        1,
+        15,
+    ),
+    (
+        r#""{ hero(name: \"\\q\") }""#,
+        r#"Unknown escape sequence \"\\q\" in string"#,
+        1,
+        16,
+    ),
+    (
+        r#""{","operationName":"A""#,
+        "Unexpected end of input",
+        1,
+        2,
+    ),
+    (r#""{","variables":{}"#, "Unexpected end of input", 1, 2),
+];
+
+/// Whether this is the answer to a line, its line feed aside.
+fn is_answer(
+    alloc: Global,
+    service: &ThinService,
+    line: &[u8],
+    want: &str,
+) -> Result<bool, AllocError> {
+    let answer = service.answer(alloc, line)?;
+    Ok(answer.as_slice().strip_suffix(b"\n") == Some(want.as_bytes()))
 }
 
-#[test]
-fn tells_the_first_fault_of_a_query(rt: HostRuntime) -> Result<(), Fail> {
-    let service = sample::service(rt.alloc(), LINE_LIMIT)
-        .ok()
-        .ok_or("no sample")?;
-    let rows = [
-        (r#""""#, "Unexpected end of input", 1, 1),
-        (r#""{ hero {""#, "Unexpected end of input", 1, 9),
-        (r#""{ }""#, r#"Unexpected \"}\""#, 1, 3),
-        (r#""{ } %""#, r#"Unknown character \"%\""#, 1, 5),
-        (r#""{ hero { name } } x""#, r#"Unexpected \"x\""#, 1, 19),
-        (
-            r#""{ hero { ñame } }""#,
-            r#"Unknown character \"ñ\""#,
-            1,
-            10,
-        ),
-        (r#""{\n  hero\n{ %""#, r#"Unknown character \"%\""#, 3, 3),
-        (
-            r#""{ hero(first: 2147483648) { id } }""#,
-            r#"Unexpected \"2147483648\""#,
-            1,
-            15,
-        ),
-        (
-            r#""{ hero(name: -) }""#,
-            r#"Unexpected character \")\""#,
-            1,
-            15,
-        ),
-        (r#""{ hero(name: \"""#, "Unterminated string literal", 1, 15),
-        (
-            r#""{ hero(name: \"\u0001\") }""#,
-            r#"Unknown character \"\u0001\" in string literal"#,
-            1,
-            15,
-        ),
-        (
-            r#""{ hero(name: \"\\q\") }""#,
-            r#"Unknown escape sequence \"\\q\" in string"#,
-            1,
-            16,
-        ),
-        (
-            r#""{","operationName":"A""#,
-            "Unexpected end of input",
-            1,
-            2,
-        ),
-        (r#""{","variables":{}"#, "Unexpected end of input", 1, 2),
-    ];
-    for (query, message, line, column) in rows {
-        let request = format!(in rt.alloc(); "{{\"query\":{query}}}")?;
-        let got = answer(rt.alloc(), &service, request.as_str())?;
-        let want = format!(in rt.alloc();
-            "{{\"errors\":[{{\"message\":\"{message}\",\"locations\":[{{\"line\":{line},\"column\":{column}}}]}}]}}"
-        )?;
-        assert_eq!(rt; got.as_str(), want.as_str(), "at {query}");
-    }
-    Ok(())
-}
-
-#[test]
-fn refuses_what_is_no_request(rt: HostRuntime) -> Result<(), Fail> {
-    let service = sample::service(rt.alloc(), LINE_LIMIT)
-        .ok()
-        .ok_or("no sample")?;
-    let rows = [
-        ("", NOT_A_REQUEST),
-        ("\r", NOT_A_REQUEST),
-        ("[]", NOT_A_REQUEST),
-        ("{}", NOT_A_REQUEST),
-        (r#"{"query":"{ hero { name } }""#, NOT_A_REQUEST),
-        (
-            r#"{"query":"{ hero { name } }","operationName":5}"#,
-            NOT_A_REQUEST,
-        ),
-        (
-            r#"{"query":"{ hero { name } }","variables":[]}"#,
-            NOT_A_REQUEST,
-        ),
-        (
-            r#"{"query":"{ hero { name } }","operationName":"A"}"#,
-            NOT_THIN,
-        ),
-        (r#"{"query":"{ hero { name } }","variables":{}}"#, NOT_THIN),
-        (
-            r#"{"query":"{ hero { name } }","variables":{"x":1.0}}"#,
-            BAD_NUMBER,
-        ),
-        (
-            r#"{"query":"{","variables":{"x":[2147483648]}}"#,
-            BAD_NUMBER,
-        ),
-        (
-            r#"{"query":"{","variables":{"x":1.0},"operationName":5}"#,
-            NOT_A_REQUEST,
-        ),
-        (
-            r#"{"query":"{ hero { name } }","variables":{"x":1}}"#,
-            NOT_THIN,
-        ),
-        (
-            r#"{"query":"{ hero { name } }","operationName":null,"variables":null,"x":1.5}"#,
-            ANN,
-        ),
-    ];
-    for (line, want) in rows {
-        let got = answer(rt.alloc(), &service, line)?;
-        assert_eq!(rt; got.as_str(), want, "at {line}");
-    }
-    Ok(())
+/// Whether a query is refused for this fault, at this place.
+fn is_fault(
+    alloc: Global,
+    service: &ThinService,
+    (query, message, line, column): (&str, &str, u8, u8),
+) -> Result<bool, AllocError> {
+    let request = format!(in alloc; "{{\"query\":{query}}}")?;
+    let want = format!(in alloc;
+        "{{\"errors\":[{{\"message\":\"{message}\",\"locations\":[{{\"line\":{line},\"column\":{column}}}]}}]}}"
+    )?;
+    is_answer(alloc, service, request.as_bytes(), want.as_str())
 }
 
 /// A line with a further key, whose value is so many nested lists.
 fn nested(alloc: Global, depth: usize) -> Result<String, AllocError> {
-    let mut line = String::from_str(alloc, r#"{"query":"{ hero { name } }","x":"#)?;
-    for _ in 0..depth {
-        line.push_str("[")?;
+    let opened = "[".repeat(alloc, depth)?;
+    let closed = "]".repeat(alloc, depth)?;
+    format!(in alloc; "{{\"query\":\"{{ hero {{ name }} }}\",\"x\":{opened}{closed}}}")
+}
+
+/// Asks the service each line of the tables, one that is no text, and two that nest lists.
+fn ask_worked_requests(
+    rt: &impl Abort,
+    alloc: Global,
+    service: &ThinService,
+) -> Result<(), AllocError> {
+    for (line, want) in ANSWERS {
+        let is_right = is_answer(alloc, service, line.as_bytes(), want)?;
+        assert!(rt; is_right, "at {line}");
     }
-    for _ in 0..depth {
-        line.push_str("]")?;
+    for row in FAULTS {
+        let is_right = is_fault(alloc, service, row)?;
+        assert!(rt; is_right, "at {}", row.0);
     }
-    line.push_str("}")?;
-    Ok(line)
+    for (depth, want) in [(126, ANN), (200, NOT_A_REQUEST)] {
+        let line = nested(alloc, depth)?;
+        let is_right = is_answer(alloc, service, line.as_bytes(), want)?;
+        assert!(rt; is_right, "{depth} deep");
+    }
+    let is_right = is_answer(alloc, service, &[255], NOT_A_REQUEST)?;
+    assert!(rt; is_right, "no text");
+    Ok(())
 }
 
 #[test]
-fn refuses_bytes_that_are_no_text(rt: HostRuntime) -> Result<(), Fail> {
-    let service = sample::service(rt.alloc(), LINE_LIMIT)
-        .ok()
-        .ok_or("no sample")?;
-    let bytes = service.answer(rt.alloc(), &[255])?;
-    let refusal = service.answer(rt.alloc(), b"")?;
-    assert_eq!(rt; bytes.as_slice(), refusal.as_slice());
-    let shallow = nested(rt.alloc(), 126)?;
-    assert_eq!(rt;
-        answer(rt.alloc(), &service, shallow.as_str())?.as_str(),
-        ANN
-    );
-    let deep = nested(rt.alloc(), 200)?;
-    assert_eq!(rt;
-        answer(rt.alloc(), &service, deep.as_str())?.as_str(),
-        NOT_A_REQUEST
-    );
+fn answers_worked_requests(rt: HostRuntime) -> Result<(), Fail> {
+    let service = sample::service(rt.alloc(), LINE_LIMIT)?;
+    ask_worked_requests(&rt, rt.alloc(), &service)?;
     Ok(())
+}
+
+/// Whether this is the answer to a line of 29 bytes, under a limit of bytes.
+fn is_answer_within(alloc: Global, limit: usize, want: &str) -> Result<bool, Failure> {
+    let service = sample::service(alloc, limit)?;
+    let is_right = is_answer(alloc, &service, br#"{"query":"{ hero { name } }"}"#, want)?;
+    Ok(is_right)
 }
 
 #[test]
 fn counts_the_bytes_of_a_line(rt: HostRuntime) -> Result<(), Fail> {
-    let line = r#"{"query":"{ hero { name } }"}"#;
-    let enough = sample::service(rt.alloc(), 29).ok().ok_or("no sample")?;
-    assert_eq!(rt; answer(rt.alloc(), &enough, line)?.as_str(), ANN);
-    let short = sample::service(rt.alloc(), 28).ok().ok_or("no sample")?;
-    let want = r#"{"errors":[{"message":"Line is longer than 28 bytes"}]}"#;
-    assert_eq!(rt; answer(rt.alloc(), &short, line)?.as_str(), want);
-    Ok(())
-}
-
-/// A service over one record, whose name is the text.
-fn named(alloc: Global, name: &str) -> Result<ThinService, Fail> {
-    let field = (String::from_str(alloc, "name")?, ThinKind::Text);
-    let fields = vec![in alloc; field]?;
-    let types = vec![in alloc;
-        ThinType {
-            name: String::from_str(alloc, "T")?,
-            fields
-        },
-    ]?;
-    let field = (
-        String::from_str(alloc, "name")?,
-        String::from_str(alloc, name)?,
-    );
-    let fields = vec![in alloc; field]?;
-    let id = String::from_str(alloc, "r")?;
-    let type_name = String::from_str(alloc, "T")?;
-    let record = ThinRecord {
-        id,
-        type_name,
-        fields,
-    };
-    let records = vec![in alloc; record]?;
-    let root_id = String::from_str(alloc, "r")?;
-    Ok(
-        ThinService::new(alloc, types, records, root_id, 100)
-            .ok()
-            .ok_or("a fault")?,
-    )
-}
-
-#[test]
-fn escapes_texts(rt: HostRuntime) -> Result<(), Fail> {
-    let rows = [
-        ("\"", r#"\""#),
-        ("\\", r"\\"),
-        ("\u{8}\u{c}\n\r\t", r"\b\f\n\r\t"),
-        ("\u{1}\u{1f}", r"\u0001\u001f"),
-        ("/\u{7f}", "/\u{7f}"),
-        ("é", "é"),
-        ("😀", "😀"),
-    ];
-    for (name, want) in rows {
-        let service = named(rt.alloc(), name)?;
-        let got = answer(rt.alloc(), &service, r#"{"query":"{name}"}"#)?;
-        let whole = format!(in rt.alloc(); "{{\"data\":{{\"name\":\"{want}\"}}}}")?;
-        assert_eq!(rt; got.as_str(), whole.as_str(), "at {want}");
+    let long = r#"{"errors":[{"message":"Line is longer than 28 bytes"}]}"#;
+    for (limit, want) in [(29, ANN), (28, long)] {
+        let is_right = is_answer_within(rt.alloc(), limit, want)?;
+        assert!(rt; is_right, "limit {limit}");
     }
     Ok(())
 }
@@ -307,50 +246,55 @@ impl Write for Full {
     }
 }
 
+/// An empty line, one that is no request, and one that no line feed ends.
 const INPUT: &[u8] = b"\n{\"query\":5}\n{\"query\":\"{ hero { name } }\"}";
 
-#[test]
-fn answers_lines_however_they_come(rt: HostRuntime) -> Result<(), Fail> {
-    let service = sample::service(rt.alloc(), LINE_LIMIT)
-        .ok()
-        .ok_or("no sample")?;
-    for step in [1, 7, 4096] {
-        let mut source = Source {
-            left: INPUT,
-            step,
-            fails: false,
-        };
-        let mut out = Vec::new(rt.alloc());
-        let ended = serve(rt.alloc(), &service, LINE_LIMIT, &mut source, &mut out);
-        assert!(rt; ended.is_ok(), "step {step}");
-        let want = format!(in rt.alloc(); "{NOT_A_REQUEST}\n{ANN}\n")?;
-        assert_eq!(rt; out.as_slice(), want.as_bytes(), "step {step}");
-    }
-    Ok(())
+const FIRST_ANSWER: &[u8] = b"{\"errors\":[{\"message\":\"Line is not a request\"}]}\n";
+
+const BOTH_ANSWERS: &[u8] =
+    b"{\"errors\":[{\"message\":\"Line is not a request\"}]}\n{\"data\":{\"hero\":{\"name\":\"Ann\"}}}\n";
+
+/// Why it ends to answer that input over the sample, of which so many bytes are given at a time.
+fn ended<W: Write>(
+    alloc: Global,
+    step: usize,
+    fails: bool,
+    writer: &mut W,
+) -> Result<Option<Failure>, Failure> {
+    let service = sample::service(alloc, LINE_LIMIT)?;
+    let mut source = Source {
+        left: INPUT,
+        step,
+        fails,
+    };
+    Ok(serve(alloc, &service, LINE_LIMIT, &mut source, writer).err())
+}
+
+/// Whether it ends so to answer that input, with this text written.
+fn is_served(
+    alloc: Global,
+    (step, fails, failure, want): (usize, bool, Option<Failure>, &[u8]),
+) -> Result<bool, Failure> {
+    let mut out = Vec::new(alloc);
+    let why = ended(alloc, step, fails, &mut out)?;
+    Ok(why == failure && out.as_slice() == want)
 }
 
 #[test]
-fn ends_where_reads_or_writes_fail(rt: HostRuntime) -> Result<(), Fail> {
-    let service = sample::service(rt.alloc(), LINE_LIMIT)
-        .ok()
-        .ok_or("no sample")?;
-    let mut source = Source {
-        left: INPUT,
-        step: 9,
-        fails: true,
-    };
-    let mut out = Vec::new(rt.alloc());
-    let ended = serve(rt.alloc(), &service, LINE_LIMIT, &mut source, &mut out);
-    assert!(rt; matches!(ended, Err(Failure::Read)));
-    let want = format!(in rt.alloc(); "{NOT_A_REQUEST}\n")?;
-    assert_eq!(rt; out.as_slice(), want.as_bytes());
-    let mut source = Source {
-        left: INPUT,
-        step: 9,
-        fails: false,
-    };
-    let ended = serve(rt.alloc(), &service, LINE_LIMIT, &mut source, &mut Full);
-    assert!(rt; matches!(ended, Err(Failure::Write)));
+fn answers_lines_however_they_come(rt: HostRuntime) -> Result<(), Fail> {
+    let alloc = rt.alloc();
+    let rows = [
+        (1, false, None, BOTH_ANSWERS),
+        (7, false, None, BOTH_ANSWERS),
+        (4096, false, None, BOTH_ANSWERS),
+        (9, true, Some(Failure::Read), FIRST_ANSWER),
+    ];
+    for row in rows {
+        let is_right = is_served(alloc, row)?;
+        assert!(rt; is_right, "step {}", row.0);
+    }
+    let why = ended(alloc, 9, false, &mut Full)?;
+    assert_eq!(rt; why, Some(Failure::Write));
     Ok(())
 }
 

@@ -1,23 +1,11 @@
 -- A lexer's answers, one by one, are those of the whole text.
 use Rattle.std.proofs.Common.{◌≡◌, ◌⊎◌, inl, inr, Bool, true, false, List, [], ◌∷◌, ◌++◌, map, ap, ◌∙◌, refl, Ok, Err}
-use Rattle.graphql_text.specs.declared.token.LexerError.{LexerError}
-use Rattle.graphql_text.specs.declared.token.LexerError.TheVariants.{UnknownCharacter, UnexpectedCharacter, UnterminatedString, UnknownCharacterInString, UnknownEscapeSequence, UnexpectedEndOfFile, InvalidNumber, Memory}
-use Rattle.graphql_text.specs.Reading.{Place, Refusal, UnlessMemory, start_of}
+use Rattle.graphql_text.specs.Reading.{Place, Refusal, start_of}
 use Rattle.graphql_text.specs.Tokens.{Located, cut, is_end, Runs, Tokens, FirstFault}
 use Rattle.graphql_text.specs.Grammar.{IsDivided, IsBroken}
 use Rattle.graphql_text.specs.OneByOne.{Remains, Answer}
-use Rattle.graphql_text.specs.Laws.{Answers, HadMemory, SameOneByOne}
+use Rattle.graphql_text.specs.Laws.{GivesInTurn, HadMemory, SameOneByOne}
 use Rattle.graphql_text.proofs.SoundTexts.{tokens_divide, fault_breaks}
-
-unless_memory : (e : LexerError) (P : Type 0) → (e ≡ Memory → ⊥) → UnlessMemory e P → P
-unless_memory (UnknownCharacter c) P n h = h
-unless_memory (UnexpectedCharacter c) P n h = h
-unless_memory UnterminatedString P n h = h
-unless_memory (UnknownCharacterInString c) P n h = h
-unless_memory (UnknownEscapeSequence t) P n h = h
-unless_memory UnexpectedEndOfFile P n h = h
-unless_memory InvalidNumber P n h = h
-unless_memory Memory P n h = absurd (n refl)
 
 -- all tokens from a place on
 record GivesAll (p : Place) (answers : List Answer) : Type 0 where
@@ -40,12 +28,12 @@ record GivesFault (p : Place) (answers : List Answer) : Type 0 where
   pub refuses : cut before ≡ Err fault
 
 -- nothing comes behind the last answer
-last_is_last : (s t : Remains) (others : List Answer) → s.is_done ≡ true → Answers s others t → others ≡ []
+last_is_last : (s t : Remains) (others : List Answer) → s.is_done ≡ true → GivesInTurn s others t → others ≡ []
 last_is_last s t [] h a = refl
 last_is_last s t ((Ok x) ∷ others) h (m, g, a) = let z = g.0 in absurd (cc)
 last_is_last s t ((Err e) ∷ others) h (m, g, a) = let z = g.0 in absurd (cc)
 
-given : (s t : Remains) (answers : List Answer) → s.is_done ≡ false → Answers s answers t → t.is_done ≡ true → HadMemory answers → GivesAll s.place answers ⊎ GivesFault s.place answers
+given : (s t : Remains) (answers : List Answer) → s.is_done ≡ false → GivesInTurn s answers t → t.is_done ≡ true → HadMemory answers → GivesAll s.place answers ⊎ GivesFault s.place answers
 given s t [] h a d m = let e : s.is_done ≡ t.is_done = ap (λ z. z.is_done) a in absurd (cc)
 given s t ((Ok x) ∷ others) h (n, g, a) d m = on (is_end x.item) refl (λ k. given n t others k a d m)
   where
@@ -60,7 +48,7 @@ given s t ((Ok x) ∷ others) h (n, g, a) d m = on (is_end x.item) refl (λ k. g
     on true k again = inl (first (last_is_last n t others (g.2 ∙ k) a) k)
     on false k again = more k (again (g.2 ∙ k))
 given s t ((Err e) ∷ others) h (n, g, a) d m =
-    inr (record { front = []; fault = e; are = ap (λ z. (Err e) ∷ z) (last_is_last n t others g.2 a); before = s.place; runs = refl; refuses = unless_memory e.item (cut s.place ≡ Err e) m.0 g.1 })
+    inr (record { front = []; fault = e; are = ap (λ z. (Err e) ∷ z) (last_is_last n t others g.2 a); before = s.place; runs = refl; refuses = g.1 m.0 })
 
 pub same_one_by_one : SameOneByOne
 same_one_by_one text answers t a d m = on (given (record { place = start_of text; is_done = false }) t answers refl a d m)

@@ -42,24 +42,25 @@ pub record Done {A : Type 0} (p : Place) (f : A → Place) (G : List ℕ → A �
   pub goes : Goes p front (f x)
   pub good : G front x
 
-abbrev pub Reads : {A : Type 0} → Place → (A → Place) → (List ℕ → A → Type 0) → (LexerError → List ℕ → List ℕ → Type 0) → Result A Refusal → Type 0
-Reads p f G F (Ok x) = Done p f G x
-Reads p f G F (Err e) = Fails p F e
+-- a reading from p is done with G of what it passed, or fails with F
+abbrev pub DoneOrFails : {A : Type 0} → Place → (A → Place) → (List ℕ → A → Type 0) → (LexerError → List ℕ → List ℕ → Type 0) → Result A Refusal → Type 0
+DoneOrFails p f G F (Ok x) = Done p f G x
+DoneOrFails p f G F (Err e) = Fails p F e
 
-pub reads_if : {A : Type 0} (p : Place) (f : A → Place) (G : List ℕ → A → Type 0) (F : LexerError → List ℕ → List ℕ → Type 0) (b : Bool) (r s : Result A Refusal) → (b ≡ true → Reads p f G F r) → (b ≡ false → Reads p f G F s) → Reads p f G F (cond b r s)
+pub reads_if : {A : Type 0} (p : Place) (f : A → Place) (G : List ℕ → A → Type 0) (F : LexerError → List ℕ → List ℕ → Type 0) (b : Bool) (r s : Result A Refusal) → (b ≡ true → DoneOrFails p f G F r) → (b ≡ false → DoneOrFails p f G F s) → DoneOrFails p f G F (cond b r s)
 reads_if p f G F true r s x y = x refl
 reads_if p f G F false r s x y = y refl
 
-pub reads_map : {A : Type 0} (p : Place) (f : A → Place) (G H : List ℕ → A → Type 0) (E F : LexerError → List ℕ → List ℕ → Type 0) (r : Result A Refusal) → Reads p f G E r → ((a : List ℕ) (x : A) → p.rest ≡ a ++ (f x).rest → G a x → H a x) → ((e : LexerError) (a rest : List ℕ) → p.rest ≡ a ++ rest → E e a rest → F e a rest) → Reads p f H F r
+pub reads_map : {A : Type 0} (p : Place) (f : A → Place) (G H : List ℕ → A → Type 0) (E F : LexerError → List ℕ → List ℕ → Type 0) (r : Result A Refusal) → DoneOrFails p f G E r → ((a : List ℕ) (x : A) → p.rest ≡ a ++ (f x).rest → G a x → H a x) → ((e : LexerError) (a rest : List ℕ) → p.rest ≡ a ++ rest → E e a rest → F e a rest) → DoneOrFails p f H F r
 reads_map p f G H E F (Ok x) d g h = record { front = d.front; goes = d.goes; good = g d.front x d.goes.is d.good }
 reads_map p f G H E F (Err e) d g h = record { front = d.front; stop = d.stop; goes = d.goes; start = d.start; end = d.end; fault = h e.item d.front d.stop.rest d.goes.is d.fault }
 
 -- a reading behind characters that were passed already
-pub reads_on : {A : Type 0} (p q : Place) (a : List ℕ) (f : A → Place) (G : List ℕ → A → Type 0) (F : LexerError → List ℕ → List ℕ → Type 0) (r : Result A Refusal) → Goes p a q → Reads q f (λ b x. G (a ++ b) x) (λ e b rest. F e (a ++ b) rest) r → Reads p f G F r
+pub reads_on : {A : Type 0} (p q : Place) (a : List ℕ) (f : A → Place) (G : List ℕ → A → Type 0) (F : LexerError → List ℕ → List ℕ → Type 0) (r : Result A Refusal) → Goes p a q → DoneOrFails q f (λ b x. G (a ++ b) x) (λ e b rest. F e (a ++ b) rest) r → DoneOrFails p f G F r
 reads_on p q a f G F (Ok x) g d = record { front = a ++ d.front; goes = goes_then p q (f x) a d.front g d.goes; good = d.good }
 reads_on p q a f G F (Err e) g d = record { front = a ++ d.front; stop = d.stop; goes = goes_then p q d.stop a d.front g d.goes; start = d.start; end = d.end; fault = d.fault }
 
-pub reads_then : {A B : Type 0} (p : Place) (f : A → Place) (g : B → Place) (G : List ℕ → A → Type 0) (H : List ℕ → B → Type 0) (F : LexerError → List ℕ → List ℕ → Type 0) (r : Result A Refusal) (k : A → Result B Refusal) → Reads p f G F r → ((a : List ℕ) (x : A) → Goes p a (f x) → G a x → Reads (f x) g (λ b y. H (a ++ b) y) (λ e b rest. F e (a ++ b) rest) (k x)) → Reads p g H F (r >>= k)
+pub reads_then : {A B : Type 0} (p : Place) (f : A → Place) (g : B → Place) (G : List ℕ → A → Type 0) (H : List ℕ → B → Type 0) (F : LexerError → List ℕ → List ℕ → Type 0) (r : Result A Refusal) (k : A → Result B Refusal) → DoneOrFails p f G F r → ((a : List ℕ) (x : A) → Goes p a (f x) → G a x → DoneOrFails (f x) g (λ b y. H (a ++ b) y) (λ e b rest. F e (a ++ b) rest) (k x)) → DoneOrFails p g H F (r >>= k)
 reads_then p f g G H F (Ok x) k d m = reads_on p (f x) d.front g H F (k x) d.goes (m d.front x d.goes d.good)
 reads_then p f g G H F (Err e) k d m = d
 

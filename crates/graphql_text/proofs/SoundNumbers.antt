@@ -17,7 +17,7 @@ use Rattle.graphql_text.specs.Reading.{Place, is_in, begins, past, past_one, bet
 use Rattle.graphql_text.specs.Numbers.{digits, no_digit, whole, fraction, exponent, number}
 use Rattle.graphql_text.specs.Grammar.{NextIs, NextIsNot, IsOptional, IsDigits, IsWhole, IsInteger, IsFraction, BeginsExponent, IsExponent, IsFloat, Spells, Ends, HasExponent, LacksDigit, NeedsDigit, IsZero, IsFault}
 use Rattle.graphql_text.proofs.Leading.{same}
-use Rattle.graphql_text.proofs.Readings.{stays, goes_step, goes_one, goes_then, Reads, reads_if, reads_map, reads_on, reads_then, past_reads, past_one_true, begins_false, begins_not, past_one_reads}
+use Rattle.graphql_text.proofs.Readings.{stays, goes_step, goes_one, goes_then, DoneOrFails, reads_if, reads_map, reads_on, reads_then, past_reads, past_one_true, begins_false, begins_not, past_one_reads}
 
 -- ---- digits
 
@@ -27,11 +27,11 @@ DigitsRead cs q = IsDigits cs × NextIsNot is_ascii_digit q.rest
 abbrev pub DigitsFail : LexerError → List ℕ → List ℕ → Type 0
 DigitsFail e cs rest = (cs ≡ []) × LacksDigit e rest
 
-pub digits_reads : (p : Place) → Reads p same DigitsRead DigitsFail (digits p)
+pub digits_reads : (p : Place) → DoneOrFails p same DigitsRead DigitsFail (digits p)
 unfolding digits
 digits_reads p = on p.at p.rest
   where
-    on : (at : SourcePosition) (cs : List ℕ) → Reads (record { at = at; rest = cs }) same DigitsRead DigitsFail (digits (record { at = at; rest = cs }))
+    on : (at : SourcePosition) (cs : List ℕ) → DoneOrFails (record { at = at; rest = cs }) same DigitsRead DigitsFail (digits (record { at = at; rest = cs }))
     on at [] = record { front = []; stop = record { at = at; rest = [] }; goes = stays (record { at = at; rest = [] }); start = refl; end = refl; fault = (refl, refl) }
     on at (c ∷ cs) =
         let p : Place = record { at = at; rest = c ∷ cs } in
@@ -58,11 +58,11 @@ NoDigitFails e cs rest = (cs ≡ []) × IsUnexpected e rest
 abbrev pub NoDigitRead : List ℕ → Place → Type 0
 NoDigitRead cs q = (cs ≡ []) × NextIsNot is_ascii_digit q.rest
 
-no_digit_reads : (p : Place) → Reads p same NoDigitRead NoDigitFails (no_digit p)
+no_digit_reads : (p : Place) → DoneOrFails p same NoDigitRead NoDigitFails (no_digit p)
 unfolding no_digit
 no_digit_reads p = on p.at p.rest
   where
-    on : (at : SourcePosition) (cs : List ℕ) → Reads (record { at = at; rest = cs }) same NoDigitRead NoDigitFails (no_digit (record { at = at; rest = cs }))
+    on : (at : SourcePosition) (cs : List ℕ) → DoneOrFails (record { at = at; rest = cs }) same NoDigitRead NoDigitFails (no_digit (record { at = at; rest = cs }))
     on at [] = record { front = []; goes = stays (record { at = at; rest = [] }); good = (refl, tt) }
     on at (c ∷ cs) =
         let p : Place = record { at = at; rest = c ∷ cs } in
@@ -70,11 +70,11 @@ no_digit_reads p = on p.at p.rest
         (λ e. record { front = []; stop = p; goes = stays p; start = refl; end = refl; fault = (refl, (refl, e)) })
         (λ e. record { front = []; goes = stays p; good = (refl, e) })
 
-pub whole_reads : (p : Place) → Reads p same WholeRead WholeFails (whole p)
+pub whole_reads : (p : Place) → DoneOrFails p same WholeRead WholeFails (whole p)
 unfolding whole
 whole_reads p = on p.at p.rest
   where
-    on : (at : SourcePosition) (cs : List ℕ) → Reads (record { at = at; rest = cs }) same WholeRead WholeFails (whole (record { at = at; rest = cs }))
+    on : (at : SourcePosition) (cs : List ℕ) → DoneOrFails (record { at = at; rest = cs }) same WholeRead WholeFails (whole (record { at = at; rest = cs }))
     on at [] = record { front = []; stop = record { at = at; rest = [] }; goes = stays (record { at = at; rest = [] }); start = refl; end = refl; fault = inl (refl, refl) }
     on at (c ∷ cs) =
         let p : Place = record { at = at; rest = c ∷ cs } in
@@ -102,7 +102,7 @@ FractionRead cs q = ((cs ≡ []) × NextIsNot (is_in class.Point) q.rest) ⊎ (I
 abbrev pub FractionFails : LexerError → List ℕ → List ℕ → Type 0
 FractionFails e cs rest = (cs ≡ 46 ∷ []) × LacksDigit e rest
 
-pub fraction_reads : (p : Place) → Reads p same FractionRead FractionFails (fraction p)
+pub fraction_reads : (p : Place) → DoneOrFails p same FractionRead FractionFails (fraction p)
 unfolding fraction
 fraction_reads p =
     reads_if p same FractionRead FractionFails (begins class.Point p) _ _
@@ -131,7 +131,7 @@ pub record StartsExponent (cs rest : List ℕ) : Type 0 where
 abbrev pub ExponentFails : LexerError → List ℕ → List ℕ → Type 0
 ExponentFails e cs rest = StartsExponent cs rest × LacksDigit e rest
 
-pub exponent_reads : (p : Place) → Reads p same ExponentRead ExponentFails (exponent p)
+pub exponent_reads : (p : Place) → DoneOrFails p same ExponentRead ExponentFails (exponent p)
 unfolding exponent
 exponent_reads p =
     reads_if p same ExponentRead ExponentFails (begins class.Exponent p) _ _
@@ -268,7 +268,7 @@ whole_fault e (c ∷ cs) s a rest b is s_is none (inr (y, l)) = zero_fault e (s 
 mantissa_first : (s a b c d : List ℕ) → c ≡ d → s ++ (a ++ (b ++ c)) ≡ ((s ++ a) ++ b) ++ d
 mantissa_first s a b c d e = ap (λ z. s ++ z) (sym (append_assoc a b c)) ∙ sym (append_assoc s (a ++ b) c) ∙ ap (λ z. z ++ c) (sym (append_assoc s a b)) ∙ ap (λ z. ((s ++ a) ++ b) ++ z) e
 
-pub number_reads : (p : Place) → BeginsNumber p.rest → Reads p (λ r. r.1) NumberRead IsFault (number p)
+pub number_reads : (p : Place) → BeginsNumber p.rest → DoneOrFails p (λ r. r.1) NumberRead IsFault (number p)
 unfolding number
 number_reads p b =
     let m = past_one class.Minus p in

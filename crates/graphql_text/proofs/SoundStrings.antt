@@ -15,7 +15,7 @@ use Rattle.graphql_text.specs.Grammar.{Each, NextIs, NextIsNot, Piece, character
 use Rattle.graphql_text.specs.Grammar as grammar
 use Rattle.graphql_text.proofs.Leading.{same}
 use Rattle.graphql_text.proofs.TextLemmas.{between_front}
-use Rattle.graphql_text.proofs.Readings.{Goes, stays, goes_one, goes_then, Fails, Reads, reads_then, past_one_true}
+use Rattle.graphql_text.proofs.Readings.{Goes, stays, goes_one, goes_then, Fails, DoneOrFails, reads_then, past_one_true}
 
 -- ---- pieces
 
@@ -252,13 +252,13 @@ open_end p plain passed o = inl (passed, o, refl)
 open_end p escape passed o = inr (inl (o.0, o.1, ap (λ z. 34 ∷ z) o.2))
 open_end p (code from n) passed o = let c = o.count in let f = o.few in inr (inr (o.text, o.letters, o.text_is, o.each, omega arith, ap (λ z. 34 ∷ z) o.is))
 
-pub closing_reads : (p : Place) (m : Mode) (at : SourcePosition) (cs passed : List ℕ) → Goes p passed (record { at = at; rest = cs }) → IsOpen p m passed cs → Reads p same StringRead StringFails (string_from m at cs)
+pub closing_reads : (p : Place) (m : Mode) (at : SourcePosition) (cs passed : List ℕ) → Goes p passed (record { at = at; rest = cs }) → IsOpen p m passed cs → DoneOrFails p same StringRead StringFails (string_from m at cs)
 closing_reads p m at [] passed g o = record { front = passed; stop = record { at = at; rest = [] }; goes = g; start = refl; end = refl; fault = inr (refl, open_end p m passed o) }
 closing_reads p m at (c ∷ cs) passed g o =
     on (turn m at c cs) (turn_turned p m at passed c cs g o)
     (λ k n. closing_reads p k (step at c) cs (passed ++ c ∷ []) (goes_then p (record { at = at; rest = c ∷ cs }) (record { at = step at c; rest = cs }) passed (c ∷ []) g (goes_one at c cs)) n)
   where
-    on : (r : Result (Option Mode) Refusal) → Turned p passed c cs r → ((k : Mode) → IsOpen p k (passed ++ c ∷ []) cs → Reads p same StringRead StringFails (string_from k (step at c) cs)) → Reads p same StringRead StringFails (turned r (record { at = at; rest = c ∷ cs }) (λ k. string_from k (step at c) cs))
+    on : (r : Result (Option Mode) Refusal) → Turned p passed c cs r → ((k : Mode) → IsOpen p k (passed ++ c ∷ []) cs → DoneOrFails p same StringRead StringFails (string_from k (step at c) cs)) → DoneOrFails p same StringRead StringFails (turned r (record { at = at; rest = c ∷ cs }) (λ k. string_from k (step at c) cs))
     on (Ok None) t go = record { front = passed; goes = g; good = t }
     on (Ok (Some k)) t go = go k t
     on (Err e) t go = t
@@ -274,7 +274,7 @@ begins_quote q = on q.at q.rest
     on at [] h = absurd h
     on at (c ∷ cs) h = eq-eqb c 34 (sym h)
 
-pub string_reads : (p : Place) → Reads p (λ r. r.1) QuotedRead StringFails (string p)
+pub string_reads : (p : Place) → DoneOrFails p (λ r. r.1) QuotedRead StringFails (string p)
 unfolding string
 string_reads p =
     reads_then p same (λ r. r.1) StringRead QuotedRead StringFails (string_from plain p.at p.rest) _

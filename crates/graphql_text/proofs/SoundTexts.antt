@@ -9,7 +9,7 @@ use Rattle.graphql_text.specs.Reading.{Place, Refusal, ◌>>=◌, start_of}
 use Rattle.graphql_text.specs.Tokens.{Located, token, ahead, cut, is_end, Runs, Tokens, FirstFault}
 use Rattle.graphql_text.specs.Grammar.{Ends, IsFault, IsGap, gap_of, Heads, Divides, IsDivided, IsBroken}
 use Rattle.graphql_text.proofs.Leading.{advance, advance-append}
-use Rattle.graphql_text.proofs.Readings.{Goes, Reads}
+use Rattle.graphql_text.proofs.Readings.{Goes, DoneOrFails}
 use Rattle.graphql_text.proofs.SoundTokens.{TokenRead, token_reads, GapRead, ahead_reads, gap_is}
 
 -- ---- positions
@@ -72,7 +72,7 @@ cut_reads : (before : List ℕ) (p : Place) → p.at ≡ advance origin before �
 unfolding cut
 cut_reads before p at = on (token (ahead p)) (token_reads (ahead p)) (ahead_reads p)
   where
-    on : (r : Result (Token × Place) Refusal) → Reads (ahead p) (λ r. r.1) TokenRead IsFault r → GapRead p (ahead p) → CutMeets before p (r >>= (λ r. Ok (record { item = r.0; span = record { start = (ahead p).at; end = r.1.at } }, r.1)))
+    on : (r : Result (Token × Place) Refusal) → DoneOrFails (ahead p) (λ r. r.1) TokenRead IsFault r → GapRead p (ahead p) → CutMeets before p (r >>= (λ r. Ok (record { item = r.0; span = record { start = (ahead p).at; end = r.1.at } }, r.1)))
     on (Ok r) d g =
         let gap = gap_of g.ignored in
         let start = counted before p (ahead p) gap at g.goes in

@@ -14,7 +14,7 @@ use Rattle.graphql_text.specs.Strings.{string}
 use Rattle.graphql_text.specs.Tokens.{punctuator_of, point, ellipsis, name_from, punctuated, token, ahead_from, ahead}
 use Rattle.graphql_text.specs.Grammar.{Each, NextIsNot, Spells, Ends, ArePoints, IsFault, Ignored, blank, comment, gap_of, AreIgnored, IsGap}
 use Rattle.graphql_text.proofs.TextLemmas.{between_front}
-use Rattle.graphql_text.proofs.Readings.{Goes, stays, goes_step, goes_one, Fails, Reads, reads_if, reads_on, past_reads}
+use Rattle.graphql_text.proofs.Readings.{Goes, stays, goes_step, goes_one, Fails, DoneOrFails, reads_if, reads_on, past_reads}
 use Rattle.graphql_text.proofs.SoundNumbers.{number_reads}
 use Rattle.graphql_text.proofs.SoundStrings.{string_reads}
 
@@ -43,10 +43,10 @@ punctuator_mark c =
     (mark_if c 91 BracketOpen _ refl (λ _. tt) (mark_if c 93 BracketClose _ refl (λ _. tt) (mark_if c 123 CurlyOpen _ refl (λ _. tt) (mark_if c 125 CurlyClose _ refl (λ _. tt)
     (mark_if c 58 Colon _ refl (λ _. tt) (mark_if c 61 Equals _ refl (λ _. tt) (mark_if c 64 At _ refl (λ _. tt) (mark_if c 124 Pipe None refl (λ _. tt) tt)))))))))))
 
-punctuated_reads : (at : SourcePosition) (c : ℕ) (cs : List ℕ) → is_in class.NameStart c ≡ false → (is_ascii_digit c || c == 45) ≡ false → (c == 46) ≡ false → (c == 34) ≡ false → Reads (record { at = at; rest = c ∷ cs }) (λ r. r.1) TokenRead IsFault (punctuated (punctuator_of c) c at (record { at = step at c; rest = cs }))
+punctuated_reads : (at : SourcePosition) (c : ℕ) (cs : List ℕ) → is_in class.NameStart c ≡ false → (is_ascii_digit c || c == 45) ≡ false → (c == 46) ≡ false → (c == 34) ≡ false → DoneOrFails (record { at = at; rest = c ∷ cs }) (λ r. r.1) TokenRead IsFault (punctuated (punctuator_of c) c at (record { at = step at c; rest = cs }))
 punctuated_reads at c cs name number point quote = on (punctuator_of c) refl (punctuator_mark c)
   where
-    on : (o : Option Token) → punctuator_of c ≡ o → IsMark c o → Reads (record { at = at; rest = c ∷ cs }) (λ r. r.1) TokenRead IsFault (punctuated o c at (record { at = step at c; rest = cs }))
+    on : (o : Option Token) → punctuator_of c ≡ o → IsMark c o → DoneOrFails (record { at = at; rest = c ∷ cs }) (λ r. r.1) TokenRead IsFault (punctuated o c at (record { at = step at c; rest = cs }))
     on (Some t) e m = record { front = c ∷ []; goes = goes_one at c cs; good = (m.0, m.1 cs) }
     on None e m =
         let parts = or_parts (is_ascii_digit c) (c == 45) number in
@@ -60,33 +60,33 @@ broken_points at points more rest c a e h = record { front = []; stop = record {
 abbrev third_point : SourcePosition → Place → Result (Token × Place) Refusal
 third_point at p = point at p >>= (λ q. Ok (Ellipsis, q))
 
-third_reads : (at : SourcePosition) (cs : List ℕ) → Reads (record { at = at; rest = 46 ∷ 46 ∷ cs }) (λ r. r.1) TokenRead IsFault (third_point at (record { at = step (step at 46) 46; rest = cs }))
+third_reads : (at : SourcePosition) (cs : List ℕ) → DoneOrFails (record { at = at; rest = 46 ∷ 46 ∷ cs }) (λ r. r.1) TokenRead IsFault (third_point at (record { at = step (step at 46) 46; rest = cs }))
 unfolding point
 third_reads at [] = record { front = 46 ∷ 46 ∷ []; stop = record { at = step (step at 46) 46; rest = [] }; goes = record { is = refl; counts = refl }; start = refl; end = refl; fault = (refl, inr (inr refl)) }
 third_reads at (c ∷ cs) = on (c == 46) refl
   where
-    on : (b : Bool) → (c == 46) ≡ b → Reads (record { at = at; rest = 46 ∷ 46 ∷ c ∷ cs }) (λ r. r.1) TokenRead IsFault (cond b (Ok (record { at = step (step (step at 46) 46) c; rest = cs })) (Err (record { item = UnexpectedCharacter 46; span = record { start = at; end = at } })) >>= (λ q. Ok (Ellipsis, q)))
+    on : (b : Bool) → (c == 46) ≡ b → DoneOrFails (record { at = at; rest = 46 ∷ 46 ∷ c ∷ cs }) (λ r. r.1) TokenRead IsFault (cond b (Ok (record { at = step (step (step at 46) 46) c; rest = cs })) (Err (record { item = UnexpectedCharacter 46; span = record { start = at; end = at } })) >>= (λ q. Ok (Ellipsis, q)))
     on true h = record { front = 46 ∷ 46 ∷ c ∷ []; goes = record { is = refl; counts = refl }; good = (ap (λ z. 46 ∷ 46 ∷ z ∷ []) (eqb-true c 46 h), tt) }
     on false h = broken_points at (46 ∷ 46 ∷ []) cs (46 ∷ 46 ∷ c ∷ cs) c (inr refl) refl h
 
-ellipsis_reads : (at : SourcePosition) (cs : List ℕ) → Reads (record { at = at; rest = 46 ∷ cs }) (λ r. r.1) TokenRead IsFault (ellipsis (record { at = at; rest = 46 ∷ cs }))
+ellipsis_reads : (at : SourcePosition) (cs : List ℕ) → DoneOrFails (record { at = at; rest = 46 ∷ cs }) (λ r. r.1) TokenRead IsFault (ellipsis (record { at = at; rest = 46 ∷ cs }))
 unfolding ellipsis point
 ellipsis_reads at [] = record { front = 46 ∷ []; stop = record { at = step at 46; rest = [] }; goes = record { is = refl; counts = refl }; start = refl; end = refl; fault = (refl, inr (inl refl)) }
 ellipsis_reads at (c ∷ cs) = on (c == 46) refl
   where
-    on : (b : Bool) → (c == 46) ≡ b → Reads (record { at = at; rest = 46 ∷ c ∷ cs }) (λ r. r.1) TokenRead IsFault (cond b (Ok (record { at = step (step at 46) c; rest = cs })) (Err (record { item = UnexpectedCharacter 46; span = record { start = at; end = at } })) >>= (λ q. third_point at q))
+    on : (b : Bool) → (c == 46) ≡ b → DoneOrFails (record { at = at; rest = 46 ∷ c ∷ cs }) (λ r. r.1) TokenRead IsFault (cond b (Ok (record { at = step (step at 46) c; rest = cs })) (Err (record { item = UnexpectedCharacter 46; span = record { start = at; end = at } })) >>= (λ q. third_point at q))
     on true h =
-        let P : ℕ → Type 0 = λ z. Reads (record { at = at; rest = 46 ∷ z ∷ cs }) (λ r. r.1) TokenRead IsFault (third_point at (record { at = step (step at 46) z; rest = cs })) in
+        let P : ℕ → Type 0 = λ z. DoneOrFails (record { at = at; rest = 46 ∷ z ∷ cs }) (λ r. r.1) TokenRead IsFault (third_point at (record { at = step (step at 46) z; rest = cs })) in
         subst P (sym (eqb-true c 46 h)) (third_reads at cs)
     on false h = broken_points at (46 ∷ []) cs (46 ∷ c ∷ cs) c (inl refl) refl h
 
 -- ---- tokens
 
-pub token_reads : (p : Place) → Reads p (λ r. r.1) TokenRead IsFault (token p)
+pub token_reads : (p : Place) → DoneOrFails p (λ r. r.1) TokenRead IsFault (token p)
 unfolding token name_from
 token_reads p = on p.at p.rest
   where
-    on : (at : SourcePosition) (cs : List ℕ) → Reads (record { at = at; rest = cs }) (λ r. r.1) TokenRead IsFault (token (record { at = at; rest = cs }))
+    on : (at : SourcePosition) (cs : List ℕ) → DoneOrFails (record { at = at; rest = cs }) (λ r. r.1) TokenRead IsFault (token (record { at = at; rest = cs }))
     on at [] = record { front = []; goes = stays (record { at = at; rest = [] }); good = (refl, refl) }
     on at (c ∷ cs) =
         let p : Place = record { at = at; rest = c ∷ cs } in
@@ -100,12 +100,12 @@ token_reads p = on p.at p.rest
         (λ name. reads_if p (λ r. r.1) TokenRead IsFault (is_ascii_digit c || c == 45) _ _ (λ e. number_reads p e)
         (λ number. reads_if p (λ r. r.1) TokenRead IsFault (c == 46) _ _
         (λ e.
-        let P : ℕ → Type 0 = λ z. Reads (record { at = at; rest = z ∷ cs }) (λ r. r.1) TokenRead IsFault (ellipsis (record { at = at; rest = z ∷ cs })) in
+        let P : ℕ → Type 0 = λ z. DoneOrFails (record { at = at; rest = z ∷ cs }) (λ r. r.1) TokenRead IsFault (ellipsis (record { at = at; rest = z ∷ cs })) in
         subst P (sym (eqb-true c 46 e)) (ellipsis_reads at cs))
         (λ dot. reads_if p (λ r. r.1) TokenRead IsFault (c == 34) _ _
         (λ e.
         let z : 34 ≡ c = sym (eqb-true c 34 e) in
-        let P : ℕ → Type 0 = λ d. Reads q (λ r. r.1) (λ b x. TokenRead (d ∷ b) x) (λ e b rest. IsFault e (d ∷ b) rest) (string q) in
+        let P : ℕ → Type 0 = λ d. DoneOrFails q (λ r. r.1) (λ b x. TokenRead (d ∷ b) x) (λ e b rest. IsFault e (d ∷ b) rest) (string q) in
         reads_on p q (c ∷ []) (λ r. r.1) TokenRead IsFault (string q) (goes_one at c cs) (subst P z (string_reads q)))
         (λ quote. punctuated_reads at c cs name number dot quote))))
 

@@ -10,12 +10,13 @@ use Rattle.graphql_text.specs.declared.token.LexerError.{LexerError}
 use Rattle.graphql_text.specs.declared.token.LexerError.TheVariants.{UnknownCharacter, UnexpectedCharacter, UnterminatedString, UnknownCharacterInString, UnknownEscapeSequence, UnexpectedEndOfFile}
 use Rattle.graphql_text.specs.declared.scan.Class.{Class}
 use Rattle.graphql_text.specs.declared.scan.Class.TheVariants as class
+use Rattle.graphql_text.specs.Characters.{is_blank, continues_name}
 use Rattle.graphql_text.specs.Position.{position_of}
 use Rattle.graphql_text.specs.Reading.{is_in, Refusal}
 use Rattle.graphql_text.specs.Strings.{is_escape}
 use Rattle.graphql_text.specs.Tokens.{Located, punctuator_of, is_end}
 
--- each character passes a test
+-- each character passes a test; one by one, as proofs take a text apart, where the library's AllPass goes by index
 abbrev pub Each : (ℕ → Bool) → List ℕ → Type 0
 Each p [] = Unit {0}
 Each p (c ∷ cs) = (p c ≡ true) × Each p cs
@@ -38,7 +39,7 @@ IsOptional k cs = (cs ≡ []) ⊎ ((c : ℕ) × (is_in k c ≡ true) × (cs ≡ 
 
 abbrev pub IsName : List ℕ → Type 0
 IsName [] = ⊥
-IsName (c ∷ cs) = (is_in class.NameStart c ≡ true) × Each (is_in class.NameContinue) cs
+IsName (c ∷ cs) = (is_in class.NameStart c ≡ true) × Each continues_name cs
 
 -- ---- numbers (2.9.1, 2.9.2)
 
@@ -181,7 +182,7 @@ HasExponent (c ∷ cs) = (is_in class.Exponent c ≡ true) ⊎ HasExponent cs
 -- what may follow a token directly: nothing that would make it longer, no digit behind a leading zero,
 -- and nothing at all behind the end
 abbrev pub Ends : Token → List ℕ → List ℕ → Type 0
-Ends (Name s) cs rest = NextIsNot (is_in class.NameContinue) rest
+Ends (Name s) cs rest = NextIsNot continues_name rest
 Ends (Scalar (Int s)) cs rest = NextIsNot is_ascii_digit rest × NextIsNot (is_in class.Point) rest × NextIsNot (is_in class.Exponent) rest
 Ends (Scalar (Float s)) cs rest = NextIsNot is_ascii_digit rest × (HasExponent cs ⊎ NextIsNot (is_in class.Exponent) rest)
 Ends EndOfFile cs rest = rest ≡ []
@@ -271,7 +272,7 @@ gap_of (comment cs ∷ is) = 35 ∷ (cs ++ gap_of is)
 -- a comment goes on as long as it can, up to a control other than tab, or the end
 abbrev pub AreIgnored : List Ignored → List ℕ → Type 0
 AreIgnored [] rest = Unit {0}
-AreIgnored (blank c ∷ is) rest = (is_in class.Ignored c ≡ true) × AreIgnored is rest
+AreIgnored (blank c ∷ is) rest = (is_blank c ≡ true) × AreIgnored is rest
 AreIgnored (comment cs ∷ is) rest = Each (is_in class.Comment) cs × NextIsNot (is_in class.Comment) (gap_of is ++ rest) × AreIgnored is rest
 
 -- what stands between two tokens, and ends where a token or a fault begins
@@ -279,7 +280,7 @@ pub record IsGap (gap rest : List ℕ) : Type 0 where
   pub ignored : List Ignored
   pub is : gap ≡ gap_of ignored
   pub are : AreIgnored ignored rest
-  pub no_more : NextIsNot (λ c. is_in class.Ignored c || c == 35) rest
+  pub no_more : NextIsNot (λ c. is_blank c || c == 35) rest
 
 -- ---- whole texts
 

@@ -95,10 +95,10 @@ DifferInPlaces = (text other : List ℕ) (ts us : List Located) → IsDivided te
 
 -- ---- one by one
 
--- the answers of a lexer, from one state to another
-abbrev pub Answers : Remains → List Answer → Remains → Type 0
-Answers s [] t = s ≡ t
-Answers s (a ∷ others) t = (m : Remains) × GivesNext s (Some a) m × Answers m others t
+-- a lexer gives these answers one after another, from one state to another
+abbrev pub GivesInTurn : Remains → List Answer → Remains → Type 0
+GivesInTurn s [] t = s ≡ t
+GivesInTurn s (a ∷ others) t = (m : Remains) × GivesNext s (Some a) m × GivesInTurn m others t
 
 -- no answer tells that memory ran out
 abbrev pub HadMemory : List Answer → Type 0
@@ -108,7 +108,7 @@ HadMemory ((Err e) ∷ others) = (e.item ≡ Memory → ⊥) × HadMemory others
 
 -- a lexer that was asked until it had done gave all tokens, or some tokens and the first fault
 abbrev pub SameOneByOne : Type 0
-SameOneByOne = (text : List ℕ) (answers : List Answer) (t : Remains) → Answers (record { place = start_of text; is_done = false }) answers t → t.is_done ≡ true → HadMemory answers →
+SameOneByOne = (text : List ℕ) (answers : List Answer) (t : Remains) → GivesInTurn (record { place = start_of text; is_done = false }) answers t → t.is_done ≡ true → HadMemory answers →
     ((ts : List Located) × (answers ≡ map Ok ts) × IsDivided text ts)
     ⊎ ((front : List Located) × (e : Refusal) × (answers ≡ map Ok front ++ (Err e) ∷ []) × IsBroken text e)
 

@@ -1,6 +1,8 @@
+pub mod Characters
 pub mod Position
 pub mod Refusals
 pub mod Spelling
+pub mod FaultTexts
 pub mod Reading
 pub mod Numbers
 pub mod Strings

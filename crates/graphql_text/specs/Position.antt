@@ -1,4 +1,4 @@
--- Places in a text, as a list of characters (GraphQL October 2021, 2.1 Source Text).
+-- Places in a text, as a list of characters (GraphQL October 2021, 2.1.3 Line Terminators; of these a line feed alone is counted).
 use Rattle.std.specs.Prelude.{ℕ, ◌+◌, List, [], ◌∷◌, length, take, count_by, if◌then◌else◌, ◌==◌}
 use Rattle.graphql_text.specs.declared.position.SourcePosition.{SourcePosition}
 

@@ -1,6 +1,6 @@
 -- Reading a text of characters, from one place to the next.
-use Rattle.std.specs.Prelude.{◌≡◌, ℕ, nat_le, false, ◌-◌, ◌||◌, Bool, List, [], ◌∷◌, ◌++◌, length, take, if◌then◌else◌, ◌==◌, Result, Ok, Err, ⊤}
-use Rattle.std.specs.Char.{is_ascii_digit, is_ascii_alphabetic, is_ascii_alphanumeric}
+use Rattle.std.specs.Prelude.{◌≡◌, ℕ, nat_le, false, ◌-◌, ◌||◌, Bool, List, [], ◌∷◌, ◌++◌, length, take, if◌then◌else◌, ◌==◌, Result, Err}
+use Rattle.std.specs.Char.{is_ascii_digit, is_ascii_alphabetic}
 use Rattle.std.specs.Str.{chars}
 use Rattle.graphql_text.specs.declared.position.SourcePosition.{SourcePosition}
 use Rattle.graphql_text.specs.declared.position.Span.{Span}
@@ -10,6 +10,7 @@ use Rattle.graphql_text.specs.declared.token.LexerError.TheVariants.{Memory}
 use Rattle.graphql_text.specs.declared.cursor.Cursor.{Cursor}
 use Rattle.graphql_text.specs.declared.scan.Class.{Class}
 use Rattle.graphql_text.specs.declared.scan.Class.TheVariants as class
+use Rattle.graphql_text.specs.Characters.{is_blank, continues_name}
 use Rattle.graphql_text.specs.Position.{step, origin}
 pub use Rattle.graphql_items.specs.Memory.{◌>>=◌}
 
@@ -25,17 +26,17 @@ place_of c = record { at = c.at; rest = chars c.rest.now }
 abbrev pub start_of : List ℕ → Place
 start_of cs = record { at = origin; rest = cs }
 
--- the characters of each kind (2.1.1 White Space to 2.1.9 Names)
+-- the characters of each kind (2.1.1 Unicode to 2.1.9 Names, 2.9.1 Int Value, 2.9.2 Float Value)
 abbrev pub is_in : Class → ℕ → Bool
 is_in class.NameStart c = c == 95 || is_ascii_alphabetic c
-is_in class.NameContinue c = c == 95 || is_ascii_alphanumeric c
+is_in class.NameContinue c = continues_name c
 is_in class.Digit c = is_ascii_digit c
 is_in class.Minus c = c == 45
 is_in class.Quote c = c == 34
 is_in class.Point c = c == 46
 is_in class.Exponent c = c == 101 || c == 69
 is_in class.Sign c = c == 43 || c == 45
-is_in class.Ignored c = c == 32 || c == 9 || c == 10 || c == 13 || c == 44 || c == 0xFEFF
+is_in class.Ignored c = is_blank c
 is_in class.Comment c = nat_le 32 c || c == 9
 
 -- whether a character of a kind comes next
@@ -77,12 +78,6 @@ Refusal = Spanning LexerError Span
 abbrev pub refused : {A : Type 0} → LexerError → SourcePosition → Result A Refusal
 refused e at = Err (record { item = e; span = record { start = at; end = at } })
 
--- a fact that want of memory does not tell
-abbrev pub UnlessMemory : LexerError → Type 0 → Type 0
-UnlessMemory Memory P = ⊤
-UnlessMemory _ P = P
-
--- what the code answers, under view, is what the rules give, want of memory aside
-abbrev pub Gives : {X A : Type 0} → (X → A) → Result X Refusal → Result A Refusal → Type 0
-Gives view (Ok x) wanted = wanted ≡ Ok (view x)
-Gives view (Err e) wanted = UnlessMemory e.item (wanted ≡ Err e)
+-- want of memory, which tells nothing of the text
+abbrev pub IsMemory : Refusal → Type 0
+IsMemory e = e.item ≡ Memory

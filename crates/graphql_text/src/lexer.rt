@@ -3,7 +3,8 @@
 ghost use Rattle.std.specs.Prelude.{◌≡◌, IfOk, IfErr, false};
 ghost use Rattle.std.specs.Iterator.{at_most};
 ghost use Rattle.std.specs.Str.{chars};
-ghost use Rattle.graphql_text.specs.Reading.{UnlessMemory, place_of, start_of};
+ghost use Rattle.graphql_items.specs.Memory.{UnlessMemory};
+ghost use Rattle.graphql_text.specs.Reading.{place_of, start_of, IsMemory};
 ghost use Rattle.graphql_text.specs.Grammar.{IsDivided, IsBroken};
 ghost use Rattle.graphql_text.specs.OneByOne.{GivesNext, items_left};
 
@@ -29,7 +30,7 @@ pub fn lex_all<'a>(
     // The tokens divide the text as the grammar says, each with the positions of its ends.
     ensures tokens { IfOk result (λ v. IsDivided (chars source.now) v.items) }
     // The fault is the one at which the grammar's division of the text ends, at its position.
-    ensures fault { IfErr result (λ e. UnlessMemory e.item (IsBroken (chars source.now) e)) }
+    ensures fault { IfErr result (λ e. UnlessMemory IsMemory e (IsBroken (chars source.now) e)) }
 {
     let mut out = Vec::new(alloc);
     let mut cursor = Cursor::new(source);

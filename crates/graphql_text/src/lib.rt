@@ -4,6 +4,7 @@
 //! what each fault, is said by the lexical grammar in `specs/Grammar.antt`.
 #![tactic(auto)]
 
+mod characters;
 mod cursor;
 pub mod laws;
 mod lexer;
@@ -13,12 +14,11 @@ mod position;
 mod scan;
 mod spanning;
 mod string_token;
-#[cfg(test)]
-mod tests;
 mod text_ref;
 mod token;
 mod tokens;
 
+pub use characters::continues_name;
 pub use cursor::first_character;
 pub use graphql_items::{Items, Text};
 pub use lexer::{Lexer, lex_all};

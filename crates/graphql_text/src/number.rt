@@ -1,7 +1,7 @@
 //! Numbers.
 
-ghost use Rattle.std.specs.Prelude.{◌≡◌};
-ghost use Rattle.graphql_text.specs.Reading.{place_of, Gives};
+ghost use Rattle.graphql_text.specs.Reading.{place_of, IsMemory};
+ghost use Rattle.graphql_items.specs.Memory.{MeetsBy};
 ghost use Rattle.graphql_text.specs.Numbers.{digits, no_digit, whole, fraction, exponent, number};
 
 use crate::cursor::Cursor;
@@ -12,7 +12,7 @@ use crate::token::{LexerError, ScalarToken, Token};
 /// The place behind one digit or more.
 #[tactic(auto, unfolding(crate::specs::Numbers::digits))]
 fn digits<'a>(cursor: Cursor<'a>) -> Result<Cursor<'a>, Spanning<LexerError>>
-    ensures { Gives place_of result (digits (place_of cursor.entry)) }
+    ensures { MeetsBy place_of IsMemory result (digits (place_of cursor.entry)) }
 {
     match cursor.next() {
         None => Err(Spanning::zero_width(cursor.at, LexerError::UnexpectedEndOfFile)),
@@ -29,7 +29,7 @@ fn digits<'a>(cursor: Cursor<'a>) -> Result<Cursor<'a>, Spanning<LexerError>>
 /// This place, if no digit comes next.
 #[tactic(auto, unfolding(crate::specs::Numbers::no_digit))]
 fn no_digit<'a>(cursor: Cursor<'a>) -> Result<Cursor<'a>, Spanning<LexerError>>
-    ensures { Gives place_of result (no_digit (place_of cursor.entry)) }
+    ensures { MeetsBy place_of IsMemory result (no_digit (place_of cursor.entry)) }
 {
     match cursor.next() {
         Some((c, _)) if is_in(Class::Digit, c) => Err(Spanning::zero_width(
@@ -43,7 +43,7 @@ fn no_digit<'a>(cursor: Cursor<'a>) -> Result<Cursor<'a>, Spanning<LexerError>>
 /// The place behind a 0, or behind digits that begin with another one.
 #[tactic(auto, unfolding(crate::specs::Numbers::whole))]
 fn whole<'a>(cursor: Cursor<'a>) -> Result<Cursor<'a>, Spanning<LexerError>>
-    ensures { Gives place_of result (whole (place_of cursor.entry)) }
+    ensures { MeetsBy place_of IsMemory result (whole (place_of cursor.entry)) }
 {
     match cursor.next() {
         None => Err(Spanning::zero_width(cursor.at, LexerError::UnexpectedEndOfFile)),
@@ -60,7 +60,7 @@ fn whole<'a>(cursor: Cursor<'a>) -> Result<Cursor<'a>, Spanning<LexerError>>
 /// The place behind a point and its digits, if a point comes next.
 #[tactic(auto, unfolding(crate::specs::Numbers::fraction))]
 fn fraction<'a>(cursor: Cursor<'a>) -> Result<Cursor<'a>, Spanning<LexerError>>
-    ensures { Gives place_of result (fraction (place_of cursor.entry)) }
+    ensures { MeetsBy place_of IsMemory result (fraction (place_of cursor.entry)) }
 {
     if begins(Class::Point, cursor) {
         digits(past_one(Class::Point, cursor))
@@ -72,7 +72,7 @@ fn fraction<'a>(cursor: Cursor<'a>) -> Result<Cursor<'a>, Spanning<LexerError>>
 /// The place behind an exponent, if one begins here.
 #[tactic(auto, unfolding(crate::specs::Numbers::exponent))]
 fn exponent<'a>(cursor: Cursor<'a>) -> Result<Cursor<'a>, Spanning<LexerError>>
-    ensures { Gives place_of result (exponent (place_of cursor.entry)) }
+    ensures { MeetsBy place_of IsMemory result (exponent (place_of cursor.entry)) }
 {
     if begins(Class::Exponent, cursor) {
         digits(past_one(Class::Sign, past_one(Class::Exponent, cursor)))
@@ -86,7 +86,7 @@ fn exponent<'a>(cursor: Cursor<'a>) -> Result<Cursor<'a>, Spanning<LexerError>>
 pub(crate) fn number<'a>(
     cursor: Cursor<'a>,
 ) -> Result<(Token<'a>, Cursor<'a>), Spanning<LexerError>>
-    ensures { Gives (λ r. (r.0, place_of r.1)) result (number (place_of cursor.entry)) }
+    ensures { MeetsBy (λ r. (r.0, place_of r.1)) IsMemory result (number (place_of cursor.entry)) }
 {
     let whole = whole(past_one(Class::Minus, cursor))?;
     let end = exponent(fraction(whole)?)?;

@@ -1,34 +1,30 @@
 //! Why a text is not what was to be read from it.
 
-ghost use Rattle.std.specs.Prelude.{◌≡◌, IfOk};
+ghost use Rattle.std.specs.Prelude.{◌≡◌, IfOk, Some};
 
 use crate::spanning::Spanning;
 use crate::token::{LexerError, Token};
 use graphql_items::Text;
 use std::alloc::{AllocError, Global};
-use thiserror::Error;
+use std::error::Error;
+use std::fmt;
 
 /// Why a text is not what was to be read from it, or want of memory.
-#[derive(Clone, Debug, Drop, Error)]
+#[derive(Clone, Debug, Drop)]
 pub enum ParseError {
     /// A token that can't stand where it does, by its source text.
-    #[error("Unexpected \"{0}\"")]
     UnexpectedToken(Text),
 
     /// The end of the text where more had to come.
-    #[error("Unexpected end of input")]
     UnexpectedEndOfFile,
 
     /// What is wrong with the text's characters.
-    #[error("{0}")]
     LexerError(LexerError),
 
     /// A literal that the scalar type refuses, in its words.
-    #[error("{0}")]
     ExpectedScalarError(Text),
 
     /// Memory ran out. It says nothing about the text.
-    #[error("Out of memory")]
     Memory,
 }
 
@@ -45,6 +41,25 @@ impl ParseError {
         Ok(ParseError::UnexpectedToken(Text::from_string(source)))
     }
 }
+
+/// The text that a user is shown.
+impl fmt::Display for ParseError {
+    ghost use Rattle.graphql_text.specs.FaultTexts.{fault_text};
+
+    ghost output = { λ fault. Some (fault_text fault) };
+
+    fn fmt<W: fmt::Write>(&self, f: &mut fmt::Formatter<W>) -> fmt::Result {
+        match self {
+            ParseError::UnexpectedToken(token) => write!(f, "Unexpected \"{token}\""),
+            ParseError::UnexpectedEndOfFile => write!(f, "Unexpected end of input"),
+            ParseError::LexerError(fault) => write!(f, "{fault}"),
+            ParseError::ExpectedScalarError(refusal) => write!(f, "{refusal}"),
+            ParseError::Memory => write!(f, "Out of memory"),
+        }
+    }
+}
+
+impl Error for ParseError {}
 
 impl From<AllocError> for ParseError {
     ghost use Rattle.graphql_text.specs.declared.parse_error.ParseError.TheVariants.{Memory};

@@ -4,6 +4,7 @@ ghost use Rattle.std.specs.Prelude.{◌≡◌, encode_utf8_all};
 ghost use Rattle.std.specs.Str.{chars};
 ghost use Rattle.graphql_text.specs.Reading.{place_of, is_in, past, begins, past_one, between, IsTail};
 
+use crate::characters::continues_name;
 use crate::cursor::Cursor;
 use crate::text_ref::TextRef;
 
@@ -28,7 +29,7 @@ pub(crate) fn is_in(class: Class, c: char) -> bool
 {
     match class {
         Class::NameStart => c == '_' || c.is_ascii_alphabetic(),
-        Class::NameContinue => c == '_' || c.is_ascii_alphanumeric(),
+        Class::NameContinue => continues_name(c),
         Class::Digit => c.is_ascii_digit(),
         Class::Minus => c == '-',
         Class::Quote => c == '"',

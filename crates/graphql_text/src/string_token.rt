@@ -2,7 +2,8 @@
 
 ghost use Rattle.std.specs.Prelude.{◌≡◌, ◌∷◌, ◌<◌, IfOk, option_map};
 ghost use Rattle.std.specs.Str.{chars};
-ghost use Rattle.graphql_text.specs.Reading.{place_of, between, Gives, IsTail, UnlessMemory};
+ghost use Rattle.graphql_text.specs.Reading.{place_of, between, IsTail, IsMemory};
+ghost use Rattle.graphql_items.specs.Memory.{UnlessMemory, MeetsBy};
 ghost use Rattle.graphql_text.specs.Strings.{is_escape, is_code, bad_escape, turn_plain, turn_escape, turn_code, turn, string_from, plain, string};
 ghost use Rattle.graphql_text.specs.Modes.{mode_of, IsModeAt};
 
@@ -72,7 +73,7 @@ fn with_backslash(alloc: Global, text: TextRef) -> Result<Text, AllocError>
 fn bad_escape(alloc: Global, from: Cursor, end: Cursor) -> Spanning<LexerError>
     requires { IsTail (chars from.rest.now) (chars end.rest.now) }
     ensures place { result.span ≡ record { start = from.entry.at; end = from.entry.at } }
-    ensures item { UnlessMemory result.item (result.item ≡ bad_escape (chars from.entry.rest.now) (chars end.entry.rest.now)) }
+    ensures item { UnlessMemory IsMemory result (result.item ≡ bad_escape (chars from.entry.rest.now) (chars end.entry.rest.now)) }
 {
     let item = match with_backslash(alloc, between(from.rest, end.rest)) {
         Ok(text) => LexerError::UnknownEscapeSequence(text),
@@ -84,7 +85,7 @@ fn bad_escape(alloc: Global, from: Cursor, end: Cursor) -> Spanning<LexerError>
 /// How a string goes on behind a character outside an escape; None: it ends before it.
 #[tactic(auto, unfolding(crate::specs::Strings::turn_plain))]
 fn turn_plain<'a>(at: SourcePosition, c: char) -> Result<Option<Mode<'a>>, Spanning<LexerError>>
-    ensures { Gives (option_map mode_of) result (turn_plain at c) }
+    ensures { MeetsBy (option_map mode_of) IsMemory result (turn_plain at c) }
 {
     match c {
         '"' => Ok(None),
@@ -107,7 +108,7 @@ fn turn_escape<'a>(
     next: Cursor<'a>,
 ) -> Result<Option<Mode<'a>>, Spanning<LexerError>>
     requires { chars here.rest.now ≡ c ∷ chars next.rest.now }
-    ensures { Gives (option_map mode_of) result (turn_escape here.entry.at c (chars next.entry.rest.now)) }
+    ensures { MeetsBy (option_map mode_of) IsMemory result (turn_escape here.entry.at c (chars next.entry.rest.now)) }
 {
     if is_escape(c) {
         Ok(Some(Mode::Plain))
@@ -130,7 +131,7 @@ fn turn_code<'a>(
 ) -> Result<Option<Mode<'a>>, Spanning<LexerError>>
     requires tail { IsTail (chars from.rest.now) (chars here.rest.now) }
     requires next { chars here.rest.now ≡ c ∷ chars next.rest.now }
-    ensures { Gives (option_map mode_of) result (turn_code (place_of from.entry) n c (chars next.entry.rest.now)) }
+    ensures { MeetsBy (option_map mode_of) IsMemory result (turn_code (place_of from.entry) n c (chars next.entry.rest.now)) }
 {
     if !c.is_ascii_alphanumeric() {
         Err(bad_escape(alloc, from, here))
@@ -154,7 +155,7 @@ fn turn<'a>(
 ) -> Result<Option<Mode<'a>>, Spanning<LexerError>>
     requires tail { IsModeAt (mode_of mode) (chars here.rest.now) }
     requires next { chars here.rest.now ≡ c ∷ chars next.rest.now }
-    ensures { Gives (option_map mode_of) result (turn (mode_of mode.entry) here.entry.at c (chars next.entry.rest.now)) }
+    ensures { MeetsBy (option_map mode_of) IsMemory result (turn (mode_of mode.entry) here.entry.at c (chars next.entry.rest.now)) }
 {
     match mode {
         Mode::Plain => turn_plain(here.at, c),
@@ -165,7 +166,7 @@ fn turn<'a>(
 
 /// The place of the closing quote.
 fn closing<'a>(alloc: Global, start: Cursor<'a>) -> Result<Cursor<'a>, Spanning<LexerError>>
-    ensures { Gives place_of result (string_from plain start.entry.at (chars start.entry.rest.now)) }
+    ensures { MeetsBy place_of IsMemory result (string_from plain start.entry.at (chars start.entry.rest.now)) }
 {
     let mut here = start;
     let mut mode = Mode::Plain;
@@ -185,7 +186,7 @@ pub(crate) fn string<'a>(
     alloc: Global,
     start: Cursor<'a>,
 ) -> Result<(Token<'a>, Cursor<'a>), Spanning<LexerError>>
-    ensures { Gives (λ r. (r.0, place_of r.1)) result (string (place_of start.entry)) }
+    ensures { MeetsBy (λ r. (r.0, place_of r.1)) IsMemory result (string (place_of start.entry)) }
 {
     let end = closing(alloc, start)?;
     let text = between(start.rest, end.rest);

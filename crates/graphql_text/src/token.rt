@@ -6,8 +6,8 @@ use crate::spanning::Spanning;
 use crate::text_ref::TextRef;
 use graphql_items::Text;
 use std::alloc::AllocError;
+use std::error::Error;
 use std::fmt;
-use thiserror::Error;
 
 /// A literal of a scalar, as the text spells it (GraphQL October 2021, 2.9 Input Values).
 #[derive(Debug, Drop, PartialEq, Eq)]
@@ -156,40 +156,58 @@ impl fmt::Display for Token<'_> {
 }
 
 /// What is wrong with a text's characters, or want of memory.
-#[derive(Clone, Debug, Drop, Error)]
+#[derive(Clone, Debug, Drop)]
 pub enum LexerError {
     /// A character that begins no token.
-    #[error("Unknown character \"{0}\"")]
     UnknownCharacter(char),
 
     /// A character where a token that was begun can't go on with it.
-    #[error("Unexpected character \"{0}\"")]
     UnexpectedCharacter(char),
 
     /// A string that its line, or the text, ends before its closing quote.
-    #[error("Unterminated string literal")]
     UnterminatedString,
 
     /// A control character in a string.
-    #[error("Unknown character \"{0}\" in string literal")]
     UnknownCharacterInString(char),
 
     /// An escape that stands for no character, from its backslash on.
-    #[error("Unknown escape sequence \"{0}\" in string")]
     UnknownEscapeSequence(Text),
 
     /// The end of the text in a token that was begun.
-    #[error("Unexpected end of input")]
     UnexpectedEndOfFile,
 
     /// A number that can't be read. The lexer never gives it.
-    #[error("Invalid number literal")]
     InvalidNumber,
 
     /// Memory ran out. It says nothing about the text.
-    #[error("Out of memory")]
     Memory,
 }
+
+/// The text that a user is shown.
+impl fmt::Display for LexerError {
+    ghost use Rattle.graphql_text.specs.FaultTexts.{lexical_text};
+
+    ghost output = { λ fault. Some (lexical_text fault) };
+
+    fn fmt<W: fmt::Write>(&self, f: &mut fmt::Formatter<W>) -> fmt::Result {
+        match self {
+            LexerError::UnknownCharacter(c) => write!(f, "Unknown character \"{c}\""),
+            LexerError::UnexpectedCharacter(c) => write!(f, "Unexpected character \"{c}\""),
+            LexerError::UnterminatedString => write!(f, "Unterminated string literal"),
+            LexerError::UnknownCharacterInString(c) => {
+                write!(f, "Unknown character \"{c}\" in string literal")
+            }
+            LexerError::UnknownEscapeSequence(escape) => {
+                write!(f, "Unknown escape sequence \"{escape}\" in string")
+            }
+            LexerError::UnexpectedEndOfFile => write!(f, "Unexpected end of input"),
+            LexerError::InvalidNumber => write!(f, "Invalid number literal"),
+            LexerError::Memory => write!(f, "Out of memory"),
+        }
+    }
+}
+
+impl Error for LexerError {}
 
 impl From<AllocError> for LexerError {
     ghost use Rattle.graphql_text.specs.declared.token.LexerError.TheVariants.{Memory};

@@ -2,7 +2,8 @@
 
 ghost use Rattle.std.specs.Prelude.{◌≡◌};
 ghost use Rattle.std.specs.Str.{chars};
-ghost use Rattle.graphql_text.specs.Reading.{place_of, IsTail, Gives};
+ghost use Rattle.graphql_text.specs.Reading.{place_of, IsTail, IsMemory};
+ghost use Rattle.graphql_items.specs.Memory.{MeetsBy};
 ghost use Rattle.graphql_text.specs.Tokens.{name_from, punctuator_of, point, ellipsis, token, ahead, cut, is_end};
 
 use crate::cursor::Cursor;
@@ -48,7 +49,7 @@ fn punctuator<'a>(c: char) -> Option<Token<'a>>
 /// The place behind a point, of three that begin at `first`.
 #[tactic(auto, unfolding(crate::specs::Tokens::point))]
 fn point<'a>(first: SourcePosition, cursor: Cursor<'a>) -> Result<Cursor<'a>, Spanning<LexerError>>
-    ensures { Gives place_of result (point first (place_of cursor.entry)) }
+    ensures { MeetsBy place_of IsMemory result (point first (place_of cursor.entry)) }
 {
     match cursor.next() {
         None => Err(Spanning::zero_width(cursor.at, LexerError::UnexpectedEndOfFile)),
@@ -60,7 +61,7 @@ fn point<'a>(first: SourcePosition, cursor: Cursor<'a>) -> Result<Cursor<'a>, Sp
 /// The three points that begin here.
 #[tactic(auto, unfolding(crate::specs::Tokens::ellipsis))]
 fn ellipsis<'a>(cursor: Cursor<'a>) -> Result<(Token<'a>, Cursor<'a>), Spanning<LexerError>>
-    ensures { Gives (λ r. (r.0, place_of r.1)) result (ellipsis (place_of cursor.entry)) }
+    ensures { MeetsBy (λ r. (r.0, place_of r.1)) IsMemory result (ellipsis (place_of cursor.entry)) }
 {
     let second = point(cursor.at, cursor)?;
     let third = point(cursor.at, second)?;
@@ -74,7 +75,7 @@ fn token<'a>(
     alloc: Global,
     cursor: Cursor<'a>,
 ) -> Result<(Token<'a>, Cursor<'a>), Spanning<LexerError>>
-    ensures { Gives (λ r. (r.0, place_of r.1)) result (token (place_of cursor.entry)) }
+    ensures { MeetsBy (λ r. (r.0, place_of r.1)) IsMemory result (token (place_of cursor.entry)) }
 {
     let Some((c, next)) = cursor.next() else {
         return Ok((Token::EndOfFile, cursor));
@@ -120,7 +121,7 @@ pub(crate) fn cut<'a>(
     alloc: Global,
     cursor: Cursor<'a>,
 ) -> Result<(Spanning<Token<'a>>, Cursor<'a>), Spanning<LexerError>>
-    ensures { Gives (λ r. (r.0, place_of r.1)) result (cut (place_of cursor.entry)) }
+    ensures { MeetsBy (λ r. (r.0, place_of r.1)) IsMemory result (cut (place_of cursor.entry)) }
 {
     let start = ahead(cursor);
     let (item, end) = token(alloc, start)?;

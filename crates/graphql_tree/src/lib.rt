@@ -7,8 +7,6 @@ mod directive;
 mod document;
 mod release;
 mod selection;
-#[cfg(test)]
-mod tests;
 mod variable;
 
 pub use directive::{Arguments, Directive};

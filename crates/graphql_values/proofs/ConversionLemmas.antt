@@ -10,7 +10,7 @@ use Rattle.graphql_values.specs.declared.input_value.InputValue.TheVariants as v
 use Rattle.graphql_values.specs.declared.conversions.arrays.FromInputValueArrayError.{FromInputValueArrayError}
 use Rattle.graphql_values.specs.declared.conversions.arrays.FromInputValueArrayError.TheVariants as array_error
 use Rattle.graphql_values.specs.InputValues.{Placed}
-use Rattle.graphql_scalars.specs.Conversions.{ConvertsTo}
+use Rattle.graphql_items.specs.Memory.{Answers}
 use Rattle.graphql_values.specs.ConversionsOfLists.{items_layer, items_of, IsRefusedFirst, MeansItems, RefusesItem}
 use Rattle.graphql_values.specs.ConversionsOfArrays.{ListHas, MeansExactly, RefusesExactly}
 use Rattle.graphql_values.specs.ConversionLaws.{out_form, items_of-list}
@@ -84,9 +84,9 @@ module _ {S T E : Type 0} (n : ℕ) (means : InputValue S → T → Type 0) (ref
   has_items v (Some xs) ys meant = (sym (AllZip-long means xs ys meant), λ has. (ys, meant))
 
   -- a list of meanings, once it is known to be as long as wanted or not
-  pub ConvertsTo-exactly :
+  pub Answers-exactly :
       (is_memory : FromInputValueArrayError T S E → Type 0) (v : InputValue S) (ys : List T) (r : Result (List T) (FromInputValueArrayError T S E)) → ListHas n v → MeansItems means v ys
       → MatchResult r (λ array. (array ≡ ys) × (length ys ≡ n)) (λ e. (e ≡ array_error.WrongCount (length ys) n) × (length ys ≢ n))
-      → ConvertsTo (MeansExactly n means v) (RefusesExactly n means refuses v) is_memory r
-  ConvertsTo-exactly is_memory v ys (Ok array) has meant is = subst (MeansExactly n means v) (sym is.0) (meant, is.1)
-  ConvertsTo-exactly is_memory v ys (Err e) has meant is = λ other. subst (RefusesExactly n means refuses v) (sym is.0) (refl, is.1, has_items v (items_of v) ys meant)
+      → Answers (MeansExactly n means v) (RefusesExactly n means refuses v) is_memory r
+  Answers-exactly is_memory v ys (Ok array) has meant is = subst (MeansExactly n means v) (sym is.0) (meant, is.1)
+  Answers-exactly is_memory v ys (Err e) has meant is = λ other. subst (RefusesExactly n means refuses v) (sym is.0) (refl, is.1, has_items v (items_of v) ys meant)

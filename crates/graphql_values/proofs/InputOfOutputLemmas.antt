@@ -1,10 +1,10 @@
 -- The input value of a list and of an object.
 use Rattle.std.proofs.Common.{◌≡◌, List, map, ap, ◌∙◌}
 use Rattle.std.proofs.lemmas.Simd.{map-map}
-use Rattle.graphql_output.specs.declared.object.Object.{Object}
-use Rattle.graphql_output.specs.declared.value.Value.{Value}
-use Rattle.graphql_output.specs.declared.value.Value.TheVariants as output
-use Rattle.graphql_output.specs.ValueEquations.{on_value, fold_list, fold_fields}
+use Rattle.graphql_output_values.specs.declared.object.Object.{Object}
+use Rattle.graphql_output_values.specs.declared.value.Value.{Value}
+use Rattle.graphql_output_values.specs.declared.value.Value.TheVariants as output
+use Rattle.graphql_output_values.specs.ValueEquations.{on_value, fold_list, fold_fields}
 use Rattle.graphql_values.specs.declared.input_value.InputValue.TheVariants as value
 use Rattle.graphql_values.specs.InputValues.{unplaced, unplaced_pair}
 use Rattle.graphql_values.specs.InputOfOutput.{input_layer, fields_layer, input_of, fields_of}

@@ -10,9 +10,9 @@ use Rattle.graphql_values.specs.InputValues.{Placed, Pair}
 use Rattle.graphql_values.proofs.InputValueEquations.{on_item, on_value}
 
 module _ {S : Type 0} (P : InputValue S → Type 0) where
-  -- a part of which it is shown
-  abbrev pub Shown : Type 0
-  Shown = (x : InputValue S) × P x
+  -- a part, with the proof for it
+  abbrev pub PartWithProof : Type 0
+  PartWithProof = (x : InputValue S) × P x
 
   abbrev pub HoldsOfItems : List (Placed (InputValue S)) → Type 0
   HoldsOfItems xs = All (λ (x : Placed (InputValue S)). P x.item) xs
@@ -20,11 +20,11 @@ module _ {S : Type 0} (P : InputValue S → Type 0) where
   abbrev pub HoldsOfPairs : List (Pair (InputValue S)) → Type 0
   HoldsOfPairs ps = All (λ (p : Pair (InputValue S)). P p.1.item) ps
 
-  items_hold : (xs : List (Placed Shown)) → HoldsOfItems (map (on_item (λ (e : Shown). e.0)) xs)
-  items_hold xs = All-map (λ x. P x.item) (on_item (λ (e : Shown). e.0)) xs (λ k d h. (get_or xs k d).item.1)
+  items_hold : (xs : List (Placed PartWithProof)) → HoldsOfItems (map (on_item (λ (e : PartWithProof). e.0)) xs)
+  items_hold xs = All-map (λ x. P x.item) (on_item (λ (e : PartWithProof). e.0)) xs (λ k d h. (get_or xs k d).item.1)
 
-  pairs_hold : (ps : List (Pair Shown)) → HoldsOfPairs (map (on_value (λ (e : Shown). e.0)) ps)
-  pairs_hold ps = All-map (λ p. P p.1.item) (on_value (λ (e : Shown). e.0)) ps (λ k d h. (get_or ps k d).1.item.1)
+  pairs_hold : (ps : List (Pair PartWithProof)) → HoldsOfPairs (map (on_value (λ (e : PartWithProof). e.0)) ps)
+  pairs_hold ps = All-map (λ p. P p.1.item) (on_value (λ (e : PartWithProof). e.0)) ps (λ k d h. (get_or ps k d).1.item.1)
 
   pub value_ind :
       P value.Null

@@ -7,7 +7,7 @@ pub mod SameValueLemmas
 pub mod LikesBack
 pub mod NameLemmas
 pub mod SameValueLaws
-pub mod ShownLemmas
+pub mod InputValueTextLemmas
 pub mod InputOfOutputLemmas
 pub mod PartsLemmas
 pub mod VariableLaws

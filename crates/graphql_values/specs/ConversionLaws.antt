@@ -12,6 +12,7 @@ use Rattle.graphql_values.specs.declared.conversions.lists.FromInputValueVecErro
 use Rattle.graphql_values.specs.declared.conversions.arrays.FromInputValueArrayError.{FromInputValueArrayError}
 use Rattle.graphql_values.specs.declared.conversions.arrays.FromInputValueArrayError.TheVariants as array_error
 use Rattle.graphql_scalars.specs.declared.check_error.CheckError.{CheckError}
+use Rattle.graphql_scalars.specs.ScalarAnswers.{ScalarAnswer}
 use Rattle.graphql_values.specs.ConversionsOfScalars.{MeansAnswer, RefusesAnswer}
 use Rattle.graphql_values.specs.InputValues.{Placed}
 use Rattle.graphql_values.specs.Conversions.{Apart}
@@ -79,10 +80,10 @@ same_scalar {S} s r is =
     sym (out_form (value.Scalar s) (InputValue-F.Scalar s) (value.rolls-Scalar s)) ∙ ap (out-InputValue S) is ∙ out_form (value.Scalar r) (InputValue-F.Scalar r) (value.rolls-Scalar r) in
     cc
 
-module _ {S A : Type 0} (type_name : List ℕ) (scalar_text : S → List ℕ) (answer : S → Option A) where
-  pub answers_apart : (v : InputValue S) (x : A) (e : CheckError) → MeansAnswer answer v x → RefusesAnswer type_name scalar_text answer v e → ⊥
+module _ {S A : Type 0} (type_name : List ℕ) (answer : S → ScalarAnswer) (wanted : ScalarAnswer → Option A) where
+  pub answers_apart : (v : InputValue S) (x : A) (e : CheckError) → MeansAnswer answer wanted v x → RefusesAnswer type_name answer wanted v e → ⊥
   answers_apart v x e meant (inl refused) =
       let same : meant.0 ≡ refused.0 = same_scalar meant.0 refused.0 (sym meant.1 ∙ refused.1) in
-      let both : Some x ≡ None = sym meant.2 ∙ ap answer same ∙ refused.2.0 in
+      let both : Some x ≡ None = sym meant.2 ∙ ap (λ s. wanted (answer s)) same ∙ refused.2.0 in
       cc
   answers_apart v x e meant (inr refused) = refused.0 meant.0 meant.1

@@ -1,10 +1,10 @@
 -- The input value that stands for a value of an answer (GraphQL October 2021, 2.9 Input Values, 7.1 Response Format).
 use Rattle.std.specs.Prelude.{List, map}
 use Rattle.graphql_items.specs.declared.text.Text.{Text}
-use Rattle.graphql_output.specs.declared.object.Object.{Object}
-use Rattle.graphql_output.specs.declared.value.Value.{Value, fold-Value}
-use Rattle.graphql_output.specs.declared.value.Value.TheFolds.{fold-Object}
-use Rattle.graphql_output.specs.declared.value.Value.TheOpen.{Value-F, Object-F}
+use Rattle.graphql_output_values.specs.declared.object.Object.{Object}
+use Rattle.graphql_output_values.specs.declared.value.Value.{Value, fold-Value}
+use Rattle.graphql_output_values.specs.declared.value.Value.TheFolds.{fold-Object}
+use Rattle.graphql_output_values.specs.declared.value.Value.TheOpen.{Value-F, Object-F}
 use Rattle.graphql_values.specs.declared.input_value.InputValue.{InputValue}
 use Rattle.graphql_values.specs.declared.input_value.InputValue.TheVariants as value
 use Rattle.graphql_values.specs.InputValues.{Pair, unplaced, unplaced_pair}

@@ -1,6 +1,6 @@
 pub mod InputValues
 pub mod Variables
-pub mod Shown
+pub mod InputValueText
 pub mod Conversions
 pub mod ConversionsOfLists
 pub mod ConversionsOfArrays

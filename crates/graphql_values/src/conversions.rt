@@ -8,8 +8,6 @@ mod lists;
 mod optional;
 mod pointers;
 mod scalars;
-#[cfg(test)]
-mod tests;
 mod to_input_value;
 mod values;
 
@@ -17,4 +15,5 @@ pub use arrays::FromInputValueArrayError;
 pub use from_input_value::FromInputValue;
 pub use into_input_value::IntoInputValue;
 pub use lists::FromInputValueVecError;
+pub use scalars::no_scalar;
 pub use to_input_value::ToInputValue;

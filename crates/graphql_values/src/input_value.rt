@@ -5,14 +5,10 @@ ghost use Rattle.graphql_items.specs.Memory.{Gives};
 ghost use Rattle.graphql_values.specs.InputValues.{unplaced, unplaced_pair};
 ghost use Rattle.graphql_values.specs.declared.input_value.InputValue.TheVariants as value;
 
-#[cfg(test)]
-mod call_tests;
 mod clones;
 mod display;
 mod equality;
 mod parts;
-#[cfg(test)]
-mod tests;
 mod variables;
 
 use graphql_scalars::DefaultScalarValue;
@@ -41,6 +37,14 @@ pub enum InputValue<S = DefaultScalarValue> {
 
     /// An input object: its fields' names and values, in order.
     Object(Items<(Spanning<Text>, Spanning<InputValue<S>>)>),
+}
+
+/// The field whose name and value stand in no text.
+fn unlocated_field<S>(field: (Text, InputValue<S>)) -> (Spanning<Text>, Spanning<InputValue<S>>)
+    ensures { result ≡ unplaced_pair field }
+{
+    let (name, item) = field;
+    (Spanning::unlocated(name), Spanning::unlocated(item))
 }
 
 impl<S> InputValue<S> {
@@ -104,8 +108,7 @@ impl<S> InputValue<S> {
     {
         let mut pairs = Items::with_capacity(alloc, fields.len())?;
         for field in fields {
-            let (name, item) = field;
-            pairs.push((Spanning::unlocated(name), Spanning::unlocated(item)))?;
+            pairs.push(unlocated_field(field))?;
         }
         Ok(InputValue::Object(pairs))
     }

@@ -7,7 +7,9 @@ pub mod laws;
 
 pub use conversions::{
     FromInputValue, FromInputValueArrayError, FromInputValueVecError, IntoInputValue, ToInputValue,
+    no_scalar,
 };
+pub use graphql_names::{Name, NameParseError};
 pub use graphql_scalars::{DefaultScalarValue, ParseScalarResult, ParseScalarValue, ScalarValue};
-pub use graphql_types::{BorrowedType, Name, NameParseError, Type, TypeModifier, TypeModifiers};
+pub use graphql_type_references::{BorrowedType, Type, TypeModifier, TypeModifiers};
 pub use input_value::{InputValue, Variables};

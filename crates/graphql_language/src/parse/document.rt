@@ -5,12 +5,12 @@ ghost use Rattle.graphql_grammar.specs.Input.{Reads, Fills, left};
 ghost use Rattle.graphql_language.specs.ReadDocuments as spec;
 ghost use Rattle.graphql_language.specs.ReadDefinitions as parts;
 
-use crate::parse::directive::{directives, located_name};
 use crate::parse::selection::{fragment_name, selection_set, type_condition};
-use crate::parse::variable::variable_definitions;
 use graphql_grammar::{Cursor, Fault, Kind, keep};
 use graphql_text::{Items, Spanning, TextRef};
 use graphql_tree::{Definition, Fragment, Operation, OperationType, Selection, release_document};
+use graphql_value_syntax::directive::{directives, located_name};
+use graphql_value_syntax::variable::variable_definitions;
 use graphql_values::ScalarValue;
 use std::alloc::Global;
 

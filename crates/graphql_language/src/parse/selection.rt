@@ -11,14 +11,14 @@ ghost use Rattle.graphql_grammar.specs.Input as input;
 ghost use Rattle.graphql_grammar.specs.Steps as steps;
 ghost use Rattle.graphql_language.specs.ReadSelections as spec;
 ghost use Rattle.graphql_language.specs.ReadHeads as heads;
-ghost use Rattle.graphql_language.specs.ReadHeads.{Begins, completed};
+ghost use Rattle.graphql_language.specs.ReadHeads.{BeginsSelection, completed};
 
-use crate::parse::directive::{arguments, directives, located_name};
 use graphql_grammar::{Cursor, Fault, Kind, keep};
 use graphql_text::{Items, SourcePosition, Spanning, TextRef};
 use graphql_tree::{
     Arguments, Directive, Field, FragmentSpread, InlineFragment, Selection, release_selections,
 };
+use graphql_value_syntax::directive::{arguments, directives, located_name};
 use graphql_values::ScalarValue;
 use std::alloc::{AllocError, Global};
 use std::mem;
@@ -161,7 +161,7 @@ fn begin<'a, S: ScalarValue>(
     cursor: &mut Cursor<'a>,
     found: &mut Items<Selection<'a, S>>,
 ) -> Result<Option<Head<'a, S>>, Fault>
-    ensures reads { Begins (heads.begun S.reads S.of_bool cursor.old) result found.old found.new cursor.new }
+    ensures reads { BeginsSelection (heads.begun S.reads S.of_bool cursor.old) result found.old found.new cursor.new }
     ensures no_more { left cursor.new ≤ left cursor.old }
     ensures fewer { OnOk result (left cursor.new < left cursor.old) }
 {
@@ -210,7 +210,7 @@ fn begin_field<'a, S: ScalarValue>(
     cursor: &mut Cursor<'a>,
     found: &mut Items<Selection<'a, S>>,
 ) -> Result<Option<Head<'a, S>>, Fault>
-    ensures reads { Begins (heads.field_begun S.reads S.of_bool cursor.old) result found.old found.new cursor.new }
+    ensures reads { BeginsSelection (heads.field_begun S.reads S.of_bool cursor.old) result found.old found.new cursor.new }
     ensures no_more { left cursor.new ≤ left cursor.old }
     ensures fewer { OnOk result (left cursor.new < left cursor.old) }
 {
@@ -229,7 +229,7 @@ fn begin_spread<'a, S: ScalarValue>(
     cursor: &mut Cursor<'a>,
     found: &mut Items<Selection<'a, S>>,
 ) -> Result<Option<Head<'a, S>>, Fault>
-    ensures reads { Begins (heads.spread_begun S.reads S.of_bool (input.peek cursor.old).span.start cursor.old) result found.old found.new cursor.new }
+    ensures reads { BeginsSelection (heads.spread_begun S.reads S.of_bool (input.peek cursor.old).span.start cursor.old) result found.old found.new cursor.new }
     ensures no_more { left cursor.new ≤ left cursor.old }
     ensures fewer { OnOk result (left cursor.new < left cursor.old) }
 {

@@ -3,13 +3,13 @@
 ghost use Rattle.std.specs.Prelude.{◌≡◌};
 ghost use Rattle.graphql_grammar.specs.Faults.{Found, Sought};
 ghost use Rattle.graphql_language.specs.Parser.{Calls};
-ghost use Rattle.graphql_language.specs.Types.{TypeOf, no_scalar};
-ghost use Rattle.graphql_language.specs.Values.{ValueOf};
+ghost use Rattle.graphql_value_syntax.specs.Types.{TypeOf, no_scalar};
+ghost use Rattle.graphql_value_syntax.specs.Values.{ValueOf};
 
 use super::Parser;
-use crate::parse::type_reference::type_reference;
-use crate::parse::value::value;
 use graphql_text::{ParseResult, TextRef};
+use graphql_value_syntax::type_reference::type_reference;
+use graphql_value_syntax::value::value;
 use graphql_values::{InputValue, ScalarValue, Type};
 
 /// The value that stands next, at its place, and goes behind it (GraphQL October 2021, 2.9 Input

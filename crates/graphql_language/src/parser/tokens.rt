@@ -5,7 +5,7 @@ ghost use Rattle.graphql_text.specs.declared.token.Token.TheVariants as t;
 ghost use Rattle.graphql_grammar.specs.Input.{left};
 ghost use Rattle.graphql_grammar.specs.Steps as spec;
 ghost use Rattle.graphql_grammar.specs.Steps.{located};
-ghost use Rattle.graphql_language.specs.Parser.{By, Meets, NextToken, ThisToken, OpeningToken, MaybeToken};
+ghost use Rattle.graphql_language.specs.Parser.{By, ReadsBy, NextToken, ThisToken, OpeningToken, MaybeToken};
 
 use graphql_grammar::Cursor;
 use graphql_text::{OptionParseResult, ParseResult, Spanning, TextRef, Token};
@@ -20,7 +20,7 @@ fn is_token(token: &Token<'_>, wanted: &Token<'_>) -> bool
 
 /// The next token, and goes behind it; refuses the end of the text.
 pub(super) fn next_token<'a>(alloc: Global, cursor: &mut Cursor<'a>) -> ParseResult<Token<'a>>
-    ensures reads { Meets NextToken cursor.old result cursor.new }
+    ensures reads { ReadsBy NextToken cursor.old result cursor.new }
     ensures fewer { OnOk result (left cursor.new < left cursor.old) }
     ensures stays { OnErr result (cursor.new ≡ cursor.old) }
 {
@@ -40,7 +40,7 @@ pub(super) fn this_token<'a>(
     cursor: &mut Cursor<'a>,
     wanted: &Token<'_>,
 ) -> ParseResult<Token<'a>>
-    ensures reads { Meets (ThisToken wanted.now) cursor.old result cursor.new }
+    ensures reads { ReadsBy (ThisToken wanted.now) cursor.old result cursor.new }
     ensures fewer { wanted.now ≢ t.EndOfFile → OnOk result (left cursor.new < left cursor.old) }
     ensures stays { OnErr result (cursor.new ≡ cursor.old) }
 {
@@ -60,7 +60,7 @@ pub(super) fn opening_token<'a>(
     cursor: &mut Cursor<'a>,
     wanted: &Token<'_>,
 ) -> ParseResult<Token<'a>>
-    ensures reads { Meets (OpeningToken wanted.now) cursor.old result cursor.new }
+    ensures reads { ReadsBy (OpeningToken wanted.now) cursor.old result cursor.new }
     ensures fewer { OnOk result (left cursor.new < left cursor.old) }
 {
     let next = cursor.peek();
@@ -81,7 +81,7 @@ pub(super) fn maybe_token<'a>(
     cursor: &mut Cursor<'a>,
     wanted: &Token<'_>,
 ) -> OptionParseResult<Token<'a>>
-    ensures reads { Meets (MaybeToken wanted.now) cursor.old result cursor.new }
+    ensures reads { ReadsBy (MaybeToken wanted.now) cursor.old result cursor.new }
     ensures no_more { left cursor.new ≤ left cursor.old }
     ensures stays { OnErr result (cursor.new ≡ cursor.old) }
 {
@@ -98,7 +98,7 @@ pub(super) fn maybe_token<'a>(
 
 /// The name that stands next, at its place, and goes behind it; refuses any other token.
 pub(super) fn name<'a>(alloc: Global, cursor: &mut Cursor<'a>) -> ParseResult<TextRef<'a>>
-    ensures reads { Meets (By (located spec.name)) cursor.old result cursor.new }
+    ensures reads { ReadsBy (By (located spec.name)) cursor.old result cursor.new }
     ensures fewer { OnOk result (left cursor.new < left cursor.old) }
     ensures stays { OnErr result (cursor.new ≡ cursor.old) }
 {

@@ -5,7 +5,7 @@ ghost use Rattle.graphql_meta.specs.Names.{is_reserved};
 
 use super::names::is_reserved;
 use graphql_text::Text;
-use graphql_types::Type;
+use graphql_type_references::Type;
 use graphql_values::InputValue;
 
 /// An argument of a field, or a field of an input object (GraphQL October 2021, 3.6.1 Field

@@ -9,7 +9,7 @@ ghost use Rattle.graphql_meta.specs.declared.meta.deprecation.DeprecationStatus.
 use super::names::is_reserved;
 use super::{Argument, DeprecationStatus};
 use graphql_text::{Items, Text};
-use graphql_types::Type;
+use graphql_type_references::Type;
 use std::alloc::{AllocError, Global};
 
 /// A field of an object or an interface (GraphQL October 2021, 3.6 Objects).

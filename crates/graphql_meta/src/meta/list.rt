@@ -5,7 +5,7 @@ ghost use Rattle.graphql_meta.specs.declared.meta.MetaType.TheVariants as meta;
 
 use super::MetaType;
 use graphql_text::Text;
-use graphql_types::Type;
+use graphql_type_references::Type;
 
 /// Lists of a type (GraphQL October 2021, 3.11 List).
 #[derive(Drop)]

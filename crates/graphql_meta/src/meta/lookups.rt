@@ -25,7 +25,7 @@ impl<S, C> MetaType<S, C> {
         }
     }
 
-    /// What the type is for, in words, where the schema says it (GraphQL October 2021, 3.3
+    /// What the type is for, in words, where the schema says it (GraphQL October 2021, 3.2
     /// Descriptions). Lists, types with `null` and placeholders have no words of their own.
     pub fn description(&self) -> Option<&str>
         ensures { option_map (λ text. text.now) result ≡ description_of self.now }

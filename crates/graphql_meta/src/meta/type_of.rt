@@ -2,12 +2,12 @@
 
 ghost use Rattle.std.specs.Prelude.{◌≡◌, [], ◌∷◌};
 ghost use Rattle.graphql_items.specs.Memory.{Gives};
-ghost use Rattle.graphql_types.specs.declared.type_modifier.TypeModifier.TheVariants as modifier;
+ghost use Rattle.graphql_type_references.specs.declared.type_modifier.TypeModifier.TheVariants as modifier;
 ghost use Rattle.graphql_meta.specs.Types.{type_of};
 
 use super::MetaType;
 use graphql_text::{Items, Text};
-use graphql_types::Type;
+use graphql_type_references::Type;
 use std::alloc::{AllocError, Global};
 
 impl<S, C> MetaType<S, C> {
@@ -18,24 +18,24 @@ impl<S, C> MetaType<S, C> {
         ensures { Gives result (type_of self.now) }
     {
         match self {
-            MetaType::Scalar(meta) => named(alloc, &meta.name),
+            MetaType::Scalar(meta) => reference_to(alloc, &meta.name),
             MetaType::List(meta) => {
                 let items = copy_of(alloc, &meta.of_type)?;
                 items.wrap_list(meta.expected_size)?.wrap_non_null()
             }
             MetaType::Nullable(meta) => Ok(copy_of(alloc, &meta.of_type)?.nullable()),
-            MetaType::Object(meta) => named(alloc, &meta.name),
-            MetaType::Enum(meta) => named(alloc, &meta.name),
-            MetaType::Interface(meta) => named(alloc, &meta.name),
-            MetaType::Union(meta) => named(alloc, &meta.name),
-            MetaType::InputObject(meta) => named(alloc, &meta.name),
+            MetaType::Object(meta) => reference_to(alloc, &meta.name),
+            MetaType::Enum(meta) => reference_to(alloc, &meta.name),
+            MetaType::Interface(meta) => reference_to(alloc, &meta.name),
+            MetaType::Union(meta) => reference_to(alloc, &meta.name),
+            MetaType::InputObject(meta) => reference_to(alloc, &meta.name),
             MetaType::Placeholder(meta) => copy_of(alloc, &meta.of_type),
         }
     }
 }
 
 /// The type of this name, without `null`.
-fn named(alloc: Global, name: &Text) -> Result<Type<Text>, AllocError>
+fn reference_to(alloc: Global, name: &Text) -> Result<Type<Text>, AllocError>
     ensures { Gives result (record { name = name.now; modifiers = modifier.NonNull ∷ [] }) }
 {
     Type::new(alloc, name.clone()?).wrap_non_null()

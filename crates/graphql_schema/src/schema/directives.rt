@@ -3,14 +3,17 @@
 ghost use Rattle.std.specs.Prelude.{◌≡◌, ◌↔◌, ℕ, List, Some, IsTrue, IfErr, OnOk, OnErr, if◌then◌else◌};
 ghost use Rattle.std.specs.List.{All, list_all};
 ghost use Rattle.std.specs.Str.{bytes_eq};
+ghost use Rattle.graphql_items.specs.Memory.{UnlessMemory};
+ghost use Rattle.graphql_schema_faults.specs.declared.error.SchemaError.TheVariants.{Memory};
 ghost use Rattle.graphql_schema.specs.Directives as spec;
-ghost use Rattle.graphql_schema_types.specs.NameMaps.{passes};
+ghost use Rattle.graphql_names.specs.Names.{passes};
 
 use super::SchemaType;
+use crate::standard_directives::SELECTIONS;
 use graphql_meta::{Argument, DirectiveLocation, DirectiveType};
-use graphql_schema_types::{SELECTIONS, SchemaError};
+use graphql_schema_faults::SchemaError;
 use graphql_text::Text;
-use graphql_types::{Type, TypeModifier};
+use graphql_type_references::{Type, TypeModifier};
 
 impl<S, C> SchemaType<S, C> {
     /// Takes the directive, in place of one of its name (GraphQL October 2021, 3.13 Directives).
@@ -24,7 +27,7 @@ impl<S, C> SchemaType<S, C> {
         S: Drop,
         ensures arguments { OnOk result (All (spec.HasInputType self.old.types) directive.arguments) }
         ensures taken { OnOk result ((name : List ℕ) → spec.directive_named self.new.directives name ≡ (if bytes_eq directive.name name then Some directive else spec.directive_named self.old.directives name)) }
-        ensures refused { IfErr result (spec.OrMemory (spec.IsFirstTypeFault self.old.types directive.arguments)) }
+        ensures refused { IfErr result (λ e. UnlessMemory (λ f. f ≡ Memory) e (spec.IsFirstTypeFault self.old.types directive.arguments e)) }
         ensures unchanged { OnErr result (self.new ≡ self.old) }
         ensures others { (self.new.description ≡ self.old.description) × (self.new.types ≡ self.old.types) × (self.new.query ≡ self.old.query) × (self.new.mutation ≡ self.old.mutation) × (self.new.subscription ≡ self.old.subscription) }
     {
@@ -37,7 +40,7 @@ impl<S, C> SchemaType<S, C> {
     /// the first argument where it is none, or is want of memory.
     fn check_arguments(&self, arguments: &[Argument<S>]) -> Result<(), SchemaError>
         ensures arguments { OnOk result (All (spec.HasInputType self.now.types) arguments.now) }
-        ensures refused { IfErr result (spec.OrMemory (spec.IsFirstTypeFault self.now.types arguments.now)) }
+        ensures refused { IfErr result (λ e. UnlessMemory (λ f. f ≡ Memory) e (spec.IsFirstTypeFault self.now.types arguments.now e)) }
     {
         'arguments: for argument in arguments {
             self.check_argument(argument)?;
@@ -49,7 +52,7 @@ impl<S, C> SchemaType<S, C> {
     /// it is none, or is want of memory.
     fn check_argument(&self, argument: &Argument<S>) -> Result<(), SchemaError>
         ensures known { OnOk result (spec.HasInputType self.now.types argument.now) }
-        ensures refused { IfErr result (spec.OrMemory (spec.IsTypeFault self.now.types argument.now)) }
+        ensures refused { IfErr result (λ e. UnlessMemory (λ f. f ≡ Memory) e (spec.IsTypeFault self.now.types argument.now e)) }
     {
         let name = &argument.arg_type.name;
         match self.types.get(name.as_str()) {

@@ -1,16 +1,16 @@
 //! What a schema tells of itself: its types, its roots and its directives by name.
 
 ghost use Rattle.std.specs.Prelude.{◌≡◌, true, Some};
-ghost use Rattle.std.specs.Option.{option_map, option_copied, option_and_then};
-ghost use Rattle.graphql_schema_types.specs.Lookups.{type_named, is_object, is_given};
-ghost use Rattle.graphql_schema_types.specs.NameMaps.{named, passes, IsByName};
+ghost use Rattle.std.specs.Option.{option_map, option_copied, option_and_then, is_some};
+ghost use Rattle.graphql_schema_faults.specs.Lookups.{type_named, is_object};
+ghost use Rattle.graphql_names.specs.Names.{named, passes, IsByName};
 
 use super::SchemaType;
 use graphql_meta::{DirectiveType, MetaType};
 use graphql_text::Text;
 
 impl<S, C> SchemaType<S, C> {
-    /// What the schema is for, in words, where it says it (GraphQL October 2021, 3.3 Descriptions).
+    /// What the schema is for, in words, where it says it (GraphQL October 2021, 3.2 Descriptions).
     pub fn description(&self) -> Option<&str>
         ensures { option_map (λ text. text.now) result ≡ self.now.description }
     {
@@ -50,7 +50,7 @@ impl<S, C> SchemaType<S, C> {
     /// The metadata of the mutation root, an object, if the schema has one.
     pub fn concrete_mutation_type(&self) -> Option<&MetaType<S, C>>
         ensures root { option_copied result ≡ option_and_then (type_named self.now.types) self.now.mutation }
-        ensures object { passes is_object (option_copied result) ≡ is_given self.now.mutation }
+        ensures object { passes is_object (option_copied result) ≡ is_some self.now.mutation }
     {
         self.root(&self.mutation)
     }
@@ -58,7 +58,7 @@ impl<S, C> SchemaType<S, C> {
     /// The metadata of the subscription root, an object, if the schema has one.
     pub fn concrete_subscription_type(&self) -> Option<&MetaType<S, C>>
         ensures root { option_copied result ≡ option_and_then (type_named self.now.types) self.now.subscription }
-        ensures object { passes is_object (option_copied result) ≡ is_given self.now.subscription }
+        ensures object { passes is_object (option_copied result) ≡ is_some self.now.subscription }
     {
         self.root(&self.subscription)
     }

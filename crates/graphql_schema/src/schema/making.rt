@@ -2,13 +2,15 @@
 
 ghost use Rattle.std.specs.Option.{option_map};
 ghost use Rattle.graphql_items.specs.Memory.{Gives};
-ghost use Rattle.graphql_schema_types.specs.Completed.{root_named};
+ghost use Rattle.graphql_schema_faults.specs.Completed.{root_named};
 ghost use Rattle.graphql_schema.specs.Schemas.{roots_named, Makes};
 
 use super::SchemaType;
+use crate::standard_directives::standard_directives;
 use graphql_meta::MetaType;
+use graphql_names::NameMap;
 use graphql_scalars::ScalarValue;
-use graphql_schema_types::{NameMap, SchemaError, completed, find_fault, standard_directives};
+use graphql_schema_faults::{SchemaError, completed, find_fault};
 use graphql_text::{Items, Text};
 use std::alloc::{AllocError, Global};
 
@@ -17,7 +19,7 @@ impl<S: ScalarValue + Drop, C: Drop> SchemaType<S, C> {
     /// October 2021, 3.3 Schema). The mutation root `_EmptyMutation` and the subscription root
     /// `_EmptySubscription` mean none. Metadata without a name, as of lists, are passed over.
     ///
-    /// The query root gets the fields `__schema: __Schema!` and `__type(name: String!): __Type` (4.1
+    /// The query root gets the fields `__schema: __Schema!` and `__type(name: String!): __Type` (4.2
     /// Schema Introspection), and the schema the directives `skip`, `include`, `deprecated` and
     /// `specifiedBy` (3.13). What is wrong with the types then is refused, the first fault in the order
     /// of `SchemaError`; or memory is refused.

@@ -6,8 +6,8 @@ ghost use Rattle.std.specs.Option.{option_map};
 ghost use Rattle.graphql_items.specs.Memory.{GivesBy};
 ghost use Rattle.graphql_meta.specs.declared.meta.MetaType.TheVariants as meta;
 ghost use Rattle.graphql_meta.specs.Types.{name_of};
-ghost use Rattle.graphql_schema_types.specs.Lookups.{type_named};
-ghost use Rattle.graphql_schema_types.specs.NameMaps.{is_one_of};
+ghost use Rattle.graphql_schema_faults.specs.Lookups.{type_named};
+ghost use Rattle.graphql_names.specs.Names.{is_one_of};
 ghost use Rattle.graphql_schema.specs.Possible as spec;
 
 use super::SchemaType;

@@ -3,7 +3,7 @@
 ghost use Rattle.std.specs.Prelude.{◌≡◌};
 ghost use Rattle.std.specs.declared.alloc.AllocError.{AllocError};
 ghost use Rattle.graphql_values.specs.declared.input_value.InputValue.{InputValue};
-ghost use Rattle.graphql_scalars.specs.Conversions.{ConvertsTo};
+ghost use Rattle.graphql_items.specs.Memory.{Answers};
 
 use crate::input_value::InputValue;
 use std::alloc::{AllocError, Global};
@@ -31,12 +31,12 @@ pub trait FromInputValue<S>: Sized {
 
     /// What the value means at this type. An error says why it means nothing, or is want of memory.
     fn from_input_value(alloc: Global, value: &InputValue<S>) -> Result<Self, Self::Error>
-        ensures { ConvertsTo (means value.now) (refuses value.now) is_memory result };
+        ensures { Answers (means value.now) (refuses value.now) is_memory result };
 
     /// What it means at this type that no value is given. An error says why it means nothing, or is
     /// want of memory.
     fn from_implicit_null(alloc: Global) -> Result<Self, Self::Error>
-        ensures { ConvertsTo means_absent refuses_absent is_memory result };
+        ensures { Answers means_absent refuses_absent is_memory result };
 
     /// No value both means something and is refused.
     ghost apart: { (v : InputValue S) (x : Self) (e : Self.Error) → means v x → refuses v e → ⊥ };
@@ -52,7 +52,7 @@ impl<S> InputValue<S> {
     /// What the value means at the type `T`. An error says why it means nothing, or is want of
     /// memory.
     pub fn convert<T: FromInputValue<S>>(&self, alloc: Global) -> Result<T, T::Error>
-        ensures { ConvertsTo (T.means self.now) (T.refuses self.now) T.is_memory result }
+        ensures { Answers (T.means self.now) (T.refuses self.now) T.is_memory result }
     {
         T::from_input_value(alloc, self)
     }

@@ -1,7 +1,7 @@
 //! Values as lists of any length.
 
 ghost use Rattle.std.specs.Prelude.{◌≡◌, ◌≢◌};
-ghost use Rattle.graphql_scalars.specs.Conversions.{ConvertsTo};
+ghost use Rattle.graphql_items.specs.Memory.{Answers};
 ghost use Rattle.graphql_values.specs.ConversionLaws.{lists_apart, list_memory};
 ghost use Rattle.graphql_values.specs.ConversionsOfLists as spec;
 ghost use Rattle.graphql_values.specs.declared.conversions.lists.FromInputValueVecError.TheVariants as vec_error;
@@ -51,7 +51,7 @@ fn read_items<S, T: FromInputValue<S> + Drop>(
     alloc: Global,
     items: &[Spanning<InputValue<S>>],
 ) -> Result<Vec<T>, FromInputValueVecError<T, S>>
-    ensures { ConvertsTo (λ meant. spec.MeansItems T.means (value.List items.now) meant.items) (spec.RefusesItems T.means T.refuses (value.List items.now)) (spec.IsItemMemory T.is_memory) result }
+    ensures { Answers (λ meant. spec.MeansItems T.means (value.List items.now) meant.items) (spec.RefusesItems T.means T.refuses (value.List items.now)) (spec.IsItemMemory T.is_memory) result }
 {
     let mut meant = Vec::with_capacity(alloc, items.len())?;
     'items: for item in items {
@@ -70,7 +70,7 @@ fn read_single<S, T: FromInputValue<S> + Drop>(
 ) -> Result<Vec<T>, FromInputValueVecError<T, S>>
     requires not_null { single.now ≢ value.Null }
     requires not_list { (items : _) → single.now ≢ value.List items }
-    ensures { ConvertsTo (λ meant. spec.MeansItems T.means single.now meant.items) (spec.RefusesItems T.means T.refuses single.now) (spec.IsItemMemory T.is_memory) result }
+    ensures { Answers (λ meant. spec.MeansItems T.means single.now meant.items) (spec.RefusesItems T.means T.refuses single.now) (spec.IsItemMemory T.is_memory) result }
 {
     match single.convert(alloc) {
         Ok(only) => {

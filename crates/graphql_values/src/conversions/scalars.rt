@@ -2,7 +2,7 @@
 
 ghost use Rattle.std.specs.Prelude.{◌≡◌, ◌≢◌, codes, string_bytes, IfSome};
 ghost use Rattle.std.proofs.Common.{rules};
-ghost use Rattle.graphql_scalars.specs.Shown.{shown};
+ghost use Rattle.graphql_scalars.specs.ScalarAnswers.{as_int, as_bool, as_text};
 ghost use Rattle.graphql_scalars.specs.declared.check_error.CheckError.TheVariants.{Message, Memory};
 ghost use Rattle.graphql_values.specs.ConversionLaws.{answers_apart};
 ghost use Rattle.graphql_values.specs.ConversionsOfScalars as spec;
@@ -15,8 +15,8 @@ use graphql_text::Text;
 use std::alloc::Global;
 use std::fmt::Display;
 
-/// The refusal of a value that is no scalar, by its text.
-fn no_scalar<D: Display>(alloc: Global, found: &D) -> CheckError
+/// The refusal of a value that is no scalar, by its text, or want of memory.
+pub fn no_scalar<D: Display>(alloc: Global, found: &D) -> CheckError
     ensures { IfSome (D.output found.now) (λ text. result ≢ Memory → result ≡ Message (spec.no_scalar text)) }
 {
     match format!(in alloc; "Expected GraphQL scalar, found: {found}") {
@@ -29,9 +29,9 @@ fn no_scalar<D: Display>(alloc: Global, found: &D) -> CheckError
 impl<S: ScalarValue> FromInputValue<S> for bool {
     type Error = CheckError;
 
-    ghost means = { spec.MeansAnswer S.as_bool };
+    ghost means = { spec.MeansAnswer S.answer as_bool };
 
-    ghost refuses = { spec.RefusesAnswer (codes "Boolean") (shown S.as_int S.as_bool S.as_text) S.as_bool };
+    ghost refuses = { spec.RefusesAnswer (codes "Boolean") S.answer as_bool };
 
     ghost is_memory = { λ e. e ≡ Memory };
 
@@ -39,7 +39,7 @@ impl<S: ScalarValue> FromInputValue<S> for bool {
 
     ghost refuses_absent = { λ e. e ≡ Message (spec.no_scalar (codes "null")) };
 
-    ghost apart = { answers_apart (codes "Boolean") (shown S.as_int S.as_bool S.as_text) S.as_bool };
+    ghost apart = { answers_apart (codes "Boolean") S.answer as_bool };
 
     ghost absent_apart = { λ truth e impossible is. impossible };
 
@@ -61,9 +61,9 @@ impl<S: ScalarValue> FromInputValue<S> for bool {
 impl<S: ScalarValue> FromInputValue<S> for i32 {
     type Error = CheckError;
 
-    ghost means = { spec.MeansAnswer S.as_int };
+    ghost means = { spec.MeansAnswer S.answer as_int };
 
-    ghost refuses = { spec.RefusesAnswer (codes "Int") (shown S.as_int S.as_bool S.as_text) S.as_int };
+    ghost refuses = { spec.RefusesAnswer (codes "Int") S.answer as_int };
 
     ghost is_memory = { λ e. e ≡ Memory };
 
@@ -71,7 +71,7 @@ impl<S: ScalarValue> FromInputValue<S> for i32 {
 
     ghost refuses_absent = { λ e. e ≡ Message (spec.no_scalar (codes "null")) };
 
-    ghost apart = { answers_apart (codes "Int") (shown S.as_int S.as_bool S.as_text) S.as_int };
+    ghost apart = { answers_apart (codes "Int") S.answer as_int };
 
     ghost absent_apart = { λ number e impossible is. impossible };
 
@@ -93,9 +93,9 @@ impl<S: ScalarValue> FromInputValue<S> for i32 {
 impl<S: ScalarValue> FromInputValue<S> for String {
     type Error = CheckError;
 
-    ghost means = { λ v text. spec.MeansAnswer S.as_text v (string_bytes text) };
+    ghost means = { λ v text. spec.MeansAnswer S.answer as_text v (string_bytes text) };
 
-    ghost refuses = { spec.RefusesAnswer (codes "String") (shown S.as_int S.as_bool S.as_text) S.as_text };
+    ghost refuses = { spec.RefusesAnswer (codes "String") S.answer as_text };
 
     ghost is_memory = { λ e. e ≡ Memory };
 
@@ -103,7 +103,7 @@ impl<S: ScalarValue> FromInputValue<S> for String {
 
     ghost refuses_absent = { λ e. e ≡ Message (spec.no_scalar (codes "null")) };
 
-    ghost apart = { λ v text. answers_apart (codes "String") (shown S.as_int S.as_bool S.as_text) S.as_text v (string_bytes text) };
+    ghost apart = { λ v text. answers_apart (codes "String") S.answer as_text v (string_bytes text) };
 
     ghost absent_apart = { λ text e impossible is. impossible };
 

@@ -7,7 +7,7 @@ ghost use Rattle.graphql_values.specs.InputValues.{unplaced, unplaced_pair};
 
 use super::ToInputValue;
 use crate::input_value::InputValue;
-use graphql_output::{Object, Value};
+use graphql_output_values::{Object, Value};
 use graphql_scalars::ScalarValue;
 use graphql_text::{Items, Spanning, Text};
 use std::alloc::{AllocError, Global};

@@ -2,4 +2,4 @@ use Rattle.graphql_lines.proofs.Outline.{json_reads_back}
 use Rattle.graphql_lines.proofs.laws.json_reads_back.Goals as goal
 
 pub returns : goal.returns
-returns g c = json_reads_back g.S.ScalarValue.as_int g.S.ScalarValue.as_bool g.S.ScalarValue.as_text
+returns g c = json_reads_back g.S.ScalarValue.answer

@@ -16,8 +16,8 @@ members-preserved g c =
     one_more scalars.of_bool scalars.of_int scalars.of_text c.args.members.now.entries c.members.key-iterator c.next.new.self e c.in_ok-name-in-Some-2.name value c.members.variables c.set.new.variables
     c.iter-key-items.ensures.ordered c.in-Some.ensures.steps means named c.in_ok-set-in-Some-2.ensures c.members.invariant
 
-pub returns-in-None-2-clause-err : goal.returns-in-None-2-clause-err
-returns-in-None-2-clause-err g c = λ told.
+pub returns-in-None-2 : goal.returns-in-None-2
+returns-in-None-2 g c = λ told.
     let scalars = g.S.ScalarValue in
     let e : Entry = (c.in-Some.key.now, c.in-Some.member.now) in
     let fails_here : input_of scalars.of_bool scalars.of_int scalars.of_text (view c.in-Some.member.now) ≡ None = search rules in

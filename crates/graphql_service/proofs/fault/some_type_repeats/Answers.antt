@@ -2,7 +2,8 @@ use Rattle.std.proofs.Common.{◌+◌, ◌||◌, ◌∙◌, map, drop, string_by
 use Rattle.std.specs.List.{list_any}
 use Rattle.graphql_service.specs.Table.{ObjectType, type_of, declared_field}
 use Rattle.graphql_service.specs.Names.{repeats}
-use Rattle.graphql_service.proofs.Views.{list_any-turn, map-map}
+use Rattle.std.proofs.lemmas.Simd.{map-map}
+use Rattle.graphql_service.proofs.Views.{list_any-turn}
 use Rattle.graphql_service.proofs.fault.some_type_repeats.Goals as goal
 
 pub returns-then-branch : goal.returns-then-branch

@@ -14,7 +14,7 @@ use Rattle.graphql_service.specs.Documents.{Definition, IsDocument, IsRefused}
 use Rattle.graphql_service.specs.Json.{data_line}
 use Rattle.graphql_service.specs.Request.{Request, requested}
 use Rattle.graphql_service.specs.Service.{Service}
-use Rattle.graphql_service.specs.Answers.{Answers, IsAccepted, refusal_line, outcome_of, line_too_long, no_request, parse_error, not_thin, data_of}
+use Rattle.graphql_service.specs.Answers.{IsAnswerTo, IsAccepted, refusal_line, outcome_of, line_too_long, no_request, parse_error, not_thin, data_of}
 use Rattle.graphql_service.proofs.OneFault.{one_fault}
 use Rattle.graphql_service.proofs.laws.one_answer.Goals as goal
 
@@ -58,7 +58,7 @@ module _ (line : Bytes) (q r : Request) (read : requested line ≡ Ok q) (again 
     one_set : (u v : Tree) → IsAccepted s q d u → IsAccepted s r e v → u ≡ v
     one_set u v a b = same_Some u v (sym a.thin ∙ (accepted_too v b).thin)
 
-once : (s : Service) (line a b : Bytes) → Answers s line a → Answers s line b → a ≡ b
+once : (s : Service) (line a b : Bytes) → IsAnswerTo s line a → IsAnswerTo s line b → a ≡ b
 once s line a b (line_too_long long x) (line_too_long over y) = x ∙ sym y
 once s line a b (line_too_long long x) (no_request f short none y) = within _ _ long short
 once s line a b (line_too_long long x) (parse_error r f short read refused y) = within _ _ long short

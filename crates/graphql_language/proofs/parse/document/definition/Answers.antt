@@ -1,7 +1,7 @@
 use Rattle.std.proofs.Common.{true, false}
 use Rattle.graphql_grammar.specs.declared.kind.Kind.TheVariants as k
 use Rattle.graphql_grammar.proofs.Parts.{exits_with}
-use Rattle.graphql_language.proofs.KindTests.{asked_kind}
+use Rattle.graphql_grammar.proofs.KindTests.{asked_kind}
 use Rattle.graphql_language.proofs.DocumentParts.{definition_fragment_refused, definition_fragment, definition_operation_refused, definition_operation}
 use Rattle.graphql_language.proofs.parse.document.definition.Goals as goal
 

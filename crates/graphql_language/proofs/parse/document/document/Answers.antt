@@ -1,7 +1,7 @@
 use Rattle.std.proofs.Common.{true, false, ap, ◌∙◌, Err}
 use Rattle.graphql_grammar.specs.declared.kind.Kind.TheVariants as k
 use Rattle.graphql_grammar.proofs.Parts.{exits_with}
-use Rattle.graphql_language.proofs.KindTests.{asked_kind}
+use Rattle.graphql_grammar.proofs.KindTests.{asked_kind}
 use Rattle.graphql_language.proofs.DocumentParts.{document_refused, document_read, document_goes_on}
 use Rattle.graphql_language.proofs.parse.document.document.Goals as goal
 

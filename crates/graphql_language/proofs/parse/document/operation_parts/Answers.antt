@@ -3,7 +3,7 @@ use Rattle.graphql_tree.specs.declared.document.Operation.{Operation}
 use Rattle.graphql_grammar.specs.declared.kind.Kind.TheVariants as k
 use Rattle.graphql_grammar.specs.Input.{Outcome, Reads}
 use Rattle.graphql_grammar.proofs.Parts.{exits_with}
-use Rattle.graphql_language.proofs.KindTests.{asked_kind}
+use Rattle.graphql_grammar.proofs.KindTests.{asked_kind}
 use Rattle.graphql_language.proofs.DocumentParts.{short_refused, short_read, long_form}
 use Rattle.graphql_language.proofs.parse.document.operation_parts.Goals as goal
 

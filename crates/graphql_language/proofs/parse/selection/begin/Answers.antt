@@ -1,6 +1,6 @@
 use Rattle.std.proofs.Common.{true, false}
 use Rattle.graphql_grammar.specs.declared.kind.Kind.TheVariants as k
-use Rattle.graphql_language.proofs.KindTests.{asked_kind}
+use Rattle.graphql_grammar.proofs.KindTests.{asked_kind}
 use Rattle.graphql_language.proofs.SelectionParts.{begins_same, begun_at_points, begun_at_name}
 use Rattle.graphql_language.proofs.parse.selection.begin.Goals as goal
 

@@ -2,7 +2,7 @@ use Rattle.std.proofs.Common.{true, false, ◌∙◌, ap, refl, None}
 use Rattle.graphql_text.specs.declared.position.SourcePosition.{SourcePosition}
 use Rattle.graphql_grammar.specs.declared.kind.Kind.TheVariants as k
 use Rattle.graphql_language.specs.ReadHeads.{field_with}
-use Rattle.graphql_language.proofs.KindTests.{asked_kind}
+use Rattle.graphql_grammar.proofs.KindTests.{asked_kind}
 use Rattle.graphql_language.proofs.SelectionParts.{begins_exit, whole_kept, field_refused, field_opens, field_whole}
 use Rattle.graphql_language.proofs.parse.selection.begin_field.Goals as goal
 

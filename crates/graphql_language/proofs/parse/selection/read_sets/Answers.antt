@@ -3,7 +3,7 @@ use Rattle.graphql_grammar.specs.declared.kind.Kind.TheVariants as k
 use Rattle.graphql_grammar.specs.Input.{left}
 use Rattle.graphql_grammar.proofs.Cursors.{fewer_kind}
 use Rattle.graphql_grammar.proofs.Parts.{fills_exit}
-use Rattle.graphql_language.proofs.KindTests.{asked_kind}
+use Rattle.graphql_grammar.proofs.KindTests.{asked_kind}
 use Rattle.graphql_language.proofs.SelectionLevels.{set_refused}
 use Rattle.graphql_language.proofs.SelectionParts.{begins_some, begins_none}
 use Rattle.graphql_language.proofs.OpenSets.{GoesOn, sets_start, sets_end, set_ends, sets_refused, sets_more, sets_unopened, sets_open, opened_in}

@@ -2,13 +2,13 @@ use Rattle.std.proofs.Common.{◌<◌, ◌∙◌, sym, ap, subst}
 use Rattle.graphql_grammar.specs.Input.{Input, Located, peek, left}
 use Rattle.graphql_grammar.proofs.Cursors.{fewer_item}
 use Rattle.graphql_language.specs.Parser.{NextToken}
-use Rattle.graphql_language.proofs.Calls.{meets_refused}
+use Rattle.graphql_language.proofs.Calls.{reads_by_refused}
 use Rattle.graphql_language.proofs.parser.tokens.next_token.Goals as goal
 
 pub returns-in-EndOfFile-clause-reads : goal.returns-in-EndOfFile-clause-reads
 returns-in-EndOfFile-clause-reads c =
     let end = ap (λ (p : Located). p.item) (sym c.peek-next.ensures) ∙ c.in-EndOfFile.is in
-    meets_refused NextToken c.args.cursor.now c.refuse.result c.refuse.ensures (λ e. (end, e))
+    reads_by_refused NextToken c.args.cursor.now c.refuse.result c.refuse.ensures (λ e. (end, e))
 
 pub returns-in_default : goal.returns-in_default
 returns-in_default c =

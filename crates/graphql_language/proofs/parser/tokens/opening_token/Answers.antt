@@ -2,13 +2,13 @@ use Rattle.std.proofs.Common.{◌<◌, ◌∙◌, sym, ap, refl, subst}
 use Rattle.graphql_grammar.specs.Input.{Input, Located, peek, left}
 use Rattle.graphql_grammar.proofs.Cursors.{fewer_item}
 use Rattle.graphql_language.specs.Parser.{OpeningToken}
-use Rattle.graphql_language.proofs.Calls.{meets_refused}
+use Rattle.graphql_language.proofs.Calls.{reads_by_refused}
 use Rattle.graphql_language.proofs.parser.tokens.opening_token.Goals as goal
 
 pub returns-in-EndOfFile-clause-reads : goal.returns-in-EndOfFile-clause-reads
 returns-in-EndOfFile-clause-reads c =
     let end = ap (λ (p : Located). p.item) (sym c.peek-next.ensures) ∙ c.in-EndOfFile.is in
-    meets_refused (OpeningToken c.args.wanted.now) c.args.cursor.now c.refuse.result c.refuse.ensures (λ e. (λ same. end, e))
+    reads_by_refused (OpeningToken c.args.wanted.now) c.args.cursor.now c.refuse.result c.refuse.ensures (λ e. (λ same. end, e))
 
 pub returns-in_default : goal.returns-in_default
 returns-in_default c =
@@ -26,6 +26,6 @@ returns-in_default-2 c =
     let item = ap (λ (p : Located). p.item) c.peek-next.ensures in
     let other = c.if-is_token.ensures.1 in
     record {
-      reads = meets_refused (OpeningToken c.args.wanted.now) c.args.cursor.now c.refuse-in_default-2.result c.refuse-in_default-2.ensures (λ e. (λ same. let t = other (item ∙ same) in cc, e));
+      reads = reads_by_refused (OpeningToken c.args.wanted.now) c.args.cursor.now c.refuse-in_default-2.result c.refuse-in_default-2.ensures (λ e. (λ same. let t = other (item ∙ same) in cc, e));
       fewer = tt;
     }

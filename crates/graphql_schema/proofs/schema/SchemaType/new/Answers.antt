@@ -2,8 +2,16 @@ use Rattle.std.proofs.Common.{refl, subst, IsPermutation}
 use Rattle.std.specs.Option.{option_map}
 use Rattle.std.proofs.lemmas.Result.{err_from_is_err_and}
 use Rattle.graphql_schema.specs.Schemas.{roots_named}
-use Rattle.graphql_schema_types.proofs.Rearranged.{refused, made, roots_same}
+use Rattle.graphql_schema_faults.specs.Faults.{IsFirstFault, refusal_of}
+use Rattle.graphql_schema_faults.proofs.FaultKinds.{repeat_first}
+use Rattle.graphql_schema_faults.proofs.Rearranged.{refused, made, roots_same}
 use Rattle.graphql_schema.proofs.schema.SchemaType.new.Goals as goal
+
+pub returns-in_err-types : goal.returns-in_err-types
+returns-in_err-types g c =
+    let error = err_from_is_err_and c.from_residual-in_err-types.result c.from_residual-in_err-types.ensures.1 in
+    let named = roots_named c.args.query.now (option_map (λ name. name.now) c.args.mutation) (option_map (λ name. name.now) c.args.subscription) in
+    rw (error.1, error.2) (subst (λ types. IsFirstFault types named (refusal_of c.in_err-types.field-0.0)) c.in_ok-completed.ensures (repeat_first _ named _ c.in_err-types.ensures.repeated))
 
 pub returns-in_err-find_fault : goal.returns-in_err-find_fault
 returns-in_err-find_fault g c =

@@ -1,7 +1,7 @@
 use Rattle.std.proofs.Common.{rules, arith, ◌≡◌, ◌++◌, [], ◌∷◌, map, get_or, ap, sym, ◌∙◌}
 use Rattle.graphql_values.specs.declared.input_value.InputValue.TheVariants as value
 use Rattle.graphql_items.specs.declared.text.Text.{Text}
-use Rattle.graphql_output.specs.declared.value.Value.{Value}
+use Rattle.graphql_output_values.specs.declared.value.Value.{Value}
 use Rattle.graphql_values.specs.InputOfOutput.{input_of}
 use Rattle.graphql_values.specs.InputValues.{unplaced, unplaced_pair}
 use Rattle.graphql_values.proofs.Growing.{mapped_more, all_mapped}

@@ -1,0 +1,125 @@
+ghost use Rattle.std.specs.Prelude.{◌≡◌, IfOk};
+
+use graphql_scalars::{DefaultScalarValue, ParseScalarResult, ParseScalarValue, ScalarValue};
+use graphql_text::{ScalarToken, Text, TextRef};
+use std::alloc::{AllocError, Global};
+use std::process::Abort;
+use std::test::Fail;
+
+/// The same scalar of any schema once more.
+fn copied<S: ScalarValue>(scalar: &S) -> Result<S, AllocError>
+    ensures { IfOk result (λ copy. copy ≡ scalar.now) }
+{
+    scalar.clone()
+}
+
+/// What is read, or its refusal, in words.
+fn reading_text(
+    alloc: Global,
+    answer: ParseScalarResult<DefaultScalarValue>,
+) -> Result<String, AllocError> {
+    match answer {
+        Ok(DefaultScalarValue::Int(value)) => format!(in alloc; "{value}"),
+        Ok(DefaultScalarValue::String(text)) => format!(in alloc; "<{text}>"),
+        Ok(DefaultScalarValue::Boolean(value)) => format!(in alloc; "{value}"),
+        Err(refusal) => format!(in alloc; "{refusal}"),
+    }
+}
+
+/// A token reads at a type as this, in words.
+fn check_reading<T: ParseScalarValue<DefaultScalarValue>>(
+    rt: &impl Abort,
+    alloc: Global,
+    token: &ScalarToken<'_>,
+    words: &str,
+) -> Result<(), AllocError> {
+    let answer = reading_text(alloc, T::from_str(alloc, token))?;
+    assert_eq!(rt; answer.as_str(), words);
+    Ok(())
+}
+
+/// Strings as they stand, and what is read, or the refusal.
+const STRINGS: [(&str, &str); 18] = [
+    (r"simple", "<simple>"),
+    (r" white space ", "< white space >"),
+    (r#"quote \""#, "<quote \">"),
+    (r"slashes \\ \/", r"<slashes \ />"),
+    (r"escaped \n\r\b\t\f", "<escaped \n\r\u{8}\t\u{C}>"),
+    (
+        r"unicode \u1234\u5678\u90AB\uCDEF",
+        "<unicode \u{1234}\u{5678}\u{90AB}\u{CDEF}>",
+    ),
+    (r"\u00e9\u00E9x", "<\u{E9}\u{E9}x>"),
+    ("a\nb\u{1}é", "<a\nb\u{1}é>"),
+    ("", "<>"),
+    (r"\uD800", r#"Unknown escape sequence "\uD800" in string"#),
+    (r"\udfff", r#"Unknown escape sequence "\udfff" in string"#),
+    (r"\u12", r#"Unknown escape sequence "\u12" in string"#),
+    (r"\u12-34", r#"Unknown escape sequence "\u12" in string"#),
+    (r"\u1XYZ9", r#"Unknown escape sequence "\u1XYZ" in string"#),
+    (r"\u", r#"Unknown escape sequence "\u" in string"#),
+    (r"\x", r#"Unknown escape sequence "\x" in string"#),
+    (r"\é", r#"Unknown escape sequence "\é" in string"#),
+    (r"end \", "Unterminated string literal"),
+];
+
+#[test]
+fn strings_are_decoded(rt: HostRuntime) -> Result<(), Fail> {
+    for row in STRINGS {
+        let token = ScalarToken::String(TextRef::new(row.0));
+        check_reading::<DefaultScalarValue>(&rt, rt.alloc(), &token, row.1)?;
+    }
+    Ok(())
+}
+
+/// Integers as they stand, and what is read, or the refusal.
+const INTEGERS: [(&str, &str); 9] = [
+    ("0", "0"),
+    ("-0", "0"),
+    ("2147483647", "2147483647"),
+    ("-2147483648", "-2147483648"),
+    ("2147483648", "Unexpected \"2147483648\""),
+    ("-2147483649", "Unexpected \"-2147483649\""),
+    ("+1", "Unexpected \"+1\""),
+    ("-", "Unexpected \"-\""),
+    ("", "Unexpected \"\""),
+];
+
+#[test]
+fn integers_have_32_bits(rt: HostRuntime) -> Result<(), Fail> {
+    for row in INTEGERS {
+        let token = ScalarToken::Int(TextRef::new(row.0));
+        check_reading::<DefaultScalarValue>(&rt, rt.alloc(), &token, row.1)?;
+    }
+    Ok(())
+}
+
+#[test]
+fn each_type_reads_its_own(rt: HostRuntime) -> Result<(), Fail> {
+    let alloc = rt.alloc();
+    let int = ScalarToken::Int(TextRef::new("5"));
+    let float = ScalarToken::Float(TextRef::new("5.5"));
+    let text = ScalarToken::String(TextRef::new("a"));
+    let no_float = "There needs to be a Float type";
+    let rows = [
+        check_reading::<DefaultScalarValue>(&rt, alloc, &float, no_float),
+        check_reading::<i32>(&rt, alloc, &int, "5"),
+        check_reading::<i32>(&rt, alloc, &float, "Unexpected \"5.5\""),
+        check_reading::<i32>(&rt, alloc, &text, "Unexpected \"\"a\"\""),
+        check_reading::<String>(&rt, alloc, &text, "<a>"),
+        check_reading::<String>(&rt, alloc, &int, "Unexpected \"5\""),
+        check_reading::<bool>(&rt, alloc, &text, "Unexpected \"\"a\"\""),
+    ];
+    for row in rows {
+        row?;
+    }
+    Ok(())
+}
+
+#[test]
+fn scalars_are_copied(rt: HostRuntime) -> Result<(), Fail> {
+    let text = DefaultScalarValue::from(Text::from_str(rt.alloc(), "a")?);
+    let copy = copied(&text)?;
+    assert!(rt; copy == text);
+    Ok(())
+}

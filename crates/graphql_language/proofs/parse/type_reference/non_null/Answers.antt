@@ -1,8 +1,0 @@
-use Rattle.graphql_language.proofs.TypeSteps.{mark_read, mark_none}
-use Rattle.graphql_language.proofs.parse.type_reference.non_null.Goals as goal
-
-pub returns-then-not-eat-clause-ok : goal.returns-then-not-eat-clause-ok
-returns-then-not-eat-clause-ok c = λ name. mark_none name c.args.found.now c.args.cursor.now c.eat.ensures.result c.if-not-eat.true c.eat.ensures.after
-
-pub returns-clause-ok : goal.returns-clause-ok
-returns-clause-ok c = λ name. mark_read name c.args.found.now c.args.cursor.now c.eat.ensures.result c.if-not-eat.false c.eat.ensures.after c.in_ok-keep.ensures.ok

@@ -1,0 +1,4 @@
+pub mod NameTokens
+pub mod NameLemmas
+pub mod Repeats
+pub mod NameMaps

@@ -1,6 +1,0 @@
-pub mod ObjectLemmas
-pub mod TurnedLemmas
-pub mod EqualityTests
-pub mod DisplayLemmas
-pub mod FieldLaws
-pub mod PutLaws

@@ -1,7 +1,0 @@
-use Rattle.graphql_output.specs.Equality.{equal}
-use Rattle.graphql_output.specs.EqualValues.{equal_refl}
-use Rattle.graphql_output.proofs.FieldLaws.{in_any_order}
-use Rattle.graphql_output.proofs.laws.equal_in_any_order.Goals as goal
-
-pub returns : goal.returns
-returns g c one other = in_any_order (equal g.S.PartialEq.eq) one.fields other.fields (equal_refl g.S.PartialEq.eq g.met.S.Eq.laws.refl)

@@ -1,5 +1,0 @@
-use Rattle.graphql_output.proofs.PutLaws.{keys_keep_places}
-use Rattle.graphql_output.proofs.laws.keys_keep_places.Goals as goal
-
-pub returns : goal.returns
-returns g c = keys_keep_places

@@ -1,5 +1,0 @@
-use Rattle.graphql_output.proofs.FieldLaws.{made_distinct}
-use Rattle.graphql_output.proofs.laws.made_distinct.Goals as goal
-
-pub returns : goal.returns
-returns g c = made_distinct

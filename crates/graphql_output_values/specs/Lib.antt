@@ -1,0 +1,11 @@
+pub mod Objects
+pub mod Values
+pub mod Lending
+pub mod Equality
+pub mod ValueEquations
+pub mod ValueInduction
+pub mod EqualityEquations
+pub mod EqualityLaws
+pub mod EqualValues
+pub mod ValueText
+pub mod Laws

@@ -1,0 +1,15 @@
+//! The values that an execution answers (GraphQL October 2021, 7.1 Response Format).
+#![tactic(auto)]
+
+mod display;
+mod equality;
+mod into_value;
+pub mod laws;
+mod map_scalars;
+mod object;
+mod value;
+
+pub use graphql_scalars::{DefaultScalarValue, ScalarValue};
+pub use into_value::IntoValue;
+pub use object::Object;
+pub use value::Value;

@@ -1,0 +1,138 @@
+//! Values, as an execution answers them.
+
+ghost use Rattle.std.specs.Prelude.{◌≡◌, IsTrue, ◌↔◌, List};
+ghost use Rattle.std.specs.Borrow.{sem};
+ghost use Rattle.std.specs.Option.{option_copied, option_copied_mut};
+ghost use Rattle.graphql_items.specs.Memory.{Gives};
+ghost use Rattle.graphql_output_values.specs.Lending.{LendsObject};
+ghost use Rattle.graphql_output_values.specs.Values.{Holds, Turns, map_scalars};
+ghost use Rattle.graphql_output_values.specs.declared.value.Value.TheVariants as value;
+
+use crate::map_scalars::map_value;
+use crate::object::Object;
+use graphql_items::Items;
+use graphql_scalars::DefaultScalarValue;
+use std::alloc::AllocError;
+
+/// A value that a field, or a whole operation, answers (GraphQL October 2021, 7.1 Response Format).
+#[cycle(values)]
+#[derive(Debug, Drop)]
+pub enum Value<S = DefaultScalarValue> {
+    /// `null`
+    Null,
+
+    /// A number, a string or a boolean.
+    Scalar(S),
+
+    /// A list of values, in order.
+    List(Items<Value<S>>),
+
+    /// Fields with their values, in order.
+    Object(Object<S>),
+}
+
+impl<S> Value<S> {
+    /// The value `null`.
+    pub fn null() -> Value<S>
+        ensures { result ≡ value.Null }
+    {
+        Value::Null
+    }
+
+    /// The value of the scalar that `scalar` converts to, or is.
+    pub fn scalar<T: Into<S>>(scalar: T) -> Value<S>
+        ensures { (s : S) × T.converts scalar s × (result ≡ value.Scalar s) }
+    {
+        Value::Scalar(scalar.into())
+    }
+
+    /// The list of these values. Takes no memory.
+    pub fn list(items: Items<Value<S>>) -> Value<S>
+        ensures { result ≡ value.List items }
+    {
+        Value::List(items)
+    }
+
+    /// The value of this object. Takes no memory.
+    pub fn object(object: Object<S>) -> Value<S>
+        ensures { result ≡ value.Object object }
+    {
+        Value::Object(object)
+    }
+
+    /// Whether this is `null`.
+    pub fn is_null(&self) -> bool
+        ensures { IsTrue result ↔ (self.now ≡ value.Null) }
+    {
+        match self {
+            Value::Null => true,
+            _ => false,
+        }
+    }
+
+    /// The object that this is, if it is one.
+    pub fn as_object_value(&self) -> Option<&Object<S>>
+        ensures { Holds value.Object self.now (option_copied result) }
+    {
+        match self {
+            Value::Object(object) => Some(object),
+            _ => None,
+        }
+    }
+
+    /// The object that this is, if it is one.
+    pub fn into_object(self) -> Option<Object<S>>
+    where
+        S: Drop,
+        ensures { Holds value.Object self result }
+    {
+        match self {
+            Value::Object(object) => Some(object),
+            _ => None,
+        }
+    }
+
+    /// The object that this is, if it is one, to be written to.
+    pub fn as_mut_object_value(&mut self) -> Option<&mut Object<S>>
+        ensures* writes_back { sem 𝓛 (LendsObject S.row self.entry result) }
+        ensures value { Holds value.Object self.old (option_copied_mut result) }
+    {
+        match self {
+            Value::Object(object) => Some(object),
+            _ => None,
+        }
+    }
+
+    /// The items of the list that this is, if it is one.
+    pub fn as_list_value(&self) -> Option<&[Value<S>]>
+        ensures { Holds value.List self.now (option_copied result) }
+    {
+        match self {
+            Value::List(items) => Some(items.as_slice()),
+            _ => None,
+        }
+    }
+
+    /// The scalar that this is, if it is one.
+    pub fn as_scalar(&self) -> Option<&S>
+        ensures { Holds value.Scalar self.now (option_copied result) }
+    {
+        match self {
+            Value::Scalar(scalar) => Some(scalar),
+            _ => None,
+        }
+    }
+
+    /// The value of the same shape with each scalar mapped. An error is want of memory.
+    pub fn map_scalar_value<T: Drop, F: Fn(S) -> T + Drop>(
+        self,
+        turn: F,
+    ) -> Result<Value<T>, AllocError>
+    where
+        S: Drop,
+        requires { (s : S) → F.pre turn s }
+        ensures { (f : S → T) → Turns (F.post turn) f → Gives result (map_scalars f self) }
+    {
+        map_value(self, &turn)
+    }
+}

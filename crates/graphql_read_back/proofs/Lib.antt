@@ -1,0 +1,10 @@
+pub mod Parts
+pub mod Words
+pub mod Printed
+pub mod Values
+pub mod ReadBack
+pub mod PrintedWords
+pub mod Types
+pub mod ValueTextEquations
+pub mod WritableLemmas
+pub mod SamePlaces

@@ -1,5 +1,0 @@
-mod checks;
-mod examples;
-mod executable;
-mod lookups;
-mod refusals;

@@ -1,0 +1,4 @@
+pub mod FaultsFound
+pub mod FaultsTwice
+pub mod FaultKinds
+pub mod Rearranged

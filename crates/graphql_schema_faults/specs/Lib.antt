@@ -1,0 +1,4 @@
+pub mod Lookups
+pub mod Completed
+pub mod Faults
+pub mod Demands

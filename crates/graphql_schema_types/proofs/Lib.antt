@@ -1,6 +1,0 @@
-pub mod NameMaps
-pub mod FaultsFound
-pub mod FaultsTwice
-pub mod FaultsFirst
-pub mod Rearranged
-pub mod TypeTypes

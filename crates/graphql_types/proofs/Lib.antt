@@ -1,2 +1,0 @@
-pub mod TypeLemmas
-pub mod NameTokens

@@ -1,5 +1,0 @@
-use Rattle.graphql_types.proofs.NameTokens.{names_are_tokens}
-use Rattle.graphql_types.proofs.laws.names_are_tokens.Goals as goal
-
-pub returns : goal.returns
-returns c = names_are_tokens

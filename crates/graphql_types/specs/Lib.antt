@@ -1,3 +1,0 @@
-pub mod TypeReference
-pub mod Names
-pub mod Laws

@@ -1,0 +1,24 @@
+//! The validation layer of GraphQL: what a schema says of its types, and whether requests can be
+//! executed against it (GraphQL October 2021, 3 Type System).
+//!
+//! This crate gives the layer one name, and has no code of its own. It holds so far the layer's
+//! schemas:
+//!
+//! - the metadata of types, fields, arguments and directives, of which a schema is made;
+//! - the checks by which scalars, enums and input objects accept or refuse values, and in
+//!   [`scalar_checks`] those of the scalars that the standard has built in;
+//! - [`SchemaType`], the schema itself, refused with a [`SchemaError`] where its types are at fault;
+//!   the references to its types, each a [`TypeType`]; and [`RootNode`], what requests are executed
+//!   over;
+//! - in [`laws`], what is proved of subtypes, possible types and types that overlap.
+#![tactic(auto)]
+
+#[cfg(test)]
+mod tests;
+
+pub use graphql_meta::{
+    Argument, Check, DeprecationStatus, DirectiveLocation, DirectiveType, EnumMeta, EnumValue,
+    Field, InputObjectMeta, InterfaceMeta, ListMeta, MetaType, NullableMeta, ObjectMeta,
+    PlaceholderMeta, ScalarMeta, SchemaScalar, TypeCheck, TypeKind, UnionMeta, scalar_checks,
+};
+pub use graphql_schema::{RootNode, SchemaError, SchemaType, TypeType, laws};

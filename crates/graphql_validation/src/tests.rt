@@ -1,0 +1,11 @@
+//! Tests of the validation layer: what no contract says.
+
+mod checks;
+mod directives;
+mod examples;
+mod executable;
+mod lookups;
+mod metadata;
+mod refusals;
+mod scalar_checks;
+mod type_types;

@@ -1,0 +1,10 @@
+pub mod ValueDepth
+pub mod TypeDepth
+pub mod ValueLaws
+pub mod TypeLaws
+pub mod DirectiveLaws
+pub mod DirectiveParts
+pub mod VariableParts
+pub mod ValueSteps
+pub mod TypeSteps
+pub mod Places

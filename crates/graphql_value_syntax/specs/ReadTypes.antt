@@ -1,0 +1,41 @@
+-- How type references are read (GraphQL October 2021, 2.11 Type References).
+use Rattle.std.specs.Prelude.{ℕ, zero, suc, List, [], ◌∷◌, ◌++◌, None}
+use Rattle.graphql_type_references.specs.declared.type_modifier.TypeModifier.{TypeModifier}
+use Rattle.graphql_type_references.specs.declared.type_modifier.TypeModifier.TheVariants as m
+use Rattle.graphql_type_references.specs.declared.type_reference.Type as types
+use Rattle.graphql_grammar.specs.declared.kind.Kind.TheVariants as k
+use Rattle.graphql_grammar.specs.Kinds.{only}
+use Rattle.graphql_grammar.specs.Input.{At, Parser, ◌>>=◌, ◌>>◌, pure, refuse, left}
+use Rattle.graphql_grammar.specs.Steps.{when, expect, name, located}
+
+abbrev pub TypeRef : Type 0
+TypeRef = types.Type (List ℕ) (List TypeModifier)
+
+-- the type of a name
+abbrev pub plain : List ℕ → TypeRef
+plain n = record { name = n; modifiers = [] }
+
+-- what wraps a type comes last
+abbrev pub wrapped : TypeModifier → TypeRef → TypeRef
+wrapped w t = record { name = t.name; modifiers = t.modifiers ++ w ∷ [] }
+
+abbrev pub list_of : At TypeRef → TypeRef
+list_of t = wrapped (m.List None) t.item
+
+module _ (inner : Parser (At TypeRef)) where
+  -- a name, or a list of a type
+  abbrev pub nullable : Parser TypeRef
+  nullable = when (only k.BracketOpen) (do expect k.BracketOpen; t ← inner; expect k.BracketClose; pure (list_of t)) (do n ← name; pure (plain n))
+
+  unfoldable pub bare_type : Parser TypeRef
+  bare_type = do
+    t ← nullable
+    when (only k.ExclamationMark) (do expect k.ExclamationMark; pure (wrapped m.NonNull t)) (pure t)
+
+unfoldable pub type_from : ℕ → Parser (At TypeRef)
+type_from zero = refuse
+type_from (suc n) = located (bare_type (type_from n))
+
+-- each level takes a token, so the count of those that are left is enough
+unfoldable pub type_ref : Parser (At TypeRef)
+type_ref = λ i. type_from (suc (left i)) i
