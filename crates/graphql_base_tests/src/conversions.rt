@@ -1,3 +1,4 @@
+use crate::told::check;
 use graphql_scalars::DefaultScalarValue;
 use graphql_text::Text;
 use graphql_values::{
@@ -6,64 +7,35 @@ use graphql_values::{
 };
 use std::alloc::{AllocError, Global};
 use std::borrow::CowStr;
-use std::fmt::{Debug, Display};
-use std::process::Abort;
+use std::fmt::Debug;
 use std::rc::Rc;
-use std::test::Fail;
 
-/// Asserts what a value means at a type, or its error, as `{:?}` writes it.
+/// What no value and then each of some values means at a type, or its error, as `{:?}` writes them.
+fn readings<T: FromInputValue<DefaultScalarValue> + Debug + Drop>(
+    alloc: Global,
+    values: &[InputValue],
+) -> Result<String, AllocError>
+where
+    T::Error: Debug + Drop,
+{
+    let absent = T::from_implicit_null(alloc);
+    let mut told = format!(in alloc; "{absent:?}")?;
+    for value in values {
+        let read: Result<T, T::Error> = value.convert(alloc);
+        write!(told, "; {read:?}")?;
+    }
+    Ok(told)
+}
+
+/// What no value and then each value of a list that was made means at a type.
 fn reads<T: FromInputValue<DefaultScalarValue> + Debug + Drop>(
-    rt: &(impl Abort + AllocGlobal),
-    value: &InputValue,
-    expected: &str,
-) -> Result<(), AllocError>
+    alloc: Global,
+    values: Result<Vec<InputValue>, AllocError>,
+) -> Result<String, AllocError>
 where
     T::Error: Debug + Drop,
 {
-    let alloc = rt.alloc();
-    let read: Result<T, T::Error> = value.convert(alloc);
-    let text = format!(in alloc; "{read:?}")?;
-    assert_eq!(rt; text.as_str(), expected);
-    Ok(())
-}
-
-/// Asserts what it means at a type that no value is given, as `{:?}` writes it.
-fn reads_absent<T: FromInputValue<DefaultScalarValue> + Debug + Drop>(
-    rt: &(impl Abort + AllocGlobal),
-    expected: &str,
-) -> Result<(), AllocError>
-where
-    T::Error: Debug + Drop,
-{
-    let alloc = rt.alloc();
-    let read = T::from_implicit_null(alloc);
-    let text = format!(in alloc; "{read:?}")?;
-    assert_eq!(rt; text.as_str(), expected);
-    Ok(())
-}
-
-/// Asserts which input value stands for a value, as `{}` writes it.
-fn gives<T: ToInputValue<DefaultScalarValue>>(
-    rt: &(impl Abort + AllocGlobal),
-    value: &T,
-    expected: &str,
-) -> Result<(), AllocError> {
-    let alloc = rt.alloc();
-    let input: InputValue = value.to_input_value(alloc)?;
-    assert_eq!(rt; input.to_string(alloc)?.as_str(), expected);
-    Ok(())
-}
-
-/// Asserts which input value a value becomes, as `{}` writes it.
-fn becomes<T: IntoInputValue<DefaultScalarValue>>(
-    rt: &(impl Abort + AllocGlobal),
-    value: T,
-    expected: &str,
-) -> Result<(), AllocError> {
-    let alloc = rt.alloc();
-    let input: InputValue = value.into_input_value(alloc)?;
-    assert_eq!(rt; input.to_string(alloc)?.as_str(), expected);
-    Ok(())
+    readings::<T>(alloc, values?.as_slice())
 }
 
 /// The list of 1, 2 and a last value.
@@ -72,90 +44,113 @@ fn one_two_and(alloc: Global, last: InputValue) -> Result<InputValue, AllocError
     InputValue::list(alloc, values)
 }
 
-#[test]
-fn null_is_read(rt: HostRuntime) -> Result<(), Fail> {
-    let null = InputValue::null();
-    let rows = [
-        reads::<Option<i32>>(&rt, &null, "Ok(None)"),
-        reads::<Option<Vec<i32>>>(&rt, &null, "Ok(None)"),
-        reads::<Option<[i32; 1]>>(&rt, &null, "Ok(None)"),
-        reads::<Vec<i32>>(&rt, &null, "Err(Null)"),
-        reads::<Vec<Option<i32>>>(&rt, &null, "Err(Null)"),
-        reads::<Vec<Vec<i32>>>(&rt, &null, "Err(Null)"),
-        reads::<[i32; 0]>(&rt, &null, "Err(Null)"),
-        reads::<[[i32; 1]; 1]>(&rt, &null, "Err(Null)"),
-    ];
-    for row in rows {
-        row?;
-    }
-    Ok(())
-}
-
-#[test]
-fn one_value_is_read(rt: HostRuntime) -> Result<(), Fail> {
-    let one = InputValue::scalar(1);
-    let rows = [
-        reads::<Option<i32>>(&rt, &one, "Ok(Some(1))"),
-        reads::<Vec<Vec<i32>>>(&rt, &one, "Ok([[1]])"),
-        reads::<Vec<Option<i32>>>(&rt, &one, "Ok([Some(1)])"),
-        reads::<Option<Vec<Option<i32>>>>(&rt, &one, "Ok(Some([Some(1)]))"),
-        reads::<[Vec<i32>; 1]>(&rt, &one, "Ok([[1]])"),
-        reads::<[i32; 0]>(&rt, &one, "Err(WrongCount { actual: 1, expected: 0 })"),
-        reads::<[i32; 2]>(&rt, &one, "Err(WrongCount { actual: 1, expected: 2 })"),
-        reads::<Box<i32>>(&rt, &one, "Ok(1)"),
-        reads::<Rc<i32>>(&rt, &one, "Ok(1)"),
-    ];
-    for row in rows {
-        row?;
-    }
-    Ok(())
-}
-
-#[test]
-fn lists_are_read(rt: HostRuntime) -> Result<(), Fail> {
-    let alloc = rt.alloc();
+/// Null, 1, and the lists of 1, 2 and 3 or null.
+fn numbers(alloc: Global) -> Result<Vec<InputValue>, AllocError> {
     let whole = one_two_and(alloc, InputValue::scalar(3))?;
     let gap = one_two_and(alloc, InputValue::null())?;
-    let refused = "Err(Item(Message(\"Expected GraphQL scalar, found: null\")))";
-    let rows = [
-        reads::<Vec<i32>>(&rt, &whole, "Ok([1, 2, 3])"),
-        reads::<Vec<Vec<i32>>>(&rt, &whole, "Ok([[1], [2], [3]])"),
-        reads::<[[i32; 1]; 3]>(&rt, &whole, "Ok([[1], [2], [3]])"),
-        reads::<Vec<i32>>(&rt, &gap, refused),
-        reads::<[i32; 3]>(&rt, &gap, refused),
-        reads::<Vec<Vec<i32>>>(&rt, &gap, "Err(Item(Null))"),
-        reads::<[Option<i32>; 3]>(&rt, &gap, "Ok([Some(1), Some(2), None])"),
-        reads::<[Option<i32>; 2]>(&rt, &gap, "Err(WrongCount { actual: 3, expected: 2 })"),
-    ];
-    for row in rows {
-        row?;
-    }
-    Ok(())
+    let values = vec![in alloc; InputValue::null(), InputValue::scalar(1), whole, gap]?;
+    Ok(values)
 }
 
 #[test]
-fn scalars_are_read(rt: HostRuntime) -> Result<(), Fail> {
+fn lists_are_read(rt: HostRuntime) -> Result<(), AllocError> {
     let alloc = rt.alloc();
+    let rows = [
+        check(
+            &rt,
+            reads::<Vec<i32>>(alloc, numbers(alloc)),
+            "Err(Null); Err(Null); Ok([1]); Ok([1, 2, 3]); Err(Item(Message(\"Expected GraphQL scalar, found: null\")))",
+        ),
+        check(
+            &rt,
+            reads::<Vec<Vec<i32>>>(alloc, numbers(alloc)),
+            "Err(Null); Err(Null); Ok([[1]]); Ok([[1], [2], [3]]); Err(Item(Null))",
+        ),
+        check(
+            &rt,
+            reads::<Option<Vec<Option<i32>>>>(alloc, numbers(alloc)),
+            "Ok(None); Ok(None); Ok(Some([Some(1)])); Ok(Some([Some(1), Some(2), Some(3)])); Ok(Some([Some(1), Some(2), None]))",
+        ),
+    ];
+    for row in rows {
+        row?;
+    }
+    Ok(())
+}
+
+#[test]
+fn arrays_are_read(rt: HostRuntime) -> Result<(), AllocError> {
+    let alloc = rt.alloc();
+    let rows = [
+        check(
+            &rt,
+            reads::<[i32; 3]>(alloc, numbers(alloc)),
+            "Err(Null); Err(Null); Err(WrongCount { actual: 1, expected: 3 }); Ok([1, 2, 3]); Err(Item(Message(\"Expected GraphQL scalar, found: null\")))",
+        ),
+        check(
+            &rt,
+            reads::<[i32; 1]>(alloc, numbers(alloc)),
+            "Err(Null); Err(Null); Ok([1]); Err(WrongCount { actual: 3, expected: 1 }); Err(WrongCount { actual: 3, expected: 1 })",
+        ),
+    ];
+    for row in rows {
+        row?;
+    }
+    Ok(())
+}
+
+/// What absence, null, 1 and the two lists mean where an integer may be null.
+const NULLABLE: &str =
+    "Ok(None); Ok(None); Ok(Some(1)); Err(Message(\"Expected GraphQL scalar, found: [1, 2, 3]\")); Err(Message(\"Expected GraphQL scalar, found: [1, 2, null]\"))";
+
+#[test]
+fn nullable_values_are_read(rt: HostRuntime) -> Result<(), AllocError> {
+    let alloc = rt.alloc();
+    let rows = [
+        check(&rt, reads::<Option<i32>>(alloc, numbers(alloc)), NULLABLE),
+        check(
+            &rt,
+            reads::<Box<Option<i32>>>(alloc, numbers(alloc)),
+            NULLABLE,
+        ),
+        check(
+            &rt,
+            reads::<Rc<Option<i32>>>(alloc, numbers(alloc)),
+            NULLABLE,
+        ),
+    ];
+    for row in rows {
+        row?;
+    }
+    Ok(())
+}
+
+/// The text `ab`, `true` and the enum value `RED`.
+fn words(alloc: Global) -> Result<Vec<InputValue>, AllocError> {
     let text = InputValue::scalar(Text::from_str(alloc, "ab")?);
-    let truth = InputValue::scalar(true);
     let color = InputValue::enum_value(alloc, "RED")?;
+    let values = vec![in alloc; text, InputValue::scalar(true), color]?;
+    Ok(values)
+}
+
+#[test]
+fn scalars_are_read(rt: HostRuntime) -> Result<(), AllocError> {
+    let alloc = rt.alloc();
     let rows = [
-        reads::<String>(&rt, &text, "Ok(\"ab\")"),
-        reads::<bool>(&rt, &truth, "Ok(true)"),
-        reads::<i32>(
+        check(
             &rt,
-            &text,
-            "Err(Message(\"Expected `Int`, found: \\\"ab\\\"\"))",
+            reads::<String>(alloc, words(alloc)),
+            "Err(Message(\"Expected GraphQL scalar, found: null\")); Ok(\"ab\"); Err(Message(\"Expected `String`, found: true\")); Err(Message(\"Expected GraphQL scalar, found: RED\"))",
         ),
-        reads::<String>(
+        check(
             &rt,
-            &truth,
-            "Err(Message(\"Expected `String`, found: true\"))",
+            reads::<bool>(alloc, words(alloc)),
+            "Err(Message(\"Expected GraphQL scalar, found: null\")); Err(Message(\"Expected `Boolean`, found: \\\"ab\\\"\")); Ok(true); Err(Message(\"Expected GraphQL scalar, found: RED\"))",
         ),
-        reads::<bool>(
+        check(
             &rt,
-            &color,
-            "Err(Message(\"Expected GraphQL scalar, found: RED\"))",
+            reads::<i32>(alloc, words(alloc)),
+            "Err(Message(\"Expected GraphQL scalar, found: null\")); Err(Message(\"Expected `Int`, found: \\\"ab\\\"\")); Err(Message(\"Expected `Int`, found: true\")); Err(Message(\"Expected GraphQL scalar, found: RED\"))",
         ),
     ];
     for row in rows {
@@ -164,36 +159,34 @@ fn scalars_are_read(rt: HostRuntime) -> Result<(), Fail> {
     Ok(())
 }
 
-#[test]
-fn absent_values_are_read(rt: HostRuntime) -> Result<(), Fail> {
-    let refused = "Err(Message(\"Expected GraphQL scalar, found: null\"))";
-    let rows = [
-        reads_absent::<Option<i32>>(&rt, "Ok(None)"),
-        reads_absent::<Box<Option<i32>>>(&rt, "Ok(None)"),
-        reads_absent::<Rc<Option<i32>>>(&rt, "Ok(None)"),
-        reads_absent::<Vec<i32>>(&rt, "Err(Null)"),
-        reads_absent::<[i32; 1]>(&rt, "Err(Null)"),
-        reads_absent::<i32>(&rt, refused),
-        reads_absent::<bool>(&rt, refused),
-        reads_absent::<String>(&rt, refused),
-    ];
-    for row in rows {
-        row?;
-    }
-    Ok(())
+/// Which input value stands for a value, as `{}` writes it.
+fn giving<T: ToInputValue<DefaultScalarValue> + Drop>(
+    alloc: Global,
+    value: Result<T, AllocError>,
+) -> Result<String, AllocError> {
+    let input: InputValue = value?.to_input_value(alloc)?;
+    input.to_string(alloc)
 }
 
 #[test]
-fn values_are_given(rt: HostRuntime) -> Result<(), Fail> {
+fn values_are_given(rt: HostRuntime) -> Result<(), AllocError> {
+    let alloc = rt.alloc();
     let numbers = [1, 2];
     let none: Option<i32> = None;
+    let list = numbers.to_vec(alloc);
+    let boxed = Box::new(alloc, 1).map_err(AllocError::from);
+    let shared = Rc::new(alloc, 1).map_err(AllocError::from);
     let rows = [
-        gives(&rt, &none, "null"),
-        gives(&rt, &Some(1), "1"),
-        gives(&rt, &numbers.as_slice(), "[1, 2]"),
-        gives(&rt, &[[true]; 2], "[[true], [true]]"),
-        gives(&rt, &&&1, "1"),
-        gives(&rt, &"ab", "\"ab\""),
+        check(&rt, giving(alloc, Ok(none)), "null"),
+        check(&rt, giving(alloc, Ok(Some(1))), "1"),
+        check(&rt, giving(alloc, Ok(numbers.as_slice())), "[1, 2]"),
+        check(&rt, giving(alloc, Ok([[true]; 2])), "[[true], [true]]"),
+        check(&rt, giving(alloc, Ok(&&1)), "1"),
+        check(&rt, giving(alloc, Ok("ab")), "\"ab\""),
+        check(&rt, giving(alloc, list), "[1, 2]"),
+        check(&rt, giving(alloc, boxed), "1"),
+        check(&rt, giving(alloc, shared), "1"),
+        check(&rt, giving(alloc, String::from_str(alloc, "ab")), "\"ab\""),
     ];
     for row in rows {
         row?;
@@ -201,26 +194,36 @@ fn values_are_given(rt: HostRuntime) -> Result<(), Fail> {
     Ok(())
 }
 
-#[test]
-fn owned_values_are_given(rt: HostRuntime) -> Result<(), Fail> {
-    let alloc = rt.alloc();
-    gives(&rt, &vec![in alloc; 1, 2]?, "[1, 2]")?;
-    gives(&rt, &Box::new(alloc, 1)?, "1")?;
-    gives(&rt, &Rc::new(alloc, 1)?, "1")?;
-    gives(&rt, &String::from_str(alloc, "ab")?, "\"ab\"")?;
-    Ok(())
+/// Which input value a value becomes, as `{}` writes it.
+fn becoming<T: IntoInputValue<DefaultScalarValue>>(
+    alloc: Global,
+    value: Result<T, AllocError>,
+) -> Result<String, AllocError> {
+    let input: InputValue = value?.into_input_value(alloc)?;
+    input.to_string(alloc)
 }
 
 #[test]
-fn values_become_input(rt: HostRuntime) -> Result<(), Fail> {
+fn values_become_input(rt: HostRuntime) -> Result<(), AllocError> {
+    let alloc = rt.alloc();
     let none: Option<i32> = None;
     let rows = [
-        becomes(&rt, none, "null"),
-        becomes(&rt, Some(true), "true"),
-        becomes(&rt, &1, "1"),
-        becomes(&rt, 1, "1"),
-        becomes(&rt, "ab", "\"ab\""),
-        becomes(&rt, CowStr::Borrowed("ab"), "\"ab\""),
+        check(&rt, becoming(alloc, Ok(none)), "null"),
+        check(&rt, becoming(alloc, Ok(Some(true))), "true"),
+        check(&rt, becoming(alloc, Ok(&1)), "1"),
+        check(&rt, becoming(alloc, Ok(1)), "1"),
+        check(&rt, becoming(alloc, Ok("ab")), "\"ab\""),
+        check(&rt, becoming(alloc, Ok(CowStr::Borrowed("ab"))), "\"ab\""),
+        check(
+            &rt,
+            becoming(alloc, one_two_and(alloc, InputValue::null())),
+            "[1, 2, null]",
+        ),
+        check(
+            &rt,
+            becoming(alloc, String::from_str(alloc, "ab")),
+            "\"ab\"",
+        ),
     ];
     for row in rows {
         row?;
@@ -229,27 +232,8 @@ fn values_become_input(rt: HostRuntime) -> Result<(), Fail> {
 }
 
 #[test]
-fn owned_values_become_input(rt: HostRuntime) -> Result<(), Fail> {
+fn errors_are_displayed(rt: HostRuntime) -> Result<(), AllocError> {
     let alloc = rt.alloc();
-    let list = one_two_and(alloc, InputValue::null())?;
-    becomes(&rt, list, "[1, 2, null]")?;
-    becomes(&rt, String::from_str(alloc, "ab")?, "\"ab\"")?;
-    Ok(())
-}
-
-/// Asserts what `{}` writes of an error.
-fn displays<E: Display>(
-    rt: &(impl Abort + AllocGlobal),
-    error: &E,
-    expected: &str,
-) -> Result<(), AllocError> {
-    let text = error.to_string(rt.alloc())?;
-    assert_eq!(rt; text.as_str(), expected);
-    Ok(())
-}
-
-#[test]
-fn errors_are_displayed(rt: HostRuntime) -> Result<(), Fail> {
     let no_list: FromInputValueVecError<Vec<i32>, DefaultScalarValue> =
         FromInputValueVecError::Item(FromInputValueVecError::Null);
     let no_array: FromInputValueArrayError<i32, DefaultScalarValue> =
@@ -260,19 +244,19 @@ fn errors_are_displayed(rt: HostRuntime) -> Result<(), Fail> {
             expected: 2,
         };
     let rows = [
-        displays(
+        check(
             &rt,
-            &no_list,
+            no_list.to_string(alloc),
             "Failed to convert into `Vec`: Value cannot be `null`",
         ),
-        displays(
+        check(
             &rt,
-            &no_array,
+            no_array.to_string(alloc),
             "Failed to convert into exact-size array: Value cannot be `null`",
         ),
-        displays(
+        check(
             &rt,
-            &other,
+            other.to_string(alloc),
             "Failed to convert into exact-size array: wrong elements count: 3 instead of 2",
         ),
     ];

@@ -1,59 +1,39 @@
+use crate::told::check;
 use graphql_scalars::{CheckError, DefaultScalarValue, FromScalarValue, Scalar};
 use graphql_text::Text;
 use std::alloc::{AllocError, Global};
+use std::fmt::Debug;
 use std::rc::Rc;
-use std::test::Fail;
 
-/// What a scalar means at another type, or why it means nothing there.
-fn meaning<'s, T: FromScalarValue<'s, DefaultScalarValue>>(
-    alloc: Global,
-    scalar: &'s DefaultScalarValue,
-) -> Result<T, T::Error> {
-    T::from_scalar_value(alloc, scalar)
-}
-
-/// Why a scalar means nothing at another type, in words.
-fn refusal<'s, T: FromScalarValue<'s, DefaultScalarValue, Error = CheckError> + Drop>(
+/// What a scalar means at another type, or why it means nothing there, as `{:?}` writes it.
+fn meaning<'s, T: FromScalarValue<'s, DefaultScalarValue, Error = CheckError> + Debug + Drop>(
     alloc: Global,
     scalar: &'s DefaultScalarValue,
 ) -> Result<String, AllocError> {
-    match meaning::<T>(alloc, scalar) {
-        Ok(_) => String::from_str(alloc, "no refusal"),
-        Err(error) => String::from_str(alloc, error.message()),
+    let meant: Result<T, CheckError> = T::from_scalar_value(alloc, scalar);
+    format!(in alloc; "{meant:?}")
+}
+
+#[test]
+fn scalars_mean_values(rt: HostRuntime) -> Result<(), AllocError> {
+    let alloc = rt.alloc();
+    let seven = DefaultScalarValue::Int(7);
+    let text = DefaultScalarValue::from(Text::from_str(alloc, "a\"b")?);
+    let refused = "Err(Message(\"Expected `Int`, found: \\\"a\\\"b\\\"\"))";
+    let rows = [
+        check(&rt, meaning::<Box<i32>>(alloc, &seven), "Ok(7)"),
+        check(&rt, meaning::<Rc<i32>>(alloc, &seven), "Ok(7)"),
+        check(
+            &rt,
+            meaning::<Scalar<DefaultScalarValue>>(alloc, &seven),
+            "Ok(Scalar { held: Int(7) })",
+        ),
+        check(&rt, meaning::<String>(alloc, &text), "Ok(\"a\\\"b\")"),
+        check(&rt, meaning::<Text>(alloc, &text), "Ok(\"a\\\"b\")"),
+        check(&rt, meaning::<Box<i32>>(alloc, &text), refused),
+    ];
+    for row in rows {
+        row?;
     }
-}
-
-/// The text `a"b`, as a scalar.
-fn letters(alloc: Global) -> Result<DefaultScalarValue, AllocError> {
-    Ok(DefaultScalarValue::from(Text::from_str(alloc, "a\"b")?))
-}
-
-#[test]
-fn scalars_mean_values(rt: HostRuntime) -> Result<(), Fail> {
-    let alloc = rt.alloc();
-    let number = DefaultScalarValue::Int(7);
-    assert_eq!(rt; Box::into_inner(meaning::<Box<i32>>(alloc, &number)?), 7);
-    assert_eq!(rt; *meaning::<Rc<i32>>(alloc, &number)?, 7);
-    assert_eq!(rt;
-        *meaning::<Scalar<DefaultScalarValue>>(alloc, &number)?.get(),
-        number
-    );
-    Ok(())
-}
-
-#[test]
-fn texts_mean_texts(rt: HostRuntime) -> Result<(), Fail> {
-    let alloc = rt.alloc();
-    let text = letters(alloc)?;
-    assert_eq!(rt; meaning::<String>(alloc, &text)?.as_str(), "a\"b");
-    assert_eq!(rt; meaning::<Text>(alloc, &text)?.as_str(), "a\"b");
-    Ok(())
-}
-
-#[test]
-fn refusals_name_the_type(rt: HostRuntime) -> Result<(), Fail> {
-    let alloc = rt.alloc();
-    let words = refusal::<Box<i32>>(alloc, &letters(alloc)?)?;
-    assert_eq!(rt; words.as_str(), "Expected `Int`, found: \"a\"b\"");
     Ok(())
 }

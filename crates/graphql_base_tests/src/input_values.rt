@@ -1,13 +1,12 @@
+use crate::told::check;
 use graphql_scalars::DefaultScalarValue;
-use graphql_text::{Items, Text, TextRef};
+use graphql_text::Text;
 use graphql_values::laws::{
     same_value_is_an_equivalence, variables_are_listed, variables_are_replaced,
 };
 use graphql_values::{InputValue, Variables};
 use std::alloc::{AllocError, Global};
 use std::collections::HashMap;
-use std::process::Abort;
-use std::test::Fail;
 
 /// The list of the variable `v`, the enum value `JEDI`, null and the text `a"b`.
 fn list_of_four(alloc: Global) -> Result<InputValue, AllocError> {
@@ -44,98 +43,60 @@ fn two_fields(alloc: Global, rows: TwoFields) -> Result<InputValue, AllocError> 
 }
 
 /// What `{}` writes of a value.
-fn check_text(
-    rt: &impl Abort,
-    alloc: Global,
-    value: Result<InputValue, AllocError>,
-    text: &str,
-) -> Result<(), AllocError> {
-    let written = value?.to_string(alloc)?;
-    assert_eq!(rt; written.as_str(), text);
-    Ok(())
+fn written(alloc: Global, value: Result<InputValue, AllocError>) -> Result<String, AllocError> {
+    value?.to_string(alloc)
 }
 
-#[test]
-fn values_are_displayed(rt: HostRuntime) -> Result<(), Fail> {
-    let alloc = rt.alloc();
-    let rows = [
-        check_text(&rt, alloc, sample(alloc), "{k: [$v, JEDI, null, \"a\"b\"]}"),
-        check_text(
-            &rt,
-            alloc,
-            two_fields(alloc, [("k", 1), ("l", -2)]),
-            "{k: 1, l: -2}",
-        ),
-    ];
-    for row in rows {
-        row?;
-    }
-    Ok(())
-}
-
-/// What `{:?}` writes of a value begins so.
-fn check_debug(
-    rt: &impl Abort,
-    alloc: Global,
-    value: Result<InputValue, AllocError>,
-    start: &str,
-) -> Result<(), AllocError> {
+/// What `{:?}` writes of a value.
+fn debugged(alloc: Global, value: Result<InputValue, AllocError>) -> Result<String, AllocError> {
     let value = value?;
-    let text = format!(in alloc; "{value:?}")?;
-    assert!(rt; text.as_str().starts_with(start));
-    Ok(())
+    format!(in alloc; "{value:?}")
 }
+
+/// What `{:?}` writes of the object of null as `k`, which stands in no text.
+const DEBUGGED: &str =
+    "Object([(Spanning { item: \"k\", span: Span { start: SourcePosition { index: 0, line: 0, column: 0 }, end: SourcePosition { index: 0, line: 0, column: 0 } } }, Spanning { item: Null, span: Span { start: SourcePosition { index: 0, line: 0, column: 0 }, end: SourcePosition { index: 0, line: 0, column: 0 } } })])";
 
 #[test]
-fn values_are_debugged(rt: HostRuntime) -> Result<(), Fail> {
+fn values_are_displayed(rt: HostRuntime) -> Result<(), AllocError> {
     let alloc = rt.alloc();
-    let list = "List([Spanning { item: Variable(\"v\"), span";
-    let object = "Object([(Spanning { item: \"k\", span";
-    let empty = InputValue::parsed_object(Items::new(alloc));
+    let numbers = two_fields(alloc, [("k", 1), ("l", -2)]);
+    let v = InputValue::variable(alloc, "v");
+    let object = under_k(alloc, InputValue::null());
     let rows = [
-        check_debug(&rt, alloc, list_of_four(alloc), list),
-        check_debug(&rt, alloc, sample(alloc), object),
-        check_debug(&rt, alloc, Ok(empty), "Object([])"),
-    ];
-    for row in rows {
-        row?;
-    }
-    Ok(())
-}
-
-/// Whether a value is null, the name of an enum value, and the scalar, as `{:?}` writes them.
-fn check_kind(
-    rt: &impl Abort,
-    alloc: Global,
-    value: Result<InputValue, AllocError>,
-    words: &str,
-) -> Result<(), AllocError> {
-    let value = value?;
-    let null = value.is_null();
-    let name = value.as_enum_value();
-    let scalar = value.as_scalar();
-    let text = format!(in alloc; "{null} {name:?} {scalar:?}")?;
-    assert_eq!(rt; text.as_str(), words);
-    Ok(())
-}
-
-#[test]
-fn kinds_are_told(rt: HostRuntime) -> Result<(), Fail> {
-    let alloc = rt.alloc();
-    let red = InputValue::enum_value(alloc, "RED");
-    let rows = [
-        check_kind(&rt, alloc, Ok(InputValue::null()), "true None None"),
-        check_kind(&rt, alloc, red, "false Some(\"RED\") None"),
-        check_kind(
+        check(
             &rt,
-            alloc,
-            Ok(InputValue::scalar(5)),
-            "false None Some(Int(5))",
+            written(alloc, sample(alloc)),
+            "{k: [$v, JEDI, null, \"a\"b\"]}",
         ),
+        check(&rt, written(alloc, numbers), "{k: 1, l: -2}"),
+        check(&rt, debugged(alloc, v), "Variable(\"v\")"),
+        check(&rt, debugged(alloc, object), DEBUGGED),
     ];
     for row in rows {
         row?;
     }
+    Ok(())
+}
+
+/// Whether null, the enum value `RED` and the scalar 5 are told as what they are, and not as another.
+fn kinds(alloc: Global) -> Result<[bool; 5], AllocError> {
+    let red: InputValue = InputValue::enum_value(alloc, "RED")?;
+    let null: InputValue = InputValue::null();
+    let five: InputValue = InputValue::scalar(5);
+    Ok([
+        null.is_null() && !red.is_null(),
+        red.as_enum_value() == Some("RED"),
+        five.as_enum_value().is_none(),
+        five.as_scalar() == Some(&DefaultScalarValue::Int(5)),
+        null.as_scalar().is_none(),
+    ])
+}
+
+#[test]
+fn kinds_are_told(rt: HostRuntime) -> Result<(), AllocError> {
+    let kinds = kinds(rt.alloc())?;
+    assert_eq!(rt; kinds, [true; 5]);
     Ok(())
 }
 
@@ -147,13 +108,6 @@ fn item_count(alloc: Global, list: &InputValue) -> Result<Option<usize>, AllocEr
     }
 }
 
-#[test]
-fn items_are_lent(rt: HostRuntime) -> Result<(), Fail> {
-    let list = list_of_four(rt.alloc())?;
-    assert_eq!(rt; item_count(rt.alloc(), &list)?, Some(4));
-    Ok(())
-}
-
 /// How many fields an object lends.
 fn field_count(alloc: Global, object: &InputValue) -> Result<Option<usize>, AllocError> {
     match object.to_object_value(alloc)? {
@@ -162,23 +116,22 @@ fn field_count(alloc: Global, object: &InputValue) -> Result<Option<usize>, Allo
     }
 }
 
-#[test]
-fn later_fields_replace(rt: HostRuntime) -> Result<(), Fail> {
-    let twice = two_fields(rt.alloc(), [("k", 1), ("k", 2)])?;
-    assert_eq!(rt; field_count(rt.alloc(), &twice)?, Some(1));
-    Ok(())
+/// How many items a list of four lends, and how many fields an object with one name twice.
+fn counts(alloc: Global) -> Result<String, AllocError> {
+    let items = item_count(alloc, &list_of_four(alloc)?)?;
+    let fields = field_count(alloc, &two_fields(alloc, [("k", 1), ("k", 2)])?)?;
+    format!(in alloc; "{items:?} {fields:?}")
 }
 
-#[test]
-fn variables_are_found(rt: HostRuntime) -> Result<(), Fail> {
-    let object = sample(rt.alloc())?;
-    let names = object.referenced_variables(rt.alloc())?;
-    assert_eq!(rt; names.as_slice(), [TextRef::new("v")].as_slice());
-    Ok(())
+/// The variables of the sample.
+fn variables(alloc: Global) -> Result<String, AllocError> {
+    let object = sample(alloc)?;
+    let names = object.referenced_variables(alloc)?;
+    format!(in alloc; "{names:?}")
 }
 
 /// `true` for the variable `v`.
-fn values_of_v(alloc: Global) -> Result<Variables<DefaultScalarValue>, Fail> {
+fn values_of_v(alloc: Global) -> Result<Variables<DefaultScalarValue>, AllocError> {
     let name = String::from_str(alloc, "v")?;
     let mut variables = HashMap::new(alloc);
     variables.insert(name, InputValue::scalar(true))?;
@@ -197,19 +150,25 @@ fn constant_text(
     }
 }
 
-#[test]
-fn variables_get_their_values(rt: HostRuntime) -> Result<(), Fail> {
-    let variables = values_of_v(rt.alloc())?;
-    let text = constant_text(rt.alloc(), &variables)?;
-    assert_eq!(rt; text.as_str(), "{k: [true, JEDI, null, \"a\"b\"]}");
-    Ok(())
+/// What `{}` writes of the sample with `true` for its variable.
+fn filled(alloc: Global) -> Result<String, AllocError> {
+    let variables = values_of_v(alloc)?;
+    constant_text(alloc, &variables)
 }
 
 #[test]
-fn variables_may_lack_values(rt: HostRuntime) -> Result<(), Fail> {
-    let none: Variables<DefaultScalarValue> = HashMap::new(rt.alloc());
-    let text = constant_text(rt.alloc(), &none)?;
-    assert_eq!(rt; text.as_str(), "no value");
+fn parts_are_lent_and_variables_filled(rt: HostRuntime) -> Result<(), AllocError> {
+    let alloc = rt.alloc();
+    let none: Variables<DefaultScalarValue> = HashMap::new(alloc);
+    let rows = [
+        check(&rt, counts(alloc), "Some(4) Some(1)"),
+        check(&rt, variables(alloc), "[\"v\"]"),
+        check(&rt, filled(alloc), "{k: [true, JEDI, null, \"a\"b\"]}"),
+        check(&rt, constant_text(alloc, &none), "no value"),
+    ];
+    for row in rows {
+        row?;
+    }
     Ok(())
 }
 
@@ -218,21 +177,6 @@ fn are_same(alloc: Global, one: TwoFields, other: TwoFields) -> Result<bool, All
     let one = two_fields(alloc, one)?;
     let other = two_fields(alloc, other)?;
     Ok(one.unlocated_eq(&other))
-}
-
-#[test]
-fn objects_are_compared(rt: HostRuntime) -> Result<(), Fail> {
-    let two = [("k", 1), ("l", 2)];
-    let repeated = [("k", 1), ("k", 1)];
-    let rows = [
-        (two, [("l", 2), ("k", 1)], true),
-        (repeated, two, false),
-        (two, repeated, false),
-    ];
-    for row in rows {
-        assert_eq!(rt; are_same(rt.alloc(), row.0, row.1)?, row.2);
-    }
-    Ok(())
 }
 
 /// An object of one field, which is an object of one field, and so on.
@@ -244,12 +188,25 @@ fn nested(alloc: Global, depth: usize) -> Result<InputValue, AllocError> {
     Ok(value)
 }
 
-#[test]
-fn deep_objects_are_compared(rt: HostRuntime) -> Result<(), Fail> {
-    let alloc = rt.alloc();
+/// Whether a deep object is the same as itself, and not as one less deep.
+fn deep_are_same(alloc: Global) -> Result<(bool, bool), AllocError> {
     let one = nested(alloc, 60)?;
     let other = nested(alloc, 59)?;
-    assert!(rt; one.unlocated_eq(&one) && !one.unlocated_eq(&other));
+    Ok((one.unlocated_eq(&one), one.unlocated_eq(&other)))
+}
+
+#[test]
+fn objects_are_compared(rt: HostRuntime) -> Result<(), AllocError> {
+    let alloc = rt.alloc();
+    let two = [("k", 1), ("l", 2)];
+    let repeated = [("k", 1), ("k", 1)];
+    let turned = are_same(alloc, two, [("l", 2), ("k", 1)])?;
+    assert!(rt; turned);
+    let first = are_same(alloc, repeated, two)?;
+    let last = are_same(alloc, two, repeated)?;
+    assert!(rt; !first && !last);
+    let (same, other) = deep_are_same(alloc)?;
+    assert!(rt; same && !other);
     Ok(())
 }
 

@@ -1,8 +1,8 @@
 ghost use Rattle.std.specs.Prelude.{◌≡◌, ◌+◌, ◌<◌, ◌%◌, ◌==◌, IfOk, length, EachIndex, filter, slice_index, slice_set};
 
+use crate::told::check;
 use graphql_items::Items;
 use std::alloc::{AllocError, Global};
-use std::test::Fail;
 
 /// The items from the first to the last, by a loop over a borrow.
 fn copied(alloc: Global, items: &Items<u8>) -> Result<Items<u8>, AllocError>
@@ -73,38 +73,54 @@ fn begin_again(alloc: Global, items: &mut Items<u8>) -> Result<(), AllocError> {
     items.append(&mut more)
 }
 
-#[test]
-fn grows(rt: HostRuntime) -> Result<(), Fail> {
-    let mut items = Items::from(vec![in rt.alloc(); 3, 1]?);
+/// Two items that have grown.
+fn grown(alloc: Global) -> Result<String, AllocError> {
+    let mut items = Items::from(vec![in alloc; 3, 1]?);
     grow(&mut items)?;
-    assert_eq!(rt; items.as_slice(), [1, 2, 3, 4, 5, 8, 7].as_slice());
-    Ok(())
+    format!(in alloc; "{items:?}")
 }
 
-#[test]
-fn moves_and_shows(rt: HostRuntime) -> Result<(), Fail> {
-    let mut items = Items::from(vec![in rt.alloc(); 3, 4, 6]?);
-    begin_again(rt.alloc(), &mut items)?;
-    let copy = evens(rt.alloc(), &items)?.clone()?;
-    let shown = format!(in rt.alloc(); "{items:?} {copy:?}")?;
-    assert_eq!(rt; shown.as_str(), "[3, 3, 4, 6] [4, 6]");
-    Ok(())
+/// Three items that were moved, and a copy of those that are even.
+fn begun_again(alloc: Global) -> Result<String, AllocError> {
+    let mut items = Items::from(vec![in alloc; 3, 4, 6]?);
+    begin_again(alloc, &mut items)?;
+    let copy = evens(alloc, &items)?.clone()?;
+    format!(in alloc; "{items:?} {copy:?}")
 }
 
-#[test]
-fn lends_what_is_written(rt: HostRuntime) -> Result<(), Fail> {
-    let mut items = Items::with_capacity(rt.alloc(), 2)?;
-    items.push(1)?;
-    items.push(2)?;
-    if items.len() == 2 {
-        set_first(&mut items);
-        assert_eq!(rt; both(&items), 9);
-    }
-    for item in &mut items {
+/// Makes each item five.
+fn set_fives(items: &mut Items<u8>) {
+    for item in items {
         *item = 5;
     }
-    assert_eq!(rt; items.as_slice(), [5, 5].as_slice());
+}
+
+/// The sum of two items of which the first is seven, and the items, each five and then each seven.
+fn written(alloc: Global) -> Result<String, AllocError> {
+    let mut items = Items::with_capacity(alloc, 2)?;
+    items.push(1)?;
+    items.push(2)?;
+    let mut sum = 0;
+    if items.len() == 2 {
+        set_first(&mut items);
+        sum = both(&items);
+    }
+    set_fives(&mut items);
+    let fives = format!(in alloc; "{sum} {items:?}")?;
     set_each(&mut items);
-    assert_eq!(rt; items.into_vec().as_slice(), [7, 7].as_slice());
+    format!(in alloc; "{fives} {:?}", items.into_vec())
+}
+
+#[test]
+fn items_are_kept_and_lent(rt: HostRuntime) -> Result<(), AllocError> {
+    let alloc = rt.alloc();
+    let rows = [
+        check(&rt, grown(alloc), "[1, 2, 3, 4, 5, 8, 7]"),
+        check(&rt, begun_again(alloc), "[3, 3, 4, 6] [4, 6]"),
+        check(&rt, written(alloc), "9 [5, 5] [7, 7]"),
+    ];
+    for row in rows {
+        row?;
+    }
     Ok(())
 }

@@ -38,4 +38,6 @@ mod to_scalars;
 #[cfg(test)]
 mod tokens;
 #[cfg(test)]
+mod told;
+#[cfg(test)]
 mod type_references;

@@ -1,26 +1,6 @@
+use crate::told::check_each;
 use graphql_names::Name;
 use std::alloc::{AllocError, Global};
-use std::test::Fail;
-
-#[test]
-fn names_are_checked(rt: HostRuntime) {
-    let rows = [
-        ("Foo", true),
-        ("foo42", true),
-        ("_Foo", true),
-        ("_", true),
-        ("__type", true),
-        ("42_Foo", false),
-        ("Foo-42", false),
-        ("Foo???", false),
-        ("fóo", false),
-        (" Foo", false),
-        ("", false),
-    ];
-    for row in rows {
-        assert_eq!(rt; Name::is_valid(row.0), row.1);
-    }
-}
 
 /// A copy of a name as `{}` writes it, and the name as `{:?}` does.
 fn name_text(alloc: Global, name: &Name) -> Result<String, AllocError> {
@@ -37,7 +17,7 @@ fn reading_text(alloc: Global, text: &str) -> Result<String, AllocError> {
 }
 
 #[test]
-fn names_are_read(rt: HostRuntime) -> Result<(), Fail> {
+fn names_are_read(rt: HostRuntime) -> Result<(), AllocError> {
     let rows = [
         ("b_1", "b_1 \"b_1\""),
         (
@@ -45,9 +25,35 @@ fn names_are_read(rt: HostRuntime) -> Result<(), Fail> {
             "\"1b\" is no name: letters, digits and underscores, with no digit first",
         ),
     ];
-    for row in rows {
-        let words = reading_text(rt.alloc(), row.0)?;
-        assert_eq!(rt; words.as_str(), row.1);
-    }
-    Ok(())
+    check_each(&rt, &reading_text, &rows)
+}
+
+/// Whether a text is a name.
+fn validity(alloc: Global, text: &str) -> Result<String, AllocError> {
+    let word = if Name::is_valid(text) {
+        "a name"
+    } else {
+        "none"
+    };
+    String::from_str(alloc, word)
+}
+
+/// Texts, and whether each is a name.
+const TEXTS: [(&str, &str); 11] = [
+    ("Foo", "a name"),
+    ("foo42", "a name"),
+    ("_Foo", "a name"),
+    ("_", "a name"),
+    ("__type", "a name"),
+    ("42_Foo", "none"),
+    ("Foo-42", "none"),
+    ("Foo???", "none"),
+    ("fóo", "none"),
+    (" Foo", "none"),
+    ("", "none"),
+];
+
+#[test]
+fn names_are_checked(rt: HostRuntime) -> Result<(), AllocError> {
+    check_each(&rt, &validity, &TEXTS)
 }

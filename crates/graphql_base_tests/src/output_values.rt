@@ -1,13 +1,12 @@
 ghost use Rattle.std.specs.Prelude.{◌≡◌, IfOk};
 ghost use Rattle.graphql_items.specs.Memory.{Gives};
 
+use crate::told::check;
 use graphql_items::{Items, Text};
 use graphql_output_values::{DefaultScalarValue, IntoValue, Object, Value, laws};
 use graphql_scalars::ToScalarValue;
 use std::alloc::{AllocError, Global};
 use std::borrow::CowStr;
-use std::process::Abort;
-use std::test::Fail;
 
 /// The value that another value becomes.
 fn made<S, T: IntoValue<S>>(alloc: Global, value: T) -> Result<Value<S>, AllocError>
@@ -16,27 +15,39 @@ fn made<S, T: IntoValue<S>>(alloc: Global, value: T) -> Result<Value<S>, AllocEr
     value.into_value(alloc)
 }
 
-/// The field of this key and value.
-fn pair(alloc: Global, key: &str, value: Value) -> Result<(Text, Value), AllocError> {
-    Ok((Text::from_str(alloc, key)?, value))
+type Fields = Object<DefaultScalarValue>;
+
+/// The object with this value under this key.
+fn with_field(
+    fields: Fields,
+    alloc: Global,
+    key: &str,
+    value: Value,
+) -> Result<Fields, AllocError> {
+    let mut fields = fields;
+    let _ = fields.add_field(Text::from_str(alloc, key)?, value)?;
+    Ok(fields)
 }
 
 /// The object of an integer, `null` and a text.
-fn sample(alloc: Global) -> Result<Object<DefaultScalarValue>, AllocError> {
-    let mut object = Object::with_capacity(alloc, 3)?;
-    let _ = object.add_field(Text::from_str(alloc, "int")?, Value::scalar(1))?;
-    let _ = object.add_field(Text::from_str(alloc, "null")?, Value::null())?;
-    let _ = object.add_field(Text::from_str(alloc, "string")?, made(alloc, "foo")?)?;
-    Ok(object)
+fn sample(alloc: Global) -> Result<Fields, AllocError> {
+    let text = made(alloc, "foo")?;
+    let one = with_field(
+        Object::with_capacity(alloc, 3)?,
+        alloc,
+        "int",
+        Value::scalar(1),
+    )?;
+    let two = with_field(one, alloc, "null", Value::null())?;
+    with_field(two, alloc, "string", text)
 }
 
 /// The object of the same fields in another order.
-fn sample_in_another_order(alloc: Global) -> Result<Object<DefaultScalarValue>, AllocError> {
-    let mut object = Object::with_capacity(alloc, 3)?;
-    let _ = object.add_field(Text::from_str(alloc, "string")?, made(alloc, "foo")?)?;
-    let _ = object.add_field(Text::from_str(alloc, "null")?, Value::null())?;
-    let _ = object.add_field(Text::from_str(alloc, "int")?, Value::scalar(1))?;
-    Ok(object)
+fn sample_in_another_order(alloc: Global) -> Result<Fields, AllocError> {
+    let text = made(alloc, "foo")?;
+    let one = with_field(Object::with_capacity(alloc, 3)?, alloc, "string", text)?;
+    let two = with_field(one, alloc, "null", Value::null())?;
+    with_field(two, alloc, "int", Value::scalar(1))
 }
 
 /// The list of `true` and a text with quotes.
@@ -47,56 +58,59 @@ fn list_of_two(alloc: Global) -> Result<Value, AllocError> {
     Ok(Value::list(items))
 }
 
-/// Asserts what `{}` writes of a value.
-fn check_text(rt: &impl Abort, alloc: Global, value: &Value, text: &str) -> Result<(), AllocError> {
-    assert_eq!(rt; value.to_string(alloc)?.as_str(), text);
-    Ok(())
+/// What `{}` writes of a value.
+fn written(alloc: Global, value: Result<Value, AllocError>) -> Result<String, AllocError> {
+    value?.to_string(alloc)
 }
 
-#[test]
-fn values_are_displayed(rt: HostRuntime) -> Result<(), Fail> {
-    let alloc = rt.alloc();
-    check_text(&rt, alloc, &list_of_two(alloc)?, "[true, \"a \"b\"\"]")?;
-    let object = Value::object(sample(alloc)?);
-    let text = "{\"int\": 1, \"null\": null, \"string\": \"foo\"}";
-    check_text(&rt, alloc, &object, text)?;
-    Ok(())
+/// What `{}` writes of the value of an object.
+fn object_text(alloc: Global, object: Result<Fields, AllocError>) -> Result<String, AllocError> {
+    Value::object(object?).to_string(alloc)
 }
 
-#[test]
-fn empty_values_are_displayed(rt: HostRuntime) -> Result<(), Fail> {
-    let alloc = rt.alloc();
-    check_text(&rt, alloc, &Value::list(Items::new(alloc)), "[]")?;
-    let empty = Value::object(Object::with_capacity(alloc, 0)?);
-    check_text(&rt, alloc, &empty, "{}")?;
-    Ok(())
-}
-
-#[test]
-fn fields_are_put(rt: HostRuntime) -> Result<(), Fail> {
-    let alloc = rt.alloc();
-    let mut object = sample(alloc)?;
-    let old = object.add_field(Text::from_str(alloc, "int")?, Value::scalar(2))?;
-    assert!(rt; old == Some(Value::scalar(1)));
-    if let Some(value) = object.get_mut_field_value("null") {
+/// Puts `false` where this key has a value.
+fn set_false(object: &mut Fields, key: &str) {
+    if let Some(value) = object.get_mut_field_value(key) {
         *value = Value::scalar(false);
     }
-    let text = "{\"int\": 2, \"null\": false, \"string\": \"foo\"}";
-    check_text(&rt, alloc, &Value::object(object), text)?;
-    Ok(())
+}
+
+/// Whether the sample's integer was 1, and the sample with 2 for it and `false` for `null`.
+fn put_text(alloc: Global) -> Result<String, AllocError> {
+    let mut object = sample(alloc)?;
+    let old = object.add_field(Text::from_str(alloc, "int")?, Value::scalar(2))?;
+    let was_one = old == Some(Value::scalar(1));
+    set_false(&mut object, "null");
+    let value = Value::object(object);
+    format!(in alloc; "{was_one} {value}")
+}
+
+/// The sample's value with `true` for each scalar.
+fn hidden_text(alloc: Global) -> Result<String, AllocError> {
+    let value: Value = Value::object(sample(alloc)?);
+    let hidden: Value = value.map_scalar_value(|_scalar: DefaultScalarValue| {
+        DefaultScalarValue::Boolean(true)
+    })?;
+    hidden.to_string(alloc)
+}
+
+/// The field of this key and value.
+fn pair(alloc: Global, key: &str, value: i32) -> Result<(Text, Value), AllocError> {
+    Ok((Text::from_str(alloc, key)?, Value::scalar(value)))
 }
 
 /// The pairs of `a`, `b` and `a` again.
 fn three_pairs(alloc: Global) -> Result<Vec<(Text, Value)>, AllocError> {
-    let mut pairs = Vec::new(alloc);
-    pairs.push(pair(alloc, "a", Value::scalar(1))?)?;
-    pairs.push(pair(alloc, "b", Value::scalar(2))?)?;
-    pairs.push(pair(alloc, "a", Value::scalar(3))?)?;
+    let pairs = vec![in alloc;
+        pair(alloc, "a", 1)?,
+        pair(alloc, "b", 2)?,
+        pair(alloc, "a", 3)?,
+    ]?;
     Ok(pairs)
 }
 
 /// The keys of an object, in order.
-fn keys_of(alloc: Global, object: &Object<DefaultScalarValue>) -> Result<String, AllocError> {
+fn keys_of(alloc: Global, object: &Fields) -> Result<String, AllocError> {
     let mut keys = String::new(alloc);
     for field in object {
         keys.push_str(field.0.as_str())?;
@@ -104,61 +118,92 @@ fn keys_of(alloc: Global, object: &Object<DefaultScalarValue>) -> Result<String,
     Ok(keys)
 }
 
-#[test]
-fn objects_are_made_and_walked(rt: HostRuntime) -> Result<(), Fail> {
-    let alloc = rt.alloc();
+/// The keys of the object that is made of three pairs.
+fn made_keys(alloc: Global) -> Result<String, AllocError> {
     let object = Object::from_iter(alloc, three_pairs(alloc)?)?;
-    assert_eq!(rt; keys_of(alloc, &object)?.as_str(), "ab");
-    Ok(())
+    keys_of(alloc, &object)
 }
 
 #[test]
-fn order_of_fields_is_not_seen(rt: HostRuntime) -> Result<(), Fail> {
+fn values_are_displayed(rt: HostRuntime) -> Result<(), AllocError> {
     let alloc = rt.alloc();
-    let one = Value::object(sample(alloc)?);
-    let other = Value::object(sample_in_another_order(alloc)?);
-    assert!(rt; one == other && one != Value::null());
-    Ok(())
-}
-
-#[test]
-fn scalars_are_mapped(rt: HostRuntime) -> Result<(), Fail> {
-    let alloc = rt.alloc();
-    let value: Value = Value::object(sample(alloc)?);
-    let hidden: Value = value.map_scalar_value(|_scalar: DefaultScalarValue| {
-        DefaultScalarValue::Boolean(true)
-    })?;
-    let text = "{\"int\": true, \"null\": null, \"string\": true}";
-    check_text(&rt, alloc, &hidden, text)?;
-    Ok(())
-}
-
-/// Asserts which value another value becomes, as `{}` writes it.
-fn check_becoming<T: IntoValue<DefaultScalarValue>>(
-    rt: &impl Abort,
-    alloc: Global,
-    value: T,
-    text: &str,
-) -> Result<(), AllocError> {
-    let becomes: Value = made(alloc, value)?;
-    check_text(rt, alloc, &becomes, text)
-}
-
-#[test]
-fn other_values_become_values(rt: HostRuntime) -> Result<(), Fail> {
-    let alloc = rt.alloc();
-    let nothing: Option<i32> = None;
     let rows = [
-        check_becoming(&rt, alloc, nothing, "null"),
-        check_becoming(&rt, alloc, Some(5), "5"),
-        check_becoming(&rt, alloc, &5, "5"),
-        check_becoming(&rt, alloc, true, "true"),
-        check_becoming(&rt, alloc, CowStr::Borrowed("b"), "\"b\""),
+        check(
+            &rt,
+            written(alloc, list_of_two(alloc)),
+            "[true, \"a \"b\"\"]",
+        ),
+        check(
+            &rt,
+            object_text(alloc, sample(alloc)),
+            "{\"int\": 1, \"null\": null, \"string\": \"foo\"}",
+        ),
+        check(
+            &rt,
+            written(alloc, Ok(Value::list(Items::new(alloc)))),
+            "[]",
+        ),
+        check(
+            &rt,
+            object_text(alloc, Object::with_capacity(alloc, 0)),
+            "{}",
+        ),
+        check(
+            &rt,
+            put_text(alloc),
+            "true {\"int\": 2, \"null\": false, \"string\": \"foo\"}",
+        ),
+        check(
+            &rt,
+            hidden_text(alloc),
+            "{\"int\": true, \"null\": null, \"string\": true}",
+        ),
+        check(&rt, made_keys(alloc), "ab"),
     ];
     for row in rows {
         row?;
     }
-    check_becoming(&rt, alloc, String::from_str(alloc, "a")?, "\"a\"")?;
+    Ok(())
+}
+
+/// Whether the sample is equal to that of another order, and whether it is to null.
+fn equalities(alloc: Global) -> Result<(bool, bool), AllocError> {
+    let one = Value::object(sample(alloc)?);
+    let other = Value::object(sample_in_another_order(alloc)?);
+    Ok((one == other, one == Value::null()))
+}
+
+#[test]
+fn order_of_fields_is_not_seen(rt: HostRuntime) -> Result<(), AllocError> {
+    let (same, null) = equalities(rt.alloc())?;
+    assert!(rt; same && !null);
+    Ok(())
+}
+
+/// Which value another value becomes, as `{}` writes it.
+fn becoming<T: IntoValue<DefaultScalarValue>>(
+    alloc: Global,
+    value: Result<T, AllocError>,
+) -> Result<String, AllocError> {
+    let becomes: Value = made(alloc, value?)?;
+    becomes.to_string(alloc)
+}
+
+#[test]
+fn other_values_become_values(rt: HostRuntime) -> Result<(), AllocError> {
+    let alloc = rt.alloc();
+    let nothing: Option<i32> = None;
+    let rows = [
+        check(&rt, becoming(alloc, Ok(nothing)), "null"),
+        check(&rt, becoming(alloc, Ok(Some(5))), "5"),
+        check(&rt, becoming(alloc, Ok(&5)), "5"),
+        check(&rt, becoming(alloc, Ok(true)), "true"),
+        check(&rt, becoming(alloc, Ok(CowStr::Borrowed("b"))), "\"b\""),
+        check(&rt, becoming(alloc, String::from_str(alloc, "a")), "\"a\""),
+    ];
+    for row in rows {
+        row?;
+    }
     Ok(())
 }
 

@@ -1,7 +1,7 @@
+use crate::told::check;
 use graphql_scalars::{CheckError, DefaultScalarValue, TryToPrimitive};
 use graphql_text::Text;
 use std::alloc::Global;
-use std::test::Fail;
 
 /// A scalar as a plain value, or why it is none.
 fn primitive<'me, T, S: TryToPrimitive<'me, T, Error = CheckError>>(
@@ -11,13 +11,16 @@ fn primitive<'me, T, S: TryToPrimitive<'me, T, Error = CheckError>>(
     scalar.try_to_primitive(alloc)
 }
 
-#[test]
-fn scalars_are_plain_values(rt: HostRuntime) -> Result<(), Fail> {
-    let alloc = rt.alloc();
+/// The scalar of the text `a`, as a plain text.
+fn letter(alloc: Global) -> Result<String, CheckError> {
     let text = DefaultScalarValue::from(Text::from_str(alloc, "a")?);
-    let owned: String = primitive(&text, alloc)?;
-    assert_eq!(rt; owned.as_str(), "a");
-    Ok(())
+    primitive(&text, alloc)
+}
+
+#[test]
+fn scalars_are_plain_values(rt: HostRuntime) -> Result<(), CheckError> {
+    let told = letter(rt.alloc());
+    check(&rt, told, "a")
 }
 
 /// Why the integer -5 is no boolean.

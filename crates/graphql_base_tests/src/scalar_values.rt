@@ -1,8 +1,8 @@
+use crate::told::check;
 use graphql_scalars::{DefaultScalarValue, ScalarValue};
 use graphql_text::Text;
 use std::alloc::{AllocError, Global};
 use std::fmt::Display;
-use std::test::Fail;
 
 /// The same answer in another type of scalars.
 fn another<S: ScalarValue + Drop, T: ScalarValue>(scalar: S) -> T {
@@ -14,25 +14,34 @@ fn displayed<S: ScalarValue>(alloc: Global, value: &impl Display) -> Result<S, A
     S::from_displayable(alloc, value)
 }
 
-#[test]
-fn answers_stay_the_same(rt: HostRuntime) -> Result<(), Fail> {
-    let text = DefaultScalarValue::from(Text::from_str(rt.alloc(), "5")?);
-    let again: DefaultScalarValue = another(text);
-    assert_eq!(rt; again.try_as_str(), Some("5"));
-    Ok(())
+/// The text of a scalar, lent and owned.
+fn texts(
+    alloc: Global,
+    scalar: Result<DefaultScalarValue, AllocError>,
+) -> Result<String, AllocError> {
+    let scalar: DefaultScalarValue = another(scalar?);
+    let owned = scalar.try_to_string(alloc)?;
+    let lent = scalar.try_as_str();
+    format!(in alloc; "{lent:?} {owned:?}")
 }
 
 #[test]
-fn scalars_are_asked(rt: HostRuntime) -> Result<(), Fail> {
+fn scalars_are_asked(rt: HostRuntime) -> Result<(), AllocError> {
     let alloc = rt.alloc();
-    let text = DefaultScalarValue::from(Text::from_str(alloc, "a")?);
-    assert_eq!(rt; text.try_to_string(alloc)?.ok_or("a text")?.as_str(), "a");
-    Ok(())
-}
-
-#[test]
-fn what_is_displayed_is_a_scalar(rt: HostRuntime) -> Result<(), Fail> {
-    let number: DefaultScalarValue = displayed(rt.alloc(), &-50)?;
-    assert_eq!(rt; number.try_as_str(), Some("-50"));
+    let rows = [
+        check(
+            &rt,
+            texts(alloc, displayed(alloc, &-50)),
+            "Some(\"-50\") Some(\"-50\")",
+        ),
+        check(
+            &rt,
+            texts(alloc, Ok(DefaultScalarValue::Int(5))),
+            "None None",
+        ),
+    ];
+    for row in rows {
+        row?;
+    }
     Ok(())
 }

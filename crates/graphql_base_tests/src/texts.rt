@@ -1,8 +1,8 @@
 ghost use Rattle.std.specs.Prelude.{◌≡◌, ◌++◌, IfOk, OnOk, OnErr};
 
+use crate::told::check;
 use graphql_items::{Items, Text};
 use std::alloc::{AllocError, Global};
-use std::cmp::Ordering;
 use std::collections::HashMap;
 use std::fmt::Write;
 use std::test::Fail;
@@ -37,31 +37,29 @@ fn grow(text: &mut Text) -> Result<(), Fail> {
     Ok(())
 }
 
-#[test]
-fn grows(rt: HostRuntime) -> Result<(), Fail> {
-    let mut text = Text::new(rt.alloc());
+/// A text that has grown, as a string, whether it is that text, how long it is, and whether it is
+/// empty once it is cleared.
+fn grown(alloc: Global) -> Result<String, Fail> {
+    let mut text = Text::new(alloc);
     grow(&mut text)?;
     let kept = text.clone()?.into_string();
-    assert_eq!(rt; kept.as_str(), "nameé12");
-    assert!(rt; text.is("nameé12") && text.len() == 8);
+    let same = text.is("nameé12");
+    let length = text.len();
     text.clear();
-    assert!(rt; text.is_empty());
-    Ok(())
+    let empty = text.is_empty();
+    Ok(format!(in alloc; "{kept} {same} {length} {empty}")?)
+}
+
+#[test]
+fn grows(rt: HostRuntime) -> Result<(), Fail> {
+    let told = grown(rt.alloc());
+    check(&rt, told, "nameé12 true 8 true")
 }
 
 /// A text as it is, padded, and quoted.
-fn shown(alloc: Global, text: &Text) -> Result<String, AllocError> {
+fn shown(alloc: Global, text: &str) -> Result<String, AllocError> {
+    let text = Text::from_str(alloc, text)?;
     format!(in alloc; "<{text:>6}> {text:?}")
-}
-
-#[test]
-fn is_shown(rt: HostRuntime) -> Result<(), Fail> {
-    let text = Text::from_str(rt.alloc(), "a\"é\n")?;
-    assert_eq!(rt;
-        shown(rt.alloc(), &text)?.as_str(),
-        "<  a\"é\n> \"a\\\"é\\n\""
-    );
-    Ok(())
 }
 
 /// What a map that has one at this key has at the other.
@@ -71,14 +69,14 @@ fn found(alloc: Global, key: Text, other: &Text) -> Result<Option<u8>, AllocErro
     Ok(map.get(other).copied())
 }
 
-#[test]
-fn compares_and_keys(rt: HostRuntime) -> Result<(), Fail> {
-    let a = Text::from_str(rt.alloc(), "a")?;
-    let b = Text::from_str(rt.alloc(), "ab")?;
-    assert!(rt; a.cmp(&b) == Ordering::Less && b > a);
-    assert_eq!(rt; found(rt.alloc(), a.clone()?, &a)?, Some(1));
-    assert_eq!(rt; found(rt.alloc(), a, &b)?, None);
-    Ok(())
+/// How two texts compare, whether the last is greater, and what a map of the first has at the last.
+fn compared(alloc: Global, first: &str, last: &str) -> Result<String, AllocError> {
+    let first = Text::from_str(alloc, first)?;
+    let last = Text::from_str(alloc, last)?;
+    let order = first.cmp(&last);
+    let greater = last > first;
+    let found = found(alloc, first, &last)?;
+    format!(in alloc; "{order:?} {greater} {found:?}")
 }
 
 /// A name with one part.
@@ -89,12 +87,26 @@ fn with_one_part(alloc: Global) -> Result<Named, AllocError> {
     Ok(Named { name, parts })
 }
 
-#[test]
-fn clones_by_parts(rt: HostRuntime) -> Result<(), Fail> {
-    let named = with_one_part(rt.alloc())?;
+/// Whether the clone of a name with one part is equal to it, and the clone.
+fn cloned(alloc: Global) -> Result<String, AllocError> {
+    let named = with_one_part(alloc)?;
     let copy = second(&named)?;
-    assert!(rt; copy == named);
-    let shown = format!(in rt.alloc(); "{copy:?}")?;
-    assert_eq!(rt; shown.as_str(), "Named { name: \"n\", parts: [\"x\"] }");
+    let same = copy == named;
+    format!(in alloc; "{same} {copy:?}")
+}
+
+#[test]
+fn texts_are_told(rt: HostRuntime) -> Result<(), AllocError> {
+    let alloc = rt.alloc();
+    let clone = "true Named { name: \"n\", parts: [\"x\"] }";
+    let rows = [
+        check(&rt, shown(alloc, "a\"é\n"), "<  a\"é\n> \"a\\\"é\\n\""),
+        check(&rt, compared(alloc, "a", "a"), "Equal false Some(1)"),
+        check(&rt, compared(alloc, "a", "ab"), "Less true None"),
+        check(&rt, cloned(alloc), clone),
+    ];
+    for row in rows {
+        row?;
+    }
     Ok(())
 }

@@ -1,30 +1,38 @@
+use crate::told::check;
 use graphql_scalars::{DefaultScalarValue, ToScalarValue};
 use graphql_text::Text;
 use std::alloc::{AllocError, Global};
-use std::test::Fail;
 
-/// The scalar of a value.
-fn scalar_of<T: ToScalarValue<DefaultScalarValue>>(
+/// The scalar of a value, as `{:?}` writes it.
+fn scalar_text<T: ToScalarValue<DefaultScalarValue> + Drop>(
     alloc: Global,
-    value: &T,
-) -> Result<DefaultScalarValue, AllocError> {
-    value.to_scalar_value(alloc)
+    value: Result<T, AllocError>,
+) -> Result<String, AllocError> {
+    let scalar = value?.to_scalar_value(alloc)?;
+    format!(in alloc; "{scalar:?}")
 }
 
 #[test]
-fn values_are_scalars(rt: HostRuntime) -> Result<(), Fail> {
+fn values_are_scalars(rt: HostRuntime) -> Result<(), AllocError> {
     let alloc = rt.alloc();
-    let seven = Box::new(alloc, 7)?;
-    assert_eq!(rt; scalar_of(alloc, &seven)?, DefaultScalarValue::Int(7));
-    Ok(())
-}
-
-#[test]
-fn texts_are_scalars(rt: HostRuntime) -> Result<(), Fail> {
-    let alloc = rt.alloc();
-    let text = DefaultScalarValue::from(Text::from_str(alloc, "a\n")?);
-    assert_eq!(rt; scalar_of(alloc, &"a\n")?, text);
-    assert_eq!(rt; scalar_of(alloc, &String::from_str(alloc, "a\n")?)?, text);
-    assert_eq!(rt; scalar_of(alloc, &Text::from_str(alloc, "a\n")?)?, text);
+    let seven = Box::new(alloc, 7).map_err(AllocError::from);
+    let letters = "String(\"a\\n\")";
+    let rows = [
+        check(&rt, scalar_text(alloc, seven), "Int(7)"),
+        check(&rt, scalar_text(alloc, Ok("a\n")), letters),
+        check(
+            &rt,
+            scalar_text(alloc, String::from_str(alloc, "a\n")),
+            letters,
+        ),
+        check(
+            &rt,
+            scalar_text(alloc, Text::from_str(alloc, "a\n")),
+            letters,
+        ),
+    ];
+    for row in rows {
+        row?;
+    }
     Ok(())
 }

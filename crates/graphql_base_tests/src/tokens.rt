@@ -1,11 +1,11 @@
 //! Tests of what no clause says: printed texts, and the rows of the lexical grammar by name.
 
+use crate::told::{check, check_each};
 use graphql_text::{
     Lexer, LexerResult, ParseError, SourcePosition, Span, Spanning, TextRef, Token, lex_all,
 };
 use std::alloc::{AllocError, Global};
 use std::fmt::Debug;
-use std::test::Fail;
 
 /// Writes a token as `KIND index:line:column-index:line:column`, and a line end.
 fn write_token(out: &mut String, token: &Spanning<Token>) -> Result<(), AllocError> {
@@ -49,33 +49,36 @@ fn write_all(out: &mut String, alloc: Global, text: &str) -> Result<(), AllocErr
     }
 }
 
-/// Writes what a `Lexer` gives one by one.
-fn write_one_by_one(out: &mut String, alloc: Global, text: &str) -> Result<(), AllocError> {
+/// What `lex_all` answers.
+fn all(alloc: Global, text: &str) -> Result<String, AllocError> {
+    let mut out = String::new(alloc);
+    write_all(&mut out, alloc, text)?;
+    Ok(out)
+}
+
+/// What a `Lexer` gives one by one.
+fn each(alloc: Global, text: &str) -> Result<String, AllocError> {
+    let mut out = String::new(alloc);
     for answer in Lexer::new(alloc, text) {
-        write_answer(out, &answer)?;
+        write_answer(&mut out, &answer)?;
     }
-    Ok(())
+    Ok(out)
 }
 
-/// Writes why a text is refused whose end was to come: its first token, or its fault.
-fn write_refusal(out: &mut String, alloc: Global, text: &str) -> Result<(), AllocError> {
+/// The refusal of the first of some tokens.
+fn unexpected(alloc: Global, tokens: &[Spanning<Token>]) -> Result<String, AllocError> {
+    match tokens.first() {
+        Some(first) => ParseError::unexpected_token(alloc, &first.item)?.to_string(alloc),
+        None => String::from_str(alloc, "no token"),
+    }
+}
+
+/// Why a text is refused whose end was to come: its first token, or its fault.
+fn refusal(alloc: Global, text: &str) -> Result<String, AllocError> {
     match lex_all(alloc, text) {
-        Ok(tokens) => write_unexpected(out, alloc, tokens.as_slice()),
-        Err(fault) => write!(out, "{}", fault.item),
+        Ok(tokens) => unexpected(alloc, tokens.as_slice()),
+        Err(fault) => fault.item.to_string(alloc),
     }
-}
-
-/// Writes the refusal of the first of some tokens.
-fn write_unexpected(
-    out: &mut String,
-    alloc: Global,
-    tokens: &[Spanning<Token>],
-) -> Result<(), AllocError> {
-    let Some(first) = tokens.first() else {
-        return Ok(());
-    };
-    let refusal = ParseError::unexpected_token(alloc, &first.item)?;
-    write!(out, "{refusal}")
 }
 
 const ROWS: [(&str, &str); 46] = [
@@ -176,13 +179,8 @@ const ROWS: [(&str, &str); 46] = [
 ];
 
 #[test]
-fn rows(rt: HostRuntime) -> Result<(), Fail> {
-    for row in ROWS {
-        let mut out = String::new(rt.alloc());
-        write_all(&mut out, rt.alloc(), row.0)?;
-        assert_eq!(rt; out.as_str(), row.1);
-    }
-    Ok(())
+fn rows(rt: HostRuntime) -> Result<(), AllocError> {
+    check_each(&rt, &all, &ROWS)
 }
 
 const ROWS_ONE_BY_ONE: [(&str, &str); 2] = [
@@ -197,16 +195,15 @@ const ROWS_ONE_BY_ONE: [(&str, &str); 2] = [
 ];
 
 #[test]
-fn one_by_one(rt: HostRuntime) -> Result<(), Fail> {
-    for row in ROWS_ONE_BY_ONE {
-        let mut out = String::new(rt.alloc());
-        write_one_by_one(&mut out, rt.alloc(), row.0)?;
-        assert_eq!(rt; out.as_str(), row.1);
-    }
+fn one_by_one(rt: HostRuntime) -> Result<(), AllocError> {
+    check_each(&rt, &each, &ROWS_ONE_BY_ONE)
+}
+
+#[test]
+fn nothing_comes_after_a_fault(rt: HostRuntime) {
     let mut lexer = Lexer::new(rt.alloc(), "?");
-    assert!(rt; matches!(lexer.next(), Some(Err(_))) && lexer.next().is_none());
-    assert!(rt; lexer.next().is_none());
-    Ok(())
+    assert!(rt; matches!(lexer.next(), Some(Err(_))));
+    assert!(rt; lexer.next().is_none() && lexer.next().is_none());
 }
 
 #[test]
@@ -214,7 +211,7 @@ fn spans(rt: HostRuntime) {
     let place = SourcePosition::new(5, 1, 2);
     assert!(rt; SourcePosition::new_origin() < place && SourcePosition::new(5, 0, 9) < place);
     let one = Spanning::single_width(place, 7u8);
-    assert_eq!(rt; one.end(), SourcePosition::new(6, 1, 3));
+    assert!(rt; one.end() == SourcePosition::new(6, 1, 3));
     let doubled = one.map(|n| u16::from(n) * 2);
     assert!(rt; doubled.item == 14 && *doubled.as_ref().item == 14);
     let large = doubled.and_then(|n| if n > 20 { Some(n) } else { None });
@@ -228,24 +225,28 @@ fn part_of_two(alloc: Global, place: SourcePosition) -> Result<Option<Span>, All
 }
 
 #[test]
-fn spans_of_lists(rt: HostRuntime) -> Result<(), Fail> {
+fn spans_of_lists(rt: HostRuntime) -> Result<(), AllocError> {
     let place = SourcePosition::new(5, 1, 2);
     let start = SourcePosition::new_origin();
     let part = part_of_two(rt.alloc(), place)?;
-    assert_eq!(rt; part, Some(Span { start, end: place }));
-    let text = Spanning::zero_width(place, 7u8).to_string(rt.alloc())?;
-    assert_eq!(rt; text.as_str(), "7. At 1:2");
-    Ok(())
+    assert!(rt; part == Some(Span { start, end: place }));
+    let seven = Spanning::zero_width(place, 7u8);
+    check(&rt, seven.to_string(rt.alloc()), "7. At 1:2")
+}
+
+/// A text that is lent, and how long it is, if it and its copy are the same.
+fn lent(alloc: Global) -> Result<String, AllocError> {
+    let text = TextRef::new("aé");
+    let same = text == TextRef::from("aé") && text.copied() == text.clone()? && text.is("aé");
+    let length = text.len();
+    let empty = text.is_empty();
+    format!(in alloc; "{text} {text:?} {same} {length} {empty}")
 }
 
 #[test]
-fn borrowed_texts(rt: HostRuntime) -> Result<(), Fail> {
-    let text = TextRef::new("aé");
-    assert!(rt; text.len() == 3 && !text.is_empty() && text.is("aé"));
-    assert!(rt; text == TextRef::from("aé") && text.copied() == text.clone()?);
-    let shown = format!(in rt.alloc(); "{text} {text:?}")?;
-    assert_eq!(rt; shown.as_str(), "aé \"aé\"");
-    Ok(())
+fn borrowed_texts(rt: HostRuntime) -> Result<(), AllocError> {
+    let told = lent(rt.alloc());
+    check(&rt, told, "aé \"aé\" true 3 false")
 }
 
 const REFUSALS: [(&str, &str); 9] = [
@@ -261,11 +262,6 @@ const REFUSALS: [(&str, &str); 9] = [
 ];
 
 #[test]
-fn refusals(rt: HostRuntime) -> Result<(), Fail> {
-    for row in REFUSALS {
-        let mut out = String::new(rt.alloc());
-        write_refusal(&mut out, rt.alloc(), row.0)?;
-        assert_eq!(rt; out.as_str(), row.1);
-    }
-    Ok(())
+fn refusals(rt: HostRuntime) -> Result<(), AllocError> {
+    check_each(&rt, &refusal, &REFUSALS)
 }

@@ -1,54 +1,79 @@
+use crate::told::check;
 use graphql_text::TextRef;
-use graphql_type_references::{BorrowedType, Type, TypeModifier};
+use graphql_type_references::{BorrowedType, Type};
 use std::alloc::{AllocError, Global};
-use std::test::Fail;
 
-/// The type `[[Int!]!]!`, with three items in each outer list.
-fn nested(alloc: Global) -> Result<Type<TextRef<'static>>, AllocError> {
-    let int = Type::new(alloc, TextRef::new("Int")).wrap_non_null()?;
-    let inner = int.wrap_list(None)?.wrap_non_null()?;
+type Named = Type<TextRef<'static>>;
+
+/// The type `Int`.
+fn int(alloc: Global) -> Named {
+    Type::new(alloc, TextRef::new("Int"))
+}
+
+/// The type `[Int!]`.
+fn list(alloc: Global) -> Result<Named, AllocError> {
+    int(alloc).wrap_non_null()?.wrap_list(None)
+}
+
+/// The type `[[Int!]!]!`, with three lists in the outer one.
+fn nested(alloc: Global) -> Result<Named, AllocError> {
+    let inner = list(alloc)?.wrap_non_null()?;
     inner.wrap_list(Some(3))?.wrap_non_null()
 }
 
-#[test]
-fn types_are_written(rt: HostRuntime) -> Result<(), Fail> {
-    let alloc = rt.alloc();
-    let int = Type::new(alloc, TextRef::new("Int"));
-    assert_eq!(rt; int.to_string(alloc)?.as_str(), "Int");
-    let list = int.wrap_non_null()?.wrap_list(None)?;
-    assert_eq!(rt; list.to_string(alloc)?.as_str(), "[Int!]");
-    assert_eq!(rt; nested(alloc)?.to_string(alloc)?.as_str(), "[[Int!]!]!");
-    Ok(())
+/// A type as it is written, whether it has no null and is a list, its name, and the name within.
+fn type_text(alloc: Global, given: Result<Named, AllocError>) -> Result<String, AllocError> {
+    let given = given?;
+    let non_null = given.is_non_null();
+    let list = given.is_list();
+    let name = given.name();
+    let innermost = given.innermost_name();
+    format!(in alloc; "{given} {non_null} {list} {name:?} {innermost}")
 }
 
 #[test]
-fn types_are_told_apart(rt: HostRuntime) -> Result<(), Fail> {
+fn types_are_told_apart(rt: HostRuntime) -> Result<(), AllocError> {
     let alloc = rt.alloc();
-    let needed = Type::new(alloc, TextRef::new("Int")).wrap_non_null()?;
-    assert!(rt; needed.is_non_null() && !needed.is_list());
-    assert_eq!(rt; needed.name(), Some("Int"));
+    let needed = int(alloc).wrap_non_null();
+    let rows = [
+        check(
+            &rt,
+            type_text(alloc, Ok(int(alloc))),
+            "Int false false Some(\"Int\") Int",
+        ),
+        check(
+            &rt,
+            type_text(alloc, needed),
+            "Int! true false Some(\"Int\") Int",
+        ),
+        check(
+            &rt,
+            type_text(alloc, list(alloc)),
+            "[Int!] false true None Int",
+        ),
+        check(
+            &rt,
+            type_text(alloc, nested(alloc)),
+            "[[Int!]!]! true true None Int",
+        ),
+    ];
+    for row in rows {
+        row?;
+    }
     Ok(())
 }
 
-#[test]
-fn lists_are_told(rt: HostRuntime) -> Result<(), Fail> {
-    let outer = nested(rt.alloc())?;
-    assert!(rt; outer.is_list());
-    assert_eq!(rt; outer.name(), None);
-    assert_eq!(rt; outer.innermost_name(), "Int");
-    Ok(())
-}
-
-#[test]
-fn null_comes_back(rt: HostRuntime) -> Result<(), Fail> {
-    let alloc = rt.alloc();
+/// The nested type with null, lent, how many wraps it has, and the outermost of them.
+fn nullable_text(alloc: Global) -> Result<String, AllocError> {
     let nullable = nested(alloc)?.nullable();
-    assert_eq!(rt; nullable.modifiers().len(), 4);
-    assert_eq!(rt;
-        nullable.modifier().copied(),
-        Some(TypeModifier::List(Some(3)))
-    );
     let lent: BorrowedType = nullable.borrowed();
-    assert_eq!(rt; lent.to_string(alloc)?.as_str(), "[[Int!]!]");
-    Ok(())
+    let count = nullable.modifiers().len();
+    let outermost = nullable.modifier();
+    format!(in alloc; "{lent} {count} {outermost:?}")
+}
+
+#[test]
+fn null_comes_back(rt: HostRuntime) -> Result<(), AllocError> {
+    let told = nullable_text(rt.alloc());
+    check(&rt, told, "[[Int!]!] 4 Some(List(Some(3)))")
 }

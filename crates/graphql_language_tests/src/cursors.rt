@@ -1,6 +1,7 @@
+use crate::told::check;
 use graphql_grammar::{Cursor, Fault, Kind, keep};
 use graphql_text::{Items, SourcePosition, TextRef};
-use std::alloc::{AllocError, Global};
+use std::alloc::Global;
 use std::test::Fail;
 
 /// The names between the next `{` and its `}`.
@@ -27,47 +28,49 @@ fn printed_names(alloc: Global, cursor: &mut Cursor<'_>) -> Result<String, Fail>
     Ok(format!(in alloc; "{placed:?}")?)
 }
 
-#[test]
-fn reads_names(rt: HostRuntime) -> Result<(), Fail> {
-    let mut cursor = Cursor::new(rt.alloc(), " { on\nb } $")?;
-    assert_eq!(rt;
-        printed_names(rt.alloc(), &mut cursor)?.as_str(),
-        "Spanning { item: [\"on\", \"b\"], span: Span { start: SourcePosition { index: 1, line: 0, column: 1 }, end: SourcePosition { index: 9, line: 1, column: 3 } } }"
-    );
-    assert!(rt; cursor.end() == SourcePosition::new(9, 1, 3));
-    assert!(rt; cursor.kind() == Kind::Dollar);
-    Ok(())
+/// The names that are read, and whether the cursor then stands behind them.
+fn names_read(alloc: Global) -> Result<String, Fail> {
+    let mut cursor = Cursor::new(alloc, " { on\nb } $")?;
+    let names = printed_names(alloc, &mut cursor)?;
+    let ended = cursor.end() == SourcePosition::new(9, 1, 3) && cursor.kind() == Kind::Dollar;
+    Ok(format!(in alloc; "{names} {ended}")?)
 }
 
-/// A refusal, printed.
-fn printed(alloc: Global, refused: Fault) -> Result<String, AllocError> {
-    format!(in alloc; "{refused}")
-}
-
-#[test]
-fn refuses(rt: HostRuntime) -> Result<(), Fail> {
-    let alloc = rt.alloc();
+/// What a cursor refuses at the second token and at the end, if it refused the first.
+fn refusals(alloc: Global) -> Result<String, Fail> {
     let mut cursor = Cursor::new(alloc, "on \"a\\n\"")?;
-    assert!(rt; cursor.fragment_name(alloc).is_err());
+    let refused = cursor.fragment_name(alloc).is_err();
     cursor.advance();
-    assert_eq!(rt;
-        printed(alloc, cursor.refuse(alloc))?.as_str(),
-        "Unexpected \"\"a\\n\"\". At 0:3"
-    );
+    let second = cursor.refuse(alloc);
     cursor.advance();
-    assert_eq!(rt;
-        printed(alloc, cursor.refuse(alloc))?.as_str(),
-        "Unexpected end of input. At 0:8"
-    );
-    Ok(())
+    let last = cursor.refuse(alloc);
+    Ok(format!(in alloc; "{refused} {second} {last}")?)
+}
+
+/// Why a text has no cursor.
+fn refusal(alloc: Global, text: &str) -> Result<String, Fail> {
+    match Cursor::new(alloc, text) {
+        Ok(_) => Ok(String::from_str(alloc, "no refusal")?),
+        Err(fault) => Ok(fault.to_string(alloc)?),
+    }
 }
 
 #[test]
-fn refuses_characters(rt: HostRuntime) -> Result<(), Fail> {
-    let refused = Cursor::new(rt.alloc(), "a ?").err().ok_or("a refusal")?;
-    assert_eq!(rt;
-        printed(rt.alloc(), refused)?.as_str(),
-        "Unknown character \"?\". At 0:2"
-    );
-    Ok(())
+fn reads_and_refuses(rt: HostRuntime) -> Result<(), Fail> {
+    let alloc = rt.alloc();
+    check(
+        &rt,
+        names_read(alloc),
+        "Spanning { item: [\"on\", \"b\"], span: Span { start: SourcePosition { index: 1, line: 0, column: 1 }, end: SourcePosition { index: 9, line: 1, column: 3 } } } true",
+    )?;
+    check(
+        &rt,
+        refusals(alloc),
+        "true Unexpected \"\"a\\n\"\". At 0:3 Unexpected end of input. At 0:8",
+    )?;
+    check(
+        &rt,
+        refusal(alloc, "a ?"),
+        "Unknown character \"?\". At 0:2",
+    )
 }

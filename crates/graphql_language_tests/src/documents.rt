@@ -1,3 +1,4 @@
+use crate::told::check_each;
 use graphql_language::parse_document_source;
 use graphql_tree::{OwnedDocument, release_document};
 use graphql_values::DefaultScalarValue;
@@ -47,23 +48,23 @@ const REFUSED: [(&str, &str); 26] = [
 ];
 
 /// Documents, each with the number of its definitions.
-const DOCUMENTS: [(&str, usize); 8] = [
-    ("{ a }", 1),
-    ("# a comment\n,{a,b}", 1),
-    ("query query { on fragment true: null }", 1),
-    ("fragment fragment on on { on }", 1),
-    ("{ a(b: []) c(d: {}) }", 1),
+const DOCUMENTS: [(&str, &str); 8] = [
+    ("{ a }", "1"),
+    ("# a comment\n,{a,b}", "1"),
+    ("query query { on fragment true: null }", "1"),
+    ("fragment fragment on on { on }", "1"),
+    ("{ a(b: []) c(d: {}) }", "1"),
     (
         "query($x: [[Int!]]!, $y: T = [{a: null}] @d(e: false)) { a }",
-        1,
+        "1",
     ),
     (
         "query Q @a(b: -1) { a: b(c: $x, d: {e: E}) @i { ...F ... on T { x } ... @i(j: $x) { y } ... { z } } }",
-        1,
+        "1",
     ),
     (
         "query { a } mutation { b } subscription { c } fragment F on T { d }",
-        4,
+        "4",
     ),
 ];
 
@@ -71,47 +72,29 @@ pub(crate) fn parsed(alloc: Global, text: &str) -> Result<OwnedDocument<'_>, Fai
     Ok(parse_document_source::<DefaultScalarValue>(alloc, text)?)
 }
 
-/// The refusal of a text, printed; none where it is a document.
-fn refusal(alloc: Global, text: &str) -> Result<Option<String>, AllocError> {
+/// How many definitions a text has, or why it is no document.
+fn definitions(alloc: Global, text: &str) -> Result<String, AllocError> {
     match parse_document_source::<DefaultScalarValue>(alloc, text) {
-        Ok(_) => Ok(None),
-        Err(fault) => Ok(Some(format!(in alloc; "{fault}")?)),
+        Ok(document) => document.len().to_string(alloc),
+        Err(fault) => fault.to_string(alloc),
     }
 }
 
 #[test]
-fn first_fault_of_a_text(rt: HostRuntime) -> Result<(), Fail> {
-    for (text, wanted) in REFUSED {
-        let told = refusal(rt.alloc(), text)?.ok_or("a refusal")?;
-        assert_eq!(rt; told.as_str(), wanted);
-    }
-    Ok(())
-}
-
-/// How many definitions a text has.
-fn definitions(alloc: Global, text: &str) -> Result<usize, Fail> {
-    let document = parsed(alloc, text)?;
-    Ok(document.len())
+fn first_fault_of_a_text(rt: HostRuntime) -> Result<(), AllocError> {
+    check_each(&rt, &definitions, &REFUSED)
 }
 
 #[test]
-fn documents_of_the_grammar(rt: HostRuntime) -> Result<(), Fail> {
-    for (text, wanted) in DOCUMENTS {
-        assert_eq!(rt; definitions(rt.alloc(), text)?, wanted);
-    }
-    Ok(())
+fn documents_of_the_grammar(rt: HostRuntime) -> Result<(), AllocError> {
+    check_each(&rt, &definitions, &DOCUMENTS)
 }
 
 /// A field in a selection set in a field, and so on.
 fn nested(alloc: Global) -> Result<String, AllocError> {
-    let mut text = String::new(alloc);
-    for _ in 0..30_000 {
-        text.push_str("{a")?;
-    }
-    for _ in 0..30_000 {
-        text.push_str("}")?;
-    }
-    Ok(text)
+    let opened = "{a".repeat(alloc, 30_000)?;
+    let closed = "}".repeat(alloc, 30_000)?;
+    format!(in alloc; "{opened}{closed}")
 }
 
 /// How many definitions a text has, whose document is let go by a loop.
@@ -122,9 +105,15 @@ fn released(alloc: Global, text: &str) -> Result<usize, Fail> {
     Ok(count)
 }
 
+/// How many definitions the nested text has.
+fn nested_released(alloc: Global) -> Result<usize, Fail> {
+    let text = nested(alloc)?;
+    released(alloc, text.as_str())
+}
+
 #[test]
 fn sets_nested_deep(rt: HostRuntime) -> Result<(), Fail> {
-    let text = nested(rt.alloc())?;
-    assert_eq!(rt; released(rt.alloc(), text.as_str())?, 1);
+    let count = nested_released(rt.alloc())?;
+    assert!(rt; count == 1);
     Ok(())
 }

@@ -16,4 +16,6 @@ mod places;
 #[cfg(test)]
 mod read_back;
 #[cfg(test)]
+mod told;
+#[cfg(test)]
 mod trees;

@@ -1,4 +1,5 @@
 use crate::documents::parsed;
+use crate::told::check;
 use graphql_text::{SourcePosition, Span, Spanning};
 use graphql_tree::{
     Definition, Field, Fragment, FragmentSpread, InlineFragment, Operation, OwnedDocument,
@@ -6,6 +7,7 @@ use graphql_tree::{
 };
 use graphql_values::InputValue;
 use std::alloc::{AllocError, Global};
+use std::process::Abort;
 use std::test::Fail;
 
 /// What is looked at in a document: its first definition, or of an operation the first selection,
@@ -247,20 +249,26 @@ fn places(document: &OwnedDocument<'_>, part: Part) -> Option<[Span; 5]> {
     }
 }
 
-/// The five places of a part of the document that a text is.
-fn read_places(alloc: Global, text: &str, part: Part) -> Result<Option<[Span; 5]>, Fail> {
+/// The text at the five places of a part of the document that a text is.
+fn read_places(alloc: Global, text: &str, part: Part) -> Result<String, Fail> {
     let document = parsed(alloc, text)?;
-    Ok(places(&document, part))
+    match places(&document, part) {
+        Some(places) => Ok(cut(alloc, text, places.as_slice())?),
+        None => Ok(String::from_str(alloc, "no places")?),
+    }
+}
+
+/// Asserts the text at five places of each part.
+fn check_places(rt: &(impl Abort + AllocGlobal), rows: &[(Part, &str, &str)]) -> Result<(), Fail> {
+    for row in rows {
+        check(rt, read_places(rt.alloc(), row.1, row.0), row.2)?;
+    }
+    Ok(())
 }
 
 #[test]
 fn places_of_parts(rt: HostRuntime) -> Result<(), Fail> {
-    for (part, text, wanted) in PLACES {
-        let places = read_places(rt.alloc(), text, part)?.ok_or("places")?;
-        let told = cut(rt.alloc(), text, places.as_slice())?;
-        assert_eq!(rt; told.as_str(), wanted);
-    }
-    Ok(())
+    check_places(&rt, &PLACES)
 }
 
 /// Where the operation and its first field start and end.
@@ -278,10 +286,13 @@ fn read_ends(alloc: Global, text: &str) -> Result<Option<[SourcePosition; 4]>, F
 #[test]
 fn places_count_lines_and_columns(rt: HostRuntime) -> Result<(), Fail> {
     let text = "query Q {\n  a: b(c: 1)\n} # end";
-    let found = read_ends(rt.alloc(), text)?.ok_or("places")?;
-    assert!(rt; found[0] == SourcePosition::new(0, 0, 0));
-    assert!(rt; found[1] == SourcePosition::new(24, 2, 1));
-    assert!(rt; found[2] == SourcePosition::new(12, 1, 2));
-    assert!(rt; found[3] == SourcePosition::new(22, 1, 12));
+    let found = read_ends(rt.alloc(), text)?;
+    let wanted = [
+        SourcePosition::new(0, 0, 0),
+        SourcePosition::new(24, 2, 1),
+        SourcePosition::new(12, 1, 2),
+        SourcePosition::new(22, 1, 12),
+    ];
+    assert!(rt; found == Some(wanted));
     Ok(())
 }

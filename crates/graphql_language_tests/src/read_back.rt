@@ -1,94 +1,149 @@
+use crate::told::check;
+use graphql_grammar::Fault;
 use graphql_language::{Parser, parse_type, parse_value_literal};
 use graphql_read_back::{is_writable, read_back};
-use graphql_text::{ParseResult, Text, TextRef, Token};
+use graphql_text::{Items, Spanning, Text, TextRef, Token};
 use graphql_type_references::Type;
 use graphql_values::InputValue;
 use std::alloc::{AllocError, Global};
-use std::test::Fail;
 
 /// The text `text`, as a value.
 fn text(alloc: Global, text: &str) -> Result<InputValue, AllocError> {
     Ok(InputValue::scalar(Text::from_str(alloc, text)?))
 }
 
-/// An object of a value of every kind.
-fn every_kind(alloc: Global) -> Result<InputValue, AllocError> {
-    let mut inner = Vec::new(alloc);
-    inner.push((
-        Text::from_str(alloc, "e")?,
-        InputValue::enum_value(alloc, "JEDI")?,
-    ))?;
-    inner.push((
-        Text::from_str(alloc, "v")?,
-        InputValue::variable(alloc, "v")?,
-    ))?;
-    let mut values = Vec::new(alloc);
-    values.push(InputValue::null())?;
-    values.push(InputValue::scalar(-2147483648))?;
-    values.push(InputValue::scalar(false))?;
-    values.push(text(alloc, "é, [b]")?)?;
-    values.push(InputValue::object(alloc, inner)?)?;
-    values.push(InputValue::list(alloc, Vec::new(alloc))?)?;
-    let mut fields = Vec::new(alloc);
-    fields.push((
-        Text::from_str(alloc, "_1")?,
-        InputValue::list(alloc, values)?,
-    ))?;
-    fields.push((Text::from_str(alloc, "on")?, InputValue::scalar(true)))?;
+/// A field of this name and value.
+fn field(
+    alloc: Global,
+    name: &str,
+    value: Result<InputValue, AllocError>,
+) -> Result<(Text, InputValue), AllocError> {
+    let value = value?;
+    Ok((Text::from_str(alloc, name)?, value))
+}
+
+/// An object of an enum value and a variable.
+fn inner(alloc: Global) -> Result<InputValue, AllocError> {
+    let jedi = field(alloc, "e", InputValue::enum_value(alloc, "JEDI"))?;
+    let variable = field(alloc, "v", InputValue::variable(alloc, "v"))?;
+    let fields = vec![in alloc; jedi, variable]?;
     InputValue::object(alloc, fields)
 }
 
-#[test]
-fn values_are_read_back(rt: HostRuntime) -> Result<(), Fail> {
-    let alloc = rt.alloc();
+/// A list of null, an integer, a boolean, a text, an object and a list.
+fn list(alloc: Global) -> Result<InputValue, AllocError> {
+    let text = text(alloc, "é, [b]")?;
+    let object = inner(alloc)?;
+    let values = vec![in alloc;
+        InputValue::null(),
+        InputValue::scalar(-2147483648),
+        InputValue::scalar(false),
+        text,
+        object,
+        InputValue::parsed_list(Items::new(alloc)),
+    ]?;
+    InputValue::list(alloc, values)
+}
+
+/// An object of a value of every kind.
+fn every_kind(alloc: Global) -> Result<InputValue, AllocError> {
+    let list = field(alloc, "_1", list(alloc))?;
+    let on = field(alloc, "on", Ok(InputValue::scalar(true)))?;
+    let fields = vec![in alloc; list, on]?;
+    InputValue::object(alloc, fields)
+}
+
+/// That object, as it is displayed.
+fn shown(alloc: Global) -> Result<String, AllocError> {
+    every_kind(alloc)?.to_string(alloc)
+}
+
+/// Whether a text is that value alone.
+fn is_value(alloc: Global, text: &str, value: &InputValue) -> Result<bool, Fault> {
+    let mut parser = Parser::new(alloc, text)?;
+    let found: Spanning<InputValue> = parse_value_literal(&mut parser, false)?;
+    Ok(found.item.unlocated_eq(value) && parser.peek().item == Token::EndOfFile)
+}
+
+/// Whether what is displayed of that object is that object.
+fn shown_is_read(alloc: Global) -> Result<bool, Fault> {
     let value = every_kind(alloc)?;
     let shown = value.to_string(alloc)?;
-    assert_eq!(rt;
-        shown.as_str(),
-        "{_1: [null, -2147483648, false, \"é, [b]\", {e: JEDI, v: $v}, []], on: true}"
-    );
-    let mut parser = Parser::new(alloc, shown.as_str())?;
-    let found: ParseResult<InputValue> = parse_value_literal(&mut parser, false);
-    assert!(rt; found?.item.unlocated_eq(&value));
-    assert!(rt; parser.peek().item == Token::EndOfFile);
-    Ok(())
+    is_value(alloc, shown.as_str(), &value)
 }
 
-#[test]
-fn writable_values_are_read_back(rt: HostRuntime) -> Result<(), Fail> {
-    let alloc = rt.alloc();
+/// Whether that object can be read back, and is.
+fn is_read_back(alloc: Global) -> Result<bool, Fault> {
     let value = every_kind(alloc)?;
     if !is_writable(&value, false) {
-        return Err("a value that can be read back".into());
+        return Ok(false);
     }
     let found = read_back(alloc, &value, false)?;
-    assert!(rt; found.item.unlocated_eq(&value));
-    Ok(())
+    Ok(found.item.unlocated_eq(&value))
 }
 
-#[test]
-fn types_are_read_back(rt: HostRuntime) -> Result<(), Fail> {
-    let alloc = rt.alloc();
+/// The type `[[Int!]]!`.
+fn nested(alloc: Global) -> Result<Type<TextRef<'static>>, AllocError> {
     let int = Type::new(alloc, TextRef::new("Int")).wrap_non_null()?;
-    let nested = int.wrap_list(None)?.wrap_list(None)?.wrap_non_null()?;
-    let text = nested.to_string(alloc)?;
-    assert_eq!(rt; text.as_str(), "[[Int!]]!");
-    let mut parser = Parser::new(alloc, text.as_str())?;
+    int.wrap_list(None)?.wrap_list(None)?.wrap_non_null()
+}
+
+/// Whether a text is that type alone.
+fn is_nested(alloc: Global, text: &str) -> Result<bool, Fault> {
+    let mut parser = Parser::new(alloc, text)?;
     let found = parse_type(&mut parser)?;
-    assert!(rt; found.item == nested);
-    assert!(rt; parser.peek().item == Token::EndOfFile);
-    Ok(())
+    Ok(found.item == nested(alloc)? && parser.peek().item == Token::EndOfFile)
 }
 
 #[test]
-fn writable_values_are_told(rt: HostRuntime) -> Result<(), Fail> {
+fn values_and_types_are_read_back(rt: HostRuntime) -> Result<(), Fault> {
     let alloc = rt.alloc();
-    let variable: InputValue = InputValue::variable(alloc, "v")?;
-    assert!(rt; is_writable(&variable, false));
-    assert!(rt; !is_writable(&variable, true));
-    let word: InputValue = InputValue::enum_value(alloc, "true")?;
-    assert!(rt; !is_writable(&word, false));
-    assert!(rt; is_writable(&text(alloc, "tab\tand é")?, true));
-    assert!(rt; !is_writable(&text(alloc, "a\"b")?, true));
+    let shown_is_read = shown_is_read(alloc)?;
+    assert!(rt; shown_is_read);
+    let is_read_back = is_read_back(alloc)?;
+    assert!(rt; is_read_back);
+    let is_nested = is_nested(alloc, "[[Int!]]!")?;
+    assert!(rt; is_nested);
+    Ok(())
+}
+
+/// The nested type, as it is displayed.
+fn nested_shown(alloc: Global) -> Result<String, AllocError> {
+    nested(alloc)?.to_string(alloc)
+}
+
+#[test]
+fn values_and_types_are_displayed(rt: HostRuntime) -> Result<(), AllocError> {
+    check(
+        &rt,
+        shown(rt.alloc()),
+        "{_1: [null, -2147483648, false, \"é, [b]\", {e: JEDI, v: $v}, []], on: true}",
+    )?;
+    check(&rt, nested_shown(rt.alloc()), "[[Int!]]!")
+}
+
+/// Whether a value can be read back.
+fn writable(value: Result<InputValue, AllocError>, constant: bool) -> Result<bool, AllocError> {
+    let value = value?;
+    Ok(is_writable(&value, constant))
+}
+
+#[test]
+fn writable_values_are_told(rt: HostRuntime) -> Result<(), AllocError> {
+    let alloc = rt.alloc();
+    let rows = [
+        (writable(InputValue::variable(alloc, "v"), false), true),
+        (writable(InputValue::variable(alloc, "v"), true), false),
+        (
+            writable(InputValue::enum_value(alloc, "true"), false),
+            false,
+        ),
+        (writable(text(alloc, "tab\tand é"), true), true),
+        (writable(text(alloc, "a\"b"), true), false),
+    ];
+    for row in rows {
+        let is_writable = row.0?;
+        assert!(rt; is_writable == row.1);
+    }
     Ok(())
 }

@@ -1,3 +1,4 @@
+use crate::told::check;
 use graphql_text::{Items, SourcePosition, Spanning, TextRef};
 use graphql_tree::{
     Arguments, Definition, Field, Fragment, InlineFragment, Selection, VariableDefinition,
@@ -5,20 +6,29 @@ use graphql_tree::{
 };
 use graphql_values::{DefaultScalarValue, InputValue, Type, TypeModifier};
 use std::alloc::{AllocError, Global};
-use std::test::Fail;
+
+type Argument = (Spanning<TextRef<'static>>, Spanning<InputValue>);
+
+/// The argument of this name and number, whose value stands at this column.
+fn argument(name: &'static str, number: i32, column: usize) -> Argument {
+    let position = SourcePosition::new(column, 0, column);
+    let value = InputValue::Scalar(DefaultScalarValue::Int(number));
+    (
+        Spanning::unlocated(TextRef::new(name)),
+        Spanning::zero_width(position, value),
+    )
+}
 
 /// `(a: 1, b: 2, a: 3)`, each value at its column.
 fn sample(alloc: Global) -> Result<Arguments<'static, DefaultScalarValue>, AllocError> {
-    let mut items = Items::new(alloc);
-    for (name, number, column) in [("a", 1i32, 4usize), ("b", 2, 10), ("a", 3, 16)] {
-        let position = SourcePosition::new(column, 0, column);
-        let value = InputValue::Scalar(DefaultScalarValue::Int(number));
-        items.push((
-            Spanning::unlocated(TextRef::new(name)),
-            Spanning::zero_width(position, value),
-        ))?;
-    }
-    Ok(Arguments { items })
+    let items = vec![in alloc;
+        argument("a", 1, 4),
+        argument("b", 2, 10),
+        argument("a", 3, 16),
+    ]?;
+    Ok(Arguments {
+        items: Items::from_vec(items),
+    })
 }
 
 /// The number and the column of the argument of this name.
@@ -32,35 +42,50 @@ fn found(arguments: &Arguments<'_, DefaultScalarValue>, name: &str) -> Option<(i
     }
 }
 
-/// The names of the arguments, one behind another, as they are lent and then as they are handed out.
-fn names_twice(
+/// The names of the arguments, one behind another, as they are lent.
+fn names_lent(
     alloc: Global,
-    arguments: Arguments<'static, DefaultScalarValue>,
+    arguments: &Arguments<'static, DefaultScalarValue>,
 ) -> Result<String, AllocError> {
     let mut text = String::new(alloc);
-    for argument in &arguments {
-        text.push_str(argument.0.item.as_str())?;
-    }
     for argument in arguments {
         text.push_str(argument.0.item.as_str())?;
     }
     Ok(text)
 }
 
-#[test]
-fn arguments_by_name_and_in_order(rt: HostRuntime) -> Result<(), Fail> {
-    let arguments = sample(rt.alloc())?;
+/// The names of the arguments, one behind another, as they are handed out.
+fn names_given(
+    alloc: Global,
+    arguments: Arguments<'static, DefaultScalarValue>,
+) -> Result<String, AllocError> {
+    let mut text = String::new(alloc);
+    for argument in arguments {
+        text.push_str(argument.0.item.as_str())?;
+    }
+    Ok(text)
+}
+
+/// The names twice, how many arguments there are, and those of four names.
+fn arguments_text(alloc: Global) -> Result<String, AllocError> {
+    let arguments = sample(alloc)?;
+    let lent = names_lent(alloc, &arguments)?;
+    let counted = arguments.len() == 3 && arguments.iter().count() == 3 && !arguments.is_empty();
     let told = [
         found(&arguments, "b"),
         found(&arguments, "a"),
         found(&arguments, "c"),
         found(&arguments, ""),
     ];
-    assert_eq!(rt; told, [Some((2, 10)), Some((1, 4)), None, None]);
-    assert!(rt; arguments.len() == 3 && arguments.iter().count() == 3 && !arguments.is_empty());
-    let text = names_twice(rt.alloc(), arguments)?;
-    assert_eq!(rt; text.as_str(), "abaaba");
-    Ok(())
+    let right = told == [Some((2, 10)), Some((1, 4)), None, None];
+    let given = names_given(alloc, arguments)?;
+    format!(in alloc; "{lent} {given} {counted} {right}")
+}
+
+#[test]
+fn arguments_by_name_and_in_order(rt: HostRuntime) -> Result<(), AllocError> {
+    let told = arguments_text(rt.alloc());
+    check(&rt, told, "aba aba true true")
 }
 
 /// A variable of this name, of the type `Int`.
@@ -83,14 +108,22 @@ fn variable(
     (Spanning::unlocated(TextRef::new(name)), definition)
 }
 
+/// Whether the last of two variables is that.
+fn is_last(alloc: Global) -> Result<bool, AllocError> {
+    let items = vec![in alloc; variable(alloc, "first"), variable(alloc, "last")]?;
+    let variables = VariableDefinitions {
+        items: Items::from_vec(items),
+    };
+    Ok(match variables.iter().last() {
+        Some(variable) => variable.0.item.is("last"),
+        None => false,
+    })
+}
+
 #[test]
-fn variables_in_order(rt: HostRuntime) -> Result<(), Fail> {
-    let mut items = Items::new(rt.alloc());
-    items.push(variable(rt.alloc(), "first"))?;
-    items.push(variable(rt.alloc(), "last"))?;
-    let variables = VariableDefinitions { items };
-    let last = variables.iter().last();
-    assert!(rt; last.is_some_and(|variable| variable.0.item.is("last")));
+fn variables_in_order(rt: HostRuntime) -> Result<(), AllocError> {
+    let is_last = is_last(rt.alloc())?;
+    assert!(rt; is_last);
     Ok(())
 }
 
@@ -122,22 +155,25 @@ fn under_inline(alloc: Global, set: Set) -> Result<Set, AllocError> {
     Ok(outer)
 }
 
-#[test]
-fn deep_document_goes(rt: HostRuntime) -> Result<(), Fail> {
-    let alloc = rt.alloc();
+/// A set of a field of a set of an inline fragment, and so on.
+fn nested(alloc: Global) -> Result<Set, AllocError> {
     let mut set: Set = Items::new(alloc);
     for _ in 0..100_000 {
-        let inner = under_field(alloc, set)?;
-        set = under_inline(alloc, inner)?;
+        set = under_inline(alloc, under_field(alloc, set)?)?;
     }
+    Ok(set)
+}
+
+#[test]
+fn deep_document_goes(rt: HostRuntime) -> Result<(), AllocError> {
+    let alloc = rt.alloc();
     let fragment = Fragment {
         name: Spanning::unlocated(TextRef::new("f")),
         type_condition: Spanning::unlocated(TextRef::new("T")),
         directives: None,
-        selection_set: set,
+        selection_set: nested(alloc)?,
     };
-    let mut document = Items::new(alloc);
-    document.push(Definition::Fragment(Spanning::unlocated(fragment)))?;
-    release_document(document);
+    let definitions = vec![in alloc; Definition::Fragment(Spanning::unlocated(fragment))]?;
+    release_document(Items::from_vec(definitions));
     Ok(())
 }

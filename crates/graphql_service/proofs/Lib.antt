@@ -6,6 +6,7 @@ pub mod OneFault
 pub mod Evaluations
 pub mod ErrorWritings
 pub mod Lines
+pub mod Kept
 pub mod Repeats
 pub mod Rearranged
 pub mod Views

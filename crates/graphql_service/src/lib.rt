@@ -14,6 +14,7 @@ mod refusal;
 mod request;
 mod selection;
 mod service;
+mod serving;
 mod table;
 
 pub use fault::ThinFault;
@@ -23,4 +24,5 @@ pub use graphql_lines::{
 };
 pub use refusal::ThinRefusal;
 pub use service::ThinService;
+pub use serving::{ServeError, serve};
 pub use table::{ThinKind, ThinRecord, ThinType};

@@ -2,10 +2,8 @@
 
 ghost use Rattle.std.specs.Prelude.{◌≡◌};
 ghost use Rattle.graphql_service_program.specs.Status.{status_of};
-ghost use Rattle.graphql_service_program.specs.declared.failure.Failure.TheVariants.{Memory};
 
-use graphql_service::ThinFault;
-use std::alloc::AllocError;
+use graphql_service::{ServeError, ThinFault};
 use std::error::Error;
 use std::fmt;
 
@@ -52,19 +50,21 @@ impl fmt::Display for Failure {
 
 impl Error for Failure {}
 
-impl From<AllocError> for Failure {
-    ghost from_gives = { λ _ e. e ≡ Memory };
-
-    fn from(_e: AllocError) -> Failure {
-        Failure::Memory
-    }
-}
-
 impl From<ThinFault> for Failure {
     fn from(fault: ThinFault) -> Failure {
         match fault {
             ThinFault::Memory => Failure::Memory,
             fault => Failure::Sample(fault),
+        }
+    }
+}
+
+impl From<ServeError> for Failure {
+    fn from(error: ServeError) -> Failure {
+        match error {
+            ServeError::Read => Failure::Read,
+            ServeError::Write => Failure::Write,
+            ServeError::Memory => Failure::Memory,
         }
     }
 }

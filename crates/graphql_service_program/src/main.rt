@@ -2,14 +2,10 @@
 #![tactic(auto)]
 
 mod failure;
-#[cfg(test)]
-mod line_tests;
 mod sample;
-mod serve;
-#[cfg(test)]
-mod tests;
 
 use failure::Failure;
+use graphql_service::serve;
 use std::process::ExitCode;
 use std::{env, io};
 
@@ -37,7 +33,8 @@ fn run(rt: &HostRuntime) -> Result<(), Failure> {
     let service = sample::service(rt.alloc(), LINE_LIMIT)?;
     let mut reader = rt.reader();
     let mut writer = io::writer(rt);
-    serve::serve(rt.alloc(), &service, LINE_LIMIT, &mut reader, &mut writer)
+    serve(rt.alloc(), &service, LINE_LIMIT, &mut reader, &mut writer)?;
+    Ok(())
 }
 
 fn main(rt: HostRuntime) -> ExitCode {

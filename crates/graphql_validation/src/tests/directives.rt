@@ -1,61 +1,79 @@
-use graphql_meta::{Argument, DirectiveLocation, DirectiveType};
-use graphql_text::{Items, Text};
-use graphql_type_references::Type;
+use super::examples::{alone, argument, non_null, text};
+use graphql_meta::{DirectiveLocation, DirectiveType};
+use graphql_text::Items;
 use graphql_values::DefaultScalarValue;
-use std::alloc::{AllocError, Global};
-use std::test::Fail;
+use std::alloc::Global;
+use std::process::Abort;
 
 /// The directive `@skip(if: Boolean!) on FIELD | FRAGMENT_SPREAD | INLINE_FRAGMENT`.
-fn skip(alloc: Global) -> Result<DirectiveType<DefaultScalarValue>, AllocError> {
+fn skip(rt: &impl Abort, alloc: Global) -> DirectiveType<DefaultScalarValue> {
     let mut locations = Items::new(alloc);
-    locations.extend_from_slice(&[
-        DirectiveLocation::Field,
-        DirectiveLocation::FragmentSpread,
-        DirectiveLocation::InlineFragment,
-    ])?;
-    let boolean = Type::new(alloc, Text::from_str(alloc, "Boolean")?).wrap_non_null()?;
-    let mut arguments = Items::new(alloc);
-    arguments.push(Argument::new(Text::from_str(alloc, "if")?, boolean))?;
-    let name = Text::from_str(alloc, "skip")?;
-    Ok(DirectiveType::new(name, locations, arguments, false))
+    locations
+        .extend_from_slice(&[
+            DirectiveLocation::Field,
+            DirectiveLocation::FragmentSpread,
+            DirectiveLocation::InlineFragment,
+        ])
+        .expect(rt, "memory");
+    let arguments = alone(rt, alloc, argument(rt, alloc, "if", non_null("Boolean")));
+    DirectiveType::new(text(rt, alloc, "skip"), locations, arguments, false)
+}
+
+/// Whether the directive says this in words.
+fn is_described(directive: &DirectiveType<DefaultScalarValue>, description: &str) -> bool {
+    match &directive.description {
+        Some(words) => words.is(description),
+        None => false,
+    }
+}
+
+/// Whether the directive has no description.
+fn is_bare(directive: &DirectiveType<DefaultScalarValue>) -> bool {
+    directive.description.is_none()
+}
+
+/// Whether the directive tells what else it was made of.
+fn is_skip(directive: &DirectiveType<DefaultScalarValue>) -> bool {
+    directive.name.is("skip")
+        && directive.arguments.len() == 1
+        && !directive.is_repeatable
+        && directive.has_location(DirectiveLocation::Field)
+        && directive.has_location(DirectiveLocation::InlineFragment)
+        && !directive.has_location(DirectiveLocation::FieldDefinition)
 }
 
 #[test]
-fn directives_are_made(rt: HostRuntime) -> Result<(), Fail> {
+fn directives_are_made(rt: HostRuntime) {
     let alloc = rt.alloc();
-    let skip = skip(alloc)?;
-    assert!(rt; skip.description.is_none());
-    let skip = skip.description(Text::from_str(alloc, "Leaves it out")?);
-    assert_eq!(rt; skip.name.as_str(), "skip");
-    match &skip.description {
-        Some(words) => assert_eq!(rt; words.as_str(), "Leaves it out"),
-        None => assert!(rt; false),
-    }
-    assert_eq!(rt; skip.arguments.len(), 1);
-    assert!(rt; !skip.is_repeatable);
-    assert!(rt; skip.has_location(DirectiveLocation::Field));
-    assert!(rt; skip.has_location(DirectiveLocation::InlineFragment));
-    assert!(rt; !skip.has_location(DirectiveLocation::FieldDefinition));
-    Ok(())
+    let bare = is_bare(&skip(&rt, alloc));
+    assert!(rt; bare);
+    let told = is_skip(&skip(&rt, alloc));
+    assert!(rt; told);
+    let words = text(&rt, alloc, "Leaves it out");
+    let described = is_described(&skip(&rt, alloc).description(words), "Leaves it out");
+    assert!(rt; described);
 }
 
+/// The places, and how each is written.
+const PLACES: [(DirectiveLocation, &str); 11] = [
+    (DirectiveLocation::Query, "query"),
+    (DirectiveLocation::Mutation, "mutation"),
+    (DirectiveLocation::Subscription, "subscription"),
+    (DirectiveLocation::Field, "field"),
+    (DirectiveLocation::Scalar, "scalar"),
+    (DirectiveLocation::FragmentDefinition, "fragment definition"),
+    (DirectiveLocation::FieldDefinition, "field definition"),
+    (DirectiveLocation::VariableDefinition, "variable definition"),
+    (DirectiveLocation::FragmentSpread, "fragment spread"),
+    (DirectiveLocation::InlineFragment, "inline fragment"),
+    (DirectiveLocation::EnumValue, "enum value"),
+];
+
 #[test]
-fn places_are_printed(rt: HostRuntime) -> Result<(), Fail> {
+fn places_are_printed(rt: HostRuntime) {
     let alloc = rt.alloc();
-    for (location, words) in [
-        (DirectiveLocation::Query, "query"),
-        (DirectiveLocation::Mutation, "mutation"),
-        (DirectiveLocation::Subscription, "subscription"),
-        (DirectiveLocation::Field, "field"),
-        (DirectiveLocation::Scalar, "scalar"),
-        (DirectiveLocation::FragmentDefinition, "fragment definition"),
-        (DirectiveLocation::FieldDefinition, "field definition"),
-        (DirectiveLocation::VariableDefinition, "variable definition"),
-        (DirectiveLocation::FragmentSpread, "fragment spread"),
-        (DirectiveLocation::InlineFragment, "inline fragment"),
-        (DirectiveLocation::EnumValue, "enum value"),
-    ] {
-        assert_eq!(rt; location.to_string(alloc)?.as_str(), words);
+    for (location, words) in &PLACES {
+        let written = location.to_string(alloc).expect(&rt, "memory");
+        assert_eq!(rt; written.as_str(), *words);
     }
-    Ok(())
 }

@@ -1,3 +1,5 @@
+ghost use Rattle.std.specs.Prelude.{IsTrue};
+
 use graphql_meta::{
     Argument, Check, DeprecationStatus, EnumMeta, EnumValue, Field, InputObjectMeta, InterfaceMeta,
     MetaType, ObjectMeta, ScalarMeta, UnionMeta,
@@ -8,27 +10,36 @@ use graphql_schema_faults::SchemaError;
 use graphql_text::{Items, Text};
 use graphql_type_references::Type;
 use graphql_values::{DefaultScalarValue, InputValue};
-use std::alloc::{AllocError, Global};
+use std::alloc::Global;
+use std::process::Abort;
 
-/// A check that accepts every value.
+/// A check that accepts every value, or refuses every value.
+///
+/// All metadata of these tests have checks of this type, since what lets go of metadata is proved
+/// anew for each type of check.
 #[derive(Drop)]
-pub struct AnyValue;
+pub struct Verdict {
+    alloc: Global,
+    accepts: bool,
+}
 
-impl Check<DefaultScalarValue> for AnyValue {
-    ghost accepts = { λ c value. Unit {0} };
+impl Check<DefaultScalarValue> for Verdict {
+    ghost accepts = { λ c value. IsTrue c.accepts };
 
     ghost respects_same = { λ c a b same accepted. accepted };
 
     fn check(&self, value: &InputValue<DefaultScalarValue>) -> Result<(), CheckError> {
-        Ok(())
+        if self.accepts {
+            Ok(())
+        } else {
+            Err(CheckError::Message(Text::new(self.alloc)))
+        }
     }
 }
 
-pub type Meta = MetaType<DefaultScalarValue, AnyValue>;
+pub type Meta = MetaType<DefaultScalarValue, Verdict>;
 
-pub type Schema = SchemaType<DefaultScalarValue, AnyValue>;
-
-pub type Fields = Items<Field<DefaultScalarValue>>;
+pub type Schema = SchemaType<DefaultScalarValue, Verdict>;
 
 /// The name of a type, and whether the type is without `null`.
 #[derive(Clone, Copy)]
@@ -48,7 +59,11 @@ pub struct FieldRow<'a> {
 /// A type in short, its name first.
 #[derive(Clone, Copy)]
 pub enum Row<'a> {
+    /// A scalar that accepts every value.
     Scalar(&'a str),
+
+    /// A scalar that refuses every value.
+    Refusing(&'a str),
 
     /// Of one field.
     Object(&'a str, FieldRow<'a>),
@@ -108,155 +123,176 @@ pub fn every_schema() -> [Row<'static>; 5] {
     ]
 }
 
-/// The reference to the type.
-pub fn reference(alloc: Global, of: Of<'_>) -> Result<Type<Text>, AllocError> {
-    let named = Type::new(alloc, Text::from_str(alloc, of.name)?);
-    if of.is_non_null {
-        return named.wrap_non_null();
+/// Whether there are words, and they are these.
+pub fn says(words: Option<&str>, wanted: &str) -> bool {
+    match words {
+        Some(words) => words == wanted,
+        None => false,
     }
-    Ok(named)
+}
+
+/// The text. Where memory runs out it stops the test, as each function below does that makes
+/// something: so none has a second way out, where all that it holds would have to be let go.
+pub fn text(rt: &impl Abort, alloc: Global, words: &str) -> Text {
+    Text::from_str(alloc, words).expect(rt, "memory")
+}
+
+/// The items with one more.
+pub fn with<T: Drop>(rt: &impl Abort, mut items: Items<T>, item: T) -> Items<T> {
+    let pushed = items.push(item).is_ok();
+    assert!(rt; pushed);
+    items
 }
 
 /// An item alone.
-pub fn alone<T: Drop>(alloc: Global, item: Result<T, AllocError>) -> Result<Items<T>, AllocError> {
-    let mut items = Items::new(alloc);
-    items.push(item?)?;
-    Ok(items)
+pub fn alone<T: Drop>(rt: &impl Abort, alloc: Global, item: T) -> Items<T> {
+    with(rt, Items::new(alloc), item)
+}
+
+/// The reference to the type.
+pub fn reference(rt: &impl Abort, alloc: Global, of: Of<'_>) -> Type<Text> {
+    let named = Type::new(alloc, text(rt, alloc, of.name));
+    if of.is_non_null {
+        named.wrap_non_null().expect(rt, "memory")
+    } else {
+        named
+    }
 }
 
 /// An argument or an input field without a default.
 pub fn argument(
+    rt: &impl Abort,
     alloc: Global,
     name: &str,
     of: Of<'_>,
-) -> Result<Argument<DefaultScalarValue>, AllocError> {
-    let arg_type = reference(alloc, of)?;
-    Ok(Argument::new(Text::from_str(alloc, name)?, arg_type))
+) -> Argument<DefaultScalarValue> {
+    Argument::new(text(rt, alloc, name), reference(rt, alloc, of))
 }
 
 fn arguments(
+    rt: &impl Abort,
     alloc: Global,
     of: Option<Of<'_>>,
-) -> Result<Option<Items<Argument<DefaultScalarValue>>>, AllocError> {
+) -> Option<Items<Argument<DefaultScalarValue>>> {
     match of {
-        Some(of) => Ok(Some(alone(alloc, argument(alloc, "a", of))?)),
-        None => Ok(None),
+        Some(of) => Some(alone(rt, alloc, argument(rt, alloc, "a", of))),
+        None => None,
     }
 }
 
-fn field(alloc: Global, row: FieldRow<'_>) -> Result<Field<DefaultScalarValue>, AllocError> {
-    let field_type = reference(alloc, row.of)?;
-    let name = Text::from_str(alloc, row.name)?;
-    Ok(Field {
-        name,
+fn field(rt: &impl Abort, alloc: Global, row: FieldRow<'_>) -> Field<DefaultScalarValue> {
+    Field {
+        name: text(rt, alloc, row.name),
         description: None,
-        arguments: arguments(alloc, row.argument)?,
-        field_type,
+        arguments: arguments(rt, alloc, row.argument),
+        field_type: reference(rt, alloc, row.of),
         deprecation_status: DeprecationStatus::Current,
-    })
-}
-
-/// The field alone.
-pub fn one_field(alloc: Global, row: FieldRow<'_>) -> Result<Fields, AllocError> {
-    alone(alloc, field(alloc, row))
-}
-
-/// The field twice.
-fn twice(alloc: Global, row: FieldRow<'_>) -> Result<Fields, AllocError> {
-    let mut fields = one_field(alloc, row)?;
-    fields.push(field(alloc, row)?)?;
-    Ok(fields)
+    }
 }
 
 fn object(
+    rt: &impl Abort,
     alloc: Global,
     name: &str,
-    fields: Result<Fields, AllocError>,
-) -> Result<ObjectMeta<DefaultScalarValue>, AllocError> {
-    let fields = fields?;
-    Ok(ObjectMeta::new(alloc, Text::from_str(alloc, name)?, fields))
+    row: FieldRow<'_>,
+) -> ObjectMeta<DefaultScalarValue> {
+    let fields = alone(rt, alloc, field(rt, alloc, row));
+    ObjectMeta::new(alloc, text(rt, alloc, name), fields)
+}
+
+fn twice(rt: &impl Abort, alloc: Global, name: &str, row: FieldRow<'_>) -> Meta {
+    let fields = alone(rt, alloc, field(rt, alloc, row));
+    let fields = with(rt, fields, field(rt, alloc, row));
+    ObjectMeta::new(alloc, text(rt, alloc, name), fields).into_meta()
 }
 
 fn implementor(
+    rt: &impl Abort,
     alloc: Global,
-    object: Result<ObjectMeta<DefaultScalarValue>, AllocError>,
+    object: ObjectMeta<DefaultScalarValue>,
     interface: &str,
-) -> Result<Meta, AllocError> {
-    let object = object?;
-    let names = alone(alloc, Text::from_str(alloc, interface))?;
-    Ok(object.interfaces(names).into_meta())
+) -> Meta {
+    let names = alone(rt, alloc, text(rt, alloc, interface));
+    object.interfaces(names).into_meta()
 }
 
-fn interface(alloc: Global, name: &str, field: FieldRow<'_>) -> Result<Meta, AllocError> {
-    let fields = one_field(alloc, field)?;
-    Ok(InterfaceMeta::new(alloc, Text::from_str(alloc, name)?, fields).into_meta())
+fn interface(rt: &impl Abort, alloc: Global, name: &str, row: FieldRow<'_>) -> Meta {
+    let fields = alone(rt, alloc, field(rt, alloc, row));
+    InterfaceMeta::new(alloc, text(rt, alloc, name), fields).into_meta()
 }
 
-fn union_of(alloc: Global, name: &str, member: &str) -> Result<Meta, AllocError> {
-    let members = alone(alloc, Text::from_str(alloc, member))?;
-    Ok(UnionMeta::new(Text::from_str(alloc, name)?, members).into_meta())
+fn union_of(rt: &impl Abort, alloc: Global, name: &str, member: &str) -> Meta {
+    let members = alone(rt, alloc, text(rt, alloc, member));
+    UnionMeta::new(text(rt, alloc, name), members).into_meta()
 }
 
-fn value(alloc: Global, name: &str) -> Result<EnumValue, AllocError> {
-    Ok(EnumValue::new(Text::from_str(alloc, name)?))
+fn scalar(rt: &impl Abort, alloc: Global, name: &str, accepts: bool) -> Meta {
+    ScalarMeta::new(text(rt, alloc, name), Verdict { alloc, accepts }).into_meta()
 }
 
-fn enumeration(alloc: Global, name: &str, value: &str) -> Result<Meta, AllocError> {
-    let values = alone(alloc, self::value(alloc, value))?;
-    Ok(EnumMeta::new(Text::from_str(alloc, name)?, values, AnyValue).into_meta())
+/// A check that accepts every value.
+pub fn any_value(alloc: Global) -> Verdict {
+    Verdict {
+        alloc,
+        accepts: true,
+    }
 }
 
-fn input_object(alloc: Global, name: &str, field: &str, of: Of<'_>) -> Result<Meta, AllocError> {
-    let fields = alone(alloc, argument(alloc, field, of))?;
-    Ok(InputObjectMeta::new(Text::from_str(alloc, name)?, fields, AnyValue).into_meta())
+fn enumeration(rt: &impl Abort, alloc: Global, name: &str, value: &str) -> Meta {
+    let values = alone(rt, alloc, EnumValue::new(text(rt, alloc, value)));
+    EnumMeta::new(text(rt, alloc, name), values, any_value(alloc)).into_meta()
+}
+
+fn input_object(rt: &impl Abort, alloc: Global, name: &str, field: &str, of: Of<'_>) -> Meta {
+    let fields = alone(rt, alloc, argument(rt, alloc, field, of));
+    InputObjectMeta::new(text(rt, alloc, name), fields, any_value(alloc)).into_meta()
 }
 
 /// The type that is meant.
-fn meta_of(alloc: Global, row: Row<'_>) -> Result<Meta, AllocError> {
+fn meta_of(rt: &impl Abort, alloc: Global, row: Row<'_>) -> Meta {
     match row {
-        Row::Scalar(name) => {
-            Ok(ScalarMeta::new(Text::from_str(alloc, name)?, AnyValue).into_meta())
-        }
-        Row::Object(name, of) => { Ok(object(alloc, name, one_field(alloc, of))?.into_meta()) }
-        Row::Twice(name, of) => Ok(object(alloc, name, twice(alloc, of))?.into_meta()),
+        Row::Scalar(name) => scalar(rt, alloc, name, true),
+        Row::Refusing(name) => scalar(rt, alloc, name, false),
+        Row::Object(name, of) => object(rt, alloc, name, of).into_meta(),
+        Row::Twice(name, of) => twice(rt, alloc, name, of),
         Row::Implementor(name, of, listed) => {
-            let made = object(alloc, name, one_field(alloc, of));
-            implementor(alloc, made, listed)
+            implementor(rt, alloc, object(rt, alloc, name, of), listed)
         }
-        Row::Interface(name, of) => interface(alloc, name, of),
-        Row::Union(name, member) => union_of(alloc, name, member),
-        Row::Enum(name, value) => enumeration(alloc, name, value),
-        Row::InputObject(name, field, of) => input_object(alloc, name, field, of),
+        Row::Interface(name, of) => interface(rt, alloc, name, of),
+        Row::Union(name, member) => union_of(rt, alloc, name, member),
+        Row::Enum(name, value) => enumeration(rt, alloc, name, value),
+        Row::InputObject(name, field, of) => input_object(rt, alloc, name, field, of),
     }
 }
 
-/// Puts the types that are meant behind the others.
-fn push_all(alloc: Global, types: &mut Items<Meta>, rows: &[Row<'_>]) -> Result<(), AllocError> {
+/// The types, and behind them those that are meant.
+fn with_all(
+    rt: &impl Abort,
+    alloc: Global,
+    mut types: Items<Meta>,
+    rows: &[Row<'_>],
+) -> Items<Meta> {
     for row in rows {
-        types.push(meta_of(alloc, *row)?)?;
+        types = with(rt, types, meta_of(rt, alloc, *row));
     }
-    Ok(())
+    types
 }
 
 /// The schema of these types, with the query root `Query`, a mutation root where one is given, and the
 /// name of no subscription root.
 pub fn schema_of(
+    rt: &impl Abort,
     alloc: Global,
     first: &[Row<'_>],
     rows: &[Row<'_>],
     mutation: Option<&str>,
 ) -> Result<Schema, SchemaError> {
-    let mut types = Items::new(alloc);
-    push_all(alloc, &mut types, first)?;
-    push_all(alloc, &mut types, rows)?;
+    let types = with_all(rt, alloc, Items::new(alloc), first);
+    let types = with_all(rt, alloc, types, rows);
     SchemaType::new(alloc, types, "Query", mutation, Some("_EmptySubscription"))
 }
 
-/// The same with what every schema has.
-pub fn schema(
-    alloc: Global,
-    rows: &[Row<'_>],
-    mutation: Option<&str>,
-) -> Result<Schema, SchemaError> {
-    schema_of(alloc, &every_schema(), rows, mutation)
+/// The same with what every schema has, of types without a fault.
+pub fn schema(rt: &impl Abort, alloc: Global, rows: &[Row<'_>], mutation: Option<&str>) -> Schema {
+    schema_of(rt, alloc, &every_schema(), rows, mutation).expect(rt, "a schema")
 }

@@ -1,280 +1,255 @@
+use super::examples::{
+    Meta, alone, any_value, argument, non_null, nullable, reference, says, text,
+};
 use graphql_meta::{
-    Argument, Check, DeprecationStatus, EnumMeta, EnumValue, Field, InputObjectMeta, InterfaceMeta,
+    Argument, DeprecationStatus, EnumMeta, EnumValue, Field, InputObjectMeta, InterfaceMeta,
     ListMeta, MetaType, NullableMeta, ObjectMeta, PlaceholderMeta, ScalarMeta, TypeKind, UnionMeta,
 };
-use graphql_scalars::CheckError;
-use graphql_text::{Items, Text};
-use graphql_type_references::Type;
+use graphql_text::Items;
 use graphql_values::{DefaultScalarValue, InputValue};
-use std::alloc::{AllocError, Global};
+use std::alloc::Global;
 use std::process::Abort;
-use std::test::Fail;
 
-/// A check that accepts every value.
-#[derive(Drop)]
-struct AnyValue;
-
-impl Check<DefaultScalarValue> for AnyValue {
-    ghost accepts = { λ c value. Unit {0} };
-
-    ghost respects_same = { λ c a b same accepted. accepted };
-
-    fn check(&self, value: &InputValue<DefaultScalarValue>) -> Result<(), CheckError> {
-        Ok(())
-    }
-}
-
-type Meta = MetaType<DefaultScalarValue, AnyValue>;
-
-type Made = Result<Meta, AllocError>;
-
-/// The type of this name, with `null`.
-fn of_name(alloc: Global, name: &str) -> Result<Type<Text>, AllocError> {
-    Ok(Type::new(alloc, Text::from_str(alloc, name)?))
-}
-
-/// An item alone.
-fn alone<T: Drop>(alloc: Global, item: Result<T, AllocError>) -> Result<Items<T>, AllocError> {
-    let mut items = Items::new(alloc);
-    items.push(item?)?;
-    Ok(items)
-}
-
-/// The argument `episode: Episode = RED`. What takes memory comes first, which keeps proofs short.
-fn episode(alloc: Global) -> Result<Argument<DefaultScalarValue>, AllocError> {
-    let name = Text::from_str(alloc, "episode")?;
-    let words = Text::from_str(alloc, "Which film")?;
-    let of_type = of_name(alloc, "Episode")?;
-    let red = InputValue::enum_value(alloc, "RED")?;
-    Ok(
-        Argument::new(name, of_type)
-            .description(words)
-            .default_value(red),
-    )
+/// The argument `episode: Episode = RED`.
+fn episode(rt: &impl Abort, alloc: Global) -> Argument<DefaultScalarValue> {
+    let red = InputValue::enum_value(alloc, "RED").expect(rt, "memory");
+    argument(rt, alloc, "episode", nullable("Episode"))
+        .description(text(rt, alloc, "Which film"))
+        .default_value(red)
 }
 
 /// The field `hero(episode: Episode = RED): Human`, deprecated.
-fn hero(alloc: Global) -> Result<Field<DefaultScalarValue>, AllocError> {
-    let name = Text::from_str(alloc, "hero")?;
-    let words = Text::from_str(alloc, "Who saves the world")?;
-    let reason = Text::from_str(alloc, "Two heroes")?;
-    let field_type = of_name(alloc, "Human")?;
-    let episode = episode(alloc)?;
+fn hero(rt: &impl Abort, alloc: Global) -> Field<DefaultScalarValue> {
     let field = Field {
-        name,
+        name: text(rt, alloc, "hero"),
         description: None,
         arguments: None,
-        field_type,
+        field_type: reference(rt, alloc, nullable("Human")),
         deprecation_status: DeprecationStatus::Current,
     };
     field
-        .description(words)
-        .deprecated(Some(reason))
-        .argument(alloc, episode)
+        .description(text(rt, alloc, "Who saves the world"))
+        .deprecated(Some(text(rt, alloc, "Two heroes")))
+        .argument(alloc, episode(rt, alloc))
+        .expect(rt, "memory")
 }
 
 /// The enum value `RED`, deprecated without a reason.
-fn red(alloc: Global) -> Result<EnumValue, AllocError> {
-    let name = Text::from_str(alloc, "RED")?;
-    let words = Text::from_str(alloc, "As blood")?;
-    Ok(EnumValue::new(name).description(words).deprecated(None))
+fn red(rt: &impl Abort, alloc: Global) -> EnumValue {
+    EnumValue::new(text(rt, alloc, "RED"))
+        .description(text(rt, alloc, "As blood"))
+        .deprecated(None)
+}
+
+/// Whether the field tells what it was made of.
+fn is_hero(field: &Field<DefaultScalarValue>) -> bool {
+    field.deprecation_status.is_deprecated()
+        && !field.is_builtin()
+        && says(field.deprecation_status.reason(), "Two heroes")
+        && field.arguments().len() == 1
 }
 
 #[test]
-fn fields_are_made(rt: HostRuntime) -> Result<(), Fail> {
+fn fields_are_made(rt: HostRuntime) {
+    let told = is_hero(&hero(&rt, rt.alloc()));
+    assert!(rt; told);
+}
+
+/// Whether it is deprecated without a reason.
+fn is_deprecated(status: &DeprecationStatus) -> bool {
+    status.is_deprecated() && status.reason().is_none()
+}
+
+#[test]
+fn values_are_made(rt: HostRuntime) {
+    let told = is_deprecated(&red(&rt, rt.alloc()).deprecation_status);
+    assert!(rt; told && !DeprecationStatus::Current.is_deprecated());
+}
+
+fn query(rt: &impl Abort, alloc: Global) -> Meta {
+    let interfaces = alone(rt, alloc, text(rt, alloc, "Node"));
+    let fields = alone(rt, alloc, hero(rt, alloc));
+    ObjectMeta::new(alloc, text(rt, alloc, "Query"), fields)
+        .description(text(rt, alloc, "All queries"))
+        .interfaces(interfaces)
+        .into_meta()
+}
+
+/// Whether the metadata are of an object, and of no other kind.
+fn is_object(meta: &Meta) -> bool {
+    matches!(meta.type_kind(), Some(TypeKind::Object))
+        && meta.is_composite()
+        && !meta.is_leaf()
+        && !meta.is_abstract()
+        && !meta.is_input()
+        && !meta.is_builtin()
+}
+
+/// Whether the metadata have the field `hero` and no field `Hero`.
+fn has_hero(meta: &Meta) -> bool {
+    let found = match meta.field_by_name("hero") {
+        Some(field) => field.name.is("hero"),
+        None => false,
+    };
+    found && meta.field_by_name("Hero").is_none() && meta.input_field_by_name("hero").is_none()
+}
+
+/// Whether the metadata have one field and one interface, and no parts of other kinds.
+fn has_object_parts(meta: &Meta) -> bool {
+    meta.fields().len() == 1
+        && meta.interface_names().len() == 1
+        && meta.member_names().is_empty()
+        && meta.enum_values().is_empty()
+}
+
+/// Whether the metadata tell what they were made of.
+fn is_query(meta: &Meta) -> bool {
+    says(meta.name(), "Query")
+        && says(meta.description(), "All queries")
+        && is_object(meta)
+        && has_hero(meta)
+        && has_object_parts(meta)
+}
+
+#[test]
+fn objects_are_made(rt: HostRuntime) {
+    let told = is_query(&query(&rt, rt.alloc()));
+    assert!(rt; told);
+}
+
+fn node(rt: &impl Abort, alloc: Global) -> Meta {
+    let fields = alone(rt, alloc, hero(rt, alloc));
+    InterfaceMeta::new(alloc, text(rt, alloc, "Node"), fields)
+        .description(text(rt, alloc, "Has a hero"))
+        .interfaces(Items::new(alloc))
+        .into_meta()
+}
+
+fn any(rt: &impl Abort, alloc: Global) -> Meta {
+    let members = alone(rt, alloc, text(rt, alloc, "Human"));
+    UnionMeta::new(text(rt, alloc, "__Any"), members)
+        .description(text(rt, alloc, "Anyone"))
+        .into_meta()
+}
+
+/// Whether the metadata are of an interface with the field.
+fn is_node(meta: &Meta) -> bool {
+    meta.is_abstract() && meta.field_by_name("hero").is_some()
+}
+
+#[test]
+fn interfaces_are_made(rt: HostRuntime) {
+    let told = is_node(&node(&rt, rt.alloc()));
+    assert!(rt; told);
+}
+
+/// Whether the metadata are of a union of one member.
+fn is_any(meta: &Meta) -> bool {
+    meta.is_abstract() && meta.is_composite() && meta.is_builtin() && meta.member_names().len() == 1
+}
+
+#[test]
+fn unions_are_made(rt: HostRuntime) {
+    let told = is_any(&any(&rt, rt.alloc()));
+    assert!(rt; told);
+}
+
+fn id(rt: &impl Abort, alloc: Global) -> Meta {
+    ScalarMeta::new(text(rt, alloc, "ID"), any_value(alloc))
+        .description(text(rt, alloc, "A key"))
+        .specified_by_url(text(rt, alloc, "https://id"))
+        .into_meta()
+}
+
+fn color(rt: &impl Abort, alloc: Global) -> Meta {
+    let values = alone(rt, alloc, red(rt, alloc));
+    EnumMeta::new(text(rt, alloc, "Color"), values, any_value(alloc))
+        .description(text(rt, alloc, "Of light"))
+        .into_meta()
+}
+
+fn point(rt: &impl Abort, alloc: Global) -> Meta {
+    let fields = alone(rt, alloc, argument(rt, alloc, "__x", nullable("Int")));
+    InputObjectMeta::new(text(rt, alloc, "Point"), fields, any_value(alloc))
+        .description(text(rt, alloc, "In a plane"))
+        .into_meta()
+}
+
+/// Whether the metadata are of a scalar with an address and a check.
+fn is_id(meta: &Meta) -> bool {
+    says(meta.specified_by_url(), "https://id")
+        && meta.is_leaf()
+        && meta.is_input()
+        && meta.is_builtin()
+        && meta.input_value_parse_fn().is_some()
+}
+
+#[test]
+fn scalars_are_made(rt: HostRuntime) {
+    let told = is_id(&id(&rt, rt.alloc()));
+    assert!(rt; told);
+}
+
+/// Whether the metadata are of an enum of one value.
+fn is_color(meta: &Meta) -> bool {
+    matches!(meta.type_kind(), Some(TypeKind::Enum)) && meta.enum_values().len() == 1
+}
+
+#[test]
+fn enums_are_made(rt: HostRuntime) {
+    let told = is_color(&color(&rt, rt.alloc()));
+    assert!(rt; told);
+}
+
+/// Whether the metadata are of an input object of one field, whose name is reserved.
+fn is_point(meta: &Meta) -> bool {
+    let reserved = match meta.input_field_by_name("__x") {
+        Some(field) => field.is_builtin(),
+        None => false,
+    };
+    reserved && meta.is_input() && meta.input_fields().len() == 1
+}
+
+#[test]
+fn input_objects_are_made(rt: HostRuntime) {
+    let told = is_point(&point(&rt, rt.alloc()));
+    assert!(rt; told);
+}
+
+fn list(rt: &impl Abort, alloc: Global) -> Meta {
+    ListMeta::new(reference(rt, alloc, non_null("Int")), None).into_meta()
+}
+
+fn needed(rt: &impl Abort, alloc: Global) -> Meta {
+    let list = reference(rt, alloc, nullable("Int")).wrap_list(None);
+    let needed = list.expect(rt, "memory").wrap_non_null();
+    NullableMeta::new(needed.expect(rt, "memory")).into_meta()
+}
+
+fn placeholder(rt: &impl Abort, alloc: Global) -> Meta {
+    let of_type = reference(rt, alloc, nullable("Human"));
+    MetaType::Placeholder(PlaceholderMeta { of_type })
+}
+
+/// The reference to the type as it is written.
+fn written(rt: &impl Abort, alloc: Global, meta: &Meta) -> String {
+    let of_type = meta.as_type(alloc).expect(rt, "memory");
+    of_type.to_string(alloc).expect(rt, "memory")
+}
+
+/// Whether the reference to the type is written so, and it is of this kind. Takes the metadata, so
+/// that they are let go of in one place.
+fn refers(rt: &impl Abort, alloc: Global, meta: Meta, words: &str, kind: Option<TypeKind>) -> bool {
+    written(rt, alloc, &meta).as_str() == words && meta.type_kind() == kind
+}
+
+#[test]
+fn types_are_referred_to(rt: HostRuntime) {
     let alloc = rt.alloc();
-    let field = hero(alloc)?;
-    assert!(rt; field.deprecation_status.is_deprecated() && !field.is_builtin());
-    assert_eq!(rt; field.deprecation_status.reason(), Some("Two heroes"));
-    assert_eq!(rt; field.arguments().len(), 1);
-    Ok(())
-}
-
-#[test]
-fn values_are_made(rt: HostRuntime) -> Result<(), Fail> {
-    let value = red(rt.alloc())?;
-    assert!(rt; value.deprecation_status.is_deprecated());
-    assert_eq!(rt; value.deprecation_status.reason(), None);
-    assert!(rt; !DeprecationStatus::Current.is_deprecated());
-    Ok(())
-}
-
-fn query(alloc: Global) -> Made {
-    let name = Text::from_str(alloc, "Query")?;
-    let words = Text::from_str(alloc, "All queries")?;
-    let interfaces = alone(alloc, Text::from_str(alloc, "Node"))?;
-    let fields = alone(alloc, hero(alloc))?;
-    Ok(
-        ObjectMeta::new(alloc, name, fields)
-            .description(words)
-            .interfaces(interfaces)
-            .into_meta(),
-    )
-}
-
-#[test]
-fn objects_are_made(rt: HostRuntime) -> Result<(), Fail> {
-    let meta = query(rt.alloc())?;
-    assert_eq!(rt; meta.name(), Some("Query"));
-    assert_eq!(rt; meta.description(), Some("All queries"));
-    assert_eq!(rt; meta.type_kind(), Some(TypeKind::Object));
-    assert!(rt; meta.is_composite() && !meta.is_leaf() && !meta.is_abstract());
-    assert!(rt; !meta.is_input() && !meta.is_builtin());
-    match meta.field_by_name("hero") {
-        Some(field) => assert_eq!(rt; field.name.as_str(), "hero"),
-        None => assert!(rt; false),
-    }
-    assert!(rt; meta.field_by_name("Hero").is_none());
-    assert!(rt; meta.fields().len() == 1 && meta.interface_names().len() == 1);
-    assert!(rt; meta.member_names().is_empty() && meta.enum_values().is_empty());
-    assert!(rt; meta.input_field_by_name("hero").is_none());
-    Ok(())
-}
-
-fn node(alloc: Global) -> Made {
-    let name = Text::from_str(alloc, "Node")?;
-    let words = Text::from_str(alloc, "Has a hero")?;
-    let fields = alone(alloc, hero(alloc))?;
-    Ok(
-        InterfaceMeta::new(alloc, name, fields)
-            .description(words)
-            .interfaces(Items::new(alloc))
-            .into_meta(),
-    )
-}
-
-fn any(alloc: Global) -> Made {
-    let name = Text::from_str(alloc, "__Any")?;
-    let words = Text::from_str(alloc, "Anyone")?;
-    let members = alone(alloc, Text::from_str(alloc, "Human"))?;
-    Ok(UnionMeta::new(name, members).description(words).into_meta())
-}
-
-#[test]
-fn interfaces_are_made(rt: HostRuntime) -> Result<(), Fail> {
-    let node = node(rt.alloc())?;
-    assert!(rt; node.is_abstract() && node.field_by_name("hero").is_some());
-    Ok(())
-}
-
-#[test]
-fn unions_are_made(rt: HostRuntime) -> Result<(), Fail> {
-    let any = any(rt.alloc())?;
-    assert!(rt; any.is_abstract() && any.is_composite() && any.is_builtin());
-    assert_eq!(rt; any.member_names().len(), 1);
-    Ok(())
-}
-
-fn id(alloc: Global) -> Made {
-    let name = Text::from_str(alloc, "ID")?;
-    let words = Text::from_str(alloc, "A key")?;
-    let url = Text::from_str(alloc, "https://id")?;
-    Ok(
-        ScalarMeta::new(name, AnyValue)
-            .description(words)
-            .specified_by_url(url)
-            .into_meta(),
-    )
-}
-
-fn color(alloc: Global) -> Made {
-    let name = Text::from_str(alloc, "Color")?;
-    let words = Text::from_str(alloc, "Of light")?;
-    let values = alone(alloc, red(alloc))?;
-    Ok(
-        EnumMeta::new(name, values, AnyValue)
-            .description(words)
-            .into_meta(),
-    )
-}
-
-fn x(alloc: Global) -> Result<Argument<DefaultScalarValue>, AllocError> {
-    let of_type = of_name(alloc, "Int")?;
-    Ok(Argument::new(Text::from_str(alloc, "__x")?, of_type))
-}
-
-fn point(alloc: Global) -> Made {
-    let name = Text::from_str(alloc, "Point")?;
-    let words = Text::from_str(alloc, "In a plane")?;
-    let fields = alone(alloc, x(alloc))?;
-    Ok(
-        InputObjectMeta::new(name, fields, AnyValue)
-            .description(words)
-            .into_meta(),
-    )
-}
-
-#[test]
-fn scalars_are_made(rt: HostRuntime) -> Result<(), Fail> {
-    let id = id(rt.alloc())?;
-    assert_eq!(rt; id.specified_by_url(), Some("https://id"));
-    assert!(rt; id.is_leaf() && id.is_input() && id.is_builtin());
-    assert!(rt; id.input_value_parse_fn().is_some());
-    Ok(())
-}
-
-#[test]
-fn enums_are_made(rt: HostRuntime) -> Result<(), Fail> {
-    let color = color(rt.alloc())?;
-    assert_eq!(rt; color.type_kind(), Some(TypeKind::Enum));
-    assert_eq!(rt; color.enum_values().len(), 1);
-    Ok(())
-}
-
-#[test]
-fn input_objects_are_made(rt: HostRuntime) -> Result<(), Fail> {
-    let point = point(rt.alloc())?;
-    assert!(rt; point.is_input() && point.input_fields().len() == 1);
-    match point.input_field_by_name("__x") {
-        Some(field) => assert!(rt; field.is_builtin()),
-        None => assert!(rt; false),
-    }
-    Ok(())
-}
-
-fn list(alloc: Global) -> Made {
-    let items = of_name(alloc, "Int")?.wrap_non_null()?;
-    Ok(ListMeta::new(items, None).into_meta())
-}
-
-fn nullable(alloc: Global) -> Made {
-    let needed = of_name(alloc, "Int")?.wrap_list(None)?.wrap_non_null()?;
-    Ok(NullableMeta::new(needed).into_meta())
-}
-
-fn placeholder(alloc: Global) -> Made {
-    let of_type = of_name(alloc, "Human")?;
-    Ok(MetaType::Placeholder(PlaceholderMeta { of_type }))
-}
-
-/// The reference to the type, as it is written, and its kind.
-fn reference(alloc: Global, meta: Made) -> Result<(String, Option<TypeKind>), AllocError> {
-    let meta = meta?;
-    let of_type = meta.as_type(alloc)?;
-    let text = of_type.to_string(alloc)?;
-    Ok((text, meta.type_kind()))
-}
-
-/// Asserts how the reference to the type is written, and its kind.
-fn refers(
-    rt: &impl Abort,
-    alloc: Global,
-    meta: Made,
-    text: &str,
-    kind: Option<TypeKind>,
-) -> Result<(), AllocError> {
-    let (written, of_kind) = reference(alloc, meta)?;
-    assert_eq!(rt; written.as_str(), text);
-    assert_eq!(rt; of_kind, kind);
-    Ok(())
-}
-
-#[test]
-fn types_are_referred_to(rt: HostRuntime) -> Result<(), Fail> {
-    let alloc = rt.alloc();
-    refers(&rt, alloc, any(alloc), "__Any!", Some(TypeKind::Union))?;
-    refers(&rt, alloc, list(alloc), "[Int!]!", Some(TypeKind::List))?;
-    refers(&rt, alloc, nullable(alloc), "[Int]", None)?;
-    refers(&rt, alloc, placeholder(alloc), "Human", None)?;
-    Ok(())
+    let of_union = Some(TypeKind::Union);
+    assert!(rt; refers(&rt, alloc, any(&rt, alloc), "__Any!", of_union));
+    let of_list = Some(TypeKind::List);
+    assert!(rt; refers(&rt, alloc, list(&rt, alloc), "[Int!]!", of_list));
+    assert!(rt; refers(&rt, alloc, needed(&rt, alloc), "[Int]", None));
+    assert!(rt; refers(&rt, alloc, placeholder(&rt, alloc), "Human", None));
 }

@@ -1,76 +1,85 @@
-use graphql_meta::{MetaType, ScalarMeta};
+use super::examples::{Meta, Verdict, any_value, text};
+use graphql_meta::ScalarMeta;
 use graphql_schema::TypeType;
-use graphql_text::Text;
 use graphql_type_references::TypeModifier;
 use graphql_values::DefaultScalarValue;
-use std::alloc::{AllocError, Global};
-use std::test::Fail;
+use std::alloc::Global;
+use std::process::Abort;
 
-type Meta = MetaType<DefaultScalarValue, ()>;
+type Reference<'a> = TypeType<'a, DefaultScalarValue, Verdict>;
 
-/// The scalar `Int`, without a check.
-fn int(alloc: Global) -> Result<Meta, AllocError> {
-    Ok(ScalarMeta::new(Text::from_str(alloc, "Int")?, ()).into_meta())
+/// The scalar `Int`.
+fn int(rt: &impl Abort, alloc: Global) -> Meta {
+    ScalarMeta::new(text(rt, alloc, "Int"), any_value(alloc)).into_meta()
 }
 
 fn is_int(meta: Option<&Meta>) -> bool {
     matches!(meta, Some(meta) if meta.name() == Some("Int"))
 }
 
-fn is_written(
+/// The type around these metadata.
+fn wrapped<'a>(
+    rt: &impl Abort,
     alloc: Global,
-    of: Option<&TypeType<'_, DefaultScalarValue, ()>>,
-    text: &str,
-) -> Result<bool, AllocError> {
-    match of {
-        Some(of) => Ok(of.to_string(alloc)?.as_str() == text),
-        None => Ok(false),
-    }
+    meta: &'a Meta,
+    wraps: &[TypeModifier],
+) -> Reference<'a> {
+    TypeType::of(alloc, meta, wraps).expect(rt, "memory")
 }
 
-/// Whether a type without wraps, and one without `null`, are told as they are.
-fn names_are_told(alloc: Global, meta: &Meta) -> Result<bool, AllocError> {
-    let named = TypeType::of(alloc, meta, &[])?;
-    let needed = TypeType::of(alloc, meta, &[TypeModifier::NonNull])?;
-    let written = is_written(alloc, Some(&named), "Int")?
-        && is_written(alloc, Some(&needed), "Int!")?;
-    let no_lists = named.list_contents().is_none() && needed.list_contents().is_none();
-    Ok(
-        written
-            && no_lists
-            && !named.is_non_null()
-            && needed.is_non_null()
-            && is_int(needed.to_concrete()),
-    )
+/// Whether the type is written so.
+fn is_written(rt: &impl Abort, alloc: Global, of: &Reference<'_>, words: &str) -> bool {
+    of.to_string(alloc).expect(rt, "memory").as_str() == words
 }
 
-/// Whether a list is told as it is.
-fn lists_are_told(alloc: Global, meta: &Meta) -> Result<bool, AllocError> {
-    let modifiers = [
+fn is_nullable_int(of: &Reference<'_>) -> bool {
+    of.list_contents().is_none() && !of.is_non_null()
+}
+
+fn is_needed_int(of: &Reference<'_>) -> bool {
+    of.list_contents().is_none() && of.is_non_null() && is_int(of.to_concrete())
+}
+
+fn names_are_told(rt: &impl Abort, alloc: Global, meta: &Meta) {
+    let named = wrapped(rt, alloc, meta, &[]);
+    assert!(rt; is_written(rt, alloc, &named, "Int") && is_nullable_int(&named));
+}
+
+fn needed_is_told(rt: &impl Abort, alloc: Global, meta: &Meta) {
+    let needed = wrapped(rt, alloc, meta, &[TypeModifier::NonNull]);
+    assert!(rt; is_written(rt, alloc, &needed, "Int!") && is_needed_int(&needed));
+}
+
+/// Whether the type is a list of the scalar, written so; and its items are written so.
+fn is_list(rt: &impl Abort, alloc: Global, of: &Reference<'_>, words: &str, items: &str) -> bool {
+    let within = match of.list_contents() {
+        Some(contents) => is_written(rt, alloc, contents, items),
+        None => false,
+    };
+    within
+        && is_written(rt, alloc, of, words)
+        && is_int(Some(of.innermost_concrete()))
+        && of.to_concrete().is_none()
+}
+
+fn list_is_told(rt: &impl Abort, alloc: Global, meta: &Meta) {
+    let wraps = [
         TypeModifier::NonNull,
         TypeModifier::List(Some(3)),
         TypeModifier::NonNull,
     ];
-    let list = TypeType::of(alloc, meta, &modifiers)?;
-    let written = is_written(alloc, Some(&list), "[Int!]!")?;
-    let items = is_written(alloc, list.list_contents(), "Int!")?;
-    let innermost = is_int(Some(list.innermost_concrete()));
-    Ok(written && items && innermost && list.is_non_null() && list.to_concrete().is_none())
+    let list = wrapped(rt, alloc, meta, &wraps);
+    assert!(rt; is_list(rt, alloc, &list, "[Int!]!", "Int!") && list.is_non_null());
 }
 
-/// Whether the types around the scalar `Int` are told as they are.
-fn types_of_int_are_told(alloc: Global) -> Result<bool, AllocError> {
-    let meta = int(alloc)?;
-    are_told(alloc, &meta)
-}
-
-fn are_told(alloc: Global, meta: &Meta) -> Result<bool, AllocError> {
-    Ok(names_are_told(alloc, meta)? && lists_are_told(alloc, meta)?)
+fn all_are_told(rt: &impl Abort, alloc: Global, meta: &Meta) {
+    names_are_told(rt, alloc, meta);
+    needed_is_told(rt, alloc, meta);
+    list_is_told(rt, alloc, meta);
 }
 
 #[test]
-fn types_are_told(rt: HostRuntime) -> Result<(), Fail> {
-    let told = types_of_int_are_told(rt.alloc())?;
-    assert!(rt; told);
-    Ok(())
+fn types_are_told(rt: HostRuntime) {
+    let alloc = rt.alloc();
+    all_are_told(&rt, alloc, &int(&rt, alloc));
 }

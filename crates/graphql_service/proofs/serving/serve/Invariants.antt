@@ -1,5 +1,5 @@
 use Rattle.std.proofs.Common.{◌+◌, ◌≤◌, vec_len}
-use Rattle.graphql_service_program.proofs.serve.serve.Given as goal
+use Rattle.graphql_service.proofs.serving.serve.Given as goal
 
 abbrev pub invariant-pieces : goal.invariant-pieces
 invariant-pieces g l = vec_len l.line ≤ l.limit + 1

@@ -1,6 +1,6 @@
 use Rattle.std.proofs.Common.{◌≡◌, ◌+◌, ◌-◌, ◌++◌, cond, is_ok, length, take, vec_len, ap, ◌∙◌, arith, min}
-use Rattle.graphql_service_program.proofs.Kept.{front_is, on_ok}
-use Rattle.graphql_service_program.proofs.serve.keep.Goals as goal
+use Rattle.graphql_service.proofs.Kept.{front_is, on_ok}
+use Rattle.graphql_service.proofs.serving.keep.Goals as goal
 
 pub returns-clause-kept : goal.returns-clause-kept
 returns-clause-kept c =

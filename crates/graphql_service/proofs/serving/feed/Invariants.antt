@@ -1,5 +1,5 @@
 use Rattle.std.proofs.Common.{◌+◌, ◌≤◌, length, vec_len}
-use Rattle.graphql_service_program.proofs.serve.feed.Given as goal
+use Rattle.graphql_service.proofs.serving.feed.Given as goal
 
 abbrev pub invariant-lines : goal.invariant-lines
 invariant-lines g l = vec_len l.line ≤ l.limit + 1

@@ -2,10 +2,26 @@
 
 ghost use Rattle.std.specs.Prelude.{◌≡◌, ◌+◌, ◌≤◌, ◌<◌, ◌^◌, ◌++◌, OnOk, take, vec_len};
 
-use crate::failure::Failure;
-use graphql_service::ThinService;
+use crate::service::ThinService;
 use std::alloc::{AllocError, Global};
 use std::io::{self, Read, Write};
+
+/// Why no more lines are answered.
+#[derive(Clone, Copy, Debug, PartialEq, Eq)]
+pub enum ServeError {
+    /// A read failed.
+    Read,
+    /// A write failed, or took nothing.
+    Write,
+    /// Memory ran out.
+    Memory,
+}
+
+impl From<AllocError> for ServeError {
+    fn from(_: AllocError) -> ServeError {
+        ServeError::Memory
+    }
+}
 
 /// Adds bytes to a line that has begun. One byte more than the limit makes it too long, so no more
 /// of it is kept.
@@ -25,14 +41,14 @@ fn answer<W: Write>(
     service: &ThinService,
     line: &[u8],
     writer: &mut W,
-) -> Result<(), Failure> {
+) -> Result<(), ServeError> {
     if line.is_empty() {
         return Ok(());
     }
     let answer = service.answer(alloc, line)?;
     match writer.write_all(answer.as_slice()) {
         Ok(()) => Ok(()),
-        Err(_) => Err(Failure::Write),
+        Err(_) => Err(ServeError::Write),
     }
 }
 
@@ -44,7 +60,7 @@ fn feed<W: Write>(
     line: &mut Vec<u8>,
     piece: &[u8],
     writer: &mut W,
-) -> Result<(), Failure>
+) -> Result<(), ServeError>
     requires fits { limit + 1 < 2 ^ 64 }
     requires begun { vec_len line.old ≤ limit + 1 }
     ensures { vec_len line.new ≤ limit + 1 }
@@ -61,14 +77,15 @@ fn feed<W: Write>(
 }
 
 /// Answers each line that is not empty, as it comes, until the input ends. A line ends at a line
-/// feed or at the end of the input, and has at most `limit` bytes.
+/// feed or at the end of the input. `limit` is the service's: of a longer line one byte more is kept,
+/// so that the service refuses it.
 pub fn serve<R: Read, W: Write>(
     alloc: Global,
     service: &ThinService,
     limit: usize,
     reader: &mut R,
     writer: &mut W,
-) -> Result<(), Failure>
+) -> Result<(), ServeError>
     requires { limit + 1 < 2 ^ 64 }
 {
     let mut line = Vec::new(alloc);
@@ -78,8 +95,8 @@ pub fn serve<R: Read, W: Write>(
             Ok(0) => return answer(alloc, service, line.as_slice(), writer),
             Ok(n) => feed(alloc, service, limit, &mut line, &piece[..n], writer)?,
             Err(e) if e.kind() == io::ErrorKind::Interrupted => {}
-            Err(_) => return Err(Failure::Read),
+            Err(_) => return Err(ServeError::Read),
         }
     }
-    Err(Failure::Read)
+    Err(ServeError::Read)
 }

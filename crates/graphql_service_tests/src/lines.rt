@@ -1,0 +1,78 @@
+use graphql_items::{Items, Text};
+use graphql_lines::{GraphQLRequest, laws};
+use graphql_output_values::{DefaultScalarValue, Object, Value};
+use graphql_service::{request_from_line, value_to_json};
+use graphql_values::InputValue;
+use std::alloc::{AllocError, Global};
+use std::test::Fail;
+
+/// Whether a request asks `{ a }` of the operation `Q`, with the least integer as `x`.
+fn is_least_of_q(request: &GraphQLRequest<DefaultScalarValue>) -> bool {
+    let is_q = matches!(&request.operation_name, Some(name) if name.as_str() == "Q");
+    let is_least = matches!(
+        request.variables.get("x"),
+        Some(InputValue::Scalar(DefaultScalarValue::Int(-2147483648)))
+    );
+    request.query.as_str() == "{ a }" && is_q && request.variables.len() == 1 && is_least
+}
+
+#[test]
+fn requests_hold_what_lines_ask(rt: HostRuntime) {
+    let line = r#"{"query":"{ a }","operationName":"Q","variables":{"x":-2147483648}}"#;
+    let is_held = match request_from_line(rt.alloc(), line.as_bytes()) {
+        Ok(request) => is_least_of_q(&request),
+        Err(_) => false,
+    };
+    assert!(rt; is_held);
+}
+
+/// Puts a value under a key of an object.
+fn add(
+    alloc: Global,
+    object: &mut Object<DefaultScalarValue>,
+    key: &str,
+    value: Value<DefaultScalarValue>,
+) -> Result<(), AllocError> {
+    object.add_field(Text::from_str(alloc, key)?, value)?;
+    Ok(())
+}
+
+/// The list of null, true and -7.
+fn list(alloc: Global) -> Result<Value<DefaultScalarValue>, AllocError> {
+    let items = vec![in alloc; Value::Null, Value::scalar(true), Value::scalar(-7)]?;
+    Ok(Value::list(Items::from_vec(items)))
+}
+
+/// Puts an integer, a text and a list into an object, whose keys do not ascend.
+fn fill(alloc: Global, object: &mut Object<DefaultScalarValue>) -> Result<(), AllocError> {
+    let text = Text::from_str(alloc, "\"\\\u{8}\u{c}\n\r\t\u{1}\u{1f}/\u{7f}é😀")?;
+    add(alloc, object, "b", Value::scalar(1))?;
+    add(alloc, object, "a", Value::scalar(text))?;
+    add(alloc, object, "c", list(alloc)?)
+}
+
+/// The JSON of that object, behind what stood there.
+fn written(alloc: Global) -> Result<Vec<u8>, AllocError> {
+    let mut object = Object::with_capacity(alloc, 3)?;
+    fill(alloc, &mut object)?;
+    let mut out = Vec::from_slice(alloc, b"> ")?;
+    value_to_json(&mut out, &Value::object(object))?;
+    Ok(out)
+}
+
+#[test]
+fn values_are_written_in_their_order(rt: HostRuntime) -> Result<(), Fail> {
+    let want =
+        "> {\"b\":1,\"a\":\"\\\"\\\\\\b\\f\\n\\r\\t\\u0001\\u001f/\u{7f}é😀\",\"c\":[null,true,-7]}";
+    let out = written(rt.alloc())?;
+    assert_eq!(rt; out.as_slice(), want.as_bytes());
+    Ok(())
+}
+
+#[test]
+fn laws_hold_of_the_default_scalars() {
+    laws::json_reads_back::<DefaultScalarValue>();
+    laws::keys_keep_values::<DefaultScalarValue>();
+    laws::bad_numbers_are_refused::<DefaultScalarValue>();
+    laws::json_holds_no_variable::<DefaultScalarValue>();
+}
