@@ -1,5 +1,6 @@
 -- What the parts of documents read, from what their own parts read.
 use Rattle.std.proofs.Common.{◌≡◌, ◌≢◌, ℕ, Bool, true, false, List, [], ◌∷◌, ◌++◌, Option, Result, Ok, Err, refl, sym, ap, ◌∙◌}
+use Rattle.graphql_text.specs.declared.position.SourcePosition.{SourcePosition}
 use Rattle.graphql_text.specs.declared.token.ScalarToken.{ScalarToken}
 use Rattle.graphql_text.specs.declared.parse_error.ParseError.{ParseError}
 use Rattle.graphql_tree.specs.declared.directive.Directive.{Directive}
@@ -13,15 +14,15 @@ use Rattle.graphql_tree.specs.declared.document.Definition.TheVariants as d
 use Rattle.graphql_grammar.specs.declared.kind.Kind.{Kind}
 use Rattle.graphql_grammar.specs.declared.kind.Kind.TheVariants as k
 use Rattle.graphql_grammar.specs.Kinds.{only, fragment_names}
-use Rattle.graphql_grammar.specs.Input.{At, Input, Fault, Outcome, Parser, and_then, ◌>>=◌, pure, refuse, refusal, peek_kind, next}
+use Rattle.graphql_grammar.specs.Input.{At, Input, Fault, Outcome, Parser, and_then, ◌>>=◌, pure, refuse, refusal, peek, peek_kind, next}
 use Rattle.graphql_grammar.specs.Steps.{sees, expect, name_in, located, optional, all, finished}
 use Rattle.graphql_grammar.proofs.Cursors.{token_yes, token_no}
-use Rattle.graphql_grammar.proofs.Parts.{then_read, then_refused, when_yes, when_no}
+use Rattle.graphql_grammar.proofs.Parts.{then_read, then_refused, when_yes, when_no, located_read, located_refused}
 use Rattle.graphql_grammar.proofs.Turns.{AllLeft, all_starts}
 use Rattle.graphql_value_syntax.specs.ReadDirectives.{directives, variable_definitions}
 use Rattle.graphql_language.specs.ReadSelections.{type_condition}
 use Rattle.graphql_language.specs.ReadDocuments.{operation_words, operation_type_of, type_by, definition_kinds, set, query_of, full_operation, operation, fragment, definition, document}
-use Rattle.graphql_language.specs.ReadDefinitions.{operation_type, operation_name, operation_parts, fragment_parts, definitions}
+use Rattle.graphql_language.specs.ReadDefinitions.{operation_type, operation_name, operation_parts, body, fragment_parts, definitions}
 
 -- ---- the type of an operation
 
@@ -69,6 +70,42 @@ module _ {S : Type 0} (reads : ScalarToken → Result S ParseError) (of_bool : B
   abbrev Set : Parser (List (Selection S))
   Set = set reads of_bool
 
+  -- ---- what ends a definition
+
+  abbrev with_set : Option (List (At (Directive S))) → List (Selection S) → Parser (Option (List (At (Directive S))) × List (Selection S))
+  with_set ds ss = pure (ds, ss)
+
+  abbrev with_directives : Option (List (At (Directive S))) → Parser (Option (List (At (Directive S))) × List (Selection S))
+  with_directives ds = Set >>= with_set ds
+
+  module _ (i : Input) where
+    pub body_directives_refused : {e : Fault} → Dirs i ≡ Err e → body reads of_bool i ≡ Err e
+    unfolding body
+    body_directives_refused refused = then_refused Dirs with_directives refused
+
+    module _ {ds : Option (List (At (Directive S)))} {j : Input} (directives_are : Dirs i ≡ Ok (ds, j)) where
+      pub body_set_refused : {e : Fault} → Set j ≡ Err e → body reads of_bool i ≡ Err e
+      unfolding body
+      body_set_refused refused = then_read Dirs with_directives directives_are ∙ then_refused Set (with_set ds) refused
+
+      pub body_read : {ss : List (Selection S)} {m : Input} → Set j ≡ Ok (ss, m) → body reads of_bool i ≡ Ok ((ds, ss), m)
+      unfolding body
+      body_read read = then_read Dirs with_directives directives_are ∙ then_read Set (with_set ds) read
+
+  module _ {B : Type 0} (f : Option (List (At (Directive S))) → List (Selection S) → B) where
+    set_by : (ds : Option (List (At (Directive S)))) (o : Outcome (List (Selection S))) → and_then o (λ ss. pure (f ds ss)) ≡ and_then (and_then o (with_set ds)) (λ b. pure (f b.0 b.1))
+    set_by ds (Ok q) = refl
+    set_by ds (Err e) = refl
+
+    body_by : (o : Outcome (Option (List (At (Directive S))))) → and_then o (λ ds. Set >>= (λ ss. pure (f ds ss))) ≡ and_then (and_then o with_directives) (λ b. pure (f b.0 b.1))
+    body_by (Ok q) = set_by q.0 (Set q.1)
+    body_by (Err e) = refl
+
+    -- the two parts one by one
+    body_is : (i : Input) → (Dirs >>= (λ ds. Set >>= (λ ss. pure (f ds ss)))) i ≡ (body reads of_bool >>= (λ b. pure (f b.0 b.1))) i
+    unfolding body
+    body_is i = body_by (Dirs i)
+
   -- ---- an operation that begins with its type
 
   abbrev made : OperationType → Option (At (List ℕ)) → Option (At (VariableDefinitions S)) → Option (List (At (Directive S))) → List (Selection S) → Operation S
@@ -106,15 +143,11 @@ module _ {S : Type 0} (reads : ScalarToken → Result S ParseError) (of_bool : B
           unfolding full_operation
           full_variables = then_read operation_type on_type type_is ∙ then_read operation_name (on_name t) name_is ∙ then_read Vars (on_variables t n) variables_are
 
-          pub full_directives_refused : {e : Fault} → Dirs m ≡ Err e → full_operation reads of_bool i ≡ Err e
-          full_directives_refused refused = full_variables ∙ then_refused Dirs (on_directives t n vs) refused
+          pub full_body_refused : {e : Fault} → body reads of_bool m ≡ Err e → full_operation reads of_bool i ≡ Err e
+          full_body_refused refused = full_variables ∙ body_is (made t n vs) m ∙ then_refused (body reads of_bool) (λ b. pure (made t n vs b.0 b.1)) refused
 
-          module _ {ds : Option (List (At (Directive S)))} {o : Input} (directives_are : Dirs m ≡ Ok (ds, o)) where
-            pub full_set_refused : {e : Fault} → Set o ≡ Err e → full_operation reads of_bool i ≡ Err e
-            full_set_refused refused = full_variables ∙ then_read Dirs (on_directives t n vs) directives_are ∙ then_refused Set (λ ss. pure (made t n vs ds ss)) refused
-
-            pub full_read : {ss : List (Selection S)} {p : Input} → Set o ≡ Ok (ss, p) → full_operation reads of_bool i ≡ Ok (made t n vs ds ss, p)
-            full_read read = full_variables ∙ then_read Dirs (on_directives t n vs) directives_are ∙ then_read Set (λ ss. pure (made t n vs ds ss)) read
+          pub full_read : {ds : Option (List (At (Directive S)))} {ss : List (Selection S)} {p : Input} → body reads of_bool m ≡ Ok ((ds, ss), p) → full_operation reads of_bool i ≡ Ok (made t n vs ds ss, p)
+          full_read read = full_variables ∙ body_is (made t n vs) m ∙ then_read (body reads of_bool) (λ b. pure (made t n vs b.0 b.1)) read
 
   -- ---- an operation
 
@@ -134,9 +167,16 @@ module _ {S : Type 0} (reads : ScalarToken → Result S ParseError) (of_bool : B
   unfolding operation_parts
   long_form i is = when_no (only k.CurlyOpen) short (full_operation reads of_bool) i is
 
-  pub operation_is : (i : Input) → operation reads of_bool i ≡ located (operation_parts reads of_bool) i
+  operation_is : (i : Input) → operation reads of_bool i ≡ located (operation_parts reads of_bool) i
   unfolding operation operation_parts
   operation_is i = refl
+
+  pub operation_refused : (i : Input) {e : Fault} → operation_parts reads of_bool i ≡ Err e → operation reads of_bool i ≡ Err e
+  operation_refused i refused = operation_is i ∙ located_refused (operation_parts reads of_bool) refused
+
+  pub operation_placed : (i : Input) {x : Operation S} {j : Input} {y : At (Operation S)} {start : SourcePosition} → operation_parts reads of_bool i ≡ Ok (x, j)
+      → start ≡ (peek i).span.start → y ≡ record { item = x; span = record { start = start; end = j.end } } → operation reads of_bool i ≡ Ok (y, j)
+  operation_placed i read begins is = operation_is i ∙ located_read (operation_parts reads of_bool) read begins is
 
   -- ---- a fragment
 
@@ -174,22 +214,25 @@ module _ {S : Type 0} (reads : ScalarToken → Result S ParseError) (of_bool : B
         fragment_condition_refused refused = fragment_named ∙ then_refused type_condition (behind_condition n) refused
 
         module _ {c : At (List ℕ)} {m : Input} (condition_is : type_condition l ≡ Ok (c, m)) where
-          pub fragment_directives_refused : {e : Fault} → Dirs m ≡ Err e → fragment_parts reads of_bool i ≡ Err e
-          fragment_directives_refused refused = fragment_named ∙ then_read type_condition (behind_condition n) condition_is ∙ then_refused Dirs (behind_directives n c) refused
+          fragment_headed : fragment_parts reads of_bool i ≡ (Dirs >>= behind_directives n c) m
+          fragment_headed = fragment_named ∙ then_read type_condition (behind_condition n) condition_is
 
-          module _ {ds : Option (List (At (Directive S)))} {o : Input} (directives_are : Dirs m ≡ Ok (ds, o)) where
-            fragment_directed : fragment_parts reads of_bool i ≡ (Set >>= (λ ss. pure (fragment_of n c ds ss))) o
-            fragment_directed = fragment_named ∙ then_read type_condition (behind_condition n) condition_is ∙ then_read Dirs (behind_directives n c) directives_are
+          pub fragment_body_refused : {e : Fault} → body reads of_bool m ≡ Err e → fragment_parts reads of_bool i ≡ Err e
+          fragment_body_refused refused = fragment_headed ∙ body_is (fragment_of n c) m ∙ then_refused (body reads of_bool) (λ b. pure (fragment_of n c b.0 b.1)) refused
 
-            pub fragment_set_refused : {e : Fault} → Set o ≡ Err e → fragment_parts reads of_bool i ≡ Err e
-            fragment_set_refused refused = fragment_directed ∙ then_refused Set (λ ss. pure (fragment_of n c ds ss)) refused
+          pub fragment_read : {ds : Option (List (At (Directive S)))} {ss : List (Selection S)} {p : Input} → body reads of_bool m ≡ Ok ((ds, ss), p) → fragment_parts reads of_bool i ≡ Ok (fragment_of n c ds ss, p)
+          fragment_read read = fragment_headed ∙ body_is (fragment_of n c) m ∙ then_read (body reads of_bool) (λ b. pure (fragment_of n c b.0 b.1)) read
 
-            pub fragment_read : {ss : List (Selection S)} {p : Input} → Set o ≡ Ok (ss, p) → fragment_parts reads of_bool i ≡ Ok (fragment_of n c ds ss, p)
-            fragment_read read = fragment_directed ∙ then_read Set (λ ss. pure (fragment_of n c ds ss)) read
-
-  pub fragment_is : (i : Input) → fragment reads of_bool i ≡ located (fragment_parts reads of_bool) i
+  fragment_is : (i : Input) → fragment reads of_bool i ≡ located (fragment_parts reads of_bool) i
   unfolding fragment fragment_parts
   fragment_is i = refl
+
+  pub fragment_refused : (i : Input) {e : Fault} → fragment_parts reads of_bool i ≡ Err e → fragment reads of_bool i ≡ Err e
+  fragment_refused i refused = fragment_is i ∙ located_refused (fragment_parts reads of_bool) refused
+
+  pub fragment_placed : (i : Input) {x : fragments.Fragment S} {j : Input} {y : At (fragments.Fragment S)} {start : SourcePosition} → fragment_parts reads of_bool i ≡ Ok (x, j)
+      → start ≡ (peek i).span.start → y ≡ record { item = x; span = record { start = start; end = j.end } } → fragment reads of_bool i ≡ Ok (y, j)
+  fragment_placed i read begins is = fragment_is i ∙ located_read (fragment_parts reads of_bool) read begins is
 
   -- ---- a definition
 

@@ -14,14 +14,11 @@ use Rattle.graphql_grammar.proofs.Cursors.{token_yes}
 use Rattle.graphql_grammar.proofs.Loops.{until_unfolds}
 use Rattle.graphql_grammar.proofs.Parts.{then_read, then_refused, when_yes, when_no}
 use Rattle.graphql_language.specs.ReadSelections.{selection_set, selection}
-use Rattle.graphql_language.specs.ReadHeads.{whole, opens, completed, ending, begun}
+use Rattle.graphql_language.specs.declared.parse.selection.Begun.TheVariants as how
+use Rattle.graphql_language.specs.ReadHeads.{completed, ending, begun}
 use Rattle.graphql_language.proofs.SelectionDepth.{takes_selection, selection_at_end}
 use Rattle.graphql_language.proofs.SelectionLevels.{selection_refused, selection_whole, selection_inside_refused, selection_opens}
 use Rattle.graphql_value_syntax.proofs.ValueDepth.{value_uses}
-
--- what was found before is what stands around a set that opens
-pub opened_in : {S : Type 0} {more : List (Open S)} {base : List (Selection S)} (outer : List (Open S)) (found : List (Selection S)) (x : Head S) → base ≡ found → more ≡ outer ++ record { head = x; around = base } ∷ [] → more ≡ outer ++ record { head = x; around = found } ∷ []
-opened_in {S = S} outer found x same kept = kept ∙ ap (λ (xs : List (Selection S)). outer ++ record { head = x; around = xs } ∷ []) same
 
 module _ {S : Type 0} (reads : ScalarToken → Result S ParseError) (of_bool : Bool → S) where
   abbrev Item : Parser (Selection S)
@@ -121,14 +118,14 @@ module _ {S : Type 0} (reads : ScalarToken → Result S ParseError) (of_bool : B
       sets_refused refused = item_refused (selection_refused reads of_bool i refused)
 
       -- a selection without a set was read
-      pub sets_more : {j : Input} {x : Selection S} {more : List (Selection S)} → begun reads of_bool i ≡ Ok (whole x, j) → more ≡ found ++ x ∷ [] → SetsLeft o outer more j
+      pub sets_more : {j : Input} {x : Selection S} {more : List (Selection S)} → begun reads of_bool i ≡ Ok (how.Whole x, j) → more ≡ found ++ x ∷ [] → SetsLeft o outer more j
       sets_more {j} {x} {more} read kept =
           record {
             gives = item_next ∙ ap (λ (r : Outcome (Selection S)). finishes outer (and_then r (λ x. rest_of_set (found ++ x ∷ [])))) (selection_whole reads of_bool i read)
                 ∙ ap (λ (xs : List (Selection S)). finishes outer (rest_of_set xs j)) (sym kept);
           }
 
-      module _ {x : Head S} {j : Input} (read : begun reads of_bool i ≡ Ok (opens x, j)) where
+      module _ {x : Head S} {j : Input} (read : begun reads of_bool i ≡ Ok (how.Opens x, j)) where
         -- no set stands behind a selection that must have one
         pub sets_unopened : {e : Fault} → expect k.CurlyOpen j ≡ Err e → o ≡ Err e
         unfolding selection_set

@@ -18,7 +18,9 @@ use Rattle.graphql_grammar.specs.Steps.{sees, when, until, expect, name_in, plac
 use Rattle.graphql_grammar.proofs.Parts.{then_refused}
 use Rattle.graphql_value_syntax.specs.ReadDirectives.{arguments, directives}
 use Rattle.graphql_language.specs.ReadSelections.{Names, field_names, type_condition, Spread, spreads, inlines, selection_of, made_field, fragment_spread, selection_set, inline_fragment, spread, field, selection_layer, selection}
-use Rattle.graphql_language.specs.ReadHeads.{Begun, whole, opens, head_of, field_with, inline_with, spread_of, completed, ending, whole_ending, field_parts, field_head, spread_parts, inline_head, spread_begun, field_begun, begun, rest_of}
+use Rattle.graphql_language.specs.declared.parse.selection.Begun.{Begun}
+use Rattle.graphql_language.specs.declared.parse.selection.Begun.TheVariants as how
+use Rattle.graphql_language.specs.ReadHeads.{head_of, field_with, inline_with, spread_of, completed, ending, whole_ending, field_parts, field_head, spread_parts, inline_head, spread_begun, field_begun, begun, rest_of}
 use Rattle.graphql_value_syntax.proofs.ValueDepth.{value_uses}
 use Rattle.graphql_language.proofs.SelectionDepth.{selection_unfolds}
 
@@ -47,19 +49,19 @@ module _ {S : Type 0} (reads : ScalarToken → Result S ParseError) (of_bool : B
     some_set (Err e) = refl
 
     field_set : (b : Bool) → and_then (and_then (and_then (if b then and_then (Set j) (λ x. pure (Some x)) else Ok (None, j)) (λ ss. pure (made_field ns args ds ss))) (placed i)) as_field
-        ≡ and_then (if b then Ok (opens (h.Field (head_of start ns args ds)), j) else Ok (whole (field_with (head_of start ns args ds) None j.end), j)) Rest
+        ≡ and_then (if b then Ok (how.Opens (h.Field (head_of start ns args ds)), j) else Ok (how.Whole (field_with (head_of start ns args ds) None j.end), j)) Rest
     field_set true = some_set (Set j)
     field_set false = refl
 
   module _ (i : Input) where
     abbrev begin_at : Parser (Begun S)
-    begin_at = field_parts reads of_bool (peek i).span.start >>= (λ x. when (only k.CurlyOpen) (pure (opens (h.Field x))) (whole_ending (field_with x None)))
+    begin_at = field_parts reads of_bool (peek i).span.start >>= (λ x. when (only k.CurlyOpen) (pure (how.Opens (h.Field x))) (whole_ending (field_with x None)))
 
     abbrev on_field : Field S → Parser (At (Field S))
     on_field = placed i
 
     abbrev on_head : FieldHead S → Parser (Begun S)
-    on_head x = when (only k.CurlyOpen) (pure (opens (h.Field x))) (whole_ending (field_with x None))
+    on_head x = when (only k.CurlyOpen) (pure (how.Opens (h.Field x))) (whole_ending (field_with x None))
 
     field_directives : (ns : Names) (args : Option (At (Arguments S))) (o : Outcome (Option (List (At (Directive S)))))
         → and_then (and_then (and_then o (λ ds. optional (only k.CurlyOpen) Set >>= (λ ss. pure (made_field ns args ds ss)))) on_field) as_field
@@ -112,24 +114,24 @@ module _ {S : Type 0} (reads : ScalarToken → Result S ParseError) (of_bool : B
 
     inline_directives : (c : Option (At (List ℕ))) (o : Outcome (Option (List (At (Directive S)))))
         → and_then (and_then (and_then o (λ ds. Set >>= (λ ss. pure (inlines (record { type_condition = c; directives = ds; selection_set = ss }))))) on_spread) as_selection
-        ≡ and_then (and_then (and_then o (λ ds. pure (record { start = at; type_condition = c; directives = ds }))) (λ x. pure (opens (h.InlineFragment x)))) Rest
+        ≡ and_then (and_then (and_then o (λ ds. pure (record { start = at; type_condition = c; directives = ds }))) (λ x. pure (how.Opens (h.InlineFragment x)))) Rest
     inline_directives c (Ok q) = inline_set c q.0 (Set q.1)
     inline_directives c (Err e) = refl
 
     inline_condition : (o : Outcome (Option (At (List ℕ))))
         → and_then (and_then (and_then o (λ c. directives reads of_bool false >>= (λ ds. Set >>= (λ ss. pure (inlines (record { type_condition = c; directives = ds; selection_set = ss })))))) on_spread) as_selection
-        ≡ and_then (and_then (and_then o (λ c. directives reads of_bool false >>= (λ ds. pure (record { start = at; type_condition = c; directives = ds })))) (λ x. pure (opens (h.InlineFragment x)))) Rest
+        ≡ and_then (and_then (and_then o (λ c. directives reads of_bool false >>= (λ ds. pure (record { start = at; type_condition = c; directives = ds })))) (λ x. pure (how.Opens (h.InlineFragment x)))) Rest
     inline_condition (Ok q) = inline_directives q.0 (directives reads of_bool false q.1)
     inline_condition (Err e) = refl
 
     either : (j : Input) (b : Bool) → and_then (and_then (if b then fragment_spread reads of_bool j else inline_fragment reads of_bool p j) on_spread) as_selection
-        ≡ and_then (if b then (spread_parts reads of_bool >>= (λ x. whole_ending (spread_of x at))) j else (inline_head reads of_bool at >>= (λ x. pure (opens (h.InlineFragment x)))) j) Rest
+        ≡ and_then (if b then (spread_parts reads of_bool >>= (λ x. whole_ending (spread_of x at))) j else (inline_head reads of_bool at >>= (λ x. pure (how.Opens (h.InlineFragment x)))) j) Rest
     unfolding fragment_spread inline_fragment spread_parts inline_head
     either j true = spread_named (located (name_in fragment_names) j)
     either j false = inline_condition (optional (only k.On) type_condition j)
 
     behind_points : (o : Outcome (Unit {0})) → and_then (and_then (and_then o (λ u. when fragment_names (fragment_spread reads of_bool) (inline_fragment reads of_bool p))) on_spread) as_selection
-        ≡ and_then (and_then o (λ u. when fragment_names (spread_parts reads of_bool >>= (λ x. whole_ending (spread_of x at))) (inline_head reads of_bool at >>= (λ x. pure (opens (h.InlineFragment x)))))) Rest
+        ≡ and_then (and_then o (λ u. when fragment_names (spread_parts reads of_bool >>= (λ x. whole_ending (spread_of x at))) (inline_head reads of_bool at >>= (λ x. pure (how.Opens (h.InlineFragment x)))))) Rest
     behind_points (Ok q) = either q.1 (sees fragment_names q.1)
     behind_points (Err e) = refl
 
@@ -162,10 +164,10 @@ module _ {S : Type 0} (reads : ScalarToken → Result S ParseError) (of_bool : B
   selection_refused i refused = selection_begins i ∙ ap (λ (o : Outcome (Begun S)). and_then o (rest_of reads of_bool Selected)) refused
 
   module _ (i : Input) {j : Input} where
-    pub selection_whole : {x : Selection S} → begun reads of_bool i ≡ Ok (whole x, j) → selection reads of_bool i ≡ Ok (x, j)
+    pub selection_whole : {x : Selection S} → begun reads of_bool i ≡ Ok (how.Whole x, j) → selection reads of_bool i ≡ Ok (x, j)
     selection_whole read = selection_begins i ∙ ap (λ (o : Outcome (Begun S)). and_then o (rest_of reads of_bool Selected)) read
 
-    module _ {x : Head S} (read : begun reads of_bool i ≡ Ok (opens x, j)) where
+    module _ {x : Head S} (read : begun reads of_bool i ≡ Ok (how.Opens x, j)) where
       pub selection_opens : selection reads of_bool i ≡ and_then (selection_set reads of_bool (selection reads of_bool) j) (λ ss. ending (completed x ss))
       selection_opens = selection_begins i ∙ ap (λ (o : Outcome (Begun S)). and_then o (rest_of reads of_bool Selected)) read
 

@@ -1,52 +1,32 @@
 -- What the parts of selections read, from what their own parts read.
-use Rattle.std.proofs.Common.{◌≡◌, ◌≢◌, ℕ, Bool, true, false, List, [], ◌∷◌, ◌++◌, Option, Some, None, Result, Ok, Err, refl, sym, ap, ◌∙◌, subst}
-use Rattle.std.specs.Result.{IsErrAnd}
+use Rattle.std.proofs.Common.{◌≡◌, ℕ, Bool, true, false, List, Option, Some, None, Result, Ok, Err, sym, ap, ◌∙◌, subst}
 use Rattle.graphql_text.specs.declared.position.SourcePosition.{SourcePosition}
 use Rattle.graphql_text.specs.declared.token.ScalarToken.{ScalarToken}
 use Rattle.graphql_text.specs.declared.parse_error.ParseError.{ParseError}
-use Rattle.graphql_text.specs.declared.parse_error.ParseError.TheVariants.{Memory}
 use Rattle.graphql_tree.specs.declared.directive.Arguments.{Arguments}
 use Rattle.graphql_tree.specs.declared.directive.Directive.{Directive}
 use Rattle.graphql_tree.specs.declared.selection.FragmentSpread.{FragmentSpread}
-use Rattle.graphql_tree.specs.declared.selection.Selection.{Selection}
+use Rattle.graphql_tree.specs.declared.selection.Selection.TheVariants as v
 use Rattle.graphql_language.specs.declared.parse.selection.FieldHead.{FieldHead}
 use Rattle.graphql_language.specs.declared.parse.selection.InlineHead.{InlineHead}
-use Rattle.graphql_language.specs.declared.parse.selection.Head.{Head}
 use Rattle.graphql_language.specs.declared.parse.selection.Head.TheVariants as h
 use Rattle.graphql_grammar.specs.declared.kind.Kind.{Kind}
 use Rattle.graphql_grammar.specs.declared.kind.Kind.TheVariants as k
 use Rattle.graphql_grammar.specs.Kinds.{only, fragment_names}
-use Rattle.graphql_grammar.specs.Input.{At, Input, Fault, Outcome, Parser, ◌>>=◌, pure, peek}
+use Rattle.graphql_grammar.specs.Input.{At, Input, Fault, Outcome, Parser, Reads, ◌>>=◌, pure, peek}
 use Rattle.graphql_grammar.specs.Steps.{sees, when, expect, name, name_in, located, optional}
 use Rattle.graphql_grammar.specs.Cursor.{after}
 use Rattle.graphql_grammar.proofs.Cursors.{token_yes, after_yes, after_no}
 use Rattle.graphql_grammar.proofs.Parts.{then_read, then_refused, when_yes, when_no}
 use Rattle.graphql_value_syntax.specs.ReadDirectives.{arguments, directives}
 use Rattle.graphql_language.specs.ReadSelections.{Names, field_names, type_condition}
-use Rattle.graphql_language.specs.ReadHeads.{Begun, whole, opens, BeginsSelection, head_of, field_with, spread_of, whole_ending, field_parts, field_head, spread_parts, inline_head, spread_begun, field_begun, begun}
-
--- the exit of a `?`: the fault of a part is the fault of the whole
-pub begins_exit : {S B : Type 0} {o : Outcome (Begun S)} {p : Outcome B} {e : Fault} (r : Result (Option (Head S)) Fault) (old new : List (Selection S)) (j : Input)
-    → IsErrAnd r (λ f. f ≡ e) → (e.item ≢ Memory → p ≡ Err e) → (p ≡ Err e → o ≡ Err e) → BeginsSelection o r old new j
-begins_exit (Ok u) old new j same part all = absurd same
-begins_exit {S} {B} {o} {p} {e} (Err f) old new j same part all = let P : Fault → Type 0 = λ x. x.item ≢ Memory → o ≡ Err x in subst P (sym same) (λ told. all (part told))
+use Rattle.graphql_language.specs.declared.parse.selection.Begun.{Begun}
+use Rattle.graphql_language.specs.declared.parse.selection.Begun.TheVariants as how
+use Rattle.graphql_language.specs.ReadHeads.{head_of, field_with, spread_of, whole_ending, field_parts, field_head, spread_parts, inline_head, spread_begun, field_begun, begun}
 
 -- parsers that answer the same
-pub begins_same : {S : Type 0} {o p : Outcome (Begun S)} (r : Result (Option (Head S)) Fault) (old new : List (Selection S)) (j : Input) → o ≡ p → BeginsSelection p r old new j → BeginsSelection o r old new j
-begins_same {S} {o} {p} r old new j same h = let P : Outcome (Begun S) → Type 0 = λ u. BeginsSelection u r old new j in subst P (sym same) h
-
-pub begins_some : {S : Type 0} {o : Outcome (Begun S)} (r : Option (Head S)) (x : Head S) (old new : List (Selection S)) (j : Input) → r ≡ Some x → BeginsSelection o (Ok r) old new j → (o ≡ Ok (opens x, j)) × (new ≡ old)
-begins_some {S} {o} r x old new j is h = let P : Option (Head S) → Type 0 = λ u. BeginsSelection o (Ok u) old new j in subst P is h
-
-pub begins_none : {S : Type 0} {o : Outcome (Begun S)} (r : Option (Head S)) (old new : List (Selection S)) (j : Input) → ((x : Head S) → r ≢ Some x) → BeginsSelection o (Ok r) old new j
-    → (x : Selection S) × (o ≡ Ok (whole x, j)) × (new ≡ old ++ x ∷ [])
-begins_none (Some x) old new j none h = absurd (none x refl)
-begins_none None old new j none h = h
-
--- a whole selection, at the end of the list
-pub whole_kept : {S : Type 0} {o : Outcome (Begun S)} {new : List (Selection S)} (old : List (Selection S)) (x y : Selection S) (j : Input) → o ≡ Ok (whole x, j) → y ≡ x → new ≡ old ++ y ∷ []
-    → (z : Selection S) × (o ≡ Ok (whole z, j)) × (new ≡ old ++ z ∷ [])
-whole_kept {S} old x y j read is kept = (y, read ∙ ap (λ (z : Selection S). Ok (whole z, j)) (sym is), kept)
+pub reads_same : {A : Type 0} {o p : Outcome A} (r : Result A Fault) (j : Input) → o ≡ p → Reads p r j → Reads o r j
+reads_same {A} {o} {p} r j same h = let P : Outcome A → Type 0 = λ u. Reads u r j in subst P (sym same) h
 
 eaten : (w : Kind) (i m : Input) → sees (only w) i ≡ true → m ≡ after (only w) i → expect w i ≡ Ok (tt {0}, m)
 eaten w i m is moved = token_yes (only w) (λ x. tt {0}) i is ∙ ap (λ (z : Input). Ok (tt {0}, z)) (sym (moved ∙ after_yes (only w) i is))
@@ -173,7 +153,7 @@ module _ {S : Type 0} (reads : ScalarToken → Result S ParseError) (of_bool : B
   -- ---- how a field begins
 
   abbrev on_head : FieldHead S → Parser (Begun S)
-  on_head x = when (only k.CurlyOpen) (pure (opens (h.Field x))) (whole_ending (field_with x None))
+  on_head x = when (only k.CurlyOpen) (pure (how.Opens (h.Field x))) (whole_ending (field_with x None))
 
   module _ (i : Input) where
     pub field_refused : {e : Fault} → field_head reads of_bool i ≡ Err e → field_begun reads of_bool i ≡ Err e
@@ -181,13 +161,13 @@ module _ {S : Type 0} (reads : ScalarToken → Result S ParseError) (of_bool : B
     field_refused refused = then_refused (field_head reads of_bool) on_head refused
 
     module _ {x : FieldHead S} {j : Input} (head_is : field_head reads of_bool i ≡ Ok (x, j)) where
-      pub field_opens : sees (only k.CurlyOpen) j ≡ true → field_begun reads of_bool i ≡ Ok (opens (h.Field x), j)
+      pub field_opens : sees (only k.CurlyOpen) j ≡ true → field_begun reads of_bool i ≡ Ok (how.Opens (h.Field x), j)
       unfolding field_begun
-      field_opens is = then_read (field_head reads of_bool) on_head head_is ∙ when_yes (only k.CurlyOpen) (pure (opens (h.Field x))) (whole_ending (field_with x None)) j is
+      field_opens is = then_read (field_head reads of_bool) on_head head_is ∙ when_yes (only k.CurlyOpen) (pure (how.Opens (h.Field x))) (whole_ending (field_with x None)) j is
 
-      pub field_whole : sees (only k.CurlyOpen) j ≡ false → field_begun reads of_bool i ≡ Ok (whole (field_with x None j.end), j)
+      pub field_whole : sees (only k.CurlyOpen) j ≡ false → field_begun reads of_bool i ≡ Ok (how.Whole (field_with x None j.end), j)
       unfolding field_begun
-      field_whole is = then_read (field_head reads of_bool) on_head head_is ∙ when_no (only k.CurlyOpen) (pure (opens (h.Field x))) (whole_ending (field_with x None)) j is
+      field_whole is = then_read (field_head reads of_bool) on_head head_is ∙ when_no (only k.CurlyOpen) (pure (how.Opens (h.Field x))) (whole_ending (field_with x None)) j is
 
   -- ---- how what stands behind three points begins
 
@@ -196,7 +176,7 @@ module _ {S : Type 0} (reads : ScalarToken → Result S ParseError) (of_bool : B
     as_spread = spread_parts reads of_bool >>= (λ x. whole_ending (spread_of x p))
 
     abbrev as_inline : Parser (Begun S)
-    as_inline = inline_head reads of_bool p >>= (λ x. pure (opens (h.InlineFragment x)))
+    as_inline = inline_head reads of_bool p >>= (λ x. pure (how.Opens (h.InlineFragment x)))
 
     pub points_refused : (i : Input) {e : Fault} → expect k.Ellipsis i ≡ Err e → spread_begun reads of_bool p i ≡ Err e
     unfolding spread_begun
@@ -207,19 +187,22 @@ module _ {S : Type 0} (reads : ScalarToken → Result S ParseError) (of_bool : B
       unfolding spread_begun
       behind_points = then_read (expect k.Ellipsis) (λ u. when fragment_names as_spread as_inline) points
 
-      module _ (is : sees fragment_names j ≡ true) where
+      module _ (named : sees fragment_names j ≡ true) where
         pub begun_spread_refused : {e : Fault} → spread_parts reads of_bool j ≡ Err e → spread_begun reads of_bool p i ≡ Err e
-        begun_spread_refused refused = behind_points ∙ when_yes fragment_names as_spread as_inline j is ∙ then_refused (spread_parts reads of_bool) (λ x. whole_ending (spread_of x p)) refused
+        begun_spread_refused refused = behind_points ∙ when_yes fragment_names as_spread as_inline j named ∙ then_refused (spread_parts reads of_bool) (λ x. whole_ending (spread_of x p)) refused
 
-        pub begun_spread : {x : FragmentSpread S} {m : Input} → spread_parts reads of_bool j ≡ Ok (x, m) → spread_begun reads of_bool p i ≡ Ok (whole (spread_of x p m.end), m)
-        begun_spread read = behind_points ∙ when_yes fragment_names as_spread as_inline j is ∙ then_read (spread_parts reads of_bool) (λ x. whole_ending (spread_of x p)) read
+        pub begun_spread : {x : FragmentSpread S} {m : Input} {y : At (FragmentSpread S)} {start : SourcePosition} → spread_parts reads of_bool j ≡ Ok (x, m) → start ≡ p
+            → y ≡ record { item = x; span = record { start = start; end = m.end } } → spread_begun reads of_bool p i ≡ Ok (how.Whole (v.FragmentSpread y), m)
+        begun_spread {x} {m} {y} {start} read begins is =
+            behind_points ∙ when_yes fragment_names as_spread as_inline j named ∙ then_read (spread_parts reads of_bool) (λ x. whole_ending (spread_of x p)) read
+            ∙ ap (λ (q : SourcePosition). Ok (how.Whole (spread_of x q m.end), m)) (sym begins) ∙ ap (λ (z : At (FragmentSpread S)). Ok (how.Whole (v.FragmentSpread z), m)) (sym is)
 
       module _ (is : sees fragment_names j ≡ false) where
         pub begun_inline_refused : {e : Fault} → inline_head reads of_bool p j ≡ Err e → spread_begun reads of_bool p i ≡ Err e
-        begun_inline_refused refused = behind_points ∙ when_no fragment_names as_spread as_inline j is ∙ then_refused (inline_head reads of_bool p) (λ x. pure (opens (h.InlineFragment x))) refused
+        begun_inline_refused refused = behind_points ∙ when_no fragment_names as_spread as_inline j is ∙ then_refused (inline_head reads of_bool p) (λ x. pure (how.Opens (h.InlineFragment x))) refused
 
-        pub begun_inline : {x : InlineHead S} {m : Input} → inline_head reads of_bool p j ≡ Ok (x, m) → spread_begun reads of_bool p i ≡ Ok (opens (h.InlineFragment x), m)
-        begun_inline read = behind_points ∙ when_no fragment_names as_spread as_inline j is ∙ then_read (inline_head reads of_bool p) (λ x. pure (opens (h.InlineFragment x))) read
+        pub begun_inline : {x : InlineHead S} {m : Input} → inline_head reads of_bool p j ≡ Ok (x, m) → spread_begun reads of_bool p i ≡ Ok (how.Opens (h.InlineFragment x), m)
+        begun_inline read = behind_points ∙ when_no fragment_names as_spread as_inline j is ∙ then_read (inline_head reads of_bool p) (λ x. pure (how.Opens (h.InlineFragment x))) read
 
   -- ---- how a selection begins
 

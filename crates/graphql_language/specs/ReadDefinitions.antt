@@ -2,6 +2,8 @@
 use Rattle.std.specs.Prelude.{ℕ, Bool, false, List, [], ◌∷◌, Option, Result}
 use Rattle.graphql_text.specs.declared.token.ScalarToken.{ScalarToken}
 use Rattle.graphql_text.specs.declared.parse_error.ParseError.{ParseError}
+use Rattle.graphql_tree.specs.declared.directive.Directive.{Directive}
+use Rattle.graphql_tree.specs.declared.selection.Selection.{Selection}
 use Rattle.graphql_tree.specs.declared.document.OperationType.{OperationType}
 use Rattle.graphql_tree.specs.declared.document.Operation.{Operation}
 use Rattle.graphql_tree.specs.declared.document.Fragment as fragments
@@ -24,6 +26,13 @@ module _ {S : Type 0} (reads : ScalarToken → Result S ParseError) (of_bool : B
   -- an operation, without its place
   unfoldable pub operation_parts : Parser (Operation S)
   operation_parts = when (only k.CurlyOpen) (do ss ← set reads of_bool; pure (query_of ss)) (full_operation reads of_bool)
+
+  -- the directives and the selection set that end a definition
+  unfoldable pub body : Parser (Option (List (At (Directive S))) × List (Selection S))
+  body = do
+    ds ← directives reads of_bool false
+    ss ← set reads of_bool
+    pure (ds, ss)
 
   -- a fragment, without its place
   unfoldable pub fragment_parts : Parser (fragments.Fragment S)

@@ -1,9 +1,8 @@
 -- How a selection begins: all of it, or what stands before its selection set (GraphQL October 2021, 2.4 Selection Sets, 2.5 Fields, 2.8 Fragments).
-use Rattle.std.specs.Prelude.{◌≡◌, Bool, false, List, [], ◌∷◌, ◌++◌, Option, Some, None, Result, Ok, Err}
+use Rattle.std.specs.Prelude.{Bool, false, List, Option, Some, None, Result, Ok}
 use Rattle.graphql_text.specs.declared.position.SourcePosition.{SourcePosition}
 use Rattle.graphql_text.specs.declared.token.ScalarToken.{ScalarToken}
 use Rattle.graphql_text.specs.declared.parse_error.ParseError.{ParseError}
-use Rattle.graphql_items.specs.Memory.{UnlessMemory}
 use Rattle.graphql_tree.specs.declared.directive.Arguments.{Arguments}
 use Rattle.graphql_tree.specs.declared.directive.Directive.{Directive}
 use Rattle.graphql_tree.specs.declared.selection.FragmentSpread.{FragmentSpread}
@@ -13,17 +12,14 @@ use Rattle.graphql_language.specs.declared.parse.selection.FieldHead.{FieldHead}
 use Rattle.graphql_language.specs.declared.parse.selection.InlineHead.{InlineHead}
 use Rattle.graphql_language.specs.declared.parse.selection.Head.{Head}
 use Rattle.graphql_language.specs.declared.parse.selection.Head.TheVariants as h
+use Rattle.graphql_language.specs.declared.parse.selection.Begun.{Begun}
+use Rattle.graphql_language.specs.declared.parse.selection.Begun.TheVariants as how
 use Rattle.graphql_grammar.specs.declared.kind.Kind.TheVariants as k
 use Rattle.graphql_grammar.specs.Kinds.{only, fragment_names}
-use Rattle.graphql_grammar.specs.Input.{At, Input, Fault, Outcome, IsMemory, Parser, ◌>>=◌, ◌>>◌, pure, peek}
+use Rattle.graphql_grammar.specs.Input.{At, Parser, ◌>>=◌, ◌>>◌, pure, peek}
 use Rattle.graphql_grammar.specs.Steps.{when, expect, name_in, located, optional}
 use Rattle.graphql_value_syntax.specs.ReadDirectives.{arguments, directives}
 use Rattle.graphql_language.specs.ReadSelections.{Names, field_names, type_condition, made_field, selection_set}
-
--- a selection with no selection set, or what stands before one
-pub data Begun (S : Type 0) : Type 0 where
-  whole : Selection S → Begun S
-  opens : Head S → Begun S
 
 module _ {S : Type 0} where
   abbrev pub head_of : SourcePosition → Names → Option (At (Arguments S)) → Option (List (At (Directive S))) → FieldHead S
@@ -48,7 +44,7 @@ module _ {S : Type 0} where
   ending make = λ i. Ok (make i.end, i)
 
   abbrev pub whole_ending : (SourcePosition → Selection S) → Parser (Begun S)
-  whole_ending make = λ i. Ok (whole (make i.end), i)
+  whole_ending make = λ i. Ok (how.Whole (make i.end), i)
 
 module _ {S : Type 0} (reads : ScalarToken → Result S ParseError) (of_bool : Bool → S) where
   unfoldable pub field_parts : SourcePosition → Parser (FieldHead S)
@@ -77,27 +73,19 @@ module _ {S : Type 0} (reads : ScalarToken → Result S ParseError) (of_bool : B
   unfoldable pub spread_begun : SourcePosition → Parser (Begun S)
   spread_begun p = do
     expect k.Ellipsis
-    when fragment_names (do x ← spread_parts; whole_ending (spread_of x p)) (do x ← inline_head p; pure (opens (h.InlineFragment x)))
+    when fragment_names (do x ← spread_parts; whole_ending (spread_of x p)) (do x ← inline_head p; pure (how.Opens (h.InlineFragment x)))
 
   unfoldable pub field_begun : Parser (Begun S)
   field_begun = do
     x ← field_head
-    when (only k.CurlyOpen) (pure (opens (h.Field x))) (whole_ending (field_with x None))
+    when (only k.CurlyOpen) (pure (how.Opens (h.Field x))) (whole_ending (field_with x None))
 
   unfoldable pub begun : Parser (Begun S)
   begun = when (only k.Ellipsis) (λ i. spread_begun (peek i).span.start i) field_begun
 
   -- the rest of a selection
   abbrev pub rest_of : Parser (Selection S) → Begun S → Parser (Selection S)
-  rest_of inner (whole x) = pure x
-  rest_of inner (opens x) = do
+  rest_of inner (how.Whole x) = pure x
+  rest_of inner (how.Opens x) = do
     ss ← selection_set reads of_bool inner
     ending (completed x ss)
-
--- ---- what functions that add to a list ensure
-
--- a whole selection stands at the end of the list; what stands before a selection set is handed out
-abbrev pub BeginsSelection : {S : Type 0} → Outcome (Begun S) → Result (Option (Head S)) Fault → List (Selection S) → List (Selection S) → Input → Type 0
-BeginsSelection outcome (Ok (Some x)) old new i = (outcome ≡ Ok (opens x, i)) × (new ≡ old)
-BeginsSelection {S} outcome (Ok None) old new i = (x : Selection S) × (outcome ≡ Ok (whole x, i)) × (new ≡ old ++ x ∷ [])
-BeginsSelection outcome (Err e) old new i = UnlessMemory IsMemory e (outcome ≡ Err e)

@@ -75,12 +75,31 @@ fn directive<S: Drop>(
 ) -> Result<DirectiveType<S>, AllocError>
     ensures { Gives result (spec.directive name.now places.now (argument ∷ [])) }
 {
-    let mut locations = Items::new(alloc);
-    locations.extend_from_slice(places)?;
-    let mut arguments = Items::new(alloc);
-    arguments.push(argument)?;
+    let arguments = alone(alloc, argument)?;
+    let locations = copied(alloc, places)?;
     let name = Text::from_str(alloc, name)?;
     Ok(DirectiveType::new(name, locations, arguments, false))
+}
+
+/// The argument alone. An error is want of memory.
+fn alone<S: Drop>(alloc: Global, argument: Argument<S>) -> Result<Items<Argument<S>>, AllocError>
+    ensures { Gives result (argument ∷ []) }
+{
+    let mut arguments = Items::new(alloc);
+    arguments.push(argument)?;
+    Ok(arguments)
+}
+
+/// The places. An error is want of memory.
+fn copied(
+    alloc: Global,
+    places: &[DirectiveLocation],
+) -> Result<Items<DirectiveLocation>, AllocError>
+    ensures { Gives result places.now }
+{
+    let mut locations = Items::new(alloc);
+    locations.extend_from_slice(places)?;
+    Ok(locations)
 }
 
 /// The argument of this name and of the type of this name without `null`, without a default. An error
@@ -100,8 +119,9 @@ fn required_argument<S>(
 fn reason<S: ScalarValue + Drop>(alloc: Global) -> Result<Argument<S>, AllocError>
     ensures { Gives result (spec.reason S.of_text) }
 {
-    let of_type = Type::new(alloc, Text::from_str(alloc, "String")?);
-    let argument = Argument::new(Text::from_str(alloc, "reason")?, of_type);
+    let type_name = Text::from_str(alloc, "String")?;
+    let name = Text::from_str(alloc, "reason")?;
     let text = String::from_str(alloc, "No longer supported")?;
+    let argument = Argument::new(name, Type::new(alloc, type_name));
     Ok(argument.default_value(InputValue::Scalar(S::from_string(text))))
 }

@@ -1,8 +1,9 @@
 //! The types that metadata describe, with the fields of introspection.
 
-ghost use Rattle.std.specs.Prelude.{◌≡◌, ◌++◌, [], ◌∷◌, OnOk};
+ghost use Rattle.std.specs.Prelude.{◌≡◌, ◌++◌, [], ◌∷◌, None, OnOk, IsOkAnd};
 ghost use Rattle.graphql_items.specs.Memory.{Gives};
-ghost use Rattle.graphql_schema_faults.specs.Completed.{schema_field, type_field, with_introspection, completed};
+ghost use Rattle.graphql_schema_faults.specs.Completed.{schema_field, type_field, name_argument, with_introspection, completed};
+ghost use Rattle.graphql_meta.specs.declared.meta.deprecation.DeprecationStatus.TheVariants as status;
 
 use graphql_meta::{Argument, DeprecationStatus, Field, MetaType, ObjectMeta};
 use graphql_text::{Items, Text};
@@ -34,11 +35,18 @@ fn push_completed<S: Drop, C: Drop>(
 ) -> Result<(), AllocError>
     ensures { OnOk result (types.new ≡ types.old ++ completed (meta ∷ []) query.now) }
 {
-    if meta.name().is_none() {
-        return Ok(());
+    if meta.name().is_some() {
+        push(types, with_introspection(alloc, meta, query))
+    } else {
+        Ok(())
     }
-    let meta = with_introspection(alloc, meta, query)?;
-    types.push(meta)?;
+}
+
+/// Puts the item behind the others. An error is want of memory: that of the item, or one here.
+fn push<T: Drop>(items: &mut Items<T>, item: Result<T, AllocError>) -> Result<(), AllocError>
+    ensures { OnOk result (IsOkAnd item (λ made. items.new ≡ items.old ++ made ∷ [])) }
+{
+    items.push(item?)?;
     Ok(())
 }
 
@@ -78,31 +86,40 @@ fn with_fields<S: Drop>(
 fn schema_field<S: Drop>(alloc: Global) -> Result<Field<S>, AllocError>
     ensures { Gives result schema_field }
 {
-    Ok(Field {
-        name: Text::from_str(alloc, "__schema")?,
-        description: None,
-        arguments: None,
-        field_type: named(alloc, "__Schema")?.wrap_non_null()?,
-        deprecation_status: DeprecationStatus::Current,
-    })
+    field(
+        alloc,
+        "__schema",
+        named(alloc, "__Schema")?.wrap_non_null()?,
+    )
 }
 
 /// `__type(name: String!): __Type`
 fn type_field<S: Drop>(alloc: Global) -> Result<Field<S>, AllocError>
     ensures { Gives result type_field }
 {
-    let name = Argument::new(
-        Text::from_str(alloc, "name")?,
-        named(alloc, "String")?.wrap_non_null()?,
-    );
-    let field = Field {
-        name: Text::from_str(alloc, "__type")?,
+    let field = field(alloc, "__type", named(alloc, "__Type")?)?;
+    field.argument(alloc, name_argument(alloc)?)
+}
+
+/// `name: String!`
+fn name_argument<S>(alloc: Global) -> Result<Argument<S>, AllocError>
+    ensures { Gives result name_argument }
+{
+    let arg_type = named(alloc, "String")?.wrap_non_null()?;
+    Ok(Argument::new(Text::from_str(alloc, "name")?, arg_type))
+}
+
+/// The field of this name and type, without arguments.
+fn field<S>(alloc: Global, name: &str, field_type: Type<Text>) -> Result<Field<S>, AllocError>
+    ensures { Gives result (record { name = name.now; description = None; arguments = None; field_type = field_type; deprecation_status = status.Current }) }
+{
+    Ok(Field {
+        name: Text::from_str(alloc, name)?,
         description: None,
         arguments: None,
-        field_type: named(alloc, "__Type")?,
+        field_type,
         deprecation_status: DeprecationStatus::Current,
-    };
-    field.argument(alloc, name)
+    })
 }
 
 /// The type of this name, with `null`.

@@ -35,13 +35,12 @@ module _ {S : Type 0} where
   fewer None n e = omega (arith, e)
   fewer (Some xs) n e = omega (arith, e)
 
-  pub fewer_in_field : (x : Placed (Field S)) → MatchOption x.item.selection_set (0 < selection_count (selection.Field x)) (λ xs. set_count xs < selection_count (selection.Field x))
-  fewer_in_field x = fewer x.item.selection_set (selection_count (selection.Field x)) (count_field x)
+  -- of a selection that is one of these forms, those of the set within it
+  pub fewer_in_field : (s : Selection S) (x : Placed (Field S)) → s ≡ selection.Field x → MatchOption x.item.selection_set (0 < selection_count s) (λ xs. set_count xs < selection_count s)
+  fewer_in_field s x is = fewer x.item.selection_set (selection_count s) (ap selection_count is ∙ count_field x)
 
   pub one_spread : (x : Placed (FragmentSpread S)) → 0 < selection_count (selection.FragmentSpread x)
   one_spread x = omega (arith, count_spread x)
 
-  pub fewer_in_inline : (x : Placed (InlineFragment S)) → set_count x.item.selection_set < selection_count (selection.InlineFragment x)
-  fewer_in_inline x = omega (arith, count_inline x)
-
-pub ruleset fewer_within = (fewer_in_field, one_spread, fewer_in_inline)
+  pub fewer_in_inline : (s : Selection S) (x : Placed (InlineFragment S)) → s ≡ selection.InlineFragment x → set_count x.item.selection_set < selection_count s
+  fewer_in_inline s x is = omega (arith, ap selection_count is, count_inline x)

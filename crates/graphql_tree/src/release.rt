@@ -36,7 +36,7 @@ pub fn release_selections<S: Drop>(selections: Items<Selection<'_, S>>) {
 }
 
 /// The selections within a selection, of which the rest is let go.
-#[tactic(auto, using(crate::proofs::CountEquations::fewer_within))]
+#[tactic(auto, using(crate::proofs::CountEquations::one_spread))]
 fn into_set<S: Drop>(selection: Selection<'_, S>) -> Option<Items<Selection<'_, S>>>
     ensures { MatchOption result (0 < selection_count selection.entry) (λ set. set_count set < selection_count selection.entry) }
 {

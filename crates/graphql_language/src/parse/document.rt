@@ -8,11 +8,19 @@ ghost use Rattle.graphql_language.specs.ReadDefinitions as parts;
 use crate::parse::selection::{fragment_name, selection_set, type_condition};
 use graphql_grammar::{Cursor, Fault, Kind, keep};
 use graphql_text::{Items, Spanning, TextRef};
-use graphql_tree::{Definition, Fragment, Operation, OperationType, Selection, release_document};
+use graphql_tree::{
+    Definition, Directive, Fragment, Operation, OperationType, Selection, release_document,
+};
 use graphql_value_syntax::directive::{directives, located_name};
 use graphql_value_syntax::variable::variable_definitions;
 use graphql_values::ScalarValue;
 use std::alloc::Global;
+
+/// The directives of a definition, if it has any, and its selection set.
+type Body<'a, S> = (
+    Option<Items<Spanning<Directive<'a, S>>>>,
+    Items<Selection<'a, S>>,
+);
 
 /// Reads a document to the end of the text (2.2 Document).
 ///
@@ -105,29 +113,28 @@ fn fragment<'a, S: ScalarValue>(
     ensures fewer { OnOk result (left cursor.new < left cursor.old) }
 {
     let start = cursor.start();
-    let fragment = fragment_parts(alloc, cursor)?;
-    Ok(cursor.closed(start, fragment))
-}
-
-fn fragment_parts<'a, S: ScalarValue>(
-    alloc: Global,
-    cursor: &mut Cursor<'a>,
-) -> Result<Fragment<'a, S>, Fault>
-    ensures reads { Reads (parts.fragment_parts S.reads S.of_bool cursor.old) result cursor.new }
-    ensures no_more { left cursor.new ≤ left cursor.old }
-    ensures fewer { OnOk result (left cursor.new < left cursor.old) }
-{
     cursor.expect(alloc, Kind::Fragment)?;
     let name = fragment_name(alloc, cursor)?;
     let type_condition = type_condition(alloc, cursor)?;
-    let directives = directives(alloc, cursor, false)?;
-    let selection_set = selection_set(alloc, cursor)?;
-    Ok(Fragment {
+    let (directives, selection_set) = body(alloc, cursor)?;
+    let fragment = Fragment {
         name,
         type_condition,
         directives,
         selection_set,
-    })
+    };
+    Ok(cursor.closed(start, fragment))
+}
+
+/// Reads what ends a definition: its directives and its selection set.
+fn body<'a, S: ScalarValue>(alloc: Global, cursor: &mut Cursor<'a>) -> Result<Body<'a, S>, Fault>
+    ensures reads { Reads (parts.body S.reads S.of_bool cursor.old) result cursor.new }
+    ensures no_more { left cursor.new ≤ left cursor.old }
+    ensures fewer { OnOk result (left cursor.new < left cursor.old) }
+{
+    let directives = directives(alloc, cursor, false)?;
+    let selection_set = selection_set(alloc, cursor)?;
+    Ok((directives, selection_set))
 }
 
 /// Reads an operation (2.3 Operations).
@@ -140,23 +147,12 @@ fn operation<'a, S: ScalarValue>(
     ensures fewer { OnOk result (left cursor.new < left cursor.old) }
 {
     let start = cursor.start();
-    let operation = operation_parts(alloc, cursor)?;
-    Ok(cursor.closed(start, operation))
-}
-
-fn operation_parts<'a, S: ScalarValue>(
-    alloc: Global,
-    cursor: &mut Cursor<'a>,
-) -> Result<Operation<'a, S>, Fault>
-    ensures reads { Reads (parts.operation_parts S.reads S.of_bool cursor.old) result cursor.new }
-    ensures no_more { left cursor.new ≤ left cursor.old }
-    ensures fewer { OnOk result (left cursor.new < left cursor.old) }
-{
     if cursor.kind() == Kind::CurlyOpen {
         let set = selection_set(alloc, cursor)?;
-        Ok(query(set))
+        Ok(cursor.closed(start, query(set)))
     } else {
-        full_operation(alloc, cursor)
+        let full = full_operation(alloc, cursor)?;
+        Ok(cursor.closed(start, full))
     }
 }
 
@@ -185,8 +181,7 @@ fn full_operation<'a, S: ScalarValue>(
     let operation_type = operation_type(alloc, cursor)?;
     let name = operation_name(alloc, cursor)?;
     let variable_definitions = variable_definitions(alloc, cursor)?;
-    let directives = directives(alloc, cursor, false)?;
-    let selection_set = selection_set(alloc, cursor)?;
+    let (directives, selection_set) = body(alloc, cursor)?;
     Ok(Operation {
         operation_type,
         name,

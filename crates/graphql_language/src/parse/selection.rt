@@ -11,7 +11,7 @@ ghost use Rattle.graphql_grammar.specs.Input as input;
 ghost use Rattle.graphql_grammar.specs.Steps as steps;
 ghost use Rattle.graphql_language.specs.ReadSelections as spec;
 ghost use Rattle.graphql_language.specs.ReadHeads as heads;
-ghost use Rattle.graphql_language.specs.ReadHeads.{BeginsSelection, completed};
+ghost use Rattle.graphql_language.specs.ReadHeads.{completed};
 
 use graphql_grammar::{Cursor, Fault, Kind, keep};
 use graphql_text::{Items, SourcePosition, Spanning, TextRef};
@@ -46,6 +46,15 @@ struct InlineHead<'a, S> {
 enum Head<'a, S> {
     Field(FieldHead<'a, S>),
     InlineFragment(InlineHead<'a, S>),
+}
+
+/// How a selection begins.
+#[derive(Drop)]
+enum Begun<'a, S> {
+    /// All of a selection that has no selection set.
+    Whole(Selection<'a, S>),
+    /// What stands before a selection set.
+    Opens(Head<'a, S>),
 }
 
 /// A selection set that is open: what stands before it, and the selections that were read of the set
@@ -102,8 +111,11 @@ fn read_sets<'a, S: ScalarValue>(
                 Some(last) => close_set(last, found, cursor.end())?,
                 None => return Ok(()),
             }
-        } else if let Some(head) = begin(alloc, cursor, found)? {
-            open_set(alloc, cursor, outer, found, head)?;
+        } else {
+            match begin(alloc, cursor)? {
+                Begun::Whole(selection) => keep(found, selection)?,
+                Begun::Opens(head) => open_set(alloc, cursor, outer, found, head)?,
+            }
         }
     }
 }
@@ -123,10 +135,9 @@ fn open_set<'a, S: ScalarValue>(
     ensures opened { OnOk result (outer.new ≡ outer.old ++ record { head = head.entry; around = found.old } ∷ []) }
     ensures empty { OnOk result (found.new ≡ []) }
 {
-    cursor.expect(alloc, Kind::CurlyOpen)?;
     let around = mem::replace(found, Items::new(alloc));
     keep(outer, Open { head, around })?;
-    Ok(())
+    cursor.expect(alloc, Kind::CurlyOpen)
 }
 
 /// Ends an open set, of which these selections were found, and which ends there: what is found then
@@ -154,21 +165,16 @@ fn release_open<S: Drop>(outer: Items<Open<'_, S>>) {
     }
 }
 
-/// Reads a selection as far as its selection set. One that has none is added to those that were
-/// found.
-fn begin<'a, S: ScalarValue>(
-    alloc: Global,
-    cursor: &mut Cursor<'a>,
-    found: &mut Items<Selection<'a, S>>,
-) -> Result<Option<Head<'a, S>>, Fault>
-    ensures reads { BeginsSelection (heads.begun S.reads S.of_bool cursor.old) result found.old found.new cursor.new }
+/// Reads a selection as far as its selection set.
+fn begin<'a, S: ScalarValue>(alloc: Global, cursor: &mut Cursor<'a>) -> Result<Begun<'a, S>, Fault>
+    ensures reads { Reads (heads.begun S.reads S.of_bool cursor.old) result cursor.new }
     ensures no_more { left cursor.new ≤ left cursor.old }
     ensures fewer { OnOk result (left cursor.new < left cursor.old) }
 {
     if cursor.kind() == Kind::Ellipsis {
-        begin_spread(alloc, cursor, found)
+        begin_spread(alloc, cursor)
     } else {
-        begin_field(alloc, cursor, found)
+        begin_field(alloc, cursor)
     }
 }
 
@@ -208,18 +214,16 @@ fn inline_fragment<'a, S>(
 fn begin_field<'a, S: ScalarValue>(
     alloc: Global,
     cursor: &mut Cursor<'a>,
-    found: &mut Items<Selection<'a, S>>,
-) -> Result<Option<Head<'a, S>>, Fault>
-    ensures reads { BeginsSelection (heads.field_begun S.reads S.of_bool cursor.old) result found.old found.new cursor.new }
+) -> Result<Begun<'a, S>, Fault>
+    ensures reads { Reads (heads.field_begun S.reads S.of_bool cursor.old) result cursor.new }
     ensures no_more { left cursor.new ≤ left cursor.old }
     ensures fewer { OnOk result (left cursor.new < left cursor.old) }
 {
     let head = field_head(alloc, cursor)?;
     if cursor.kind() == Kind::CurlyOpen {
-        Ok(Some(Head::Field(head)))
+        Ok(Begun::Opens(Head::Field(head)))
     } else {
-        keep(found, field(head, None, cursor.end()))?;
-        Ok(None)
+        Ok(Begun::Whole(field(head, None, cursor.end())))
     }
 }
 
@@ -227,9 +231,8 @@ fn begin_field<'a, S: ScalarValue>(
 fn begin_spread<'a, S: ScalarValue>(
     alloc: Global,
     cursor: &mut Cursor<'a>,
-    found: &mut Items<Selection<'a, S>>,
-) -> Result<Option<Head<'a, S>>, Fault>
-    ensures reads { BeginsSelection (heads.spread_begun S.reads S.of_bool (input.peek cursor.old).span.start cursor.old) result found.old found.new cursor.new }
+) -> Result<Begun<'a, S>, Fault>
+    ensures reads { Reads (heads.spread_begun S.reads S.of_bool (input.peek cursor.old).span.start cursor.old) result cursor.new }
     ensures no_more { left cursor.new ≤ left cursor.old }
     ensures fewer { OnOk result (left cursor.new < left cursor.old) }
 {
@@ -237,12 +240,10 @@ fn begin_spread<'a, S: ScalarValue>(
     cursor.expect(alloc, Kind::Ellipsis)?;
     if cursor.kind().is_fragment_name() {
         let spread = fragment_spread(alloc, cursor)?;
-        let spread = Spanning::start_end(start, cursor.end(), spread);
-        keep(found, Selection::FragmentSpread(spread))?;
-        Ok(None)
+        Ok(Begun::Whole(Selection::FragmentSpread(cursor.closed(start, spread))))
     } else {
         let head = inline_head(alloc, cursor, start)?;
-        Ok(Some(Head::InlineFragment(head)))
+        Ok(Begun::Opens(Head::InlineFragment(head)))
     }
 }
 

@@ -49,14 +49,7 @@ impl<'a> Parser<'a> {
         ensures list { Delimited opening.now (SomeItems closing.now (Item F.Fn parse)) self.old result self.new }
         ensures fewer { OnOk result (left self.new.input < left self.old.input) }
     {
-        let first = match self.open_list(opening) {
-            Ok(first) => first,
-            Err(fault) => return Err(fault),
-        };
-        match self.some_items_until(&parse, closing) {
-            Ok((items, last)) => Ok(Spanning::start_end(first.span.start, last.span.end, items)),
-            Err(fault) => Err(fault),
-        }
+        self.unlocated_delimited_nonempty_list(opening, parse, closing)
     }
 
     /// As `delimited_nonempty_list`, of items without their places.

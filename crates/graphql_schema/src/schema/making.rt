@@ -1,7 +1,7 @@
 //! Schemas made of metadata.
 
 ghost use Rattle.std.specs.Option.{option_map};
-ghost use Rattle.graphql_items.specs.Memory.{Gives};
+ghost use Rattle.graphql_items.specs.Memory.{Gives, GivesBy};
 ghost use Rattle.graphql_schema_faults.specs.Completed.{root_named};
 ghost use Rattle.graphql_schema.specs.Schemas.{roots_named, Makes};
 
@@ -33,20 +33,48 @@ impl<S: ScalarValue + Drop, C: Drop> SchemaType<S, C> {
         ensures { Makes S.of_text metadata (roots_named query.now (option_map (λ name. name.now) mutation.entry) (option_map (λ name. name.now) subscription.entry)) result }
     {
         let types = NameMap::from_items(completed(alloc, metadata, query)?)?;
-        let query = Text::from_str(alloc, query)?;
-        let mutation = root(alloc, mutation, "_EmptyMutation")?;
-        let subscription = root(alloc, subscription, "_EmptySubscription")?;
-        find_fault(alloc, &types, &query, &mutation, &subscription)?;
+        let roots = roots(alloc, query, mutation, subscription)?;
+        find_fault(
+            alloc,
+            &types,
+            &roots.query,
+            &roots.mutation,
+            &roots.subscription,
+        )?;
         let directives = standard_directives(alloc)?;
         Ok(SchemaType {
             description: None,
             types,
-            query,
-            mutation,
-            subscription,
+            query: roots.query,
+            mutation: roots.mutation,
+            subscription: roots.subscription,
             directives,
         })
     }
+}
+
+/// The names of the roots.
+#[derive(Drop)]
+struct RootNames {
+    query: Text,
+    mutation: Option<Text>,
+    subscription: Option<Text>,
+}
+
+/// The names of the roots that are meant. An error is want of memory.
+fn roots(
+    alloc: Global,
+    query: &str,
+    mutation: Option<&str>,
+    subscription: Option<&str>,
+) -> Result<RootNames, AllocError>
+    ensures { GivesBy (λ names. record { query = names.query; mutation = names.mutation; subscription = names.subscription }) result (roots_named query.now (option_map (λ name. name.now) mutation.entry) (option_map (λ name. name.now) subscription.entry)) }
+{
+    Ok(RootNames {
+        query: Text::from_str(alloc, query)?,
+        mutation: root(alloc, mutation, "_EmptyMutation")?,
+        subscription: root(alloc, subscription, "_EmptySubscription")?,
+    })
 }
 
 /// The name of a root, if one is given that does not stand for none. An error is want of memory.

@@ -1,5 +1,5 @@
 use Rattle.graphql_grammar.proofs.Parts.{exits_with}
-use Rattle.graphql_language.proofs.DocumentParts.{full_type_refused, full_name_refused, full_variables_refused, full_directives_refused, full_set_refused, full_read}
+use Rattle.graphql_language.proofs.DocumentParts.{full_type_refused, full_name_refused, full_variables_refused, full_body_refused, full_read}
 use Rattle.graphql_language.proofs.parse.document.full_operation.Goals as goal
 
 pub returns-in_err-operation_type-clause-reads : goal.returns-in_err-operation_type-clause-reads
@@ -19,14 +19,8 @@ returns-in_err-variable_definitions-clause-reads g c =
 
 pub returns-in_err-directives-clause-reads : goal.returns-in_err-directives-clause-reads
 returns-in_err-directives-clause-reads g c =
-    exits_with c.from_residual-in_err-directives.result c.directives.new.cursor c.from_residual-in_err-directives.ensures.1 c.in_err-directives.ensures.reads
-    (full_directives_refused g.S.ParseScalarValue.reads g.S.ScalarValue.of_bool c.args.cursor.now c.in_ok-operation_type.ensures.reads c.in_ok-name.ensures.reads c.in_ok-variable_definitions.ensures.reads)
-
-pub returns-in_err-selection_set-clause-reads : goal.returns-in_err-selection_set-clause-reads
-returns-in_err-selection_set-clause-reads g c =
-    exits_with c.from_residual-in_err-selection_set.result c.selection_set.new.cursor c.from_residual-in_err-selection_set.ensures.1 c.in_err-selection_set.ensures.reads
-    (full_set_refused g.S.ParseScalarValue.reads g.S.ScalarValue.of_bool c.args.cursor.now c.in_ok-operation_type.ensures.reads c.in_ok-name.ensures.reads c.in_ok-variable_definitions.ensures.reads c.in_ok-directives.ensures.reads)
+    exits_with c.from_residual-in_err-directives.result c.body.new.cursor c.from_residual-in_err-directives.ensures.1 c.in_err-directives.ensures.reads
+    (full_body_refused g.S.ParseScalarValue.reads g.S.ScalarValue.of_bool c.args.cursor.now c.in_ok-operation_type.ensures.reads c.in_ok-name.ensures.reads c.in_ok-variable_definitions.ensures.reads)
 
 pub returns-clause-reads : goal.returns-clause-reads
-returns-clause-reads g c =
-    full_read g.S.ParseScalarValue.reads g.S.ScalarValue.of_bool c.args.cursor.now c.in_ok-operation_type.ensures.reads c.in_ok-name.ensures.reads c.in_ok-variable_definitions.ensures.reads c.in_ok-directives.ensures.reads c.in_ok-selection_set.ensures.reads
+returns-clause-reads g c = full_read g.S.ParseScalarValue.reads g.S.ScalarValue.of_bool c.args.cursor.now c.in_ok-operation_type.ensures.reads c.in_ok-name.ensures.reads c.in_ok-variable_definitions.ensures.reads c.in_ok-directives.ensures.reads

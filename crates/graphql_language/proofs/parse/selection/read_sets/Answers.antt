@@ -1,12 +1,14 @@
-use Rattle.std.proofs.Common.{◌≢◌, true, false, inl, inr, refl, ap, arith}
+use Rattle.std.proofs.Common.{◌≡◌, ◌≢◌, true, false, Ok, inl, inr, refl, ap, ◌∙◌, arith}
 use Rattle.graphql_grammar.specs.declared.kind.Kind.TheVariants as k
 use Rattle.graphql_grammar.specs.Input.{left}
 use Rattle.graphql_grammar.proofs.Cursors.{fewer_kind}
 use Rattle.graphql_grammar.proofs.Parts.{fills_exit}
 use Rattle.graphql_grammar.proofs.KindTests.{asked_kind}
+use Rattle.graphql_language.specs.declared.parse.selection.Begun.{Begun}
+use Rattle.graphql_language.specs.declared.parse.selection.Begun.TheVariants as how
+use Rattle.graphql_language.specs.ReadHeads.{begun as begins}
 use Rattle.graphql_language.proofs.SelectionLevels.{set_refused}
-use Rattle.graphql_language.proofs.SelectionParts.{begins_some, begins_none}
-use Rattle.graphql_language.proofs.OpenSets.{GoesOn, sets_start, sets_end, set_ends, sets_refused, sets_more, sets_unopened, sets_open, opened_in}
+use Rattle.graphql_language.proofs.OpenSets.{GoesOn, sets_start, sets_end, set_ends, sets_refused, sets_more, sets_unopened, sets_open}
 use Rattle.graphql_language.proofs.parse.selection.read_sets.Goals as goal
 use Rattle.graphql_language.proofs.parse.selection.read_sets.Goals.{else-eq-via-then-eq+else-not-is_empty, else-eq-via-else-eq}
 
@@ -44,24 +46,14 @@ selections-preserved-then-not-is_empty g c =
       fewer = omega arith;
     }
 
-pub returns-in_err-head-clause-reads : goal.returns-in_err-head-clause-reads
-returns-in_err-head-clause-reads g c =
+pub returns-in_err-selection-clause-reads : goal.returns-in_err-selection-clause-reads
+returns-in_err-selection-clause-reads g c =
     let goes : GoesOn g.S.ParseScalarValue.reads g.S.ScalarValue.of_bool c.selections.found c.selections.cursor = elim c.else-eq.branch [
       | else-eq-via-then-eq+else-not-is_empty w ↦ inl (w.if-not-is_empty.ensures.0 refl)
       | else-eq-via-else-eq w ↦ inr (asked_kind k.CurlyClose c.selections.cursor c.kind.result false c.kind.ensures w.if-eq.ensures)
     ] in
-    fills_exit c.from_residual-in_err-head.result c.begin.new.found c.begin.new.cursor c.from_residual-in_err-head.ensures.1 c.in_err-head.ensures.reads
+    fills_exit c.from_residual-in_err-selection.result c.selections.found c.begin.new.cursor c.from_residual-in_err-selection.ensures.1 c.in_err-selection.ensures.reads
     (sets_refused g.S.ParseScalarValue.reads g.S.ScalarValue.of_bool c.selections.invariant.reads goes)
-
-pub returns-in_err-open_set-clause-reads : goal.returns-in_err-open_set-clause-reads
-returns-in_err-open_set-clause-reads g c =
-    let goes : GoesOn g.S.ParseScalarValue.reads g.S.ScalarValue.of_bool c.selections.found c.selections.cursor = elim c.else-eq.branch [
-      | else-eq-via-then-eq+else-not-is_empty w ↦ inl (w.if-not-is_empty.ensures.0 refl)
-      | else-eq-via-else-eq w ↦ inr (asked_kind k.CurlyClose c.selections.cursor c.kind.result false c.kind.ensures w.if-eq.ensures)
-    ] in
-    let begun = begins_some c.in_ok-head.field-0 c.in-Some-2.head c.selections.found c.begin.new.found c.begin.new.cursor c.in-Some-2.is c.in_ok-head.ensures.reads in
-    fills_exit c.from_residual-in_err-open_set.result c.open_set.new.found c.open_set.new.cursor c.from_residual-in_err-open_set.ensures.1 c.in_err-open_set.ensures.reads
-    (sets_unopened g.S.ParseScalarValue.reads g.S.ScalarValue.of_bool c.selections.invariant.reads goes begun.0)
 
 pub selections-preserved-in-Continue-branch-5 : goal.selections-preserved-in-Continue-branch-5
 selections-preserved-in-Continue-branch-5 g c =
@@ -69,11 +61,10 @@ selections-preserved-in-Continue-branch-5 g c =
       | else-eq-via-then-eq+else-not-is_empty w ↦ inl (w.if-not-is_empty.ensures.0 refl)
       | else-eq-via-else-eq w ↦ inr (asked_kind k.CurlyClose c.selections.cursor c.kind.result false c.kind.ensures w.if-eq.ensures)
     ] in
-    let begun = begins_some c.in_ok-head.field-0 c.in-Some-2.head c.selections.found c.begin.new.found c.begin.new.cursor c.in-Some-2.is c.in_ok-head.ensures.reads in
-    let opened = c.in_ok-open_set.ensures in
-    let less = opened.fewer in
+    let begun : begins g.S.ParseScalarValue.reads g.S.ScalarValue.of_bool c.selections.cursor ≡ Ok (how.Whole c.in-Whole.selection, c.begin.new.cursor) = c.in_ok-selection.ensures.reads ∙ ap (λ (x : Begun g.row.S.Denot). Ok (x, c.begin.new.cursor)) c.in-Whole.is in
+    let less = c.in_ok-selection.ensures.fewer in
     record {
-      reads = sets_open g.S.ParseScalarValue.reads g.S.ScalarValue.of_bool c.selections.invariant.reads goes begun.0 opened.reads (opened_in c.selections.outer c.selections.found c.in-Some-2.head begun.1 opened.opened) opened.empty;
+      reads = sets_more g.S.ParseScalarValue.reads g.S.ScalarValue.of_bool c.selections.invariant.reads goes begun c.in_ok-keep-in-Whole.ensures.ok;
       fewer = omega arith;
     }
 
@@ -83,9 +74,20 @@ selections-preserved g c =
       | else-eq-via-then-eq+else-not-is_empty w ↦ inl (w.if-not-is_empty.ensures.0 refl)
       | else-eq-via-else-eq w ↦ inr (asked_kind k.CurlyClose c.selections.cursor c.kind.result false c.kind.ensures w.if-eq.ensures)
     ] in
-    let begun = begins_none c.in_ok-head.field-0 c.selections.found c.begin.new.found c.begin.new.cursor c.in_default.not-Some c.in_ok-head.ensures.reads in
-    let less = c.in_ok-head.ensures.fewer in
+    let begun : begins g.S.ParseScalarValue.reads g.S.ScalarValue.of_bool c.selections.cursor ≡ Ok (how.Opens c.in-Opens.head, c.begin.new.cursor) = c.in_ok-selection.ensures.reads ∙ ap (λ (x : Begun g.row.S.Denot). Ok (x, c.begin.new.cursor)) c.in-Opens.is in
+    let opened = c.in_ok-open_set-in-Opens.ensures in
+    let less = opened.fewer in
     record {
-      reads = sets_more g.S.ParseScalarValue.reads g.S.ScalarValue.of_bool c.selections.invariant.reads goes begun.1 begun.2;
+      reads = sets_open g.S.ParseScalarValue.reads g.S.ScalarValue.of_bool c.selections.invariant.reads goes begun opened.reads opened.opened opened.empty;
       fewer = omega arith;
     }
+
+pub returns-in_err-open_set-in-Opens-clause-reads : goal.returns-in_err-open_set-in-Opens-clause-reads
+returns-in_err-open_set-in-Opens-clause-reads g c =
+    let goes : GoesOn g.S.ParseScalarValue.reads g.S.ScalarValue.of_bool c.selections.found c.selections.cursor = elim c.else-eq.branch [
+      | else-eq-via-then-eq+else-not-is_empty w ↦ inl (w.if-not-is_empty.ensures.0 refl)
+      | else-eq-via-else-eq w ↦ inr (asked_kind k.CurlyClose c.selections.cursor c.kind.result false c.kind.ensures w.if-eq.ensures)
+    ] in
+    let begun : begins g.S.ParseScalarValue.reads g.S.ScalarValue.of_bool c.selections.cursor ≡ Ok (how.Opens c.in-Opens.head, c.begin.new.cursor) = c.in_ok-selection.ensures.reads ∙ ap (λ (x : Begun g.row.S.Denot). Ok (x, c.begin.new.cursor)) c.in-Opens.is in
+    fills_exit c.from_residual-in_err-open_set-in-Opens.result c.open_set.new.found c.open_set.new.cursor c.from_residual-in_err-open_set-in-Opens.ensures.1 c.in_err-open_set-in-Opens.ensures.reads
+    (sets_unopened g.S.ParseScalarValue.reads g.S.ScalarValue.of_bool c.selections.invariant.reads goes begun)
