@@ -1,5 +1,5 @@
 -- What follows from a text's division by the grammar.
-use Rattle.std.proofs.Common.{◌≡◌, inl, inr, ◌≤◌, ◌<◌, ◌+◌, ◌-◌, ℕ, false, List, [], ◌∷◌, ◌++◌, length, take, drop, map, sym, subst, ap, ◌∙◌, refl, append_assoc, arith, length-append, slice_range}
+use Rattle.std.proofs.Common.{◌≡◌, inl, inr, ◌≤◌, ◌<◌, ◌+◌, ◌-◌, ℕ, false, List, [], ◌∷◌, ◌++◌, length, take, drop, map, sym, subst, ap, ◌∙◌, refl, append_assoc, arith, length-append, slice_range, encode_utf8_all}
 use Rattle.std.proofs.Math.Seq.{take-append_seam, drop-append_seam}
 use Rattle.graphql_text.specs.declared.position.SourcePosition.{SourcePosition}
 use Rattle.graphql_text.specs.declared.token.Token.{Token}
@@ -8,8 +8,12 @@ use Rattle.graphql_text.specs.declared.token.ScalarToken.TheVariants.{String, Fl
 use Rattle.graphql_text.specs.Position.{position_of, position_at}
 use Rattle.graphql_text.specs.Tokens.{Located, is_end}
 use Rattle.graphql_text.specs.Grammar.{IsName, IsWhole, IsInteger, Spells, Heads, Divides, IsDivided}
-use Rattle.graphql_text.specs.Laws.{FewTokens, InOrder, SpansInOrder, Every, PlacesArePositions, FaultIsPosition, slice_of, SlicesSpell, HoldsSlice, TextsAreSlices, placed, DifferInPlaces}
+use Rattle.graphql_text.specs.Laws.{FewTokens, InOrder, SpansInOrder, Every, PlacesArePositions, FaultIsPosition, slice_of, SlicesSpell, SourcesAreSlices, TokensAreWide, TokensInALine, placed, DifferInPlaces}
+use lib.Utf8.{encode}
+use Rattle.std.proofs.lemmas.Str.{encodes-append}
+use Rattle.graphql_text.specs.Spelling.{source_of}
 use Rattle.graphql_text.proofs.SoundTexts.{heads_text, divides_text}
+use Rattle.graphql_text.proofs.LineFeeds.{line_feeds, line_feeds_behind, spelled_in_a_line}
 
 -- ---- how many tokens
 
@@ -143,32 +147,52 @@ slices_spell text ts d = every_divided text (λ t. Spells t.item (slice_of text 
     each : OfEach text (λ t. Spells t.item (slice_of text t))
     each before rest t after behind e h = subst (Spells t.item) (sym (heads_slice text before rest t after behind e h)) h.spells
 
-holds_slice : (t : Token) (cs : List ℕ) → Spells t cs → HoldsSlice t cs
-holds_slice (Name s) cs h = h.1
-holds_slice (Scalar (Int s)) cs h = h.1
-holds_slice (Scalar (Float s)) cs h = h.1
-holds_slice (Scalar (String s)) cs h = (h.0, h.1.is, h.2)
-holds_slice ExclamationMark cs h = tt
-holds_slice Dollar cs h = tt
-holds_slice ParenOpen cs h = tt
-holds_slice ParenClose cs h = tt
-holds_slice BracketOpen cs h = tt
-holds_slice BracketClose cs h = tt
-holds_slice CurlyOpen cs h = tt
-holds_slice CurlyClose cs h = tt
-holds_slice Ellipsis cs h = tt
-holds_slice Colon cs h = tt
-holds_slice Equals cs h = tt
-holds_slice At cs h = tt
-holds_slice Pipe cs h = tt
-holds_slice EndOfFile cs h = tt
-
 every_map : (P Q : Located → Type 0) → ((t : Located) → P t → Q t) → (ts : List Located) → Every P ts → Every Q ts
 every_map P Q f [] e = tt
 every_map P Q f (t ∷ ts) e = (f t e.0, every_map P Q f ts e.1)
 
-pub texts_are_slices : TextsAreSlices
-texts_are_slices text ts d = every_map (λ t. Spells t.item (slice_of text t)) (λ t. HoldsSlice t.item (slice_of text t)) (λ t h. holds_slice t.item (slice_of text t) h) ts (slices_spell text ts d)
+source_is_slice : (t : Token) (cs : List ℕ) → Spells t cs → source_of t ≡ encode_utf8_all cs
+unfolding encode
+source_is_slice (Name s) cs h = h.1
+source_is_slice (Scalar (Int s)) cs h = h.1
+source_is_slice (Scalar (Float s)) cs h = h.1
+source_is_slice (Scalar (String s)) cs (text, q, e) = ap (λ z. 34 ∷ (z ++ 34 ∷ [])) e ∙ ap (λ z. 34 ∷ z) (sym (encodes-append text (34 ∷ []))) ∙ sym (ap encode_utf8_all q.is)
+source_is_slice ExclamationMark cs h = sym (ap encode_utf8_all h)
+source_is_slice Dollar cs h = sym (ap encode_utf8_all h)
+source_is_slice ParenOpen cs h = sym (ap encode_utf8_all h)
+source_is_slice ParenClose cs h = sym (ap encode_utf8_all h)
+source_is_slice BracketOpen cs h = sym (ap encode_utf8_all h)
+source_is_slice BracketClose cs h = sym (ap encode_utf8_all h)
+source_is_slice CurlyOpen cs h = sym (ap encode_utf8_all h)
+source_is_slice CurlyClose cs h = sym (ap encode_utf8_all h)
+source_is_slice Ellipsis cs h = sym (ap encode_utf8_all h)
+source_is_slice Colon cs h = sym (ap encode_utf8_all h)
+source_is_slice Equals cs h = sym (ap encode_utf8_all h)
+source_is_slice At cs h = sym (ap encode_utf8_all h)
+source_is_slice Pipe cs h = sym (ap encode_utf8_all h)
+source_is_slice EndOfFile cs h = sym (ap encode_utf8_all h)
+
+pub sources_are_slices : SourcesAreSlices
+sources_are_slices text ts d = every_map (λ t. Spells t.item (slice_of text t)) (λ t. source_of t.item ≡ encode_utf8_all (slice_of text t)) (λ t h. source_is_slice t.item (slice_of text t) h) ts (slices_spell text ts d)
+
+-- ---- widths and lines
+
+pub tokens_are_wide : TokensAreWide
+tokens_are_wide text ts d = every_divided text (λ t. is_end t.item ≡ false → t.span.start.index < t.span.end.index) each ts d
+  where
+    each : OfEach text (λ t. is_end t.item ≡ false → t.span.start.index < t.span.end.index)
+    each before rest t after behind e h goes =
+        let some = spelled_some t.item h.own h.spells goes in
+        let start : t.span.start.index ≡ length (before ++ h.gap) = ap (λ p. p.index) h.start in
+        let end : t.span.end.index ≡ length after = ap (λ p. p.index) h.end in
+        omega (arith, start, end, ap length h.after_is, length-append (before ++ h.gap) h.own)
+
+pub tokens_in_a_line : TokensInALine
+tokens_in_a_line text ts d = every_divided text (λ t. t.span.end.line ≡ t.span.start.line) each ts d
+  where
+    each : OfEach text (λ t. t.span.end.line ≡ t.span.start.line)
+    each before rest t after behind e h =
+        ap (λ p. p.line) h.end ∙ ap line_feeds h.after_is ∙ line_feeds_behind (before ++ h.gap) h.own (spelled_in_a_line t.item h.own h.spells) ∙ sym (ap (λ p. p.line) h.start)
 
 -- ---- the same tokens at other places
 

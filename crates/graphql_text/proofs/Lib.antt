@@ -8,6 +8,7 @@ pub mod SoundStrings
 pub mod SoundTokens
 pub mod SoundTexts
 pub mod OneReading
+pub mod LineFeeds
 pub mod DividedLaws
 pub mod OneByOneLaws
 pub mod CompleteNumbers

@@ -1,13 +1,12 @@
 -- Laws of the tokens and faults of a text.
-use Rattle.std.specs.Prelude.{◌≡◌, ◌≤◌, ◌⊎◌, ◌↔◌, ℕ, ◌+◌, true, false, List, [], ◌∷◌, ◌++◌, length, map, slice_range, encode_utf8_all, Some, Ok, Err}
+use Rattle.std.specs.Prelude.{◌≡◌, ◌≤◌, ◌<◌, ◌⊎◌, ◌↔◌, ℕ, ◌+◌, true, false, List, [], ◌∷◌, ◌++◌, length, map, slice_range, encode_utf8_all, Some, Ok, Err}
 use Rattle.graphql_text.specs.declared.position.Span.{Span}
 use Rattle.graphql_text.specs.declared.token.Token.{Token}
-use Rattle.graphql_text.specs.declared.token.Token.TheVariants.{Name, Scalar}
-use Rattle.graphql_text.specs.declared.token.ScalarToken.TheVariants.{String, Float, Int}
 use Rattle.graphql_text.specs.declared.token.LexerError.TheVariants.{Memory}
 use Rattle.graphql_text.specs.Position.{position_at}
 use Rattle.graphql_text.specs.Reading.{Refusal, start_of}
-use Rattle.graphql_text.specs.Tokens.{Located, Tokens, FirstFault}
+use Rattle.graphql_text.specs.Spelling.{source_of}
+use Rattle.graphql_text.specs.Tokens.{Located, is_end, Tokens, FirstFault}
 use Rattle.graphql_text.specs.Grammar.{Spells, IsDivided, IsBroken}
 use Rattle.graphql_text.specs.OneByOne.{Remains, Answer, GivesNext}
 
@@ -71,16 +70,17 @@ slice_of text t = slice_range text t.span.start.index t.span.end.index
 abbrev pub SlicesSpell : Type 0
 SlicesSpell = (text : List ℕ) (ts : List Located) → IsDivided text ts → Every (λ t. Spells t.item (slice_of text t)) ts
 
--- the text that a token holds is its slice, a string's without its quotes
-abbrev pub HoldsSlice : Token → List ℕ → Type 0
-HoldsSlice (Name s) slice = s ≡ encode_utf8_all slice
-HoldsSlice (Scalar (Int s)) slice = s ≡ encode_utf8_all slice
-HoldsSlice (Scalar (Float s)) slice = s ≡ encode_utf8_all slice
-HoldsSlice (Scalar (String s)) slice = (text : List ℕ) × (slice ≡ 34 ∷ (text ++ 34 ∷ [])) × (s ≡ encode_utf8_all text)
-HoldsSlice _ slice = Unit {0}
+-- the source text of a token, a punctuator's too, is its slice
+abbrev pub SourcesAreSlices : Type 0
+SourcesAreSlices = (text : List ℕ) (ts : List Located) → IsDivided text ts → Every (λ t. source_of t.item ≡ encode_utf8_all (slice_of text t)) ts
 
-abbrev pub TextsAreSlices : Type 0
-TextsAreSlices = (text : List ℕ) (ts : List Located) → IsDivided text ts → Every (λ t. HoldsSlice t.item (slice_of text t)) ts
+-- a token is at least one character wide, but for the end of the text
+abbrev pub TokensAreWide : Type 0
+TokensAreWide = (text : List ℕ) (ts : List Located) → IsDivided text ts → Every (λ t. is_end t.item ≡ false → t.span.start.index < t.span.end.index) ts
+
+-- a token ends in the line where it starts
+abbrev pub TokensInALine : Type 0
+TokensInALine = (text : List ℕ) (ts : List Located) → IsDivided text ts → Every (λ t. t.span.end.line ≡ t.span.start.line) ts
 
 -- the same tokens at other places
 abbrev pub placed : List Token → List Span → List Located

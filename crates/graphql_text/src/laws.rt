@@ -1,6 +1,6 @@
 //! Laws of the definitions: each function's contract is a law, and its body does nothing.
 
-ghost use Rattle.graphql_text.specs.Laws.{ReadingIsDivision, ReadingIsBreak, OneList, NotBoth, OneFault, EitherWay, FewTokens, SpansInOrder, PlacesArePositions, FaultIsPosition, SlicesSpell, TextsAreSlices, DifferInPlaces, SameOneByOne, NothingMore};
+ghost use Rattle.graphql_text.specs.Laws.{ReadingIsDivision, ReadingIsBreak, OneList, NotBoth, OneFault, EitherWay, FewTokens, SpansInOrder, PlacesArePositions, FaultIsPosition, SlicesSpell, SourcesAreSlices, TokensAreWide, TokensInALine, DifferInPlaces, SameOneByOne, NothingMore};
 
 /// What is read of a text, character by character, are the tokens into which the lexical grammar
 /// divides it, and no other list is.
@@ -59,10 +59,19 @@ pub fn slices_spell()
     ensures { SlicesSpell }
 {}
 
-/// The text that a token holds is the slice of the source between its places, a string's
-/// without its quotes.
-pub fn texts_are_slices()
-    ensures { TextsAreSlices }
+/// The source text of a token, a punctuator's too, is the slice of the text between its places.
+pub fn sources_are_slices()
+    ensures { SourcesAreSlices }
+{}
+
+/// A token is at least one character wide, but for the end of the text.
+pub fn tokens_are_wide()
+    ensures { TokensAreWide }
+{}
+
+/// A token ends in the line where it starts.
+pub fn tokens_in_a_line()
+    ensures { TokensInALine }
 {}
 
 /// Two texts with the same kinds and texts of tokens differ in places alone.
