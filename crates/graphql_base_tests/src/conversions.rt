@@ -1,4 +1,5 @@
 use crate::told::check;
+use graphql_output_values::Value;
 use graphql_scalars::DefaultScalarValue;
 use graphql_text::Text;
 use graphql_values::{
@@ -187,6 +188,7 @@ fn values_are_given(rt: HostRuntime) -> Result<(), AllocError> {
         check(&rt, giving(alloc, boxed), "1"),
         check(&rt, giving(alloc, shared), "1"),
         check(&rt, giving(alloc, String::from_str(alloc, "ab")), "\"ab\""),
+        check(&rt, giving(alloc, Ok(Value::scalar(1))), "1"),
     ];
     for row in rows {
         row?;

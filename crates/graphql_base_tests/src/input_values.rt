@@ -188,6 +188,43 @@ fn nested(alloc: Global, depth: usize) -> Result<InputValue, AllocError> {
     Ok(value)
 }
 
+/// The list of two values.
+fn list_of_two(
+    alloc: Global,
+    first: InputValue,
+    second: InputValue,
+) -> Result<InputValue, AllocError> {
+    let values = vec![in alloc; first, second]?;
+    InputValue::list(alloc, values)
+}
+
+/// A list whose first item is such a list, and so on.
+fn nested_lists(alloc: Global, depth: usize) -> Result<InputValue, AllocError> {
+    let mut value = InputValue::scalar(1);
+    for _ in 0..depth {
+        value = list_of_two(alloc, value, InputValue::null())?;
+    }
+    Ok(value)
+}
+
+/// A list whose last item is an object of such a list, and so on.
+fn nested_by_turns(alloc: Global, depth: usize) -> Result<InputValue, AllocError> {
+    let mut value = InputValue::scalar(1);
+    for _ in 0..depth {
+        value = list_of_two(alloc, InputValue::null(), under_k(alloc, value)?)?;
+    }
+    Ok(value)
+}
+
+#[test]
+fn deep_values_go(rt: HostRuntime) -> Result<(), AllocError> {
+    let alloc = rt.alloc();
+    let _lists = nested_lists(alloc, 100_000)?;
+    let _objects = nested(alloc, 100_000)?;
+    let _both = nested_by_turns(alloc, 100_000)?;
+    Ok(())
+}
+
 /// Whether a deep object is the same as itself, and not as one less deep.
 fn deep_are_same(alloc: Global) -> Result<(bool, bool), AllocError> {
     let one = nested(alloc, 60)?;

@@ -166,6 +166,46 @@ fn values_are_displayed(rt: HostRuntime) -> Result<(), AllocError> {
     Ok(())
 }
 
+/// The list of `true`, this value and `false`.
+fn within_list(alloc: Global, value: Value) -> Result<Value, AllocError> {
+    let mut items = Items::with_capacity(alloc, 3)?;
+    items.push(Value::scalar(true))?;
+    items.push(value)?;
+    items.push(Value::scalar(false))?;
+    Ok(Value::list(items))
+}
+
+/// The object of `true`, this value and `false`.
+fn within_object(alloc: Global, value: Value) -> Result<Value, AllocError> {
+    let one = Object::with_capacity(alloc, 3)?;
+    let two = with_field(one, alloc, "a", Value::scalar(true))?;
+    let three = with_field(two, alloc, "b", value)?;
+    let all = with_field(three, alloc, "c", Value::scalar(false))?;
+    Ok(Value::object(all))
+}
+
+/// `null` within as many lists and as many objects, in turn.
+fn nested(alloc: Global, turns: usize) -> Result<Value, AllocError> {
+    let mut value: Value = Value::null();
+    for _ in 0..turns {
+        value = within_object(alloc, within_list(alloc, value)?)?;
+    }
+    Ok(value)
+}
+
+#[test]
+fn deep_values_are_displayed_and_let_go(rt: HostRuntime) -> Result<(), AllocError> {
+    let alloc = rt.alloc();
+    check(
+        &rt,
+        written(alloc, nested(alloc, 1)),
+        "{\"a\": true, \"b\": [true, null, false], \"c\": false}",
+    )?;
+    let text = written(alloc, nested(alloc, 50_000))?;
+    assert_eq!(rt; text.len(), 50_000 * 45 + 4);
+    Ok(())
+}
+
 /// Whether the sample is equal to that of another order, and whether it is to null.
 fn equalities(alloc: Global) -> Result<(bool, bool), AllocError> {
     let one = Value::object(sample(alloc)?);

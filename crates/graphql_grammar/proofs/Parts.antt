@@ -1,10 +1,10 @@
 -- What parsers made of others read, from what these read.
-use Rattle.std.proofs.Common.{◌≡◌, ◌≢◌, List, Result, true, false, if◌then◌else◌, Some, None, Ok, Err, sym, ap, subst, ◌∙◌}
+use Rattle.std.proofs.Common.{◌≡◌, ◌≢◌, List, Result, true, false, if◌then◌else◌, Some, None, Ok, Err, sym, ap, ◌∙◌}
 use Rattle.std.specs.Result.{IsErrAnd}
 use Rattle.graphql_text.specs.declared.position.SourcePosition.{SourcePosition}
 use Rattle.graphql_text.specs.declared.parse_error.ParseError.TheVariants.{Memory}
 use Rattle.graphql_grammar.specs.Kinds.{Kinds}
-use Rattle.graphql_grammar.specs.Input.{At, Input, Fault, Parser, Outcome, Reads, Fills, and_then, ◌>>=◌, pure, peek}
+use Rattle.graphql_grammar.specs.Input.{At, Input, Fault, Parser, Outcome, Reads, and_then, ◌>>=◌, pure, peek}
 use Rattle.graphql_grammar.specs.Steps.{sees, when, placed, located, optional}
 
 -- ---- the exit of a `?`
@@ -18,12 +18,6 @@ exits {A} {o} {e} (Err f) new is refused = λ told. refused (λ memory. told (ap
 pub exits_with : {A B : Type 0} {o : Outcome A} {p : Outcome B} {e : Fault} (r : Result A Fault) (new : Input) → IsErrAnd r (λ f. f ≡ e)
     → (e.item ≢ Memory → p ≡ Err e) → (p ≡ Err e → o ≡ Err e) → Reads o r new
 exits_with {A} {B} {o} {p} {e} r new is refused whole = exits {o = o} r new is (λ told. whole (refused told))
-
--- the same of a function that fills a list
-pub fills_exit : {A B : Type 0} {o : Outcome (List A)} {p : Outcome B} {e : Fault} (r : Result (Unit {0}) Fault) (found : List A) (new : Input) → IsErrAnd r (λ f. f ≡ e)
-    → (e.item ≢ Memory → p ≡ Err e) → (p ≡ Err e → o ≡ Err e) → Fills o r found new
-fills_exit (Ok u) found new is refused whole = absurd is
-fills_exit {A} {B} {o} {p} {e} (Err f) found new is refused whole = let P : Fault → Type 0 = λ x. x.item ≢ Memory → o ≡ Err x in subst P (sym is) (λ told. whole (refused told))
 
 -- ---- one part, then another
 

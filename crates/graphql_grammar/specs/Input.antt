@@ -97,10 +97,6 @@ IsMemory e = e.item ≡ Memory
 abbrev pub Reads : {A : Type 0} → Outcome A → Result A Fault → Input → Type 0
 Reads outcome result new = MeetsBy (λ a. (a, new)) IsMemory result outcome
 
--- the same of a function that fills a list
-abbrev pub Fills : {A : Type 0} → Outcome (List A) → Result (Unit {0}) Fault → List A → Input → Type 0
-Fills outcome result found new = MeetsBy (λ u. (found, new)) IsMemory result outcome
-
 -- an error that stands for this one
 abbrev pub StandsFor : Fault → Fault → Type 0
 StandsFor wanted e = UnlessMemory IsMemory e (wanted ≡ e)

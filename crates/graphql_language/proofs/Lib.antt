@@ -4,6 +4,10 @@ pub mod DocumentLaws
 pub mod Calls
 pub mod TextLaws
 pub mod Lists
+pub mod NextTokens
+pub mod SpelledLists
+pub mod Leaves
+pub mod TypeFronts
 pub mod LiteralLaws
 pub mod DocumentPlaces
 pub mod AlikeTexts

@@ -2,7 +2,7 @@
 use Rattle.std.proofs.Common.{◌≡◌, Option, Some, None, List, Result, Ok, MatchOption, sym, subst}
 use Rattle.graphql_text.specs.declared.token.Token.{Token}
 use Rattle.graphql_grammar.specs.Input.{At, Located, Fault}
-use Rattle.graphql_language.specs.Parser.{State, RefusesAgain, CallsFresh, Calls, OpeningToken, MaybeToken}
+use Rattle.graphql_language.specs.Parser.{State, RefusesAgain, CallsFresh, Calls, ThisToken, MaybeToken}
 use Rattle.graphql_language.specs.Lists.{Call, Until, enclosed, Delimited, listed}
 
 -- where the closing token does not stand, the parser stays
@@ -26,7 +26,7 @@ until_same {A} closing item {xs} {ys} {s} {n} {t} {r} same stays u =
     subst Q stays (subst P same u)
 
 -- the list has its place
-pub listed_as : {A : Type 0} (opening : Token) (items : Call (List A × Located)) {s m t : State} (first : Located) {y : At (List A)} (xs : List A × Located) → Calls (OpeningToken opening) s (Ok first) m
+pub listed_as : {A : Type 0} (opening : Token) (items : Call (List A × Located)) {s m t : State} (first : Located) {y : At (List A)} (xs : List A × Located) → Calls (ThisToken opening) s (Ok first) m
     → items m (Ok xs) t → y ≡ enclosed first xs → Delimited opening items s (Ok y) t
 listed_as {A} opening items {s} {m} {t} first {y} xs opened read is =
     let P : At (List A) → Type 0 = λ z. Delimited opening items s (Ok z) t in

@@ -6,5 +6,8 @@ pub mod Documents
 pub mod Parser
 pub mod Texts
 pub mod Lists
+pub mod SpelledLists
+pub mod Leaves
+pub mod Literals
 pub mod Alike
 pub mod ReadDefinitions

@@ -5,7 +5,7 @@ use Rattle.std.specs.Borrow.{MutBor}
 use Rattle.graphql_text.specs.declared.token.Token.{Token}
 use Rattle.graphql_text.specs.declared.parse_error.ParseError.TheVariants.{Memory}
 use Rattle.graphql_grammar.specs.Input.{At, Located, Fault}
-use Rattle.graphql_language.specs.Parser.{State, Calls, OpeningToken, MaybeToken, KeepsRefusal}
+use Rattle.graphql_language.specs.Parser.{State, Calls, ThisToken, MaybeToken, KeepsRefusal}
 
 -- what a call may answer, from one state of the parser to another
 abbrev pub Call : Type 0 → Type 1
@@ -56,7 +56,7 @@ enclosed opening items = record { item = items.0; span = record { start = openin
 
 -- the opening token, and then items with the closing token
 pub data Delimited {A : Type 0} (opening : Token) (items : Call (List A × Located)) : State → Result (At (List A)) Fault → State → Type 0 where
-  unopened : (s t : State) (e : Fault) → Calls (OpeningToken opening) s (Err e) t → Delimited opening items s (Err e) t
-  unlisted : (s m t : State) (first : Located) (e : Fault) → Calls (OpeningToken opening) s (Ok first) m → items m (Err e) t → Delimited opening items s (Err e) t
-  listed : (s m t : State) (first : Located) (xs : List A × Located) → Calls (OpeningToken opening) s (Ok first) m → items m (Ok xs) t
+  unopened : (s t : State) (e : Fault) → Calls (ThisToken opening) s (Err e) t → Delimited opening items s (Err e) t
+  unlisted : (s m t : State) (first : Located) (e : Fault) → Calls (ThisToken opening) s (Ok first) m → items m (Err e) t → Delimited opening items s (Err e) t
+  listed : (s m t : State) (first : Located) (xs : List A × Located) → Calls (ThisToken opening) s (Ok first) m → items m (Ok xs) t
       → Delimited opening items s (Ok (enclosed first xs)) t

@@ -1,45 +1,40 @@
 -- A parser that users call: what is left of its text, and the refusal that it has given.
-use Rattle.std.specs.Prelude.{◌≡◌, ◌≢◌, Option, Some, None, Result, Ok, Err, MatchOption}
+use Rattle.std.specs.Prelude.{◌≡◌, ◌≢◌, ℕ, List, Option, Some, None, Result, Ok, Err, MatchOption}
 use Rattle.graphql_text.specs.declared.token.Token.{Token}
-use Rattle.graphql_text.specs.declared.token.Token.TheVariants.{EndOfFile}
+use Rattle.graphql_text.specs.declared.token.Token.TheVariants.{Name, EndOfFile}
 use Rattle.graphql_items.specs.Memory.{UnlessMemory}
-use Rattle.graphql_grammar.specs.Input as input
-use Rattle.graphql_grammar.specs.Input.{Input, Located, Fault, Outcome, IsMemory, StandsFor, peek, next, refusal}
+use Rattle.graphql_grammar.specs.Input.{At, Input, Located, Fault, IsMemory, StandsFor, peek, next, refusal}
 
 pub record State : Type 0 where
   pub input : Input
   -- a parser that has refused has failed
   pub refused : Option Fault
 
--- ---- rules: what may be read at an input, with what is left then, or the fault
+-- ---- rules: what may be answered at an input, and what is left then
 
 abbrev pub Rule : Type 0 → Type 1
-Rule A = Input → Outcome A → Type 0
-
--- what a parser of the grammar reads
-abbrev pub By : {A : Type 0} → input.Parser A → Rule A
-By p i o = p i ≡ o
+Rule A = Input → Result A Fault → Input → Type 0
 
 -- the next token, which the text has
 abbrev pub NextToken : Rule Located
-NextToken i (Ok p) = ((peek i).item ≢ EndOfFile) × (p ≡ (peek i, next i))
-NextToken i (Err e) = ((peek i).item ≡ EndOfFile) × (e ≡ refusal i)
-
--- the next token, which is this one
-abbrev pub ThisToken : Token → Rule Located
-ThisToken wanted i (Ok p) = ((peek i).item ≡ wanted) × (p ≡ (peek i, next i))
-ThisToken wanted i (Err e) = ((peek i).item ≢ wanted) × (e ≡ refusal i)
+NextToken i (Ok token) j = ((peek i).item ≢ EndOfFile) × (token ≡ peek i) × (j ≡ next i)
+NextToken i (Err e) j = ((peek i).item ≡ EndOfFile) × (e ≡ refusal i) × (j ≡ i)
 
 -- the next token, which is this one, and not the end of the text
-abbrev pub OpeningToken : Token → Rule Located
-OpeningToken wanted i (Ok p) = ((peek i).item ≡ wanted) × ((peek i).item ≢ EndOfFile) × (p ≡ (peek i, next i))
-OpeningToken wanted i (Err e) = ((peek i).item ≡ wanted → (peek i).item ≡ EndOfFile) × (e ≡ refusal i)
+abbrev pub ThisToken : Token → Rule Located
+ThisToken wanted i (Ok token) j = ((peek i).item ≡ wanted) × ((peek i).item ≢ EndOfFile) × (token ≡ peek i) × (j ≡ next i)
+ThisToken wanted i (Err e) j = ((peek i).item ≡ wanted → (peek i).item ≡ EndOfFile) × (e ≡ refusal i) × (j ≡ i)
 
--- the next token if it is this one, and else nothing, which the end of the text does not allow
+-- the next token if it is this one, and else nothing; the text has a next one
 abbrev pub MaybeToken : Token → Rule (Option Located)
-MaybeToken wanted i (Ok (Some token, j)) = ((peek i).item ≡ wanted) × (token ≡ peek i) × (j ≡ next i)
-MaybeToken wanted i (Ok (None, j)) = ((peek i).item ≢ wanted) × ((peek i).item ≢ EndOfFile) × (j ≡ i)
-MaybeToken wanted i (Err e) = ((peek i).item ≢ wanted) × ((peek i).item ≡ EndOfFile) × (e ≡ refusal i)
+MaybeToken wanted i (Ok (Some token)) j = ((peek i).item ≡ wanted) × ((peek i).item ≢ EndOfFile) × (token ≡ peek i) × (j ≡ next i)
+MaybeToken wanted i (Ok None) j = ((peek i).item ≢ wanted) × ((peek i).item ≢ EndOfFile) × (j ≡ i)
+MaybeToken wanted i (Err e) j = ((peek i).item ≡ EndOfFile) × (e ≡ refusal i) × (j ≡ i)
+
+-- the next token, which is a name, as that name at its place
+abbrev pub NextName : Rule (At (List ℕ))
+NextName i (Ok name) j = ((peek i).item ≡ Name name.item) × (name.span ≡ (peek i).span) × (j ≡ next i)
+NextName i (Err e) j = ((name : List ℕ) → (peek i).item ≢ Name name) × (e ≡ refusal i) × (j ≡ i)
 
 -- ---- what calls ensure, want of memory aside
 
@@ -53,12 +48,12 @@ pub record Fails {A : Type 0} (rule : Rule A) (i : Input) (f : Fault) (new : Sta
   pub fault : Fault
   pub kept : new.refused ≡ Some fault
   pub told : StandsFor fault f
-  pub refuses : UnlessMemory IsMemory fault (rule i (Err fault))
+  pub refuses : UnlessMemory IsMemory fault (rule i (Err fault) new.input)
   pub stands : UnlessMemory IsMemory fault ((peek new.input).span ≡ fault.span)
 
 -- of a parser that has not failed
 abbrev pub CallsFresh : {A : Type 0} → Rule A → Input → Result A Fault → State → Type 0
-CallsFresh rule i (Ok x) new = rule i (Ok (x, new.input)) × (new.refused ≡ None)
+CallsFresh rule i (Ok x) new = rule i (Ok x) new.input × (new.refused ≡ None)
 CallsFresh rule i (Err f) new = Fails rule i f new
 
 -- a parser that has failed answers its refusal again, and stays
@@ -74,8 +69,8 @@ Ready s (Err f) = (e : Fault) × (s.refused ≡ Some e) × StandsFor e f
 
 -- what was read of an input; a refusal is about the token that stands next
 abbrev pub ReadsBy : {A : Type 0} → Rule A → Input → Result A Fault → Input → Type 0
-ReadsBy rule i (Ok x) j = rule i (Ok (x, j))
-ReadsBy rule i (Err e) j = UnlessMemory IsMemory e (rule i (Err e) × ((peek j).span ≡ e.span))
+ReadsBy rule i (Ok x) j = rule i (Ok x) j
+ReadsBy rule i (Err e) j = UnlessMemory IsMemory e (rule i (Err e) j × ((peek j).span ≡ e.span))
 
 -- the same answer; of a fault the parser keeps that it has failed by it
 abbrev pub KeepsRefusal : {A : Type 0} → Result A Fault → State → Result A Fault → State → Type 0

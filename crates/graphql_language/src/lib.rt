@@ -24,7 +24,6 @@ pub use graphql_text::{
 pub use graphql_tree::{
     Arguments, Definition, Directive, Field, Fragment, FragmentSpread, InlineFragment, Operation,
     OperationType, OwnedDocument, Selection, VariableDefinition, VariableDefinitions,
-    release_document, release_selections,
 };
 pub use graphql_values::{
     BorrowedType, FromInputValue, FromInputValueArrayError, FromInputValueVecError, InputValue,

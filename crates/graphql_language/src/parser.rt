@@ -1,14 +1,12 @@
 //! Parses a text, token by token.
 
-ghost use Rattle.std.specs.Prelude.{◌≡◌, ◌≢◌, ◌<◌, ◌≤◌, None, IfOk, IfErr, OnOk, OnErr};
+ghost use Rattle.std.specs.Prelude.{◌≡◌, ◌<◌, ◌≤◌, None, IfOk, IfErr, OnOk, OnErr};
 ghost use Rattle.std.specs.Str.{chars};
-ghost use Rattle.graphql_text.specs.declared.token.Token.TheVariants as t;
 ghost use Rattle.graphql_items.specs.Memory.{UnlessMemory};
 ghost use Rattle.graphql_grammar.specs.Input as spec;
 ghost use Rattle.graphql_grammar.specs.Input.{IsMemory, StandsFor, left};
-ghost use Rattle.graphql_grammar.specs.Steps.{located, name};
 ghost use Rattle.graphql_grammar.specs.Cursor.{IsStart, IsLexical};
-ghost use Rattle.graphql_language.specs.Parser.{By, Calls, NextToken, ThisToken, MaybeToken, Ready, KeepsRefusal};
+ghost use Rattle.graphql_language.specs.Parser.{Calls, NextToken, ThisToken, MaybeToken, NextName, Ready, KeepsRefusal};
 
 mod lists;
 mod literals;
@@ -83,10 +81,11 @@ impl<'a> Parser<'a> {
         self.keep_refusal(answer)
     }
 
-    /// The next token where it is this one, and goes behind it; refuses any other.
+    /// The next token where it is this one, and goes behind it; refuses any other, and the end of the
+    /// text.
     pub fn expect(&mut self, expected: &Token<'_>) -> ParseResult<Token<'a>>
         ensures calls { Calls (ThisToken expected.now) self.old result self.new }
-        ensures fewer { expected.now ≢ t.EndOfFile → OnOk result (left self.new.input < left self.old.input) }
+        ensures fewer { OnOk result (left self.new.input < left self.old.input) }
         ensures stays { OnErr result (self.new.input ≡ self.old.input) }
     {
         self.ready()?;
@@ -95,7 +94,7 @@ impl<'a> Parser<'a> {
     }
 
     /// The next token where it is this one, and goes behind it; `None` at any other, which stays.
-    /// Refuses the end of the text, if it is not wanted.
+    /// Refuses the end of the text.
     pub fn skip(&mut self, expected: &Token<'_>) -> OptionParseResult<Token<'a>>
         ensures calls { Calls (MaybeToken expected.now) self.old result self.new }
         ensures no_more { left self.new.input ≤ left self.old.input }
@@ -108,7 +107,7 @@ impl<'a> Parser<'a> {
 
     /// The name that stands next, at its place, and goes behind it; refuses any other token.
     pub fn expect_name(&mut self) -> ParseResult<TextRef<'a>>
-        ensures calls { Calls (By (located name)) self.old result self.new }
+        ensures calls { Calls NextName self.old result self.new }
         ensures fewer { OnOk result (left self.new.input < left self.old.input) }
         ensures stays { OnErr result (self.new.input ≡ self.old.input) }
     {

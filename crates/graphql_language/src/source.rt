@@ -14,7 +14,8 @@ use graphql_values::ScalarValue;
 use std::alloc::Global;
 
 /// The document that a text is (GraphQL October 2021, 2.2 Document). Its names are borrowed from the
-/// text. Takes time by the number of tokens, and recurses as deep as values nest.
+/// text. Takes time by the number of tokens, and no more stack where selection sets and values nest
+/// deeply.
 ///
 /// An error is the first fault of the text, at its place: characters, lines and columns from zero.
 /// A lexical fault anywhere comes before every other: `ParseError::LexerError`. Else it is about the

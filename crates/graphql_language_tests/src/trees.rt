@@ -2,7 +2,7 @@ use crate::told::check;
 use graphql_text::{Items, SourcePosition, Spanning, TextRef};
 use graphql_tree::{
     Arguments, Definition, Field, Fragment, InlineFragment, Selection, VariableDefinition,
-    VariableDefinitions, release_document,
+    VariableDefinitions,
 };
 use graphql_values::{DefaultScalarValue, InputValue, Type, TypeModifier};
 use std::alloc::{AllocError, Global};
@@ -129,37 +129,33 @@ fn variables_in_order(rt: HostRuntime) -> Result<(), AllocError> {
 
 type Set = Items<Selection<'static, DefaultScalarValue>>;
 
-/// A set of a field of this set.
-fn under_field(alloc: Global, set: Set) -> Result<Set, AllocError> {
-    let field = Field {
+/// The field `a`, with this selection set or none.
+fn field(selection_set: Option<Set>) -> Selection<'static, DefaultScalarValue> {
+    Selection::Field(Spanning::unlocated(Field {
         alias: None,
         name: Spanning::unlocated(TextRef::new("a")),
         arguments: None,
         directives: None,
-        selection_set: Some(set),
-    };
-    let mut outer: Set = Items::new(alloc);
-    outer.push(Selection::Field(Spanning::unlocated(field)))?;
-    Ok(outer)
+        selection_set,
+    }))
 }
 
-/// A set of an inline fragment of this set.
-fn under_inline(alloc: Global, set: Set) -> Result<Set, AllocError> {
-    let inline = InlineFragment {
+/// The inline fragment of this set.
+fn inline_fragment(selection_set: Set) -> Selection<'static, DefaultScalarValue> {
+    Selection::InlineFragment(Spanning::unlocated(InlineFragment {
         type_condition: None,
         directives: None,
-        selection_set: set,
-    };
-    let mut outer: Set = Items::new(alloc);
-    outer.push(Selection::InlineFragment(Spanning::unlocated(inline)))?;
-    Ok(outer)
+        selection_set,
+    }))
 }
 
-/// A set of a field of a set of an inline fragment, and so on.
+/// A set whose first selection is an inline fragment of a set whose last selection is a field of
+/// such a set, and so on.
 fn nested(alloc: Global) -> Result<Set, AllocError> {
     let mut set: Set = Items::new(alloc);
     for _ in 0..100_000 {
-        set = under_inline(alloc, under_field(alloc, set)?)?;
+        set = Items::from_vec(vec![in alloc; field(None), field(Some(set))]?);
+        set = Items::from_vec(vec![in alloc; inline_fragment(set), field(None)]?);
     }
     Ok(set)
 }
@@ -174,6 +170,6 @@ fn deep_document_goes(rt: HostRuntime) -> Result<(), AllocError> {
         selection_set: nested(alloc)?,
     };
     let definitions = vec![in alloc; Definition::Fragment(Spanning::unlocated(fragment))]?;
-    release_document(Items::from_vec(definitions));
+    let _document = Items::from_vec(definitions);
     Ok(())
 }

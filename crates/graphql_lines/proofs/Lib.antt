@@ -1,7 +1,7 @@
 pub mod Turns
 pub mod Named
 pub mod Requests
-pub mod Joins
+pub mod JsonSteps
 pub mod Written
 pub mod ReadBack
 pub mod Outline

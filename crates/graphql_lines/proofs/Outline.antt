@@ -1,5 +1,5 @@
 -- The outline of a value, and what is read of its JSON.
-use Rattle.std.proofs.Common.{◌≡◌, ℕ, ◌≤◌, ℤ, Bool, true, false, List, [], Option, Some, option_and_then, refl, sym, ap, ◌∙◌, subst, append-nil, arith}
+use Rattle.std.proofs.Common.{◌≡◌, ℕ, ◌≤◌, Bool, true, false, List, [], Option, Some, option_and_then, refl, sym, ap, ◌∙◌, subst, append-nil, arith}
 use Rattle.std.proofs.lemmas.List.Elements.{recursion_from_All}
 use Rattle.json.specs.Token.{Token}
 use Rattle.json.specs.Lex.{tokens}
@@ -19,7 +19,7 @@ use Rattle.graphql_output_values.specs.ValueInduction.{value_ind, HoldsOfItems, 
 use Rattle.graphql_lines.specs.Json.{json_layer, fields_layer}
 use Rattle.graphql_lines.specs.Json as spec
 use Rattle.graphql_lines.specs.Laws.{nesting_layer, nesting_fields, nesting, fits_layer, fits_fields, fits_32_bits, data_layer, data_fields, data_of_value, JsonReadsBack}
-use Rattle.graphql_lines.proofs.Joins.{object_is}
+use Rattle.graphql_lines.proofs.JsonSteps.{object_is}
 use Rattle.graphql_lines.proofs.ReadBack.{Keeps, keeps_null, keeps_scalar, keeps_list, keeps_object, KeepsPart, scalar_tree, items_tree, members_tree}
 use Rattle.graphql_scalars.specs.ScalarAnswers.{ScalarAnswer, as_int, as_bool, as_text}
 

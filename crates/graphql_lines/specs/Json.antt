@@ -2,6 +2,7 @@
 use Rattle.std.specs.Prelude.{ℕ, ◌+◌, ◌-◌, ◌/◌, ◌%◌, ◌==◌, nat_lt, ℤ, Bool, true, false, List, [], ◌∷◌, ◌++◌, map, if◌then◌else◌, codes, Option, Some, None}
 use Rattle.std.specs.Fmt.{signed_decimal}
 use Rattle.std.specs.List.{flat_map}
+use Rattle.graphql_output_values.specs.Steps.{Step, Null, Scalar, ListOpens, ListCloses, ObjectOpens, ObjectCloses, Key, Gap}
 use Rattle.graphql_output_values.specs.declared.object.Object.{Object, fold-Object}
 use Rattle.graphql_output_values.specs.declared.value.Value.{Value, fold-Value}
 use Rattle.graphql_output_values.specs.declared.value.Value.TheOpen.{Value-F, Object-F}
@@ -25,10 +26,6 @@ json_text text = 34 ∷ flat_map escaped text ++ 34 ∷ []
 abbrev pub joined : List ℕ → List (List ℕ) → List ℕ
 joined parted [] = []
 joined parted (x ∷ xs) = parted ++ x ++ joined (codes ",") xs
-
--- what parts the next item from the one before, if there is one
-abbrev pub comma_unless : Bool → List ℕ
-comma_unless is_first = if is_first then [] else codes ","
 
 -- a member, by its key and the JSON of its value
 abbrev pub member_json : List ℕ × List ℕ → List ℕ
@@ -68,3 +65,14 @@ module _ {S : Type 0} (answer : S → ScalarAnswer) where
 
   abbrev pub object_json : Object S → List ℕ
   object_json = fold-Object S (List ℕ) (List ℕ) json_layer fields_layer
+
+  -- the JSON of one step of a value: that of its steps, one after the other, is the JSON of the value
+  abbrev pub step_json : Step S → List ℕ
+  step_json Null = codes "null"
+  step_json (Scalar s) = scalar_json s
+  step_json ListOpens = codes "["
+  step_json ListCloses = codes "]"
+  step_json ObjectOpens = codes "{"
+  step_json ObjectCloses = codes "}"
+  step_json (Key key) = json_text key ++ codes ":"
+  step_json Gap = codes ","

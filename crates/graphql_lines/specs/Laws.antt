@@ -1,5 +1,5 @@
 -- What JSON keeps of values, and which values it gives (GraphQL October 2021, 7.2 Serialization Format; RFC 8259).
-use Rattle.std.specs.Prelude.{◌≡◌, ◌≤◌, ◌↔◌, ℕ, suc, max, ℤ, Bool, true, IsTrue, List, [], ◌∷◌, ◌++◌, map, fold, Contains, Option, Some, None, option_map, unwrap_or}
+use Rattle.std.specs.Prelude.{◌≡◌, ◌≤◌, ◌↔◌, ℕ, suc, max, ℤ, Bool, true, IsTrue, List, [], ◌∷◌, ◌++◌, map, fold, Contains, Some, None, option_map, unwrap_or}
 use Rattle.std.specs.List.{list_all}
 use Rattle.serde_json.specs.Data.{Num, Data, null, boolean, number, string, array, object, Items, no_items, item, Members, no_members, member, put}
 use Rattle.serde_json.specs.Find.{of_integer, get}

@@ -1,10 +1,11 @@
 //! JSON texts (RFC 8259; GraphQL October 2021, 7.2 Serialization Format).
 
-ghost use Rattle.std.specs.Prelude.{◌≡◌, ◌<◌, ◌++◌, ◌∷◌, [], map, OnOk};
+ghost use Rattle.std.specs.Prelude.{◌≡◌, ◌<◌, ◌≤◌, false, [], ◌∷◌, ◌++◌, length, take, OnOk};
+ghost use Rattle.std.specs.List.{flat_map};
 ghost use Rattle.graphql_lines.specs.Json as spec;
+ghost use Rattle.graphql_output_values.specs.Pending.{ahead, told};
 
-use graphql_items::Text;
-use graphql_output_values::{Object, Value};
+use graphql_output_values::{Step, Value, Walk};
 use graphql_scalars::ScalarValue;
 use itoa::Buffer;
 use std::alloc::AllocError;
@@ -39,6 +40,26 @@ fn push_escaped(out: &mut Vec<u8>, byte: u8) -> Result<(), AllocError>
     }
 }
 
+/// Whether a byte is escaped.
+fn is_escaped(byte: u8) -> bool
+    ensures { result ≡ false → spec.escaped byte ≡ byte ∷ [] }
+{
+    byte == b'"' || byte == b'\\' || byte < 32
+}
+
+/// How many bytes at the front are not escaped.
+fn plain_len(bytes: &[u8]) -> usize
+    ensures within { result ≤ length bytes.now }
+    ensures plain { flat_map spec.escaped (take result bytes.now) ≡ take result bytes.now }
+{
+    'bytes: for (index, byte) in bytes.iter().enumerate() {
+        if is_escaped(*byte) {
+            return index;
+        }
+    }
+    bytes.len()
+}
+
 /// Writes a text between quotes, at the end of `out`. The quote, the backslash and the characters
 /// below the space are escaped, and no others. An error is want of memory: then `out` may hold a part
 /// of it.
@@ -46,8 +67,16 @@ pub fn text_to_json(out: &mut Vec<u8>, text: &str) -> Result<(), AllocError>
     ensures { OnOk result (out.new.items ≡ out.old.items ++ spec.json_text text.now) }
 {
     out.extend_from_slice(b"\"")?;
-    'bytes: for byte in text.as_bytes() {
-        push_escaped(out, *byte)?;
+    let mut rest = text.as_bytes();
+    'runs: while let Some((first, behind)) = rest.split_first() {
+        let (plain, others) = rest.split_at(plain_len(rest));
+        if plain.is_empty() {
+            push_escaped(out, *first)?;
+            rest = behind;
+        } else {
+            out.extend_from_slice(plain)?;
+            rest = others;
+        }
     }
     out.extend_from_slice(b"\"")
 }
@@ -70,68 +99,43 @@ fn scalar_to_json<S: ScalarValue>(out: &mut Vec<u8>, scalar: &S) -> Result<(), A
     }
 }
 
-/// Writes what parts an item from the one before it, if there is one.
-fn part(out: &mut Vec<u8>, is_first: bool) -> Result<(), AllocError>
-    ensures { OnOk result (out.new.items ≡ out.old.items ++ spec.comma_unless is_first) }
+/// Writes what a walk tells next.
+fn step_to_json<S: ScalarValue>(out: &mut Vec<u8>, step: Step<'_, S>) -> Result<(), AllocError>
+    ensures { OnOk result (out.new.items ≡ out.old.items ++ spec.step_json S.answer (told step.entry)) }
 {
-    if is_first {
-        Ok(())
-    } else {
-        out.extend_from_slice(b",")
+    match step {
+        Step::Null => out.extend_from_slice(b"null"),
+        Step::Scalar(scalar) => scalar_to_json(out, scalar),
+        Step::ListOpens => out.extend_from_slice(b"["),
+        Step::ListCloses => out.extend_from_slice(b"]"),
+        Step::ObjectOpens => out.extend_from_slice(b"{"),
+        Step::ObjectCloses => out.extend_from_slice(b"}"),
+        Step::Key(key) => {
+            text_to_json(out, key)?;
+            out.extend_from_slice(b":")
+        }
+        Step::Gap => out.extend_from_slice(b","),
     }
+}
+
+/// Writes what a walk has yet to tell.
+fn steps_to_json<S: ScalarValue>(out: &mut Vec<u8>, walk: Walk<'_, S>) -> Result<(), AllocError>
+    ensures { OnOk result (out.new.items ≡ out.old.items ++ flat_map (spec.step_json S.answer) (ahead walk.entry)) }
+{
+    let mut walk = walk;
+    'steps: while let Some(step) = walk.next()? {
+        step_to_json(out, step)?;
+    }
+    Ok(())
 }
 
 /// Writes a value as JSON, at the end of `out`: without spaces, the fields of an object in their
-/// order, a scalar by what it answers (an integer, else a boolean, else a text). An error is want of
-/// memory: then `out` may hold a part of it.
-#[cycle(json)]
+/// order, a scalar by what it answers (an integer, else a boolean, else a text). What is yet to be
+/// written stands on the heap, so a deep value takes no more stack. An error is want of memory: then
+/// `out` may hold a part of it.
 pub fn value_to_json<S: ScalarValue>(out: &mut Vec<u8>, value: &Value<S>) -> Result<(), AllocError>
     ensures { OnOk result (out.new.items ≡ out.old.items ++ spec.json S.answer value.now) }
 {
-    match value {
-        Value::Null => out.extend_from_slice(b"null"),
-        Value::Scalar(scalar) => scalar_to_json(out, scalar),
-        Value::List(items) => list_to_json(out, items.as_slice()),
-        Value::Object(object) => object_to_json(out, object),
-    }
-}
-
-#[cycle(json)]
-fn list_to_json<S: ScalarValue>(out: &mut Vec<u8>, items: &[Value<S>]) -> Result<(), AllocError>
-    ensures { OnOk result (out.new.items ≡ out.old.items ++ (91 ∷ spec.joined [] (map (spec.json S.answer) items.now) ++ 93 ∷ [])) }
-{
-    out.extend_from_slice(b"[")?;
-    let mut is_first = true;
-    'items: for item in items {
-        part(out, is_first)?;
-        is_first = false;
-        value_to_json(out, item)?;
-    }
-    out.extend_from_slice(b"]")
-}
-
-#[cycle(json)]
-fn object_to_json<S: ScalarValue>(out: &mut Vec<u8>, object: &Object<S>) -> Result<(), AllocError>
-    ensures { OnOk result (out.new.items ≡ out.old.items ++ spec.object_json S.answer object.now) }
-{
-    out.extend_from_slice(b"{")?;
-    let mut is_first = true;
-    'fields: for field in object.as_slice() {
-        part(out, is_first)?;
-        is_first = false;
-        member_to_json(out, field)?;
-    }
-    out.extend_from_slice(b"}")
-}
-
-#[cycle(json)]
-fn member_to_json<S: ScalarValue>(
-    out: &mut Vec<u8>,
-    field: &(Text, Value<S>),
-) -> Result<(), AllocError>
-    ensures { OnOk result (out.new.items ≡ out.old.items ++ spec.member_json (field.now.0, spec.json S.answer field.now.1)) }
-{
-    text_to_json(out, field.0.as_str())?;
-    out.extend_from_slice(b":")?;
-    value_to_json(out, &field.1)
+    let walk = Walk::new(*out.allocator(), value)?;
+    steps_to_json(out, walk)
 }

@@ -1,5 +1,9 @@
 pub mod ObjectLemmas
 pub mod MapLemmas
+pub mod CountEquations
+pub mod StepLemmas
+pub mod PendingLemmas
+pub mod StepTextLemmas
 pub mod EqualityTests
 pub mod ValueTextLemmas
 pub mod FieldLaws

@@ -1,5 +1,8 @@
 pub mod Objects
 pub mod Values
+pub mod Counts
+pub mod Steps
+pub mod Pending
 pub mod Lending
 pub mod Equality
 pub mod ValueEquations

@@ -4,6 +4,7 @@ use Rattle.std.specs.List.{join_by}
 use Rattle.graphql_scalars.specs.ScalarAnswers.{ScalarAnswer}
 use Rattle.graphql_scalars.specs.ScalarText.{quoted_text, scalar_text}
 use Rattle.graphql_output_values.specs.Objects.{Pair}
+use Rattle.graphql_output_values.specs.Steps.{Step, Null, Scalar, ListOpens, ListCloses, ObjectOpens, ObjectCloses, Key, Gap}
 use Rattle.graphql_output_values.specs.declared.value.Value.{Value, fold-Value}
 use Rattle.graphql_output_values.specs.declared.value.Value.TheOpen.{Value-F, Object-F}
 
@@ -29,3 +30,14 @@ module _ {S : Type 0} (answer : S → ScalarAnswer) where
   -- the text of a value, by what its scalars answer
   abbrev pub value_text : Value S → List ℕ
   value_text = fold-Value S (List ℕ) (List ℕ) layer_text object_layer_text
+
+  -- the text of one step of a value: those of its steps, one after the other, are the text of the value
+  abbrev pub step_text : Step S → List ℕ
+  step_text Null = codes "null"
+  step_text (Scalar s) = scalar_text (answer s)
+  step_text ListOpens = codes "["
+  step_text ListCloses = codes "]"
+  step_text ObjectOpens = codes "{"
+  step_text ObjectCloses = codes "}"
+  step_text (Key key) = quoted_text key ++ codes ": "
+  step_text Gap = codes ", "

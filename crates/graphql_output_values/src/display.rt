@@ -1,82 +1,73 @@
 //! The texts of values.
 
-ghost use Rattle.std.specs.Prelude.{Some, ◌++◌, codes};
+ghost use Rattle.std.specs.Prelude.{Some};
 ghost use Rattle.std.specs.Fmt.{WritesOnOk};
-ghost use Rattle.std.specs.List.{join_by};
-ghost use Rattle.graphql_scalars.specs.ScalarText.{quoted_text};
-ghost use Rattle.graphql_output_values.specs.ValueText.{field_text, value_text};
+ghost use Rattle.std.specs.List.{flat_map};
+ghost use Rattle.graphql_output_values.specs.Pending.{ahead, told};
+ghost use Rattle.graphql_output_values.specs.ValueText.{step_text, value_text};
 
 use crate::value::Value;
-use graphql_items::Text;
+use crate::walk::{Step, Walk};
 use graphql_scalars::{Scalar, ScalarValue};
-use std::fmt::{Display, Formatter, Result, Write};
+use std::alloc::Global;
+use std::fmt::{Display, Error, Formatter, Result, Write};
 
-/// Writes a value.
-#[cycle(display)]
-fn write_value<S: ScalarValue, W: Write>(f: &mut Formatter<W>, value: &Value<S>) -> Result
+/// Writes what a walk tells next: a key between quotes, with nothing escaped.
+fn write_step<S: ScalarValue, W: Write>(f: &mut Formatter<W>, step: Step<'_, S>) -> Result
+    ensures { WritesOnOk W.write_str_gives f.old result (step_text S.answer (told step.entry)) f.new }
+{
+    match step {
+        Step::Null => f.write_str("null"),
+        Step::Scalar(scalar) => write!(f, "{}", Scalar::from(scalar)),
+        Step::ListOpens => f.write_str("["),
+        Step::ListCloses => f.write_str("]"),
+        Step::ObjectOpens => f.write_str("{"),
+        Step::ObjectCloses => f.write_str("}"),
+        Step::Key(key) => write!(f, "\"{key}\": "),
+        Step::Gap => f.write_str(", "),
+    }
+}
+
+/// Writes what a walk has yet to tell. Want of memory is an error too.
+fn write_steps<S: ScalarValue, W: Write>(f: &mut Formatter<W>, walk: Walk<'_, S>) -> Result
+    ensures { WritesOnOk W.write_str_gives f.old result (flat_map (step_text S.answer) (ahead walk.entry)) f.new }
+{
+    let mut walk = walk;
+    'steps: loop {
+        match walk.next() {
+            Ok(Some(step)) => write_step(f, step)?,
+            Ok(None) => return Ok(()),
+            Err(_) => return Err(Error),
+        }
+    }
+}
+
+/// Writes a value by a walk over it. Want of memory is an error too.
+fn write_walked<S: ScalarValue, W: Write>(
+    f: &mut Formatter<W>,
+    alloc: Global,
+    value: &Value<S>,
+) -> Result
     ensures { WritesOnOk W.write_str_gives f.old result (value_text S.answer value.now) f.new }
 {
-    match value {
-        Value::Null => f.write_str("null"),
-        Value::Scalar(scalar) => write!(f, "{}", Scalar::from(scalar)),
-        Value::List(items) => {
-            f.write_str("[")?;
-            write_items(f, items.as_slice())?;
-            f.write_str("]")
-        }
-        Value::Object(object) => {
-            f.write_str("{")?;
-            write_fields(f, object.fields.as_slice())?;
-            f.write_str("}")
-        }
+    match Walk::new(alloc, value) {
+        Ok(walk) => write_steps(f, walk),
+        Err(_) => Err(Error),
     }
-}
-
-/// Writes values, with a comma and a space between any two.
-#[cycle(display)]
-fn write_items<S: ScalarValue, W: Write>(f: &mut Formatter<W>, items: &[Value<S>]) -> Result
-    ensures { WritesOnOk W.write_str_gives f.old result (join_by (value_text S.answer) (codes ", ") items.now) f.new }
-{
-    let mut gap = "";
-    for item in items {
-        f.write_str(gap)?;
-        write_value(f, item)?;
-        gap = ", ";
-    }
-    Ok(())
-}
-
-/// Writes fields, with a comma and a space between any two.
-#[cycle(display)]
-fn write_fields<S: ScalarValue, W: Write>(
-    f: &mut Formatter<W>,
-    fields: &[(Text, Value<S>)],
-) -> Result
-    ensures { WritesOnOk W.write_str_gives f.old result (join_by (field_text (value_text S.answer)) (codes ", ") fields.now) f.new }
-{
-    let mut gap = "";
-    for field in fields {
-        f.write_str(gap)?;
-        write_key(f, field.0.as_str())?;
-        write_value(f, &field.1)?;
-        gap = ", ";
-    }
-    Ok(())
-}
-
-/// Writes a key between quotes, with nothing escaped, and what stands between it and its value.
-fn write_key<W: Write>(f: &mut Formatter<W>, key: &str) -> Result
-    ensures { WritesOnOk W.write_str_gives f.old result (quoted_text key.now ++ codes ": ") f.new }
-{
-    write!(f, "\"{key}\": ")
 }
 
 /// Writes `null`, a scalar as `Scalar` does, a list as `[a, b]` and an object as `{"k": v, "l": w}`;
-/// nothing is escaped.
+/// nothing is escaped. What is yet to be written of a list or an object stands on the heap, so a deep
+/// value takes no more stack; want of memory for it is an error.
 impl<S: ScalarValue> Display for Value<S> {
     ghost output = { λ value. Some (value_text S.answer value) };
 
     fn fmt<W: Write>(&self, f: &mut Formatter<W>) -> Result {
-        write_value(f, self)
+        match self {
+            Value::Null => f.write_str("null"),
+            Value::Scalar(scalar) => write!(f, "{}", Scalar::from(scalar)),
+            Value::List(items) => write_walked(f, *items.allocator(), self),
+            Value::Object(object) => write_walked(f, *object.fields.allocator(), self),
+        }
     }
 }

@@ -5,11 +5,12 @@ mod display;
 mod equality;
 mod into_value;
 pub mod laws;
-mod map_scalars;
 mod object;
 mod value;
+mod walk;
 
 pub use graphql_scalars::{DefaultScalarValue, ScalarValue};
 pub use into_value::IntoValue;
 pub use object::Object;
 pub use value::Value;
+pub use walk::{Step, Walk};

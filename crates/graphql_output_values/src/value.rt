@@ -1,22 +1,23 @@
 //! Values, as an execution answers them.
 
-ghost use Rattle.std.specs.Prelude.{◌≡◌, IsTrue, ◌↔◌, List};
+ghost use Rattle.std.specs.Prelude.{◌≡◌, IsTrue, ◌↔◌, List, map};
 ghost use Rattle.std.specs.Borrow.{sem};
 ghost use Rattle.std.specs.Option.{option_copied, option_copied_mut};
 ghost use Rattle.graphql_items.specs.Memory.{Gives};
 ghost use Rattle.graphql_output_values.specs.Lending.{LendsObject};
-ghost use Rattle.graphql_output_values.specs.Values.{Holds, Turns, map_scalars};
+ghost use Rattle.graphql_output_values.specs.Values.{Holds, Turns, map_field, map_scalars};
 ghost use Rattle.graphql_output_values.specs.declared.value.Value.TheVariants as value;
 
-use crate::map_scalars::map_value;
+mod let_go;
+
 use crate::object::Object;
-use graphql_items::Items;
+use graphql_items::{Items, Text};
 use graphql_scalars::DefaultScalarValue;
 use std::alloc::AllocError;
 
 /// A value that a field, or a whole operation, answers (GraphQL October 2021, 7.1 Response Format).
 #[cycle(values)]
-#[derive(Debug, Drop)]
+#[derive(Debug)]
 pub enum Value<S = DefaultScalarValue> {
     /// `null`
     Null,
@@ -123,7 +124,8 @@ impl<S> Value<S> {
         }
     }
 
-    /// The value of the same shape with each scalar mapped. An error is want of memory.
+    /// The value of the same shape with each scalar mapped. An error is want of memory. It takes stack
+    /// for each level of the value.
     pub fn map_scalar_value<T: Drop, F: Fn(S) -> T + Drop>(
         self,
         turn: F,
@@ -133,6 +135,68 @@ impl<S> Value<S> {
         requires { (s : S) → F.pre turn s }
         ensures { (f : S → T) → Turns (F.post turn) f → Gives result (map_scalars f self) }
     {
-        map_value(self, &turn)
+        self.mapped(&turn)
+    }
+}
+
+impl<S: Drop> Value<S> {
+    /// The value with each scalar mapped. An error is want of memory. It calls itself for each level.
+    #[cycle(map_scalars)]
+    fn mapped<T: Drop, F: Fn(S) -> T>(self, turn: &F) -> Result<Value<T>, AllocError>
+        requires { (s : S) → F.pre turn.now s }
+        ensures { (f : S → T) → Turns (F.post turn.now) f → Gives result (map_scalars f self) }
+    {
+        match self {
+            Value::Null => Ok(Value::Null),
+            Value::Scalar(scalar) => Ok(Value::Scalar(turn(scalar))),
+            Value::List(items) => Ok(Value::List(Value::map_items(items, turn)?)),
+            Value::Object(object) => {
+                let fields = Value::map_fields(object.fields, turn)?;
+                Ok(Value::Object(Object { fields }))
+            }
+        }
+    }
+
+    /// The values with each scalar mapped, in order.
+    #[cycle(map_scalars)]
+    fn map_items<T: Drop, F: Fn(S) -> T>(
+        items: Items<Value<S>>,
+        turn: &F,
+    ) -> Result<Items<Value<T>>, AllocError>
+        requires { (s : S) → F.pre turn.now s }
+        ensures { (f : S → T) → Turns (F.post turn.now) f → Gives result (map (map_scalars f) items) }
+    {
+        let mut all = Items::with_capacity(*items.allocator(), items.len())?;
+        for item in items {
+            all.push(item.mapped(turn)?)?;
+        }
+        Ok(all)
+    }
+
+    /// The fields with each scalar mapped, in order.
+    #[cycle(map_scalars)]
+    fn map_fields<T: Drop, F: Fn(S) -> T>(
+        fields: Items<(Text, Value<S>)>,
+        turn: &F,
+    ) -> Result<Items<(Text, Value<T>)>, AllocError>
+        requires { (s : S) → F.pre turn.now s }
+        ensures { (f : S → T) → Turns (F.post turn.now) f → Gives result (map (map_field f) fields) }
+    {
+        let mut all = Items::with_capacity(*fields.allocator(), fields.len())?;
+        for field in fields {
+            let (key, value) = field;
+            all.push((key, value.mapped(turn)?))?;
+        }
+        Ok(all)
+    }
+}
+
+/// A loop, which takes no memory, and no more stack however deep the value is. It ends since each turn
+/// lets one go of the values that stand in this one, itself among them.
+impl<S: Drop> Drop for Value<S> {
+    fn drop(mut self) {
+        'values: while let Some(others) = self.let_one_go() {
+            self = others;
+        }
     }
 }

@@ -9,6 +9,7 @@ use Rattle.graphql_text.specs.declared.parse_error.ParseError.{ParseError}
 use Rattle.graphql_text.specs.declared.parse_error.ParseError.TheVariants.{UnexpectedToken, UnexpectedEndOfFile, LexerError, ExpectedScalarError, Memory}
 use Rattle.graphql_text.specs.Tokens.{Located}
 use Rattle.graphql_text.proofs.GrammarLaws as lexical
+use Rattle.graphql_scalars.specs.declared.default_scalar.DefaultScalarValue.{DefaultScalarValue}
 use Rattle.graphql_scalars.specs.declared.default_scalar.DefaultScalarValue.TheVariants as scalar
 use Rattle.graphql_scalars.specs.DefaultScalar.{reads}
 use Rattle.graphql_values.specs.InputValues.{unlocated}
@@ -16,15 +17,16 @@ use Rattle.graphql_grammar.specs.Input.{At, Input, Fault, Outcome}
 use Rattle.graphql_grammar.specs.Ahead.{mk}
 use Rattle.graphql_grammar.specs.Relations.{end_of}
 use Rattle.graphql_grammar.specs.Cursor.{IsStart, IsLexical}
-use Rattle.graphql_grammar.specs.Faults.{Begins, FirstFaultyToken, Found}
+use Rattle.graphql_grammar.specs.Faults.{Begins, FirstFaultyToken}
 use Rattle.graphql_grammar.proofs.FirstFaults.{one_tree}
+use Rattle.graphql_language.specs.Literals.{NextValue}
 use Rattle.graphql_language.specs.Parser.{State, Rule, Fails, CallsFresh, Calls, RefusesAgain}
 use Rattle.graphql_language.specs.Texts.{IsCut}
 use Rattle.graphql_value_syntax.specs.ReadValues.{value}
 use Rattle.graphql_value_syntax.proofs.ValueLaws.{law_value}
 use Rattle.graphql_read_back.specs.Parts.{tokens_of, end_of as place_of_end, text_of}
 use Rattle.graphql_read_back.specs.Writable.{Value, value_text, IsWritable}
-use Rattle.graphql_read_back.specs.Laws.{Of, ShownSpells, ShownIsFound, GivesBack, ShownIsReadBack}
+use Rattle.graphql_read_back.specs.Laws.{Of, ShownSpells, ShownIsFound, IsSpelledBy, GivesBack, ShownIsReadBack}
 use Rattle.graphql_read_back.proofs.Parts.{parts_are_tokens}
 use Rattle.graphql_read_back.proofs.Printed.{no_lead, written_chars}
 use Rattle.graphql_read_back.proofs.Values.{written}
@@ -49,7 +51,7 @@ is_memory (ExpectedScalarError text) h = absurd (h (λ same. cc))
 is_memory Memory h = refl
 
 -- a rule that refuses nothing there fails by want of memory alone
-pub fails_by_memory : {A : Type 0} (rule : Rule A) (i : Input) (f : Fault) (new : State) → ((e : Fault) → rule i (Err e) → ⊥) → Fails rule i f new → f.item ≡ Memory
+pub fails_by_memory : {A : Type 0} (rule : Rule A) (i : Input) (f : Fault) (new : State) → ((e : Fault) → rule i (Err e) new.input → ⊥) → Fails rule i f new → f.item ≡ Memory
 fails_by_memory rule i f new none h = is_memory f.item (λ told. let same : h.fault ≡ f = h.told told in none h.fault (h.refuses (λ m. told (ap (λ (e : Fault). e.item) (sym same) ∙ m))))
 
 -- the tokens that are ahead at the start of a text are those into which it is cut
@@ -100,20 +102,23 @@ shown_is_found is_const v h i start (Ok (x, j)) (spelled, only) =
     let s = shown_spells is_const v h in
     let ahead = start_tokens (chars (value_text v)) s.tokens s.finish i s.cut start in
     let whole : Of is_const i.ahead s.tree = subst (λ ts. Of is_const ts s.tree) (sym ahead) s.spells in
-    let tree : s.tree ≡ x = only.same s.tree (mk [] i.finish (end_of i.end i.ahead)) (record { tokens = i.ahead; front = sym (append-nil i.ahead); spells = whole; after = refl }) in
-    (ap (λ (y : At Value). unlocated y.item) (sym tree) ∙ s.same, same_left is_const i.ahead spelled.tokens j.ahead s.tree x i refl spelled.front whole spelled.spells)
+    let tree : s.tree ≡ x = only.same s.tree (mk [] i.finish (end_of i.end i.ahead)) (record { tokens = i.ahead; front = sym (append-nil i.ahead); spells = whole; after = refl }) in (
+      ap (λ (y : At Value). unlocated y.item) (sym tree) ∙ s.same,
+      same_left is_const i.ahead spelled.tokens j.ahead s.tree x i refl spelled.front whole spelled.spells,
+      record { tokens = s.tokens; finish = s.finish; cut = s.cut; spells = subst (Of is_const s.tokens) tree s.spells },
+    )
 shown_is_found is_const v h i start (Err e) fault =
     let s = shown_spells is_const v h in
     let ahead = start_tokens (chars (value_text v)) s.tokens s.finish i s.cut start in
     no_fault reads (Of is_const) i s.tree e (subst (λ ts. Of is_const ts s.tree) (sym ahead) s.spells) fault
 
-given_back : (is_const : Bool) (v : Value) → IsWritable is_const v → (i : Input) (new : State) (r : Result (At Value) Fault) → IsStart (chars (value_text v)) i → CallsFresh (Found reads (Of is_const)) i r new → GivesBack v r new
+given_back : (is_const : Bool) (v : Value) → IsWritable is_const v → (i : Input) (new : State) (r : Result (At Value) Fault) → IsStart (chars (value_text v)) i → CallsFresh (NextValue DefaultScalarValue reads scalar.Boolean is_const) i r new → GivesBack is_const v r new
 given_back is_const v h i new (Ok x) start gives = shown_is_found is_const v h i start (Ok (x, new.input)) gives.0
-given_back is_const v h i new (Err f) start fails = fails_by_memory (Found reads (Of is_const)) i f new (λ e found. shown_is_found is_const v h i start (Err e) found) fails
+given_back is_const v h i new (Err f) start fails = fails_by_memory (NextValue DefaultScalarValue reads scalar.Boolean is_const) i f new (λ e missing. shown_is_found is_const v h i start (Err e) missing.0) fails
 
 pub shown_is_read_back : ShownIsReadBack
 shown_is_read_back is_const v h old new r start fresh calls =
-    given_back is_const v h old.input new r start (MatchOption-at_none (CallsFresh (Found reads (Of is_const)) old.input r new) (λ e. RefusesAgain e r × (new ≡ old)) fresh calls)
+    given_back is_const v h old.input new r start (MatchOption-at_none (CallsFresh (NextValue DefaultScalarValue reads scalar.Boolean is_const) old.input r new) (λ e. RefusesAgain e r × (new ≡ old)) fresh calls)
 
 -- ---- what a call that reads a value answers
 
@@ -123,13 +128,17 @@ value_memory is_const v text e h is lexical =
     no_lexical (chars (value_text v)) s.tokens s.finish e s.cut (subst (λ t. e.item ≢ Memory → IsLexical (chars t) e) is lexical)
 
 pub value_read : (is_const : Bool) (v : Value) (text : List ℕ) (old new : State) (r : Result (At Value) Fault) → IsWritable is_const v → text ≡ value_text v → IsStart (chars text) old.input → old.refused ≡ None
-    → Calls (Found reads (Of is_const)) old r new → GivesBack v r new
+    → Calls (NextValue DefaultScalarValue reads scalar.Boolean is_const) old r new → GivesBack is_const v r new
 value_read is_const v text old new r h is start fresh calls = shown_is_read_back is_const v h old new r (subst (λ t. IsStart (chars t) old.input) is start) fresh calls
 
-pub back_same : (v : Value) (new : State) (r : Result (At Value) Fault) → GivesBack v r new → IfOk r (λ found. unlocated found.item ≡ unlocated v)
-back_same v new (Ok x) h = h.0
-back_same v new (Err e) h = tt
+pub back_same : (is_const : Bool) (v : Value) (new : State) (r : Result (At Value) Fault) → GivesBack is_const v r new → IfOk r (λ found. unlocated found.item ≡ unlocated v)
+back_same is_const v new (Ok x) h = h.0
+back_same is_const v new (Err e) h = tt
 
-pub back_memory : (v : Value) (new : State) (r : Result (At Value) Fault) → GivesBack v r new → IfErr r (λ e. e.item ≡ Memory)
-back_memory v new (Ok x) h = tt
-back_memory v new (Err e) h = h
+pub back_spelled : (is_const : Bool) (v : Value) (new : State) (r : Result (At Value) Fault) → GivesBack is_const v r new → IfOk r (λ found. IsSpelledBy is_const (chars (value_text v)) found)
+back_spelled is_const v new (Ok x) h = h.2
+back_spelled is_const v new (Err e) h = tt
+
+pub back_memory : (is_const : Bool) (v : Value) (new : State) (r : Result (At Value) Fault) → GivesBack is_const v r new → IfErr r (λ e. e.item ≡ Memory)
+back_memory is_const v new (Ok x) h = tt
+back_memory is_const v new (Err e) h = h

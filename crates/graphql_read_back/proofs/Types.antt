@@ -15,8 +15,9 @@ use Rattle.graphql_grammar.specs.Input.{At, Input, Fault}
 use Rattle.graphql_grammar.specs.Ahead.{mk}
 use Rattle.graphql_grammar.specs.Cursor.{IsStart}
 use Rattle.graphql_grammar.specs.Relations.{end_of, span_of}
-use Rattle.graphql_grammar.specs.Faults.{BadScalar, GoodScalar, Spelled, Sought}
+use Rattle.graphql_grammar.specs.Faults.{BadScalar, GoodScalar, Spelled}
 use Rattle.graphql_grammar.proofs.FirstFaults.{one_tree}
+use Rattle.graphql_language.specs.Literals.{NextType}
 use Rattle.graphql_language.specs.Parser.{State, CallsFresh, RefusesAgain}
 use Rattle.graphql_language.specs.Texts.{IsCut}
 use Rattle.graphql_value_syntax.specs.ReadTypes.{TypeRef, type_ref}
@@ -142,10 +143,10 @@ written_is_found x h i start (Err e) fault =
     let tree : At TypeRef = record { item = x; span = s.span } in
     no_fault no_scalar TypeOf i tree e (subst (λ ts. TypeOf ts tree) (sym ahead) s.spells) fault
 
-given_back : (x : TypeRef) → IsWritableType x → (i : Input) (new : State) (r : Result (At TypeRef) Fault) → IsStart (chars (written x.name x.modifiers)) i → CallsFresh (Sought no_scalar TypeOf) i r new → GivesTypeBack x r new
+given_back : (x : TypeRef) → IsWritableType x → (i : Input) (new : State) (r : Result (At TypeRef) Fault) → IsStart (chars (written x.name x.modifiers)) i → CallsFresh NextType i r new → GivesTypeBack x r new
 given_back x h i new (Ok y) start gives = written_is_found x h i start (Ok (y, new.input)) gives.0
-given_back x h i new (Err f) start fails = fails_by_memory (Sought no_scalar TypeOf) i f new (λ e found. written_is_found x h i start (Err e) found) fails
+given_back x h i new (Err f) start fails = fails_by_memory NextType i f new (λ e missing. written_is_found x h i start (Err e) missing.0) fails
 
 pub written_is_read_back : WrittenIsReadBack
 written_is_read_back x h old new r start fresh calls =
-    given_back x h old.input new r start (MatchOption-at_none (CallsFresh (Sought no_scalar TypeOf) old.input r new) (λ e. RefusesAgain e r × (new ≡ old)) fresh calls)
+    given_back x h old.input new r start (MatchOption-at_none (CallsFresh NextType old.input r new) (λ e. RefusesAgain e r × (new ≡ old)) fresh calls)

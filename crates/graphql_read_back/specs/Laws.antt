@@ -16,6 +16,7 @@ use Rattle.graphql_type_references.specs.TypeReference.{written}
 use Rattle.graphql_grammar.specs.Input.{At, Input, Fault, Outcome}
 use Rattle.graphql_grammar.specs.Cursor.{IsStart}
 use Rattle.graphql_grammar.specs.Faults.{Found, Sought}
+use Rattle.graphql_language.specs.Literals.{NextValue, NextType}
 use Rattle.graphql_language.specs.Parser.{State, Calls}
 use Rattle.graphql_language.specs.Texts.{IsCut}
 use Rattle.graphql_value_syntax.specs.Values.{ValueOf}
@@ -51,30 +52,37 @@ pub record SpellsValue (is_const : Bool) (text : List ℕ) (value : Value) : Typ
   pub same : unlocated tree.item ≡ unlocated value
   pub only : (other : At Value) → Of is_const tokens other → other ≡ tree
 
+-- the tokens of the text spell this value, at its place
+pub record IsSpelledBy (is_const : Bool) (text : List ℕ) (x : At Value) : Type 0 where
+  pub tokens : List Located
+  pub finish : Span
+  pub cut : IsCut text tokens finish
+  pub spells : Of is_const tokens x
+
 -- the text of a value spells it
 abbrev pub ShownSpells : Type 0
 ShownSpells = (is_const : Bool) (value : Value) → IsWritable is_const value → SpellsValue is_const (chars (value_text value)) value
 
--- the value was found, places aside, and nothing is left but the end
-abbrev pub IsFound : Value → Outcome (At Value) → Type 0
-IsFound value (Ok p) = (unlocated p.0.item ≡ unlocated value) × (p.1.ahead ≡ [])
-IsFound value (Err e) = ⊥
+-- the value was found, places aside, as its text spells it, and nothing is left but the end
+abbrev pub IsFound : Bool → Value → Outcome (At Value) → Type 0
+IsFound is_const value (Ok p) = (unlocated p.0.item ≡ unlocated value) × (p.1.ahead ≡ []) × IsSpelledBy is_const (chars (value_text value)) p.0
+IsFound is_const value (Err e) = ⊥
 
 -- whatever is found at the start of the text of a value is that value
 abbrev pub ShownIsFound : Type 0
 ShownIsFound =
-    (is_const : Bool) (value : Value) → IsWritable is_const value → (i : Input) → IsStart (chars (value_text value)) i → (found : Outcome (At Value)) → Found reads (Of is_const) i found → IsFound value found
+    (is_const : Bool) (value : Value) → IsWritable is_const value → (i : Input) → IsStart (chars (value_text value)) i → (found : Outcome (At Value)) → Found reads (Of is_const) i found → IsFound is_const value found
 
--- a parser gives the value, places aside, and stands at the end; else memory ran out
-abbrev pub GivesBack : Value → Result (At Value) Fault → State → Type 0
-GivesBack value (Ok x) new = (unlocated x.item ≡ unlocated value) × (new.input.ahead ≡ [])
-GivesBack value (Err e) new = e.item ≡ Memory
+-- a parser gives the value, places aside, as its text spells it, and stands at the end; else memory ran out
+abbrev pub GivesBack : Bool → Value → Result (At Value) Fault → State → Type 0
+GivesBack is_const value (Ok x) new = (unlocated x.item ≡ unlocated value) × (new.input.ahead ≡ []) × IsSpelledBy is_const (chars (value_text value)) x
+GivesBack is_const value (Err e) new = e.item ≡ Memory
 
 -- a parser at the start of the text of a value reads that value
 abbrev pub ShownIsReadBack : Type 0
 ShownIsReadBack =
     (is_const : Bool) (value : Value) → IsWritable is_const value → (old new : State) (result : Result (At Value) Fault) → IsStart (chars (value_text value)) old.input → old.refused ≡ None
-    → Calls (Found reads (Of is_const)) old result new → GivesBack value result new
+    → Calls (NextValue DefaultScalarValue reads scalar.Boolean is_const) old result new → GivesBack is_const value result new
 
 -- values that are alike once their places are left out are the same, wherever they stand
 abbrev pub SameWithoutPlaces : {S : Type 0} → (S → S → Bool) → Type 0
@@ -114,4 +122,4 @@ GivesTypeBack t (Err e) new = e.item ≡ Memory
 abbrev pub WrittenIsReadBack : Type 0
 WrittenIsReadBack =
     (t : TypeRef) → IsWritableType t → (old new : State) (result : Result (At TypeRef) Fault) → IsStart (chars (written t.name t.modifiers)) old.input → old.refused ≡ None
-    → Calls (Sought no_scalar TypeOf) old result new → GivesTypeBack t result new
+    → Calls NextType old result new → GivesTypeBack t result new

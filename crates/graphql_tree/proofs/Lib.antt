@@ -2,4 +2,3 @@ pub mod SelectionEquations
 pub mod SelectionInduction
 pub mod UnlocatedEquations
 pub mod CountEquations
-pub mod ReleaseLemmas

@@ -5,12 +5,10 @@
 
 mod directive;
 mod document;
-mod release;
 mod selection;
 mod variable;
 
 pub use directive::{Arguments, Directive};
 pub use document::{Definition, Fragment, Operation, OperationType, OwnedDocument};
-pub use release::{release_document, release_selections};
 pub use selection::{Field, FragmentSpread, InlineFragment, Selection};
 pub use variable::{VariableDefinition, VariableDefinitions};

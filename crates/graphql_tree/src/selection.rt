@@ -1,5 +1,7 @@
 //! What an operation or a fragment selects.
 
+mod let_go;
+
 use crate::directive::{Arguments, Directive};
 use graphql_text::{Items, Spanning, TextRef};
 use graphql_values::DefaultScalarValue;
@@ -50,7 +52,7 @@ pub struct InlineFragment<'a, S = DefaultScalarValue> {
 
 /// A selection of a selection set (GraphQL October 2021, 2.4 Selection Sets).
 #[cycle(selections)]
-#[derive(Debug, Drop)]
+#[derive(Debug)]
 pub enum Selection<'a, S = DefaultScalarValue> {
     /// A field, from its alias or name to its last token.
     Field(Spanning<Field<'a, S>>),
@@ -60,4 +62,14 @@ pub enum Selection<'a, S = DefaultScalarValue> {
 
     /// An inline fragment, with its `...`.
     InlineFragment(Spanning<InlineFragment<'a, S>>),
+}
+
+/// A loop, which takes no memory, and no more stack however deep the selection is. It ends since each
+/// turn lets one go of the selections that stand in this one, itself among them.
+impl<'a, S: Drop> Drop for Selection<'a, S> {
+    fn drop(mut self) {
+        'selections: while let Some(others) = self.let_one_go() {
+            self = others;
+        }
+    }
 }

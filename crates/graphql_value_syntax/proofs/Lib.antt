@@ -6,5 +6,6 @@ pub mod DirectiveLaws
 pub mod DirectiveParts
 pub mod VariableParts
 pub mod ValueSteps
+pub mod OpenValues
 pub mod TypeSteps
 pub mod Places

@@ -28,6 +28,10 @@ module _ {S : Type 0} (reads : ScalarToken → Result S ParseError) (of_bool : B
   agree_variable_or n false =
       agree_when (only k.Dollar) (agree_bind (agree_token (only k.Dollar) (λ w. tt {0}) refl) (λ u. agree_made v.Variable (agree_token names name_of refl))) (agree_self uses_word)
 
+  -- a value that holds no other takes a token
+  pub single_uses : (is_const : Bool) → Uses true (variable_or reads of_bool is_const)
+  single_uses is_const = (agree_variable_or 0 is_const).uses
+
   agree_bare : (is_const : Bool) (n : ℕ) (p q : Parser _) → Agree true n p q → Agree true (suc n) (bare reads of_bool is_const p) (bare reads of_bool is_const q)
   unfolding bare
   agree_bare is_const n p q one =

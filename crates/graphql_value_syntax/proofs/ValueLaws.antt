@@ -135,10 +135,10 @@ module _ {S : Type 0} (reads : ScalarToken → Result S ParseError) (of_bool : B
 
   -- ---- what stands inside brackets
 
-  takes_value : (c : Bool) → Takes (value reads of_bool c)
+  pub takes_value : (c : Bool) → Takes (value reads of_bool c)
   takes_value c i x j r = let l = value_uses reads of_bool c i x j r in omega arith
 
-  value_at_end : (c : Bool) (f : Span) (e : SourcePosition) → value reads of_bool c (mk [] f e) ≡ Err (refused_at f [])
+  pub value_at_end : (c : Bool) (f : Span) (e : SourcePosition) → value reads of_bool c (mk [] f e) ≡ Err (refused_at f [])
   unfolding bare sees peek_kind peek token refusal
   value_at_end true f e = value_unfolds reads of_bool true (mk [] f e)
   value_at_end false f e = value_unfolds reads of_bool false (mk [] f e)

@@ -4,20 +4,17 @@ use Rattle.graphql_text.specs.declared.token.Token.{Token}
 use Rattle.graphql_text.specs.declared.token.Token.TheVariants as t
 use Rattle.graphql_text.specs.declared.token.ScalarToken.{ScalarToken}
 use Rattle.graphql_text.specs.declared.parse_error.ParseError.{ParseError}
-use Rattle.graphql_text.specs.declared.position.SourcePosition.{SourcePosition}
-use Rattle.graphql_values.specs.declared.input_value.InputValue.{InputValue}
 use Rattle.graphql_values.specs.declared.input_value.InputValue.TheVariants as v
 use Rattle.graphql_grammar.specs.declared.kind.Kind.{Kind}
 use Rattle.graphql_grammar.specs.declared.kind.Kind.TheVariants as k
 use Rattle.graphql_grammar.specs.Kinds.{only, names}
 use Rattle.graphql_grammar.specs.Input.{At, Input, Located, Fault, Parser, Outcome, and_then, ◌>>=◌, pure, Reads, refusal, peek, peek_kind, next}
-use Rattle.graphql_grammar.specs.Steps.{between, expect, sees, when, name, name_of, located, scalar, scalar_by, read_by}
+use Rattle.graphql_grammar.specs.Steps.{expect, sees, name, name_of, located, scalar, scalar_by, read_by}
 use Rattle.graphql_grammar.proofs.Sets.{is_kind}
 use Rattle.graphql_grammar.proofs.Cursors.{token_yes, token_no}
-use Rattle.graphql_grammar.proofs.Parts.{then_read, then_refused, when_yes, when_no, located_read, located_refused}
-use Rattle.graphql_value_syntax.proofs.ValueDepth.{value_unfolds}
+use Rattle.graphql_grammar.proofs.Parts.{then_read, then_refused, when_yes, when_no}
 use Rattle.graphql_value_syntax.specs.ReadParts.{key, by_name, by_scalar}
-use Rattle.graphql_value_syntax.specs.ReadValues.{Value, named, word_by, word_of, word, word_or_scalar, variable, variable_or, list, object, bare, value}
+use Rattle.graphql_value_syntax.specs.ReadValues.{named, word_by, word_of, word, word_or_scalar, variable, variable_or}
 
 -- parsers that answer the same
 pub reads_as : {A : Type 0} {o p : Outcome A} (r : Result A Fault) (j : Input) → o ≡ p → Reads p r j → Reads o r j
@@ -27,11 +24,11 @@ not_only : (b : Bool) (w u : Kind) → only w u ≡ b → u ≢ w → b ≡ fals
 not_only true w u e h = absurd (h (is_kind u w e))
 not_only false w u e h = refl
 
-sees_only : (w : Kind) (i : Input) → peek_kind i ≡ w → only w w ≡ true → sees (only w) i ≡ true
+pub sees_only : (w : Kind) (i : Input) → peek_kind i ≡ w → only w w ≡ true → sees (only w) i ≡ true
 unfolding sees
 sees_only w i e same = ap (only w) e ∙ same
 
-sees_other : (w : Kind) (i : Input) → peek_kind i ≢ w → sees (only w) i ≡ false
+pub sees_other : (w : Kind) (i : Input) → peek_kind i ≢ w → sees (only w) i ≡ false
 unfolding sees
 sees_other w i h = not_only (only w (peek_kind i)) w (peek_kind i) refl h
 
@@ -137,57 +134,9 @@ module _ {S : Type 0} (reads : ScalarToken → Result S ParseError) where
     pub single_word : (is_const : Bool) (i : Input) → (is_const ≡ false → peek_kind i ≢ k.Dollar) → peek_kind i ≢ k.Scalar → variable_or reads of_bool is_const i ≡ word reads of_bool i
     single_word is_const i h d = no_variable is_const i h ∙ plain_word i d
 
-    -- ---- one level
-
-    module _ (is_const : Bool) where
-      bare_list : (i : Input) → peek_kind i ≡ k.BracketOpen → bare reads of_bool is_const (value reads of_bool is_const) i ≡ list reads of_bool (value reads of_bool is_const) i
-      unfolding bare
-      bare_list i e = when_yes (only k.BracketOpen) (list reads of_bool (value reads of_bool is_const)) (when (only k.CurlyOpen) (object reads of_bool (value reads of_bool is_const)) (variable_or reads of_bool is_const)) i (sees_only k.BracketOpen i e refl)
-
-      bare_object : (i : Input) → peek_kind i ≡ k.CurlyOpen → bare reads of_bool is_const (value reads of_bool is_const) i ≡ object reads of_bool (value reads of_bool is_const) i
-      unfolding bare
-      bare_object i e =
-          when_no (only k.BracketOpen) (list reads of_bool (value reads of_bool is_const)) (when (only k.CurlyOpen) (object reads of_bool (value reads of_bool is_const)) (variable_or reads of_bool is_const)) i (sees_other k.BracketOpen i (λ d. let q : k.CurlyOpen ≡ k.BracketOpen = sym e ∙ d in cc))
-          ∙ when_yes (only k.CurlyOpen) (object reads of_bool (value reads of_bool is_const)) (variable_or reads of_bool is_const) i (sees_only k.CurlyOpen i e refl)
-
-      bare_single : (i : Input) → peek_kind i ≢ k.BracketOpen → peek_kind i ≢ k.CurlyOpen → bare reads of_bool is_const (value reads of_bool is_const) i ≡ variable_or reads of_bool is_const i
-      unfolding bare
-      bare_single i a b =
-          when_no (only k.BracketOpen) (list reads of_bool (value reads of_bool is_const)) (when (only k.CurlyOpen) (object reads of_bool (value reads of_bool is_const)) (variable_or reads of_bool is_const)) i (sees_other k.BracketOpen i a)
-          ∙ when_no (only k.CurlyOpen) (object reads of_bool (value reads of_bool is_const)) (variable_or reads of_bool is_const) i (sees_other k.CurlyOpen i b)
-
-      value_read : (i : Input) {j : Input} {x : InputValue S} {y : Value reads of_bool} {start : SourcePosition} → bare reads of_bool is_const (value reads of_bool is_const) i ≡ Ok (x, j)
-          → start ≡ (peek i).span.start → y ≡ record { item = x; span = record { start = start; end = j.end } } → value reads of_bool is_const i ≡ Ok (y, j)
-      value_read i read begins is = value_unfolds reads of_bool is_const i ∙ located_read (bare reads of_bool is_const (value reads of_bool is_const)) read begins is
-
-      value_fails : (i : Input) {e : Fault} → bare reads of_bool is_const (value reads of_bool is_const) i ≡ Err e → value reads of_bool is_const i ≡ Err e
-      value_fails i fails = value_unfolds reads of_bool is_const i ∙ located_refused (bare reads of_bool is_const (value reads of_bool is_const)) fails
-
-      pub list_read : (i : Input) {j : Input} {xs : List (Value reads of_bool)} {y : Value reads of_bool} {start : SourcePosition} → peek_kind i ≡ k.BracketOpen → between k.BracketOpen k.BracketClose (value reads of_bool is_const) i ≡ Ok (xs, j)
-          → start ≡ (peek i).span.start → y ≡ record { item = v.List xs; span = record { start = start; end = j.end } } → value reads of_bool is_const i ≡ Ok (y, j)
-      list_read i e read begins is = value_read i (bare_list i e ∙ then_read (between k.BracketOpen k.BracketClose (value reads of_bool is_const)) (λ xs. pure (v.List xs)) read) begins is
-
-      pub list_fails : (i : Input) {f : Fault} → peek_kind i ≡ k.BracketOpen → between k.BracketOpen k.BracketClose (value reads of_bool is_const) i ≡ Err f → value reads of_bool is_const i ≡ Err f
-      list_fails i e fails = value_fails i (bare_list i e ∙ then_refused (between k.BracketOpen k.BracketClose (value reads of_bool is_const)) (λ xs. pure (v.List xs)) fails)
-
-      pub object_read : (i : Input) {j : Input} {ps : List (At (List ℕ) × Value reads of_bool)} {y : Value reads of_bool} {start : SourcePosition} → peek_kind i ≡ k.CurlyOpen
-          → between k.CurlyOpen k.CurlyClose (named (value reads of_bool is_const)) i ≡ Ok (ps, j)
-          → start ≡ (peek i).span.start → y ≡ record { item = v.Object ps; span = record { start = start; end = j.end } } → value reads of_bool is_const i ≡ Ok (y, j)
-      object_read i e read begins is = value_read i (bare_object i e ∙ then_read (between k.CurlyOpen k.CurlyClose (named (value reads of_bool is_const))) (λ ps. pure (v.Object ps)) read) begins is
-
-      pub object_fails : (i : Input) {f : Fault} → peek_kind i ≡ k.CurlyOpen → between k.CurlyOpen k.CurlyClose (named (value reads of_bool is_const)) i ≡ Err f → value reads of_bool is_const i ≡ Err f
-      object_fails i e fails = value_fails i (bare_object i e ∙ then_refused (between k.CurlyOpen k.CurlyClose (named (value reads of_bool is_const))) (λ ps. pure (v.Object ps)) fails)
-
-      pub single_read : (i : Input) {j : Input} {x : InputValue S} {y : Value reads of_bool} {start : SourcePosition} → peek_kind i ≢ k.BracketOpen → peek_kind i ≢ k.CurlyOpen → variable_or reads of_bool is_const i ≡ Ok (x, j)
-          → start ≡ (peek i).span.start → y ≡ record { item = x; span = record { start = start; end = j.end } } → value reads of_bool is_const i ≡ Ok (y, j)
-      single_read i a b read begins is = value_read i (bare_single i a b ∙ read) begins is
-
-      pub single_fails : (i : Input) {f : Fault} → peek_kind i ≢ k.BracketOpen → peek_kind i ≢ k.CurlyOpen → variable_or reads of_bool is_const i ≡ Err f → value reads of_bool is_const i ≡ Err f
-      single_fails i a b fails = value_fails i (bare_single i a b ∙ fails)
-
 -- ---- a name, a colon and what stands behind
 
-abbrev pair_with : {A : Type 0} → Parser A → At (List ℕ) → Parser (At (List ℕ) × A)
+abbrev pub pair_with : {A : Type 0} → Parser A → At (List ℕ) → Parser (At (List ℕ) × A)
 pair_with inner n = inner >>= (λ x. pure (n, x))
 
 then_pair : {A : Type 0} (inner : Parser A) (n : At (List ℕ)) (o : Outcome (Unit {0})) → and_then o (λ u. pair_with inner n) ≡ and_then (and_then o (λ u. pure n)) (pair_with inner)
@@ -198,7 +147,7 @@ then_named : {A : Type 0} (inner : Parser A) (o : Outcome (At (List ℕ))) → a
 then_named inner (Ok p) = then_pair inner p.0 (expect k.Colon p.1)
 then_named inner (Err e) = refl
 
-named_is : {A : Type 0} (inner : Parser A) (i : Input) → named inner i ≡ (key >>= (pair_with inner)) i
+pub named_is : {A : Type 0} (inner : Parser A) (i : Input) → named inner i ≡ (key >>= (pair_with inner)) i
 named_is inner i = then_named inner (located name i)
 
 pub named_read : {A : Type 0} (inner : Parser A) (i : Input) {j m : Input} {n : At (List ℕ)} {x : A} → key i ≡ Ok (n, j) → inner j ≡ Ok (x, m) → named inner i ≡ Ok ((n, x), m)

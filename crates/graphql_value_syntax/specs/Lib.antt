@@ -1,5 +1,6 @@
 pub mod ReadParts
 pub mod ReadValues
+pub mod ReadNested
 pub mod ReadTypes
 pub mod ReadWraps
 pub mod ReadDirectives

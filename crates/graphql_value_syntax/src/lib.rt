@@ -8,6 +8,7 @@
 #![tactic(auto)]
 
 pub mod directive;
+mod nested;
 pub mod type_reference;
 pub mod value;
 pub mod variable;

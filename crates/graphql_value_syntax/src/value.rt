@@ -1,26 +1,23 @@
 //! Values (GraphQL October 2021, 2.9 Input Values).
-//!
-//! Values nest as deep as a text has tokens, and the functions that call one another keep what they
-//! read on the stack. So a value that holds no other is read by a function that stays a call.
 
 ghost use Rattle.std.specs.Prelude.{◌≡◌, ◌<◌, ◌≤◌, OnOk};
 ghost use Rattle.graphql_values.specs.declared.input_value.InputValue.TheVariants as v;
 ghost use Rattle.graphql_grammar.specs.declared.kind.Kind.TheVariants as k;
 ghost use Rattle.graphql_grammar.specs.Input.{Reads, StandsAt, left};
-ghost use Rattle.graphql_grammar.specs.Steps as steps;
 ghost use Rattle.graphql_value_syntax.specs.ReadParts as parts;
 ghost use Rattle.graphql_value_syntax.specs.ReadValues as spec;
 
-use graphql_grammar::{Cursor, Fault, Kind, keep};
-use graphql_text::{Items, Spanning, Text, TextRef, Token};
+use crate::nested::{Begun, begin, rest};
+use graphql_grammar::{Cursor, Fault, Kind};
+use graphql_text::{Spanning, Text, TextRef, Token};
 use graphql_values::{InputValue, ScalarValue};
 use std::alloc::Global;
 
-/// Reads a value, with its place. A constant holds no variable.
+/// Reads a value, with its place, in a stack that does not grow with its depth. A constant holds no
+/// variable.
 ///
 /// An error is the fault of the first token that can't stand where it does, or what the scalar type
 /// says of a literal that it refuses, or `ParseError::Memory` where memory ran out.
-#[cycle(values)]
 pub fn value<S: ScalarValue>(
     alloc: Global,
     cursor: &mut Cursor<'_>,
@@ -30,66 +27,10 @@ pub fn value<S: ScalarValue>(
     ensures no_more { left cursor.new ≤ left cursor.old }
     ensures stands { StandsAt result cursor.new }
 {
-    let start = cursor.start();
-    match cursor.kind() {
-        Kind::BracketOpen => {
-            let values = list(alloc, cursor, is_const)?;
-            Ok(cursor.closed(start, InputValue::List(values)))
-        }
-        Kind::CurlyOpen => {
-            let pairs = object(alloc, cursor, is_const)?;
-            Ok(cursor.closed(start, InputValue::Object(pairs)))
-        }
-        _ => {
-            let item = single(alloc, cursor, is_const)?;
-            Ok(cursor.closed(start, item))
-        }
+    match begin(alloc, cursor, is_const)? {
+        Begun::Whole(value) => Ok(value),
+        Begun::Opens(open) => rest(alloc, cursor, is_const, open),
     }
-}
-
-/// Reads the values of a list (2.9.7 List Value).
-#[cycle(values)]
-fn list<S: ScalarValue>(
-    alloc: Global,
-    cursor: &mut Cursor<'_>,
-    is_const: bool,
-) -> Result<Items<Spanning<InputValue<S>>>, Fault>
-    ensures reads { Reads (steps.between k.BracketOpen k.BracketClose (spec.value S.reads S.of_bool is_const) cursor.old) result cursor.new }
-    ensures no_more { left cursor.new ≤ left cursor.old }
-    ensures stands { StandsAt result cursor.new }
-{
-    cursor.expect(alloc, Kind::BracketOpen)?;
-    let mut found = Items::new(alloc);
-    for _turn in 0..cursor.left() {
-        if cursor.eat(Kind::BracketClose) {
-            return Ok(found);
-        }
-        keep(&mut found, value(alloc, cursor, is_const)?)?;
-    }
-    Err(cursor.refuse(alloc))
-}
-
-/// Reads the fields of an input object (2.9.8 Input Object Values).
-#[cycle(values)]
-fn object<S: ScalarValue>(
-    alloc: Global,
-    cursor: &mut Cursor<'_>,
-    is_const: bool,
-) -> Result<Items<(Spanning<Text>, Spanning<InputValue<S>>)>, Fault>
-    ensures reads { Reads (steps.between k.CurlyOpen k.CurlyClose (spec.named (spec.value S.reads S.of_bool is_const)) cursor.old) result cursor.new }
-    ensures no_more { left cursor.new ≤ left cursor.old }
-    ensures stands { StandsAt result cursor.new }
-{
-    cursor.expect(alloc, Kind::CurlyOpen)?;
-    let mut found = Items::new(alloc);
-    for _turn in 0..cursor.left() {
-        if cursor.eat(Kind::CurlyClose) {
-            return Ok(found);
-        }
-        let name = owned_key(alloc, cursor)?;
-        keep(&mut found, (name, value(alloc, cursor, is_const)?))?;
-    }
-    Err(cursor.refuse(alloc))
 }
 
 /// Reads a name, a colon and a value, and gives the name and the value.
@@ -122,7 +63,7 @@ fn key<'a>(alloc: Global, cursor: &mut Cursor<'a>) -> Result<Spanning<TextRef<'a
 }
 
 /// As `key`, with the name as a text of its own.
-fn owned_key(alloc: Global, cursor: &mut Cursor<'_>) -> Result<Spanning<Text>, Fault>
+pub(crate) fn owned_key(alloc: Global, cursor: &mut Cursor<'_>) -> Result<Spanning<Text>, Fault>
     ensures reads { Reads (parts.key cursor.old) result cursor.new }
     ensures no_more { left cursor.new ≤ left cursor.old }
     ensures stands { StandsAt result cursor.new }
@@ -135,8 +76,7 @@ fn owned_key(alloc: Global, cursor: &mut Cursor<'_>) -> Result<Spanning<Text>, F
 
 /// Reads a value that holds no other: a variable, where the value is no constant, or a scalar or a
 /// word.
-#[inline(never)]
-fn single<S: ScalarValue>(
+pub(crate) fn single<S: ScalarValue>(
     alloc: Global,
     cursor: &mut Cursor<'_>,
     is_const: bool,

@@ -11,3 +11,4 @@ pub mod InputValueTextLemmas
 pub mod InputOfOutputLemmas
 pub mod PartsLemmas
 pub mod VariableLaws
+pub mod CountEquations

@@ -10,3 +10,4 @@ pub mod SameValue
 pub mod Laws
 pub mod InputOfOutput
 pub mod Parts
+pub mod Counts

@@ -8,6 +8,7 @@ ghost use Rattle.graphql_values.specs.declared.input_value.InputValue.TheVariant
 mod clones;
 mod display;
 mod equality;
+mod let_go;
 mod parts;
 mod variables;
 
@@ -18,7 +19,11 @@ pub use variables::Variables;
 
 /// A value that a document gives to an argument, a variable or an input field, before any type is
 /// known for it (GraphQL October 2021, 2.9 Input Values).
-#[derive(Debug, Drop)]
+///
+/// A value nests as deep as its text is long. It is read and let go by loops; a call that goes down by
+/// calling itself says that it takes stack for each level. Such a call is for a value that the type
+/// asked for has been found to fit, which bounds its depth, but where input types hold themselves.
+#[derive(Debug)]
 pub enum InputValue<S = DefaultScalarValue> {
     /// `null`
     Null,
@@ -37,6 +42,16 @@ pub enum InputValue<S = DefaultScalarValue> {
 
     /// An input object: its fields' names and values, in order.
     Object(Items<(Spanning<Text>, Spanning<InputValue<S>>)>),
+}
+
+/// A loop, which takes no memory, and no more stack however deep the value is. It ends since each turn
+/// lets one go of the values that stand in this one, itself among them.
+impl<S: Drop> Drop for InputValue<S> {
+    fn drop(mut self) {
+        'values: while let Some(others) = self.let_one_go() {
+            self = others;
+        }
+    }
 }
 
 /// The field whose name and value stand in no text.

@@ -1,16 +1,14 @@
 //! Documents (GraphQL October 2021, 2.2 Document, 2.3 Operations, 2.8 Fragments).
 
-ghost use Rattle.std.specs.Prelude.{◌≡◌, ◌≤◌, ◌<◌, [], OnOk};
-ghost use Rattle.graphql_grammar.specs.Input.{Reads, Fills, left};
+ghost use Rattle.std.specs.Prelude.{◌≡◌, ◌≤◌, ◌<◌, OnOk};
+ghost use Rattle.graphql_grammar.specs.Input.{Reads, left};
 ghost use Rattle.graphql_language.specs.ReadDocuments as spec;
 ghost use Rattle.graphql_language.specs.ReadDefinitions as parts;
 
 use crate::parse::selection::{fragment_name, selection_set, type_condition};
 use graphql_grammar::{Cursor, Fault, Kind, keep};
 use graphql_text::{Items, Spanning, TextRef};
-use graphql_tree::{
-    Definition, Directive, Fragment, Operation, OperationType, Selection, release_document,
-};
+use graphql_tree::{Definition, Directive, Fragment, Operation, OperationType, Selection};
 use graphql_value_syntax::directive::{directives, located_name};
 use graphql_value_syntax::variable::variable_definitions;
 use graphql_values::ScalarValue;
@@ -37,7 +35,6 @@ pub(crate) fn document<'a, S: ScalarValue>(
     if cursor.kind() == Kind::EndOfFile {
         Ok(found)
     } else {
-        release_document(found);
         Err(cursor.refuse(alloc))
     }
 }
@@ -51,30 +48,11 @@ fn definitions<'a, S: ScalarValue>(
     ensures no_more { left cursor.new ≤ left cursor.old }
 {
     let mut found = Items::new(alloc);
-    match read_definitions(alloc, cursor, &mut found) {
-        Ok(()) => Ok(found),
-        Err(fault) => {
-            release_document(found);
-            Err(fault)
-        }
-    }
-}
-
-/// As `definitions`, into `found`, where a fault leaves the definitions before it.
-fn read_definitions<'a, S: ScalarValue>(
-    alloc: Global,
-    cursor: &mut Cursor<'a>,
-    found: &mut Items<Definition<'a, S>>,
-) -> Result<(), Fault>
-    requires { found.old ≡ [] }
-    ensures reads { Fills (parts.definitions S.reads S.of_bool cursor.old) result found.new cursor.new }
-    ensures no_more { left cursor.new ≤ left cursor.old }
-{
-    keep(found, definition(alloc, cursor)?)?;
+    keep(&mut found, definition(alloc, cursor)?)?;
     'definitions: while begins_definition(cursor.kind()) {
-        keep(found, definition(alloc, cursor)?)?;
+        keep(&mut found, definition(alloc, cursor)?)?;
     }
-    Ok(())
+    Ok(found)
 }
 
 fn begins_definition(kind: Kind) -> bool

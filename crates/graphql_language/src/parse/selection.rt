@@ -6,7 +6,7 @@
 ghost use Rattle.std.specs.Prelude.{◌≡◌, ◌≤◌, ◌<◌, IfOk, IfErr, OnOk, OnErr, ◌++◌, ◌∷◌, []};
 ghost use Rattle.graphql_grammar.specs.declared.kind.Kind.TheVariants as k;
 ghost use Rattle.graphql_grammar.specs.Kinds.{only, fragment_names};
-ghost use Rattle.graphql_grammar.specs.Input.{Reads, Fills, left};
+ghost use Rattle.graphql_grammar.specs.Input.{Reads, left};
 ghost use Rattle.graphql_grammar.specs.Input as input;
 ghost use Rattle.graphql_grammar.specs.Steps as steps;
 ghost use Rattle.graphql_language.specs.ReadSelections as spec;
@@ -15,9 +15,7 @@ ghost use Rattle.graphql_language.specs.ReadHeads.{completed};
 
 use graphql_grammar::{Cursor, Fault, Kind, keep};
 use graphql_text::{Items, SourcePosition, Spanning, TextRef};
-use graphql_tree::{
-    Arguments, Directive, Field, FragmentSpread, InlineFragment, Selection, release_selections,
-};
+use graphql_tree::{Arguments, Directive, Field, FragmentSpread, InlineFragment, Selection};
 use graphql_value_syntax::directive::{arguments, directives, located_name};
 use graphql_values::ScalarValue;
 use std::alloc::{AllocError, Global};
@@ -77,44 +75,21 @@ pub(crate) fn selection_set<'a, S: ScalarValue>(
     ensures no_more { left cursor.new ≤ left cursor.old }
     ensures fewer { OnOk result (left cursor.new < left cursor.old) }
 {
+    cursor.expect(alloc, Kind::CurlyOpen)?;
+    // the sets that are open around the one that is read, the innermost last
     let mut outer = Items::new(alloc);
     let mut found = Items::new(alloc);
-    match read_sets(alloc, cursor, &mut outer, &mut found) {
-        Ok(()) => Ok(found),
-        Err(fault) => {
-            release_selections(found);
-            release_open(outer);
-            Err(fault)
-        }
-    }
-}
-
-/// Reads a selection set into `found`. The sets that are open around the one that is read are kept
-/// in `outer`, the innermost last, where a fault leaves them.
-fn read_sets<'a, S: ScalarValue>(
-    alloc: Global,
-    cursor: &mut Cursor<'a>,
-    outer: &mut Items<Open<'a, S>>,
-    found: &mut Items<Selection<'a, S>>,
-) -> Result<(), Fault>
-    requires outermost { outer.old ≡ [] }
-    requires empty { found.old ≡ [] }
-    ensures reads { Fills (spec.selection_set S.reads S.of_bool (spec.selection S.reads S.of_bool) cursor.old) result found.new cursor.new }
-    ensures no_more { left cursor.new ≤ left cursor.old }
-    ensures fewer { OnOk result (left cursor.new < left cursor.old) }
-{
-    cursor.expect(alloc, Kind::CurlyOpen)?;
     'selections: loop {
         if cursor.kind() == Kind::CurlyClose && !found.is_empty() {
             cursor.advance();
             match outer.pop() {
-                Some(last) => close_set(last, found, cursor.end())?,
-                None => return Ok(()),
+                Some(last) => close_set(last, &mut found, cursor.end())?,
+                None => return Ok(found),
             }
         } else {
             match begin(alloc, cursor)? {
-                Begun::Whole(selection) => keep(found, selection)?,
-                Begun::Opens(head) => open_set(alloc, cursor, outer, found, head)?,
+                Begun::Whole(selection) => keep(&mut found, selection)?,
+                Begun::Opens(head) => open_set(alloc, cursor, &mut outer, &mut found, head)?,
             }
         }
     }
@@ -154,14 +129,6 @@ fn close_set<'a, S: ScalarValue>(
     match head {
         Head::Field(head) => keep(found, field(head, Some(set), end)),
         Head::InlineFragment(head) => keep(found, inline_fragment(head, set, end)),
-    }
-}
-
-/// Lets open sets go, with the selections that were read of the sets around them.
-fn release_open<S: Drop>(outer: Items<Open<'_, S>>) {
-    for open in outer {
-        let Open { around, .. } = open;
-        release_selections(around);
     }
 }
 

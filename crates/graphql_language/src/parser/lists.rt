@@ -2,16 +2,15 @@
 
 ghost use Rattle.std.specs.Prelude.{◌≡◌, ◌<◌, ◌≤◌, [], ◌∷◌, ◌++◌, OnOk, IfErr};
 ghost use Rattle.graphql_grammar.specs.Input.{left};
-ghost use Rattle.graphql_language.specs.Parser.{Calls, OpeningToken};
 ghost use Rattle.graphql_language.specs.Lists.{Item, Full, Until, AnyItems, SomeItems, Delimited};
 
-use super::{Parser, tokens};
+use super::Parser;
 use graphql_grammar::{Fault, keep};
 use graphql_text::{Items, ParseResult, Spanning, Token, UnlocatedParseResult};
 
 impl<'a> Parser<'a> {
     /// Any number of items between two tokens, in the part of the text from the opening token to the
-    /// closing one. The end of the text opens no list.
+    /// closing one. The end of the text opens no list and closes none.
     ///
     /// `parse` reads an item. It may be called at every parser with fewer tokens left, and leaves
     /// fewer than it found. By its refusal the parser has failed.
@@ -26,7 +25,7 @@ impl<'a> Parser<'a> {
         ensures list { Delimited opening.now (AnyItems closing.now (Item F.Fn parse)) self.old result self.new }
         ensures fewer { OnOk result (left self.new.input < left self.old.input) }
     {
-        let first = match self.open_list(opening) {
+        let first = match self.expect(opening) {
             Ok(first) => first,
             Err(fault) => return Err(fault),
         };
@@ -62,7 +61,7 @@ impl<'a> Parser<'a> {
         ensures list { Delimited opening.now (SomeItems closing.now (Item F.Fn parse)) self.old result self.new }
         ensures fewer { OnOk result (left self.new.input < left self.old.input) }
     {
-        let first = match self.open_list(opening) {
+        let first = match self.expect(opening) {
             Ok(first) => first,
             Err(fault) => return Err(fault),
         };
@@ -70,16 +69,6 @@ impl<'a> Parser<'a> {
             Ok((items, last)) => Ok(Spanning::start_end(first.span.start, last.span.end, items)),
             Err(fault) => Err(fault),
         }
-    }
-
-    /// The opening token, and goes behind it; refuses any other, and the end of the text.
-    fn open_list(&mut self, opening: &Token<'_>) -> ParseResult<Token<'a>>
-        ensures calls { Calls (OpeningToken opening.now) self.old result self.new }
-        ensures fewer { OnOk result (left self.new.input < left self.old.input) }
-    {
-        self.ready()?;
-        let answer = tokens::opening_token(self.alloc, &mut self.cursor, opening);
-        self.keep_refusal(answer)
     }
 
     /// One item at least, up to the closing token, and that token.

@@ -1,10 +1,9 @@
 //! Values and type references, parsed where a parser stands.
 
-ghost use Rattle.std.specs.Prelude.{◌≡◌};
-ghost use Rattle.graphql_grammar.specs.Faults.{Found, Sought};
+ghost use Rattle.std.specs.Prelude.{◌<◌, OnOk};
+ghost use Rattle.graphql_grammar.specs.Input.{left};
+ghost use Rattle.graphql_language.specs.Literals.{NextValue, NextType};
 ghost use Rattle.graphql_language.specs.Parser.{Calls};
-ghost use Rattle.graphql_value_syntax.specs.Types.{TypeOf, no_scalar};
-ghost use Rattle.graphql_value_syntax.specs.Values.{ValueOf};
 
 use super::Parser;
 use graphql_text::{ParseResult, TextRef};
@@ -15,15 +14,16 @@ use graphql_values::{InputValue, ScalarValue, Type};
 /// The value that stands next, at its place, and goes behind it (GraphQL October 2021, 2.9 Input
 /// Values). A constant holds no variable.
 ///
-/// A refusal is about the first token that no value could have there: `UnexpectedEndOfFile` at the
-/// end of the text; what the scalar type says of a literal that it refuses; `UnexpectedToken` with
-/// the token's source text. By a refusal the parser has failed. `Memory` comes only where memory ran
-/// out.
+/// It refuses only where no tokens in front spell a value, whatever follows one. A refusal is about
+/// the first token that no value could have there: `UnexpectedEndOfFile` at the end of the text; what
+/// the scalar type says of a literal that it refuses; `UnexpectedToken` with the token's source text.
+/// By a refusal the parser has failed. `Memory` comes only where memory ran out.
 pub fn parse_value_literal<S: ScalarValue>(
     parser: &mut Parser<'_>,
     is_const: bool,
 ) -> ParseResult<InputValue<S>>
-    ensures { Calls (Found S.reads (ValueOf S S.reads S.of_bool is_const)) parser.old result parser.new }
+    ensures calls { Calls (NextValue S S.reads S.of_bool is_const) parser.old result parser.new }
+    ensures fewer { OnOk result (left parser.new.input < left parser.old.input) }
 {
     parser.ready()?;
     let answer = value(parser.alloc, &mut parser.cursor, is_const);
@@ -33,11 +33,13 @@ pub fn parse_value_literal<S: ScalarValue>(
 /// The type reference that stands next, at its place, and goes behind it (GraphQL October 2021,
 /// 2.11 Type References): the longest that stands there.
 ///
-/// A refusal is about the first token that no type reference could have there:
-/// `UnexpectedEndOfFile` at the end of the text, `UnexpectedToken` with the token's source text. By
-/// a refusal the parser has failed. `Memory` comes only where memory ran out.
+/// It refuses only where no tokens in front spell a type reference, whatever follows one. A refusal
+/// is about the first token that no type reference could have there: `UnexpectedEndOfFile` at the
+/// end of the text, `UnexpectedToken` with the token's source text. By a refusal the parser has
+/// failed. `Memory` comes only where memory ran out.
 pub fn parse_type<'a>(parser: &mut Parser<'a>) -> ParseResult<Type<TextRef<'a>>>
-    ensures { Calls (Sought no_scalar TypeOf) parser.old result parser.new }
+    ensures calls { Calls NextType parser.old result parser.new }
+    ensures fewer { OnOk result (left parser.new.input < left parser.old.input) }
 {
     parser.ready()?;
     let answer = type_reference(parser.alloc, &mut parser.cursor);

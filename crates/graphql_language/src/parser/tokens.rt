@@ -1,11 +1,8 @@
 //! What parsers read of single tokens.
 
-ghost use Rattle.std.specs.Prelude.{◌≡◌, ◌≢◌, ◌↔◌, ◌<◌, ◌≤◌, IsTrue, OnOk, OnErr};
-ghost use Rattle.graphql_text.specs.declared.token.Token.TheVariants as t;
+ghost use Rattle.std.specs.Prelude.{◌≡◌, ◌↔◌, ◌<◌, ◌≤◌, IsTrue, OnOk, OnErr};
 ghost use Rattle.graphql_grammar.specs.Input.{left};
-ghost use Rattle.graphql_grammar.specs.Steps as spec;
-ghost use Rattle.graphql_grammar.specs.Steps.{located};
-ghost use Rattle.graphql_language.specs.Parser.{By, ReadsBy, NextToken, ThisToken, OpeningToken, MaybeToken};
+ghost use Rattle.graphql_language.specs.Parser.{ReadsBy, NextToken, ThisToken, MaybeToken, NextName};
 
 use graphql_grammar::Cursor;
 use graphql_text::{OptionParseResult, ParseResult, Spanning, TextRef, Token};
@@ -34,34 +31,16 @@ pub(super) fn next_token<'a>(alloc: Global, cursor: &mut Cursor<'a>) -> ParseRes
     }
 }
 
-/// The next token where it is this one, and goes behind it; refuses any other.
+/// The next token where it is this one, and goes behind it; refuses any other, and the end of the
+/// text.
 pub(super) fn this_token<'a>(
     alloc: Global,
     cursor: &mut Cursor<'a>,
     wanted: &Token<'_>,
 ) -> ParseResult<Token<'a>>
     ensures reads { ReadsBy (ThisToken wanted.now) cursor.old result cursor.new }
-    ensures fewer { wanted.now ≢ t.EndOfFile → OnOk result (left cursor.new < left cursor.old) }
-    ensures stays { OnErr result (cursor.new ≡ cursor.old) }
-{
-    let next = cursor.peek();
-    if is_token(&next.item, wanted) {
-        cursor.advance();
-        Ok(next)
-    } else {
-        Err(cursor.refuse(alloc))
-    }
-}
-
-/// The next token where it is this one, and goes behind it; refuses any other, and the end of the
-/// text.
-pub(super) fn opening_token<'a>(
-    alloc: Global,
-    cursor: &mut Cursor<'a>,
-    wanted: &Token<'_>,
-) -> ParseResult<Token<'a>>
-    ensures reads { ReadsBy (OpeningToken wanted.now) cursor.old result cursor.new }
     ensures fewer { OnOk result (left cursor.new < left cursor.old) }
+    ensures stays { OnErr result (cursor.new ≡ cursor.old) }
 {
     let next = cursor.peek();
     match next.item {
@@ -86,19 +65,19 @@ pub(super) fn maybe_token<'a>(
     ensures stays { OnErr result (cursor.new ≡ cursor.old) }
 {
     let next = cursor.peek();
-    if is_token(&next.item, wanted) {
-        cursor.advance();
-        return Ok(Some(next));
-    }
     match next.item {
         Token::EndOfFile => Err(cursor.refuse(alloc)),
+        item if is_token(&item, wanted) => {
+            cursor.advance();
+            Ok(Some(Spanning::new(next.span, item)))
+        }
         _ => Ok(None),
     }
 }
 
 /// The name that stands next, at its place, and goes behind it; refuses any other token.
 pub(super) fn name<'a>(alloc: Global, cursor: &mut Cursor<'a>) -> ParseResult<TextRef<'a>>
-    ensures reads { ReadsBy (By (located spec.name)) cursor.old result cursor.new }
+    ensures reads { ReadsBy NextName cursor.old result cursor.new }
     ensures fewer { OnOk result (left cursor.new < left cursor.old) }
     ensures stays { OnErr result (cursor.new ≡ cursor.old) }
 {

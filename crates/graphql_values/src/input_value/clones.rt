@@ -9,7 +9,8 @@ use std::alloc::AllocError;
 impl<S: ScalarValue + Drop> Clone for InputValue<S> {
     ghost is_clone = { λ value copy. copy ≡ value };
 
-    /// A second value, the same, at the same places. An error is want of memory.
+    /// A second value, the same, at the same places. Takes stack for each level that the value
+    /// nests. An error is want of memory.
     fn clone(&self) -> Result<InputValue<S>, AllocError> {
         copy_of(self)
     }

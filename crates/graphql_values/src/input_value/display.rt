@@ -11,7 +11,7 @@ use std::fmt;
 
 /// Writes the value as a document does (GraphQL October 2021, 2.9 Input Values): `null`, a number, a
 /// boolean, an enum value's name, `$` and a variable's name, `[a, b]`, `{k: v, l: w}`. A text stands
-/// between quotes, with nothing escaped.
+/// between quotes, with nothing escaped. Takes stack for each level that the value nests.
 impl<S: ScalarValue> fmt::Display for InputValue<S> {
     ghost output = { λ value. Some (input_value_text S.answer value) };
 

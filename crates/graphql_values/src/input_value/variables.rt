@@ -18,7 +18,8 @@ pub type Variables<S> = HashMap<String, InputValue<S>>;
 
 impl<S> InputValue<S> {
     /// The names of the variables that stand in the value (GraphQL October 2021, 2.10 Variables),
-    /// from left to right, each as often as it stands there. An error is want of memory.
+    /// from left to right, each as often as it stands there. Takes stack for each level that the
+    /// value nests. An error is want of memory.
     pub fn referenced_variables(&self, alloc: Global) -> Result<Items<TextRef<'_>>, AllocError>
         ensures { Gives result (variables_in self.now) }
     {
@@ -55,7 +56,8 @@ fn push_variables<'a, S>(
 impl<S: ScalarValue + Drop> InputValue<S> {
     /// The value with each variable's value in its stead (GraphQL October 2021, 6.4.1 Coercing Field
     /// Arguments), everything else at its place; `None` where a variable has no value in `variables`.
-    /// An error is want of memory.
+    /// A variable's value is copied wherever the variable stands. Takes stack for each level that the
+    /// value nests. An error is want of memory.
     pub fn into_const(
         self,
         alloc: Global,

@@ -14,7 +14,7 @@ returns-then-eq-clause-reads g c =
     let seen = asked_kind k.EndOfFile c.definitions.new.cursor c.kind.result true c.kind.ensures c.if-eq.ensures in
     document_read g.S.ParseScalarValue.reads g.S.ScalarValue.of_bool c.args.cursor.now c.in_ok-found.ensures.reads seen
 
-pub returns-else-eq-clause-reads : goal.returns-else-eq-clause-reads
-returns-else-eq-clause-reads g c =
+pub returns-clause-reads : goal.returns-clause-reads
+returns-clause-reads g c =
     let seen = asked_kind k.EndOfFile c.definitions.new.cursor c.kind.result false c.kind.ensures c.if-eq.ensures in
     λ told. document_goes_on g.S.ParseScalarValue.reads g.S.ScalarValue.of_bool c.args.cursor.now c.in_ok-found.ensures.reads seen ∙ ap Err (c.refuse.ensures told)

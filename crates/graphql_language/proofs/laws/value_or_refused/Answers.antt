@@ -1,0 +1,8 @@
+use Rattle.graphql_language.proofs.LiteralLaws as laws
+use Rattle.graphql_language.proofs.laws.value_or_refused.Goals as goal
+
+pub returns-clause-one : goal.returns-clause-one
+returns-clause-one g c = laws.value_or_refused {S = g.row.S.Denot} g.S.ParseScalarValue.reads g.S.ScalarValue.of_bool
+
+pub returns-clause-never_both : goal.returns-clause-never_both
+returns-clause-never_both g c = laws.value_never_both {S = g.row.S.Denot} g.S.ParseScalarValue.reads g.S.ScalarValue.of_bool

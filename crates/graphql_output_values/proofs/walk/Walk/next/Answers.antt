@@ -1,0 +1,7 @@
+use Rattle.std.proofs.Common.{◌∙◌}
+use Rattle.graphql_output_values.proofs.PendingLemmas.{pushed}
+use Rattle.graphql_output_values.proofs.walk.Walk.next.Goals as goal
+
+pub returns-in_ok-open-in-Some : goal.returns-in_ok-open-in-Some
+returns-in_ok-open-in-Some g c =
+    pushed c.pop.new.self c.args.self.now.tasks c.in-Some.task c.in-Some.ensures ∙ c.in_ok-open-in-Some.ensures

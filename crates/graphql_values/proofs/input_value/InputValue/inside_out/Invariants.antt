@@ -1,0 +1,9 @@
+use Rattle.std.proofs.Common.{◌≡◌, ◌+◌}
+use Rattle.graphql_values.specs.Counts.{value_count}
+use Rattle.graphql_values.proofs.input_value.InputValue.inside_out.Given as goal
+
+abbrev pub invariant-inwards : goal.invariant-inwards
+invariant-inwards g l = value_count l.self + value_count l.around ≡ value_count l.fn.self + value_count l.fn.rest
+
+abbrev pub decreases-inwards : goal.decreases-inwards
+decreases-inwards g l = value_count l.self
