@@ -5,4 +5,5 @@ pub mod Implementations
 pub mod StandardDirectives
 pub mod Directives
 pub mod TypeTypes
+pub mod Checked
 pub mod Schemas

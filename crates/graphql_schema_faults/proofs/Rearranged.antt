@@ -1,5 +1,5 @@
 -- Types in another order have the same faults.
-use Rattle.std.proofs.Common.{◌≡◌, ◌∙◌, ◌&&◌, not, Bool, true, List, map, Option, take, get_or, IsPermutation, refl, sym, subst}
+use Rattle.std.proofs.Common.{◌≡◌, ◌∙◌, ◌&&◌, not, Bool, true, List, map, take, get_or, IsPermutation, refl, sym, subst}
 use Rattle.std.specs.List.{list_any}
 use Rattle.std.proofs.lemmas.List.Sorted.{list_any-IsPermutation, IsPermutation-map}
 use Rattle.graphql_meta.specs.declared.meta.MetaType.{MetaType}
@@ -60,7 +60,3 @@ module _ {S C : Type 0} (metadata : List (MetaType S C)) (named : Roots) (types 
 
   pub made : IsFaultless types roots → IsFaultless (completed metadata named.query) named
   made faultless = subst (IsFaultless (completed metadata named.query)) same (faultless-moved (completed metadata named.query) types moved roots faultless)
-
-pub roots_same : {q q' : Bytes} {m m' s s' : Option Bytes} → q ≡ q' → m ≡ m' → s ≡ s'
-    → ◌≡◌ {A = Roots} (record { query = q; mutation = m; subscription = s }) (record { query = q'; mutation = m'; subscription = s' })
-roots_same e f g = rw (e, f, g) refl

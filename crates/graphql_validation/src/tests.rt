@@ -1,5 +1,6 @@
 //! Tests of the validation layer: what no contract says.
 
+mod boxed_checks;
 mod checks;
 mod directives;
 mod examples;

@@ -1,9 +1,11 @@
 //! What a schema tells of itself: its types, its roots and its directives by name.
 
-ghost use Rattle.std.specs.Prelude.{◌≡◌, true, Some};
+ghost use Rattle.std.specs.Prelude.{◌≡◌, true, Some, IfSome};
+ghost use Rattle.std.specs.List.{All};
 ghost use Rattle.std.specs.Option.{option_map, option_copied, option_and_then, is_some};
 ghost use Rattle.graphql_schema_faults.specs.Lookups.{type_named, is_object};
 ghost use Rattle.graphql_names.specs.Names.{named, passes, IsByName};
+ghost use Rattle.graphql_schema.specs.Directives.{HaveInputTypes};
 
 use super::SchemaType;
 use graphql_meta::{DirectiveType, MetaType};
@@ -73,17 +75,21 @@ impl<S, C> SchemaType<S, C> {
         }
     }
 
-    /// The directive of this name, without its `@` (GraphQL October 2021, 3.13 Directives).
+    /// The directive of this name, without its `@` (GraphQL October 2021, 3.13 Directives). The types
+    /// of its arguments are input types of the schema.
     pub fn directive_by_name(&self, name: &str) -> Option<&DirectiveType<S>>
-        ensures { option_copied result ≡ named (λ directive. directive.name) self.now.directives name.now }
+        ensures found { option_copied result ≡ named (λ directive. directive.name) self.now.directives name.now }
+        ensures input_types { IfSome result (λ directive. HaveInputTypes self.now.types directive.now) }
     {
         self.directives.get(name)
     }
 
-    /// The directives, each once, in the order of the bytes of their names.
+    /// The directives, each once, in the order of the bytes of their names. The types of their
+    /// arguments are input types of the schema.
     pub fn directive_list(&self) -> &[DirectiveType<S>]
         ensures all { result.now ≡ self.now.directives }
         ensures by_name { IsByName (λ directive. directive.name) result.now }
+        ensures input_types { All (HaveInputTypes self.now.types) result.now }
     {
         self.directives.as_slice()
     }

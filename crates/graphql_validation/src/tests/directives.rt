@@ -1,22 +1,18 @@
-use super::examples::{alone, argument, non_null, text};
+use super::examples::{alone, argument, non_null, selections, text};
 use graphql_meta::{DirectiveLocation, DirectiveType};
-use graphql_text::Items;
 use graphql_values::DefaultScalarValue;
 use std::alloc::Global;
 use std::process::Abort;
 
 /// The directive `@skip(if: Boolean!) on FIELD | FRAGMENT_SPREAD | INLINE_FRAGMENT`.
 fn skip(rt: &impl Abort, alloc: Global) -> DirectiveType<DefaultScalarValue> {
-    let mut locations = Items::new(alloc);
-    locations
-        .extend_from_slice(&[
-            DirectiveLocation::Field,
-            DirectiveLocation::FragmentSpread,
-            DirectiveLocation::InlineFragment,
-        ])
-        .expect(rt, "memory");
     let arguments = alone(rt, alloc, argument(rt, alloc, "if", non_null("Boolean")));
-    DirectiveType::new(text(rt, alloc, "skip"), locations, arguments, false)
+    DirectiveType::new(
+        text(rt, alloc, "skip"),
+        selections(rt, alloc),
+        arguments,
+        false,
+    )
 }
 
 /// Whether the directive says this in words.

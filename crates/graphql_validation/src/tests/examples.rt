@@ -1,8 +1,8 @@
 ghost use Rattle.std.specs.Prelude.{IsTrue};
 
 use graphql_meta::{
-    Argument, Check, DeprecationStatus, EnumMeta, EnumValue, Field, InputObjectMeta, InterfaceMeta,
-    MetaType, ObjectMeta, ScalarMeta, UnionMeta,
+    Argument, Check, DeprecationStatus, DirectiveLocation, EnumMeta, EnumValue, Field,
+    InputObjectMeta, InterfaceMeta, MetaType, ObjectMeta, ScalarMeta, UnionMeta,
 };
 use graphql_scalars::CheckError;
 use graphql_schema::SchemaType;
@@ -149,6 +149,19 @@ pub fn alone<T: Drop>(rt: &impl Abort, alloc: Global, item: T) -> Items<T> {
     with(rt, Items::new(alloc), item)
 }
 
+/// Where the standard has its conditions: fields, fragment spreads and inline fragments.
+pub fn selections(rt: &impl Abort, alloc: Global) -> Items<DirectiveLocation> {
+    let mut locations = Items::new(alloc);
+    locations
+        .extend_from_slice(&[
+            DirectiveLocation::Field,
+            DirectiveLocation::FragmentSpread,
+            DirectiveLocation::InlineFragment,
+        ])
+        .expect(rt, "memory");
+    locations
+}
+
 /// The reference to the type.
 pub fn reference(rt: &impl Abort, alloc: Global, of: Of<'_>) -> Type<Text> {
     let named = Type::new(alloc, text(rt, alloc, of.name));
@@ -190,7 +203,8 @@ fn field(rt: &impl Abort, alloc: Global, row: FieldRow<'_>) -> Field<DefaultScal
     }
 }
 
-fn object(
+/// An object of one field.
+pub fn object(
     rt: &impl Abort,
     alloc: Global,
     name: &str,

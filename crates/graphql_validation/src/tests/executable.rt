@@ -1,7 +1,7 @@
 use super::examples::{
-    FieldRow, Of, Row, Schema, alone, argument, non_null, nullable, schema, text,
+    FieldRow, Of, Row, Schema, alone, argument, non_null, nullable, schema, selections, text,
 };
-use graphql_meta::{DirectiveLocation, DirectiveType};
+use graphql_meta::DirectiveType;
 use graphql_schema_faults::SchemaError;
 use graphql_values::DefaultScalarValue;
 use std::alloc::Global;
@@ -38,7 +38,8 @@ fn an_object_keeps_what_its_interface_promises(rt: HostRuntime) {
     assert!(rt; keeps(&rt, alloc, string, Some(nullable("Int"))));
 }
 
-/// A directive of this name at a field, with the argument `if` of this type, with `null`.
+/// A directive of this name where the standard has its conditions, with the argument `if` of this
+/// type, with `null`.
 fn directive(
     rt: &impl Abort,
     alloc: Global,
@@ -46,8 +47,12 @@ fn directive(
     type_name: &str,
 ) -> DirectiveType<DefaultScalarValue> {
     let arguments = alone(rt, alloc, argument(rt, alloc, "if", nullable(type_name)));
-    let locations = alone(rt, alloc, DirectiveLocation::Field);
-    DirectiveType::new(text(rt, alloc, name), locations, arguments, false)
+    DirectiveType::new(
+        text(rt, alloc, name),
+        selections(rt, alloc),
+        arguments,
+        false,
+    )
 }
 
 /// Whether the directive was refused for an unknown type of this name.
