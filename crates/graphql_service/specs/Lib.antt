@@ -9,6 +9,7 @@ pub mod Json
 pub mod Request
 pub mod Requests
 pub mod Service
+pub mod Serving
 pub mod Messages
 pub mod Answers
 pub mod Laws

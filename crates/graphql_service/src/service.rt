@@ -13,7 +13,7 @@ use crate::refusal::ThinRefusal;
 use crate::request::{ThinRequest, read_request};
 use crate::selection::Selection;
 use crate::table::{ThinRecord, ThinType};
-use graphql_language::{Definition, release_document};
+use graphql_language::Definition;
 use graphql_names::NameMap;
 use std::alloc::{AllocError, Global};
 
@@ -72,6 +72,13 @@ impl ThinService {
         }
     }
 
+    /// The greatest length of a line, in bytes. A longer one is refused.
+    pub fn line_limit(&self) -> usize
+        ensures { result ≡ (service_of self.now).line_limit }
+    {
+        self.line_limit
+    }
+
     /// The answer line of a request line, the line feed included: the refusal that comes first, in
     /// the order of [`ThinRefusal`], or data. Of a query that is no document the first fault is told,
     /// whatever else the request asks.
@@ -93,9 +100,7 @@ impl ThinService {
             Ok(document) => document,
             Err(fault) => return self.refused(alloc, ThinRefusal::ParseError(fault)),
         };
-        let accepted = self.accepted(alloc, &request, document.as_slice());
-        release_document(document);
-        match accepted? {
+        match self.accepted(alloc, &request, document.as_slice())? {
             Some(set) => self.data(alloc, set.as_slice()),
             None => self.refused(alloc, ThinRefusal::NotThin),
         }

@@ -1,9 +1,13 @@
 //! Answers each line of what is read.
 
-ghost use Rattle.std.specs.Prelude.{◌≡◌, ◌+◌, ◌≤◌, ◌<◌, ◌^◌, ◌++◌, OnOk, take, vec_len};
+ghost use Rattle.std.specs.Prelude.{◌≡◌, ◌+◌, ◌≤◌, ◌++◌, OnOk, Some, take, vec_len};
+ghost use Rattle.graphql_service.specs.declared.serving.ServeError.TheVariants.{Memory};
+ghost use Rattle.graphql_service.specs.Serving.{serve_error_text};
 
 use crate::service::ThinService;
 use std::alloc::{AllocError, Global};
+use std::error::Error;
+use std::fmt;
 use std::io::{self, Read, Write};
 
 /// Why no more lines are answered.
@@ -18,21 +22,44 @@ pub enum ServeError {
 }
 
 impl From<AllocError> for ServeError {
-    fn from(_: AllocError) -> ServeError {
+    ghost from_gives = { λ _ error. error ≡ Memory };
+
+    fn from(_error: AllocError) -> ServeError {
         ServeError::Memory
     }
 }
 
+/// Writes what failed, or that memory ran out.
+impl fmt::Display for ServeError {
+    ghost output = { λ error. Some (serve_error_text error) };
+
+    fn fmt<W: fmt::Write>(&self, f: &mut fmt::Formatter<W>) -> fmt::Result {
+        match self {
+            ServeError::Read => write!(f, "read failed"),
+            ServeError::Write => write!(f, "write failed"),
+            ServeError::Memory => write!(f, "out of memory"),
+        }
+    }
+}
+
+impl Error for ServeError {}
+
 /// Adds bytes to a line that has begun. One byte more than the limit makes it too long, so no more
 /// of it is kept.
 fn keep(line: &mut Vec<u8>, bytes: &[u8], limit: usize) -> Result<(), AllocError>
-    requires fits { limit + 1 < 2 ^ 64 }
     requires begun { vec_len line.old ≤ limit + 1 }
     ensures kept { OnOk result (line.new.items ≡ take (limit + 1) (line.old.items ++ bytes.now)) }
     ensures bounded { vec_len line.new ≤ limit + 1 }
 {
-    let room = limit + 1 - line.len();
-    line.extend_from_slice(&bytes[..room.min(bytes.len())])
+    if line.len() > limit {
+        return Ok(());
+    }
+    let room = limit - line.len();
+    if room < bytes.len() {
+        line.extend_from_slice(&bytes[..room + 1])
+    } else {
+        line.extend_from_slice(bytes)
+    }
 }
 
 /// Answers a line, unless it is empty.
@@ -61,8 +88,7 @@ fn feed<W: Write>(
     piece: &[u8],
     writer: &mut W,
 ) -> Result<(), ServeError>
-    requires fits { limit + 1 < 2 ^ 64 }
-    requires begun { vec_len line.old ≤ limit + 1 }
+    requires { vec_len line.old ≤ limit + 1 }
     ensures { vec_len line.new ≤ limit + 1 }
 {
     let mut rest = piece;
@@ -77,17 +103,18 @@ fn feed<W: Write>(
 }
 
 /// Answers each line that is not empty, as it comes, until the input ends. A line ends at a line
-/// feed or at the end of the input. `limit` is the service's: of a longer line one byte more is kept,
-/// so that the service refuses it.
+/// feed or at the end of the input. Of a line that is longer than the service takes one byte more
+/// is kept, so that the service refuses it.
+///
+/// Errors: a read that failed, a write that failed or took nothing, and want of memory, each at the
+/// first that comes. What was answered before is written.
 pub fn serve<R: Read, W: Write>(
     alloc: Global,
     service: &ThinService,
-    limit: usize,
     reader: &mut R,
     writer: &mut W,
-) -> Result<(), ServeError>
-    requires { limit + 1 < 2 ^ 64 }
-{
+) -> Result<(), ServeError> {
+    let limit = service.line_limit();
     let mut line = Vec::new(alloc);
     let mut piece = [0u8; 4096];
     'pieces: for _ in 0..u64::MAX {

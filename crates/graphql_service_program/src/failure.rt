@@ -1,7 +1,7 @@
 //! Why the program ended before the end of its input.
 
 ghost use Rattle.std.specs.Prelude.{◌≡◌};
-ghost use Rattle.graphql_service_program.specs.Status.{status_of};
+ghost use Rattle.graphql_service_program.specs.Status.{status_of, failure_of_fault, failure_of_error};
 
 use graphql_service::{ServeError, ThinFault};
 use std::error::Error;
@@ -51,6 +51,8 @@ impl fmt::Display for Failure {
 impl Error for Failure {}
 
 impl From<ThinFault> for Failure {
+    ghost from_gives = { λ fault failure. failure ≡ failure_of_fault fault };
+
     fn from(fault: ThinFault) -> Failure {
         match fault {
             ThinFault::Memory => Failure::Memory,
@@ -60,6 +62,8 @@ impl From<ThinFault> for Failure {
 }
 
 impl From<ServeError> for Failure {
+    ghost from_gives = { λ error failure. failure ≡ failure_of_error error };
+
     fn from(error: ServeError) -> Failure {
         match error {
             ServeError::Read => Failure::Read,

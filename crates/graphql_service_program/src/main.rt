@@ -33,7 +33,7 @@ fn run(rt: &HostRuntime) -> Result<(), Failure> {
     let service = sample::service(rt.alloc(), LINE_LIMIT)?;
     let mut reader = rt.reader();
     let mut writer = io::writer(rt);
-    serve(rt.alloc(), &service, LINE_LIMIT, &mut reader, &mut writer)?;
+    serve(rt.alloc(), &service, &mut reader, &mut writer)?;
     Ok(())
 }
 

@@ -26,6 +26,21 @@ fn requests_hold_what_lines_ask(rt: HostRuntime) {
     assert!(rt; is_held);
 }
 
+/// Whether a request asks the empty text, without name and variables.
+fn is_bare(request: &GraphQLRequest<DefaultScalarValue>) -> bool {
+    request.query.is_empty() && request.operation_name.is_none() && request.variables.is_empty()
+}
+
+#[test]
+fn null_is_no_name_and_no_variables(rt: HostRuntime) {
+    let line = r#"{"query":"","operationName":null,"variables":null}"#;
+    let is_read_so = match request_from_line(rt.alloc(), line.as_bytes()) {
+        Ok(request) => is_bare(&request),
+        Err(_) => false,
+    };
+    assert!(rt; is_read_so);
+}
+
 /// Puts a value under a key of an object.
 fn add(
     alloc: Global,
@@ -66,6 +81,26 @@ fn values_are_written_in_their_order(rt: HostRuntime) -> Result<(), Fail> {
         "> {\"b\":1,\"a\":\"\\\"\\\\\\b\\f\\n\\r\\t\\u0001\\u001f/\u{7f}é😀\",\"c\":[null,true,-7]}";
     let out = written(rt.alloc())?;
     assert_eq!(rt; out.as_slice(), want.as_bytes());
+    Ok(())
+}
+
+/// `null` within this many lists.
+fn nested(alloc: Global, depth: usize) -> Result<Value<DefaultScalarValue>, AllocError> {
+    let mut value: Value<DefaultScalarValue> = Value::null();
+    for _ in 0..depth {
+        let mut items = Items::with_capacity(alloc, 1)?;
+        items.push(value)?;
+        value = Value::list(items);
+    }
+    Ok(value)
+}
+
+#[test]
+fn deep_values_are_written(rt: HostRuntime) -> Result<(), Fail> {
+    let alloc = rt.alloc();
+    let mut out = Vec::new(alloc);
+    value_to_json(&mut out, &nested(alloc, 100_000)?)?;
+    assert_eq!(rt; out.len(), 100_000 + 4 + 100_000);
     Ok(())
 }
 

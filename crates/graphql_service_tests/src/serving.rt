@@ -90,7 +90,7 @@ fn ended<W: Write>(
         step,
         fails,
     };
-    serve(alloc, service, LINE_LIMIT, &mut source, writer).err()
+    serve(alloc, service, &mut source, writer).err()
 }
 
 /// Whether it ends so to answer that input, with this text written.
