@@ -84,7 +84,7 @@ fn has_keys_of<S>(object: &Object<S>, other: &Object<S>) -> bool
 }
 
 // Values of one form that are equal in what they hold: scalars by their own equality, lists item by
-// item, objects under each key.
+// item, objects under each key. Takes stack for each level that both nest.
 impl<S: PartialEq> PartialEq for Value<S> {
     ghost use Rattle.graphql_output_values.specs.Equality.{equal};
     ghost use Rattle.graphql_output_values.specs.EqualValues.{equal_per};
@@ -104,7 +104,8 @@ impl<S: Eq> Eq for Value<S> {
     ghost laws = { equal_equiv S.eq S.Eq.laws };
 }
 
-// Objects with equal values under each key, in whatever order.
+// Objects with equal values under each key, in whatever order. Takes stack for each level that both
+// nest.
 impl<S: PartialEq> PartialEq for Object<S> {
     ghost use Rattle.graphql_output_values.specs.Equality.{equal_objects};
     ghost use Rattle.graphql_output_values.specs.EqualValues.{objects_per};

@@ -13,8 +13,9 @@ use graphql_values::InputValue;
 use std::alloc::Global;
 
 /// The same value, parsed from the text that `value` displays as: what the tokens of that text spell,
-/// each part at its place there (GraphQL October 2021, 2.9 Input Values). `is_writable` tells whether it can be. A constant holds no
-/// variable. The only error is want of memory.
+/// each part at its place there (GraphQL October 2021, 2.9 Input Values). `is_writable` tells whether
+/// it can be. A constant holds no variable. Takes stack for each level that the value nests. The only
+/// error is want of memory.
 pub fn read_back(alloc: Global, value: &InputValue, is_const: bool) -> ParseResult<InputValue>
     requires { IsWritable is_const value.now }
     ensures same { IfOk result (λ found. unlocated found.item ≡ unlocated value.now) }

@@ -11,7 +11,8 @@ use graphql_values::{DefaultScalarValue, InputValue};
 
 /// Whether a value can be read from what it is shown as (GraphQL October 2021, 2.9 Input Values): its
 /// names are names, its enums none of `true`, `false` and `null`, its texts hold no quote, backslash or
-/// control but a tab, and where it is a constant it holds no variable. Takes no memory.
+/// control but a tab, and where it is a constant it holds no variable. Takes no memory, and stack for
+/// each level that the value nests.
 pub fn is_writable(value: &InputValue, is_const: bool) -> bool
     ensures { IsTrue result ↔ IsWritable is_const value.now }
 {

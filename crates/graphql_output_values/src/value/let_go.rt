@@ -15,7 +15,7 @@ use std::mem;
 
 impl<S: Drop> Value<S> {
     /// Lets one of the values go that stand in this one, itself among them, and gives the others as one
-    /// value, or one fewer of them; `None` where there is no other. Takes no memory.
+    /// value; `None` where there is no other. Takes no memory.
     pub(super) fn let_one_go(self) -> Option<Value<S>>
         ensures { IfSome result (λ left. value_count left < value_count self) }
     {

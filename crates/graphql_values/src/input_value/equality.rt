@@ -11,10 +11,10 @@ impl<S: PartialEq> InputValue<S> {
     /// Whether the two are the same value, wherever they stand in a text: scalars by their own
     /// equality, enums and variables by name, lists item by item, input objects by their fields,
     /// whose order does not count (GraphQL October 2021, 2.9 Input Values). Takes no memory, and stack
-    /// for each level that both nest. Takes time for each field of an object with each of the other's, once, where no name stands twice
-    /// in an object; where a name does, the fields are compared in both directions, which doubles
-    /// the work with each level of such objects (GraphQL refuses them: 5.6.3 Input Object Field
-    /// Uniqueness).
+    /// for each level that both nest. Takes time for each field of an object with each of the
+    /// other's, once, where no name stands twice in an object; where a name does, the fields are
+    /// compared in both directions, which doubles the work with each level of such objects (GraphQL
+    /// refuses them: 5.6.3 Input Object Field Uniqueness).
     pub fn unlocated_eq(&self, other: &InputValue<S>) -> bool
         ensures { IsTrue result ↔ SameValue S S.eq self.now other.now }
     {
