@@ -1,0 +1,2 @@
+pub mod FilledEquations
+pub mod FilledLaws

@@ -1,0 +1,6 @@
+//! What rules have against a document.
+#![tactic(auto)]
+
+mod rule_error;
+
+pub use rule_error::RuleError;
