@@ -6,6 +6,8 @@ ghost use Rattle.std.specs.List.{Contains};
 use crate::directive_location::DirectiveLocation;
 use crate::meta::Argument;
 use graphql_text::{Items, Text};
+use graphql_values::ScalarValue;
+use std::alloc::AllocError;
 
 /// What a schema says of a directive (GraphQL October 2021, 3.13 Directives).
 #[derive(Drop)]
@@ -60,5 +62,26 @@ impl<S> DirectiveType<S> {
         ensures { IsTrue result ↔ Contains self.now.locations location }
     {
         self.locations.as_slice().contains(&location)
+    }
+}
+
+impl<S: ScalarValue + Drop> Clone for DirectiveType<S> {
+    ghost is_clone = { λ directive copy. copy ≡ directive };
+
+    /// The same directive once more. Takes stack for each level that a default value of its arguments
+    /// nests. An error is want of memory.
+    fn clone(&self) -> Result<DirectiveType<S>, AllocError> {
+        let name = self.name.clone()?;
+        let description = self.description.clone()?;
+        let locations = self.locations.clone()?;
+        let arguments = self.arguments.clone()?;
+        let is_repeatable = self.is_repeatable;
+        Ok(DirectiveType {
+            name,
+            description,
+            locations,
+            arguments,
+            is_repeatable,
+        })
     }
 }

@@ -8,6 +8,9 @@ ghost use Rattle.std.specs.declared.alloc.Global.{Global};
 ghost use Rattle.std.specs.Vec.Iter.{into_iter_items, into_iter_len, into_iter_steps};
 ghost use Rattle.graphql_tree.specs.Arguments.{Argument, value_of};
 
+mod clones;
+
+pub(crate) use clones::copy_of_directives;
 use graphql_text::{Items, Spanning, TextRef};
 use graphql_values::{DefaultScalarValue, InputValue};
 use std::alloc::Global;

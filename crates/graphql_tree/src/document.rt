@@ -1,5 +1,7 @@
 //! Documents and their definitions.
 
+mod clones;
+
 use crate::directive::Directive;
 use crate::selection::Selection;
 use crate::variable::VariableDefinitions;

@@ -1,5 +1,6 @@
 //! What an operation or a fragment selects.
 
+mod clones;
 mod let_go;
 
 use crate::directive::{Arguments, Directive};

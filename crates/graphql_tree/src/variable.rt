@@ -5,6 +5,8 @@ ghost use Rattle.std.specs.Slice.Iter.{iter_rest, iter_steps};
 ghost use Rattle.std.specs.Iterator.Runs.{EveryRun, ItemsMapTo};
 ghost use Rattle.graphql_tree.specs.Variables.{Variable};
 
+mod clones;
+
 use crate::directive::Directive;
 use graphql_text::{Items, Spanning, TextRef};
 use graphql_values::{DefaultScalarValue, InputValue, Type};

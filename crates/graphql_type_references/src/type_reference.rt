@@ -6,6 +6,7 @@ ghost use Rattle.graphql_items.specs.Memory.{Gives};
 ghost use Rattle.graphql_type_references.specs.TypeReference as spec;
 ghost use Rattle.graphql_type_references.specs.declared.type_modifier.TypeModifier.TheVariants as modifier;
 
+mod clones;
 mod display;
 
 use crate::type_modifier::{TypeModifier, TypeModifiers};

@@ -6,7 +6,8 @@ ghost use Rattle.graphql_meta.specs.Names.{is_reserved};
 use super::names::is_reserved;
 use graphql_text::Text;
 use graphql_type_references::Type;
-use graphql_values::InputValue;
+use graphql_values::{InputValue, ScalarValue};
+use std::alloc::AllocError;
 
 /// An argument of a field, or a field of an input object (GraphQL October 2021, 3.6.1 Field
 /// Arguments, 3.10 Input Objects).
@@ -62,5 +63,24 @@ impl<S> Argument<S> {
         ensures { result ≡ is_reserved self.now.name }
     {
         is_reserved(self.name.as_str())
+    }
+}
+
+impl<S: ScalarValue + Drop> Clone for Argument<S> {
+    ghost is_clone = { λ argument copy. copy ≡ argument };
+
+    /// The same argument once more. Takes stack for each level that its default value nests. An error
+    /// is want of memory.
+    fn clone(&self) -> Result<Argument<S>, AllocError> {
+        let name = self.name.clone()?;
+        let description = self.description.clone()?;
+        let arg_type = self.arg_type.clone()?;
+        let default_value = self.default_value.clone()?;
+        Ok(Argument {
+            name,
+            description,
+            arg_type,
+            default_value,
+        })
     }
 }

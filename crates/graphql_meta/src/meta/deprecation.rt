@@ -6,6 +6,7 @@ ghost use Rattle.graphql_meta.specs.Deprecation.{reason_of};
 ghost use Rattle.graphql_meta.specs.declared.meta.deprecation.DeprecationStatus.TheVariants as status;
 
 use graphql_text::Text;
+use std::alloc::AllocError;
 
 /// Whether a field or an enum value is deprecated (GraphQL October 2021, 3.13.3 @deprecated).
 #[derive(Debug, Drop, PartialEq, Eq)]
@@ -35,6 +36,20 @@ impl DeprecationStatus {
         match self {
             DeprecationStatus::Deprecated(Some(reason)) => Some(reason.as_str()),
             _ => None,
+        }
+    }
+}
+
+impl Clone for DeprecationStatus {
+    ghost is_clone = { λ deprecation copy. copy ≡ deprecation };
+
+    /// The same once more. An error is want of memory.
+    fn clone(&self) -> Result<DeprecationStatus, AllocError> {
+        match self {
+            DeprecationStatus::Current => Ok(DeprecationStatus::Current),
+            DeprecationStatus::Deprecated(reason) => {
+                Ok(DeprecationStatus::Deprecated(reason.clone()?))
+            }
         }
     }
 }

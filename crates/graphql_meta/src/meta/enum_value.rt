@@ -5,6 +5,7 @@ ghost use Rattle.graphql_meta.specs.declared.meta.deprecation.DeprecationStatus.
 
 use super::DeprecationStatus;
 use graphql_text::Text;
+use std::alloc::AllocError;
 
 /// A value that an enum declares (GraphQL October 2021, 3.9 Enums).
 #[derive(Debug, Drop, PartialEq, Eq)]
@@ -45,5 +46,21 @@ impl EnumValue {
     {
         self.deprecation_status = DeprecationStatus::Deprecated(reason);
         self
+    }
+}
+
+impl Clone for EnumValue {
+    ghost is_clone = { λ value copy. copy ≡ value };
+
+    /// The same value once more. An error is want of memory.
+    fn clone(&self) -> Result<EnumValue, AllocError> {
+        let name = self.name.clone()?;
+        let description = self.description.clone()?;
+        let deprecation_status = self.deprecation_status.clone()?;
+        Ok(EnumValue {
+            name,
+            description,
+            deprecation_status,
+        })
     }
 }

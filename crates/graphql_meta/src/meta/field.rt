@@ -10,6 +10,7 @@ use super::names::is_reserved;
 use super::{Argument, DeprecationStatus};
 use graphql_text::{Items, Text};
 use graphql_type_references::Type;
+use graphql_values::ScalarValue;
 use std::alloc::{AllocError, Global};
 
 /// A field of an object or an interface (GraphQL October 2021, 3.6 Objects).
@@ -78,5 +79,38 @@ impl<S> Field<S> {
         ensures { result ≡ is_reserved self.now.name }
     {
         is_reserved(self.name.as_str())
+    }
+}
+
+impl<S: ScalarValue + Drop> Clone for Field<S> {
+    ghost is_clone = { λ field copy. copy ≡ field };
+
+    /// The same field once more. Takes stack for each level that a default value of its arguments
+    /// nests. An error is want of memory.
+    fn clone(&self) -> Result<Field<S>, AllocError> {
+        let name = self.name.clone()?;
+        let description = self.description.clone()?;
+        let arguments = copy_of_arguments(&self.arguments)?;
+        let field_type = self.field_type.clone()?;
+        let deprecation_status = self.deprecation_status.clone()?;
+        Ok(Field {
+            name,
+            description,
+            arguments,
+            field_type,
+            deprecation_status,
+        })
+    }
+}
+
+/// The same arguments once more.
+fn copy_of_arguments<S: ScalarValue + Drop>(
+    arguments: &Option<Items<Argument<S>>>,
+) -> Result<Option<Items<Argument<S>>>, AllocError>
+    ensures { Gives result arguments.now }
+{
+    match arguments {
+        Some(arguments) => Ok(Some(arguments.clone()?)),
+        None => Ok(None),
     }
 }

@@ -6,7 +6,7 @@ ghost use Rattle.graphql_type_references.specs.declared.type_modifier.TypeModifi
 ghost use Rattle.graphql_meta.specs.Types.{type_of};
 
 use super::MetaType;
-use graphql_text::{Items, Text};
+use graphql_text::Text;
 use graphql_type_references::Type;
 use std::alloc::{AllocError, Global};
 
@@ -20,16 +20,16 @@ impl<S, C> MetaType<S, C> {
         match self {
             MetaType::Scalar(meta) => reference_to(alloc, &meta.name),
             MetaType::List(meta) => {
-                let items = copy_of(alloc, &meta.of_type)?;
+                let items = meta.of_type.clone()?;
                 items.wrap_list(meta.expected_size)?.wrap_non_null()
             }
-            MetaType::Nullable(meta) => Ok(copy_of(alloc, &meta.of_type)?.nullable()),
+            MetaType::Nullable(meta) => Ok(meta.of_type.clone()?.nullable()),
             MetaType::Object(meta) => reference_to(alloc, &meta.name),
             MetaType::Enum(meta) => reference_to(alloc, &meta.name),
             MetaType::Interface(meta) => reference_to(alloc, &meta.name),
             MetaType::Union(meta) => reference_to(alloc, &meta.name),
             MetaType::InputObject(meta) => reference_to(alloc, &meta.name),
-            MetaType::Placeholder(meta) => copy_of(alloc, &meta.of_type),
+            MetaType::Placeholder(meta) => meta.of_type.clone(),
         }
     }
 }
@@ -39,16 +39,4 @@ fn reference_to(alloc: Global, name: &Text) -> Result<Type<Text>, AllocError>
     ensures { Gives result (record { name = name.now; modifiers = modifier.NonNull ∷ [] }) }
 {
     Type::new(alloc, name.clone()?).wrap_non_null()
-}
-
-/// The same reference once more.
-fn copy_of(alloc: Global, of_type: &Type<Text>) -> Result<Type<Text>, AllocError>
-    ensures { Gives result of_type.now }
-{
-    let mut modifiers = Items::new(alloc);
-    modifiers.extend_from_slice(of_type.modifiers())?;
-    Ok(Type {
-        name: of_type.name.clone()?,
-        modifiers,
-    })
 }
