@@ -8,3 +8,4 @@ pub mod Outline
 pub mod Keys
 pub mod BadNumbers
 pub mod Constants
+pub mod Members

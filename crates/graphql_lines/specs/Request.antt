@@ -1,9 +1,9 @@
 -- The request that a line describes, as `serde_json` reads it (GraphQL October 2021, 6.1 Executing Requests).
-use Rattle.std.specs.Prelude.{◌≡◌, ℕ, ℤ, Bool, List, if◌then◌else◌, Option, Some, None, Result, option_map, option_and_then, codes, string_bytes}
+use Rattle.std.specs.Prelude.{◌≡◌, ◌≢◌, ℕ, ℤ, Bool, List, if◌then◌else◌, Option, Some, None, Result, option_map, option_and_then, codes, string_bytes}
 use Rattle.std.specs.Str.{is_utf8}
 use Rattle.serde_json.specs.Data.{Data, null, boolean, number, string, array, object, Members, no_members}
 use Rattle.serde_json.specs.Read.{read}
-use Rattle.serde_json.specs.Find.{get, as_str}
+use Rattle.serde_json.specs.Find.{get, get_member, as_str}
 use Rattle.graphql_lines.specs.declared.refusal.LineRefusal.{LineRefusal}
 use Rattle.graphql_lines.specs.declared.request.GraphQLRequest.{GraphQLRequest}
 use Rattle.graphql_lines.specs.Variables.{HasValues, members_of_variables, AnswersAsked}
@@ -13,6 +13,10 @@ pub record Request : Type 0 where
   pub query : List ℕ
   pub operation_name : Option (List ℕ)
   pub variables : Members
+
+-- the values of names other than this one stay
+abbrev pub KeepsOthers : List ℕ → Members → Members → Type 0
+KeepsOthers name old new = (other : List ℕ) → other ≢ name → get_member other new ≡ get_member other old
 
 -- the data of a line that is UTF-8 and JSON
 abbrev pub data_of : List ℕ → Option Data

@@ -1,8 +1,9 @@
 //! Requests, one a line.
 
-ghost use Rattle.std.specs.Prelude.{◌≡◌, option_map, Some, IsNone, string_bytes};
+ghost use Rattle.std.specs.Prelude.{◌≡◌, option_map, option_and_then, Some, IsNone, string_bytes};
 ghost use Rattle.graphql_items.specs.Memory.{Answers};
-ghost use Rattle.serde_json.specs.View.{view};
+ghost use Rattle.serde_json.specs.Find.{as_object, as_str, get_member};
+ghost use Rattle.serde_json.specs.View.{view, members_view};
 ghost use Rattle.graphql_lines.specs.declared.refusal.LineRefusal.TheVariants.{NotARequest, Memory};
 ghost use Rattle.graphql_lines.specs.Variables.{AnswersVariables};
 ghost use Rattle.graphql_lines.specs.Request as spec;
@@ -10,7 +11,7 @@ ghost use Rattle.graphql_lines.specs.Request as spec;
 use crate::refusal::LineRefusal;
 use crate::variables::variables_from_json;
 use graphql_values::{DefaultScalarValue, ScalarValue, Variables};
-use serde_json::Value;
+use serde_json::{Map, Value};
 use std::alloc::Global;
 use std::collections::HashMap;
 
@@ -42,22 +43,45 @@ pub fn json_of_line(alloc: Global, line: &[u8]) -> Result<Value, LineRefusal>
     }
 }
 
-/// The text of a query, of which there must be one.
-fn query_in(value: &Value) -> Option<&str>
-    ensures { option_map (λ text. text.now) result ≡ spec.query_in (view value.now) }
+/// The members of a JSON object; none where the value is no object.
+fn members_of(value: Value) -> Option<Map<String, Value>>
+    ensures { option_map (λ members. members_view members.entries) result ≡ as_object (view value) }
 {
-    value.get("query").and_then(Value::as_str)
+    match value {
+        Value::Object(members) => Some(members),
+        Value::Null | Value::Bool(_) | Value::Number(_) | Value::String(_) | Value::Array(_) => {
+            None
+        }
+    }
 }
 
-/// The name of an operation, which may be missing or null.
-fn name_in(alloc: Global, value: Option<&Value>) -> Result<Option<String>, LineRefusal>
-    ensures { let asked = spec.name_in (option_map (λ v. view v.now) value.entry) in
+/// Takes the value of this name out of an object's members, which keep the values of other names.
+fn taken(members: &mut Map<String, Value>, name: &str) -> Option<Value>
+    ensures value { option_map view result ≡ get_member name.now (members_view members.old.entries) }
+    ensures others { spec.KeepsOthers name.now (members_view members.old.entries) (members_view members.new.entries) }
+{
+    members.remove(name)
+}
+
+/// The text of a query, of which there must be one.
+fn query_in(value: Option<Value>) -> Option<String>
+    ensures { option_map (λ text. string_bytes text) result ≡ option_and_then as_str (option_map view value) }
+{
+    match value {
+        Some(Value::String(query)) => Some(query),
+        _ => None,
+    }
+}
+
+/// The name of an operation, which may be missing or null; `NotARequest` where it is of another kind.
+fn name_in(value: Option<Value>) -> Result<Option<String>, LineRefusal>
+    ensures { let asked = spec.name_in (option_map view value) in
         Answers (λ name. Some (option_map (λ text. string_bytes text) name) ≡ asked)
-        (λ e. (e ≡ NotARequest) × IsNone asked) (λ e. e ≡ Memory) result }
+        (λ e. (e ≡ NotARequest) × IsNone asked) (λ e. ⊥) result }
 {
     match value {
         None | Some(Value::Null) => Ok(None),
-        Some(Value::String(text)) => Ok(Some(String::from_str(alloc, text.as_str())?)),
+        Some(Value::String(name)) => Ok(Some(name)),
         Some(_) => Err(LineRefusal::NotARequest),
     }
 }
@@ -65,35 +89,37 @@ fn name_in(alloc: Global, value: Option<&Value>) -> Result<Option<String>, LineR
 /// The values of variables, which may be missing or null.
 fn variables_in<S: ScalarValue>(
     alloc: Global,
-    value: Option<&Value>,
+    value: Option<Value>,
 ) -> Result<Variables<S>, LineRefusal>
-    ensures { AnswersVariables S.of_bool S.of_int S.of_text result
-        (spec.variables_in (option_map (λ v. view v.now) value.entry)) }
+    ensures { AnswersVariables S.of_bool S.of_int S.of_text result (spec.variables_in (option_map view value)) }
 {
     match value {
         None => Ok(HashMap::new(alloc)),
-        Some(value) => variables_from_json(alloc, value),
+        Some(value) => variables_from_json(alloc, &value),
     }
 }
 
-/// The request that a JSON value describes. Members of other names are passed over.
+/// The request that a JSON value describes, of which it takes the texts of the query and of the
+/// operation's name. Members of other names are passed over.
 ///
 /// `NotARequest` where the value is no object, its `query` is missing or no text, its
 /// `operationName` neither text nor null, or its `variables` neither object nor null; else
 /// `BadNumber` where a number anywhere in `variables` is not held as a whole one, or lies outside 32
-/// bits; `Memory` where memory ran out.
+/// bits; `Memory` where memory ran out, which only values of variables take.
 pub fn request_in<S: ScalarValue>(
     alloc: Global,
-    value: &Value,
+    value: Value,
 ) -> Result<GraphQLRequest<S>, LineRefusal>
-    ensures { spec.AnswersRequest S.of_bool S.of_int S.of_text result (spec.request_in (view value.now)) }
+    ensures { spec.AnswersRequest S.of_bool S.of_int S.of_text result (spec.request_in (view value)) }
 {
-    let Some(query) = query_in(value) else {
+    let Some(mut members) = members_of(value) else {
         return Err(LineRefusal::NotARequest);
     };
-    let query = String::from_str(alloc, query)?;
-    let operation_name = name_in(alloc, value.get("operationName"))?;
-    match variables_in(alloc, value.get("variables")) {
+    let Some(query) = query_in(taken(&mut members, "query")) else {
+        return Err(LineRefusal::NotARequest);
+    };
+    let operation_name = name_in(taken(&mut members, "operationName"))?;
+    match variables_in(alloc, taken(&mut members, "variables")) {
         Ok(variables) => Ok(GraphQLRequest {
             query,
             operation_name,
@@ -119,5 +145,5 @@ pub fn request_from_line<S: ScalarValue>(
     ensures { spec.AnswersRequest S.of_bool S.of_int S.of_text result (spec.request_of line.now) }
 {
     let value = json_of_line(alloc, line)?;
-    request_in(alloc, &value)
+    request_in(alloc, value)
 }

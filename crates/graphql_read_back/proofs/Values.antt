@@ -21,12 +21,13 @@ use Rattle.graphql_grammar.specs.Kinds.{kind, word_kind, only, enum_names}
 use Rattle.graphql_grammar.specs.Input.{At}
 use Rattle.graphql_value_syntax.specs.Values.{Is, spanned, ValueOf, of_true, of_false, of_null, of_enum, of_scalar, of_variable, of_list, of_object, ItemsOf, FieldsOf}
 use Rattle.graphql_value_syntax.specs.Values as grammar
+use Rattle.graphql_scalars.proofs.IntLemmas.{integer_reads}
 use Rattle.graphql_read_back.specs.Parts.{Part, IsClosed, text_of, located, up_to, tokens_of}
 use Rattle.std.specs.List.{join_by}
 use Rattle.graphql_read_back.specs.Writable.{Value, value_text, IsPlain, IsEnum, IsWritable, null, integer, string, boolean, enum, variable, list, object, AreWritable, no_items, more_items, FieldsAreWritable, no_fields, more_fields}
 use Rattle.graphql_read_back.proofs.ValueTextEquations.{followed, item_texts, field_texts, value_text-null, value_text-scalar, value_text-enum, value_text-variable, value_text-list, value_text-object}
 use Rattle.graphql_read_back.proofs.Parts.{closed_tokens_end}
-use Rattle.graphql_read_back.proofs.Words.{integer_reads, quoted, string_reads}
+use Rattle.graphql_read_back.proofs.Words.{quoted, string_reads}
 use Rattle.graphql_read_back.proofs.PrintedWords.{name_word, dollar, bracket_open, bracket_close, curly_open, curly_close, colon, integer_word, string_word}
 use Rattle.graphql_read_back.proofs.Printed.{text_append, tokens_append, IsLead, no_lead, space_lead, comma_lead, IsWord, Printed, printed_as, printed_nil, printed_cons, Closes, printed_append}
 

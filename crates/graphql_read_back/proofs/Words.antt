@@ -1,13 +1,11 @@
 -- The words of values: names, integers and strings, as tokens.
-use Rattle.std.proofs.Common.{◌≡◌, ◌≤◌, ◌<◌, ◌^◌, ℕ, zero, suc, ℤ, pos, negsuc, neg_ℤ, true, false, ◌==◌, ◌||◌, if◌then◌else◌, Some, Ok, List, [], ◌∷◌, ◌++◌, length, get_or, map, inl, inr, refl, sym, ap, ◌∙◌, arith, rules}
+use Rattle.std.proofs.Common.{◌≡◌, ◌<◌, ◌^◌, ℕ, zero, suc, ℤ, pos, negsuc, true, ◌==◌, ◌||◌, Ok, List, [], ◌∷◌, ◌++◌, length, get_or, map, inl, inr, refl, sym, ap, ◌∙◌, arith, rules}
 use Rattle.std.specs.Prelude.{encode_utf8_all, FitsSigned}
 use Rattle.std.specs.Char.{is_ascii_alphabetic, is_ascii_alphanumeric, is_ascii_digit}
 use Rattle.std.specs.Fmt.{decimal, signed_decimal}
-use Rattle.std.specs.Option.{option_map}
 use Rattle.std.specs.Str.{chars, IsUtf8, IsAscii}
-use Rattle.std.specs.Str.Parse.{digits_value}
 use Rattle.std.proofs.lemmas.Bool.Decides.{nat_tests}
-use Rattle.std.proofs.lemmas.Fmt.{digits_decimal, digits_value-decimal, decimal_digit, decimal_nonempty, first_decimal, IsAscii-signed}
+use Rattle.std.proofs.lemmas.Fmt.{digits_decimal, decimal_digit, decimal_nonempty, first_decimal, IsAscii-signed}
 use Rattle.std.proofs.lemmas.Str.{encodes-chars, encodes-IsAscii}
 use Rattle.std.proofs.lemmas.Str.Ascii.{IsAscii-cons, IsAscii-nil}
 use Rattle.std.proofs.lemmas.Str.Parse.{IsDigitsTest, numerals_by_value}
@@ -16,10 +14,8 @@ use Rattle.graphql_text.specs.declared.token.Token.TheVariants as t
 use Rattle.graphql_text.specs.declared.token.ScalarToken.TheVariants as s
 use Rattle.graphql_text.specs.Grammar.{Each, NextIsNot, IsName, IsDigits, IsWhole, IsInteger, Piece, character, ArePieces, spellings, is_string_character, Spells}
 use Rattle.graphql_scalars.specs.declared.default_scalar.DefaultScalarValue.TheVariants as scalar
-use Rattle.graphql_scalars.specs.IntValue.{natural_up_to, int_value}
-use Rattle.graphql_scalars.specs.DefaultScalar.{reads, int_or, refusal_of}
+use Rattle.graphql_scalars.specs.DefaultScalar.{reads}
 use Rattle.graphql_scalars.specs.Laws.{meaning}
-use Rattle.graphql_scalars.proofs.IntLemmas.{numerals, natural_some}
 use Rattle.graphql_scalars.proofs.StringMeaning.{strings_mean_their_pieces}
 
 -- ---- names
@@ -73,37 +69,6 @@ integer_is_ascii (negsuc n) fits = IsAscii-signed (negsuc n) (omega (arith, fits
 
 pub integer_spells : (z : ℤ) → FitsSigned w32 z → Spells (t.Scalar (s.Int (signed_decimal z))) (signed_decimal z)
 integer_spells z fits = (decimal_is_integer z fits, sym (encodes-IsAscii (signed_decimal z) (integer_is_ascii z fits)))
-
--- ---- what an integer's token means
-
-decimal_natural : (n most : ℕ) → n < 2 ^ 64 → n ≤ most → natural_up_to most (decimal n) ≡ Some n
-decimal_natural n most small h =
-    let value : digits_value 10 (decimal n) ≡ n = digits_value-decimal numerals n small in
-    natural_some most (decimal n) (digits_decimal numerals n small) (decimal_nonempty n small) (omega arith) ∙ ap Some value
-
-digit_is_no_minus : (c : ℕ) → is_ascii_digit c ≡ true → (c == 45) ≡ false
-digit_is_no_minus c h = grind (arith, nat_tests)
-
-value_of_digits : (ds : List ℕ) → IsDigits ds → int_value ds ≡ option_map pos (natural_up_to 2147483647 ds)
-unfolding int_value
-value_of_digits [] h = elim h [ ]
-value_of_digits (d ∷ ds) h =
-    ap (λ b. if b then option_map (λ n. neg_ℤ (pos n)) (natural_up_to 2147483648 ds) else option_map pos (natural_up_to 2147483647 (d ∷ ds))) (digit_is_no_minus d h.0)
-
-value_of_minus : (ds : List ℕ) → int_value (45 ∷ ds) ≡ option_map (λ n. neg_ℤ (pos n)) (natural_up_to 2147483648 ds)
-unfolding int_value
-value_of_minus ds = refl
-
-pub decimal_value : (z : ℤ) → FitsSigned w32 z → int_value (signed_decimal z) ≡ Some z
-decimal_value (pos n) fits =
-    let small : n < 2 ^ 64 = omega (arith, fits.sfits) in
-    value_of_digits (decimal n) (digits_are (decimal n) (decimal_nonempty n small) (each_digit n small)) ∙ ap (option_map pos) (decimal_natural n 2147483647 small (omega (arith, fits.sfits)))
-decimal_value (negsuc n) fits =
-    let small : suc n < 2 ^ 64 = omega (arith, fits.sfits) in
-    value_of_minus (decimal (suc n)) ∙ ap (option_map (λ n. neg_ℤ (pos n))) (decimal_natural (suc n) 2147483648 small (omega (arith, fits.sfits)))
-
-pub integer_reads : (z : ℤ) → FitsSigned w32 z → reads (s.Int (signed_decimal z)) ≡ Ok (scalar.Int z)
-integer_reads z fits = ap (λ o. int_or o (refusal_of (s.Int (signed_decimal z)))) (decimal_value z fits)
 
 -- ---- strings
 

@@ -10,8 +10,10 @@ use Rattle.graphql_text.specs.declared.parse_error.ParseError.{ParseError}
 use Rattle.graphql_text.specs.Strings.{is_escape}
 use Rattle.graphql_text.specs.Grammar.{Piece, character, escaped, code, ArePieces, IsPiece, IsCode, spelling, spellings, hex_value, is_string_character}
 use Rattle.graphql_scalars.specs.StringValue.{hex_digit, character as code_point, code_character, escaped_character, escape, code_at, escape_or_refusal, and_then, letters, preceded_by, decoded_behind, decoded_characters, string_value}
-use Rattle.graphql_scalars.specs.DefaultScalar.{text_of}
-use Rattle.graphql_scalars.specs.Laws.{meaning, StringsMeanTheirPieces}
+use Rattle.graphql_scalars.specs.declared.default_scalar.DefaultScalarValue.TheVariants as scalar_value
+use Rattle.graphql_scalars.specs.Literals.{text_of}
+use Rattle.graphql_scalars.proofs.IntLemmas.{different, unlike}
+use Rattle.graphql_scalars.specs.Laws.{meaning, HasMeaning, StringsMeanTheirPieces}
 
 -- ---- a character as it is
 
@@ -54,7 +56,7 @@ escape_is_known c h = elim (or_cases _ _ h) [
 
 -- ---- a code
 
-hex_value_is : (c : ℕ) → is_ascii_hexdigit c ≡ true → digit_value c ≡ hex_value c
+pub hex_value_is : (c : ℕ) → is_ascii_hexdigit c ≡ true → digit_value c ≡ hex_value c
 hex_value_is c h = grind (arith, nat_tests)
 
 hex_digit_is : (c : ℕ) → is_ascii_hexdigit c ≡ true → hex_digit c ≡ Some (hex_value c)
@@ -109,9 +111,15 @@ escape_of_code : (a b c d m : ℕ) (rest : List ℕ) → code_character a b c d 
 unfolding escape
 escape_of_code a b c d m rest h = ap (λ o. escape_or_refusal o 5 (117 ∷ letters 4 (a ∷ b ∷ c ∷ d ∷ rest))) h
 
-decoded_piece : (x : Piece) (rest : List ℕ) → IsPiece x → decoded_characters (spelling x ++ rest) ≡ preceded_by (meaning x) (decoded_characters rest)
+-- a piece of a string stands for a character
+piece_has_meaning : (x : Piece) → IsPiece x → HasMeaning x
+piece_has_meaning (character c) is = different c 92 (plain_is_no_backslash c is)
+piece_has_meaning (escaped c) is = is
+piece_has_meaning (code a b c d) is = is
+
+pub decoded_piece : (x : Piece) (rest : List ℕ) → HasMeaning x → decoded_characters (spelling x ++ rest) ≡ preceded_by (meaning x) (decoded_characters rest)
 decoded_piece (character c) rest is =
-    ap (λ b. if b then escape rest >>= (λ (e : ℕ × ℕ). preceded_by e.0 (decoded_behind e.1 rest)) else preceded_by c (decoded_characters rest)) (plain_is_no_backslash c is)
+    ap (λ b. if b then escape rest >>= (λ (e : ℕ × ℕ). preceded_by e.0 (decoded_behind e.1 rest)) else preceded_by c (decoded_characters rest)) (unlike c 92 is)
 decoded_piece (escaped c) rest is = escape_then (c ∷ rest) (meaning (escaped c)) 1 (escape_of_one c rest (escape_is_known c is))
 decoded_piece (code a b c d) rest is =
     let m = meaning (code a b c d) in
@@ -119,9 +127,9 @@ decoded_piece (code a b c d) rest is =
 
 decoded_pieces : (xs : List Piece) → ArePieces xs → decoded_characters (spellings xs) ≡ Ok (map meaning xs)
 decoded_pieces [] are = refl
-decoded_pieces (x ∷ xs) are = decoded_piece x (spellings xs) are.0 ∙ ap (preceded_by (meaning x)) (decoded_pieces xs are.1)
+decoded_pieces (x ∷ xs) are = decoded_piece x (spellings xs) (piece_has_meaning x are.0) ∙ ap (preceded_by (meaning x)) (decoded_pieces xs are.1)
 
 pub strings_mean_their_pieces : StringsMeanTheirPieces
 unfolding string_value
 strings_mean_their_pieces text pieces are spelled =
-    ap (λ r. text_of (r >>= (λ cs. Ok (encode_utf8_all cs)))) (ap decoded_characters spelled ∙ decoded_pieces pieces are)
+    ap (λ r. text_of scalar_value.String (r >>= (λ cs. Ok (encode_utf8_all cs)))) (ap decoded_characters spelled ∙ decoded_pieces pieces are)

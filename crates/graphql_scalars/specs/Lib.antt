@@ -1,6 +1,7 @@
 pub mod Reading
 pub mod IntValue
 pub mod StringValue
+pub mod Literals
 pub mod DefaultScalar
 pub mod ScalarAnswers
 pub mod ScalarText

@@ -34,6 +34,18 @@ impl CheckError {
     }
 }
 
+impl Clone for CheckError {
+    ghost is_clone = { λ error copy. copy ≡ error };
+
+    /// The same error. An error of the call is want of memory.
+    fn clone(&self) -> Result<CheckError, AllocError> {
+        match self {
+            CheckError::Message(text) => Ok(CheckError::Message(text.clone()?)),
+            CheckError::Memory => Ok(CheckError::Memory),
+        }
+    }
+}
+
 impl From<AllocError> for CheckError {
     ghost from_gives = { λ _ e. e ≡ Memory };
 

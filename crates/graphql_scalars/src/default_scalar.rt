@@ -1,15 +1,12 @@
 //! The scalars of a schema that declares none of its own.
 
 ghost use Rattle.std.specs.Prelude.{◌≡◌, Some, refl, string_bytes};
-ghost use Rattle.graphql_items.specs.Memory.{Meets};
-ghost use Rattle.graphql_scalars.specs.Reading.{IsMemory};
 ghost use Rattle.graphql_scalars.specs.DefaultScalar as spec;
 ghost use Rattle.graphql_scalars.specs.ScalarText.{plain_text};
-ghost use Rattle.graphql_scalars.specs.IntValue.{int_value};
-ghost use Rattle.graphql_scalars.specs.StringValue.{string_value};
 ghost use Rattle.graphql_scalars.specs.declared.default_scalar.DefaultScalarValue.TheVariants.{Int, String, Boolean};
 
 use crate::int_value::int_value;
+use crate::literals::refusal;
 use crate::scalar::{ParseScalarResult, ParseScalarValue, ScalarValue};
 use crate::string_value::string_value;
 use graphql_text::{ParseError, ScalarToken, Text};
@@ -89,40 +86,6 @@ impl fmt::Display for DefaultScalarValue {
     }
 }
 
-/// The refusal of a token, by its source text.
-fn refusal(alloc: Global, token: &ScalarToken<'_>) -> ParseScalarResult<DefaultScalarValue>
-    ensures { Meets IsMemory result (spec.refusal_of token.now) }
-{
-    match token.to_string(alloc) {
-        Ok(source) => Err(ParseError::UnexpectedToken(Text::from_string(source))),
-        Err(_) => Err(ParseError::Memory),
-    }
-}
-
-/// The scalar of a string with this source text.
-fn text_scalar(alloc: Global, source: &str) -> ParseScalarResult<DefaultScalarValue>
-    ensures { Meets IsMemory result (spec.text_of (string_value source.now)) }
-{
-    match string_value(alloc, source) {
-        Ok(text) => Ok(DefaultScalarValue::String(text)),
-        Err(refusal) => Err(refusal),
-    }
-}
-
-/// The scalar of a token that is an integer with this source text, if it is one of 32 bits.
-fn int_scalar(
-    alloc: Global,
-    source: &str,
-    token: &ScalarToken<'_>,
-) -> ParseScalarResult<DefaultScalarValue>
-    ensures { Meets IsMemory result (spec.int_or (int_value source.now) (spec.refusal_of token.now)) }
-{
-    match int_value(source) {
-        Some(value) => Ok(DefaultScalarValue::Int(value)),
-        None => refusal(alloc, token),
-    }
-}
-
 /// Reads strings, with their escapes decoded, and integers of 32 bits. A number with a fraction or an
 /// exponent is refused, and so is an integer of more bits.
 impl ParseScalarValue<DefaultScalarValue> for DefaultScalarValue {
@@ -130,46 +93,19 @@ impl ParseScalarValue<DefaultScalarValue> for DefaultScalarValue {
 
     fn from_str(alloc: Global, token: &ScalarToken<'_>) -> ParseScalarResult<DefaultScalarValue> {
         match token {
-            ScalarToken::String(source) => text_scalar(alloc, source.as_str()),
-            ScalarToken::Int(source) => int_scalar(alloc, source.as_str(), token),
+            ScalarToken::String(source) => match string_value(alloc, source.as_str()) {
+                Ok(text) => Ok(DefaultScalarValue::String(text)),
+                Err(refusal) => Err(refusal),
+            },
+            ScalarToken::Int(source) => match int_value(source.as_str()) {
+                Some(value) => Ok(DefaultScalarValue::Int(value)),
+                None => refusal(alloc, token),
+            },
             ScalarToken::Float(_) => {
                 let words = Text::from_str(alloc, "There needs to be a Float type")?;
                 Err(ParseError::ExpectedScalarError(words))
             }
         }
-    }
-}
-
-/// Reads strings alone, with their escapes decoded.
-impl ParseScalarValue<DefaultScalarValue> for std::string::String {
-    ghost reads = { spec.reads_text };
-
-    fn from_str(alloc: Global, token: &ScalarToken<'_>) -> ParseScalarResult<DefaultScalarValue> {
-        match token {
-            ScalarToken::String(source) => text_scalar(alloc, source.as_str()),
-            ScalarToken::Int(_) | ScalarToken::Float(_) => refusal(alloc, token),
-        }
-    }
-}
-
-/// Reads integers of 32 bits alone.
-impl ParseScalarValue<DefaultScalarValue> for i32 {
-    ghost reads = { spec.reads_int };
-
-    fn from_str(alloc: Global, token: &ScalarToken<'_>) -> ParseScalarResult<DefaultScalarValue> {
-        match token {
-            ScalarToken::Int(source) => int_scalar(alloc, source.as_str(), token),
-            ScalarToken::String(_) | ScalarToken::Float(_) => refusal(alloc, token),
-        }
-    }
-}
-
-/// Reads nothing: `true` and `false` are names, and no scalar tokens.
-impl ParseScalarValue<DefaultScalarValue> for bool {
-    ghost reads = { spec.refusal_of };
-
-    fn from_str(alloc: Global, token: &ScalarToken<'_>) -> ParseScalarResult<DefaultScalarValue> {
-        refusal(alloc, token)
     }
 }
 

@@ -8,6 +8,7 @@ mod from_scalar;
 mod int_value;
 pub mod laws;
 mod lent_scalar;
+mod literals;
 mod primitives;
 mod scalar;
 mod string_value;

@@ -57,7 +57,7 @@ pub fn read_request(
         Err(refusal) => return refused(refusal),
     };
     let is_bare = is_bare(&json);
-    let request: Result<GraphQLRequest<DefaultScalarValue>, LineRefusal> = request_in(alloc, &json);
+    let request: Result<GraphQLRequest<DefaultScalarValue>, LineRefusal> = request_in(alloc, json);
     match request {
         Ok(request) => Ok(Ok(ThinRequest {
             query: request.query,
