@@ -8,3 +8,4 @@ pub mod EqualityTests
 pub mod ValueTextLemmas
 pub mod FieldLaws
 pub mod PutLaws
+pub mod DistinctKeyLaws

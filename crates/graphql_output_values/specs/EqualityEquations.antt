@@ -10,7 +10,7 @@ use Rattle.graphql_output_values.specs.declared.object.Object.{Object}
 use Rattle.graphql_output_values.specs.declared.value.Value.{Value, out-Value, out-roll-Value}
 use Rattle.graphql_output_values.specs.declared.value.Value.TheOpen.{Value-F}
 use Rattle.graphql_output_values.specs.declared.value.Value.TheVariants as value
-use Rattle.graphql_output_values.specs.ValueEquations.{on_value, fold_null, fold_scalar, fold_list, fold_object, fold_fields}
+use Rattle.graphql_output_values.specs.ValueEquations.{on_value, keys_on_value, fold_null, fold_scalar, fold_list, fold_object, fold_fields}
 
 module _ {A B : Type 0} (f : A → B → Bool) where
   items_map : (xs : List A) (ys : List B) → items_equal (λ (g : B → Bool) y. g y) (map f xs) ys ≡ items_equal f xs ys
@@ -33,15 +33,11 @@ module _ {A B : Type 0} (f : A → B → Bool) where
   agree_map (Some x) None = refl
   agree_map (Some x) (Some y) = refl
 
-  keys_map : (fs : List (Pair A)) → keys_of (map (on_value f) fs) ≡ keys_of fs
-  keys_map [] = refl
-  keys_map (p ∷ fs) = ap (λ ks. p.0 ∷ ks) (keys_map fs)
-
   fields_map : (fs : List (Pair A)) (gs : List (Pair B)) → fields_equal (λ (g : B → Bool) y. g y) (map (on_value f) fs) gs ≡ fields_equal f fs gs
   fields_map fs gs =
       let under : (k : List ℕ) → agree_under (λ (g : B → Bool) y. g y) (map (on_value f) fs) gs k ≡ agree_under f fs gs k
       = λ k. ap (λ o. agree (λ (g : B → Bool) y. g y) o (field_value gs k)) (lookup_map (bytes_eq k) fs) ∙ agree_map (field_value fs k) (field_value gs k) in
-      λ i. list_all (λ k. under k i) (keys_map fs i) && list_all (λ k. under k i) (keys_of gs)
+      λ i. list_all (λ k. under k i) (keys_on_value f fs i) && list_all (λ k. under k i) (keys_of gs)
 
 -- the layer of each form
 module _ {S : Type 0} where

@@ -1,6 +1,7 @@
 pub mod Objects
 pub mod Values
 pub mod Counts
+pub mod DistinctKeys
 pub mod Steps
 pub mod Pending
 pub mod Lending
@@ -12,3 +13,4 @@ pub mod EqualityLaws
 pub mod EqualValues
 pub mod ValueText
 pub mod Laws
+pub mod DistinctLaws

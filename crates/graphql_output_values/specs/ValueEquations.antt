@@ -1,5 +1,6 @@
 -- What a fold gives at each form of a value, and at an object.
-use Rattle.std.proofs.Common.{◌≡◌, List, map, ap, sym, ◌∙◌}
+use Rattle.std.proofs.Common.{◌≡◌, List, [], ◌∷◌, map, ap, sym, refl, ◌∙◌}
+use Rattle.std.specs.Map.{keys_of}
 use Rattle.graphql_output_values.specs.declared.object.Object.{Object, fold_out-Object}
 use Rattle.graphql_output_values.specs.declared.value.Value.{Value, fold-Value, fold-roll-Value}
 use Rattle.graphql_output_values.specs.declared.value.Value.TheFolds.{fold-Object}
@@ -10,6 +11,10 @@ use Rattle.graphql_output_values.specs.Objects.{Pair}
 -- a function on the value of a field
 abbrev pub on_value : {A B : Type 0} → (A → B) → Pair A → Pair B
 on_value f p = (p.0, f p.1)
+
+pub keys_on_value : {A B : Type 0} (f : A → B) (fs : List (Pair A)) → keys_of (map (on_value f) fs) ≡ keys_of fs
+keys_on_value f [] = refl
+keys_on_value f (p ∷ fs) = ap (λ ks. p.0 ∷ ks) (keys_on_value f fs)
 
 module _ {S A O : Type 0} (step : Value-F S A O → A) (object_step : Object-F S A O → O) where
   abbrev pub folded : Value S → A

@@ -1,5 +1,6 @@
 //! Laws of objects and of their equality: each function's contract is a law, and its body does nothing.
 
+ghost use Rattle.graphql_output_values.specs.DistinctLaws.{DistinctByForms, DistinctOnceWritten, DistinctUnderKeys, MadeDistinctThroughout, MappedKeepsKeys};
 ghost use Rattle.graphql_output_values.specs.Equality.{equal};
 ghost use Rattle.graphql_output_values.specs.Laws.{EqualByFields, EqualInAnyOrder, KeysKeepPlaces, MadeDistinct, PutUnder};
 ghost use Rattle.graphql_output_values.specs.declared.object.Object.{Object};
@@ -29,4 +30,34 @@ pub fn put_under<S>()
 /// Putting a value under a key keeps the keys in their places, and a new key is the last.
 pub fn keys_keep_places<S>()
     ensures { KeysKeepPlaces (Value S) }
+{}
+
+/// Which values have distinct keys throughout, form by form: `null` and each scalar, a list where its
+/// items have, the value of an object where its own keys are distinct and its values have. So
+/// `Value::list`, `Value::object`, `Value::into_object`, `Value::as_mut_object_value` and the iterators
+/// of an object keep it.
+pub fn distinct_by_forms<S>()
+    ensures { DistinctByForms S }
+{}
+
+/// The value that `get_field_value` or `get_mut_field_value` gives of an object that has distinct keys
+/// throughout has them too.
+pub fn distinct_under_keys<S>()
+    ensures { DistinctUnderKeys S }
+{}
+
+/// An object that has distinct keys throughout still has once a value that has them is written by
+/// `get_mut_field_value`.
+pub fn distinct_once_written<S>()
+    ensures { DistinctOnceWritten S }
+{}
+
+/// An object that is made of pairs has distinct keys throughout where the pairs' values have.
+pub fn made_distinct_throughout<S>()
+    ensures { MadeDistinctThroughout S }
+{}
+
+/// `map_scalar_value` keeps the keys of each object in a value, and so that they are distinct.
+pub fn mapped_keeps_keys<S, T>()
+    ensures { MappedKeepsKeys S T }
 {}

@@ -1,6 +1,7 @@
 //! The values that an execution answers (GraphQL October 2021, 7.1 Response Format).
 #![tactic(auto)]
 
+mod clones;
 mod display;
 mod equality;
 mod into_value;

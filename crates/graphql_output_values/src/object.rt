@@ -6,6 +6,7 @@ ghost use Rattle.std.specs.Option.{option_copied, option_copied_mut, option_map}
 ghost use Rattle.std.specs.Str.{bytes_eq};
 ghost use Rattle.std.specs.Slice.Iter.{iter_rest, iter_steps};
 ghost use Rattle.std.specs.Iterator.Runs.{EveryRun, ItemsMapTo};
+ghost use Rattle.graphql_output_values.specs.DistinctKeys.{HasDistinctKeysThroughout, ObjectHasDistinctKeysThroughout};
 ghost use Rattle.graphql_output_values.specs.Lending.{LendsField, LendsPlace};
 ghost use Rattle.graphql_output_values.specs.Objects.{HasDistinctKeys, field_value, with_field};
 
@@ -20,7 +21,8 @@ use std::slice::Iter;
 /// Fields with their values, in order; no two fields have one key (GraphQL October 2021, 7.2.2
 /// Serialized Map Ordering). The list is private, and each call that makes or changes an object keeps
 /// its keys distinct: they say so by contract, since a type that holds itself can keep no such fact.
-/// Keys are found by a scan: an object has few fields.
+/// Keys are found by a scan: an object has few fields. Where each object in the values has distinct keys
+/// too, each call keeps that, by contract or by the laws of `laws`.
 #[cycle(values)]
 #[derive(Debug, Drop)]
 pub struct Object<S> {
@@ -36,6 +38,14 @@ impl<S> Object<S> {
         Ok(Object {
             fields: Items::with_capacity(alloc, capacity)?,
         })
+    }
+
+    /// The object of these fields, whose keys are distinct. It looks for no key, and takes no memory.
+    pub fn from_distinct(fields: Items<(Text, Value<S>)>) -> Object<S>
+        requires { HasDistinctKeys fields }
+        ensures { result.fields ≡ fields }
+    {
+        Object { fields }
     }
 
     /// How many fields there are.
@@ -71,7 +81,9 @@ impl<S> Object<S> {
 
     /// Puts `value` under `key`. Where a field has the key, it keeps its place, and its old value comes
     /// back; else the field is the last. An error is want of memory, at a field that is new: the object
-    /// stays.
+    /// stays. A scan, so that as many calls as there are fields take the square of their number: where
+    /// the keys are known to be distinct, `from_distinct` makes the object of all fields at once. The
+    /// law `distinct_under_keys` speaks of the old value's keys.
     pub fn add_field(&mut self, key: Text, value: Value<S>) -> Result<Option<Value<S>>, AllocError>
     where
         S: Drop,
@@ -80,6 +92,7 @@ impl<S> Object<S> {
         ensures err { OnErr result (self.new ≡ self.old) }
         ensures absent { OnErr result (field_value self.old.fields key ≡ None) }
         ensures distinct { HasDistinctKeys self.old.fields → HasDistinctKeys self.new.fields }
+        ensures throughout { ObjectHasDistinctKeysThroughout self.old → HasDistinctKeysThroughout value → ObjectHasDistinctKeysThroughout self.new }
     {
         match self.place_of(key.as_str()) {
             Some(place) => {
@@ -103,7 +116,8 @@ impl<S> Object<S> {
         &mut field.1
     }
 
-    /// The value of the field of this key, if there is one, to be written to. A scan.
+    /// The value of the field of this key, if there is one, to be written to. A scan. The laws
+    /// `distinct_under_keys` and `distinct_once_written` speak of the keys in it.
     pub fn get_mut_field_value(&mut self, key: &str) -> Option<&mut Value<S>>
         ensures* writes_back { sem 𝓛 (LendsField S.row self.entry key.now result) }
         ensures value { option_copied_mut result ≡ field_value self.old.fields key.now }

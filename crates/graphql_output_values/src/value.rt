@@ -47,14 +47,14 @@ impl<S> Value<S> {
         Value::Scalar(scalar.into())
     }
 
-    /// The list of these values. Takes no memory.
+    /// The list of these values. Takes no memory. The law `distinct_by_forms` speaks of the keys in it.
     pub fn list(items: Items<Value<S>>) -> Value<S>
         ensures { result ≡ value.List items }
     {
         Value::List(items)
     }
 
-    /// The value of this object. Takes no memory.
+    /// The value of this object. Takes no memory. The law `distinct_by_forms` speaks of the keys in it.
     pub fn object(object: Object<S>) -> Value<S>
         ensures { result ≡ value.Object object }
     {
@@ -125,7 +125,7 @@ impl<S> Value<S> {
     }
 
     /// The value of the same shape with each scalar mapped. An error is want of memory. It takes stack
-    /// for each level of the value.
+    /// for each level of the value. Keys stay as they are, which is the law `mapped_keeps_keys`.
     pub fn map_scalar_value<T: Drop, F: Fn(S) -> T + Drop>(
         self,
         turn: F,

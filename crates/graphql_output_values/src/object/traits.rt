@@ -39,7 +39,9 @@ impl<'a, S> IntoIterator for &'a Object<S> {
     }
 }
 
-// Each pair is put in turn: of pairs of one key the last is the value, at the place of the first.
+// Each pair is put in turn: of pairs of one key the last is the value, at the place of the first. So it
+// takes the square of their number, where `from_distinct` looks for no key. The laws `made_distinct` and
+// `made_distinct_throughout` speak of the keys.
 impl<S: Drop> FromIterator<(Text, Value<S>)> for Object<S> {
     type Alloc = Global;
 

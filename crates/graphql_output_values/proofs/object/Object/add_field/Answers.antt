@@ -1,6 +1,7 @@
 use Rattle.std.proofs.Common.{◌≡◌, Some, None, Result, Ok, Err, OnErr, ap, sym, subst, ◌∙◌}
 use Rattle.graphql_output_values.specs.Objects.{HasDistinctKeys}
 use Rattle.graphql_output_values.proofs.ObjectLemmas.{place, value_at, value_nowhere, put_at, put_last, distinct_after}
+use Rattle.graphql_output_values.proofs.DistinctKeyLaws.{once_put}
 use Rattle.graphql_output_values.proofs.object.Object.add_field.Goals as goal
 
 -- the key is found at a place
@@ -28,6 +29,12 @@ returns-in_ok-push-in-None-clause-fields g c = c.in_ok-push-in-None.ensures.ok �
 
 pub returns-in_ok-push-in-None-clause-distinct : goal.returns-in_ok-push-in-None-clause-distinct
 returns-in_ok-push-in-None-clause-distinct g c distinct = subst HasDistinctKeys (sym (returns-in_ok-push-in-None-clause-fields g c)) (distinct_after c.args.key c.args.value c.args.self.now.fields distinct)
+
+pub returns-in-Some-clause-throughout : goal.returns-in-Some-clause-throughout
+returns-in-Some-clause-throughout g c = once_put c.args.self.now.fields c.args.key c.args.value _ (returns-in-Some-clause-fields g c)
+
+pub returns-in_ok-push-in-None-clause-throughout : goal.returns-in_ok-push-in-None-clause-throughout
+returns-in_ok-push-in-None-clause-throughout g c = once_put c.args.self.now.fields c.args.key c.args.value _ (returns-in_ok-push-in-None-clause-fields g c)
 
 -- what holds anyhow holds of an error
 of_error : {T E P : Type 0} (r : Result T E) → P → OnErr r P
