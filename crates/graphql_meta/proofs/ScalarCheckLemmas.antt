@@ -32,7 +32,7 @@ module _ (P : DefaultScalarValue → Type 0) where
   scalars_alike _ _ (same_enum name) held = held
   scalars_alike _ _ (same_variable name) held = held
   scalars_alike _ _ (same_list xs ys items) held = absurd (search rules)
-  scalars_alike _ _ (same_object ps qs long have are) held = absurd (search rules)
+  scalars_alike _ _ (same_object ps qs fields) held = absurd (search rules)
 
 -- where a function's answers tell whether the value is a scalar of which P holds
 module _ (P : DefaultScalarValue → Type 0) {says : CheckRelation DefaultScalarValue} (tell : (p : Bor (InputValue DefaultScalarValue)) (r : Result (Unit {0}) CheckError) → says p r → Told (λ e. e ≡ Memory) r (IsScalar P p.now)) where

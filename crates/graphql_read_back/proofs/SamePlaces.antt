@@ -1,14 +1,16 @@
 -- Values that are alike once their places are left out are the same value.
-use Rattle.std.proofs.Common.{◌≡◌, ◌<◌, Bool, List, length, get_or, map, sym, subst, refl, arith}
+use Rattle.std.proofs.Common.{◌≡◌, Bool, List, get_or, map, sym, subst}
 use Rattle.std.specs.Cmp.{IsEquivalence}
 use Rattle.std.proofs.lemmas.List.{get_or-map, length-map}
+use Rattle.std.proofs.lemmas.Simd.{map-map}
 use Rattle.graphql_values.specs.declared.input_value.InputValue.{InputValue}
 use Rattle.graphql_values.specs.declared.input_value.InputValue.TheVariants as v
 use Rattle.graphql_values.specs.InputValues.{Placed, Pair, unplaced, unplaced_pair, unlocated, unlocated_layer}
 use Rattle.graphql_values.specs.SameValue.{same_null, same_list, same_object}
 use Rattle.graphql_values.proofs.InputValueEquations.{fold_null, fold_scalar, fold_enum, fold_variable, unlocated_list, unlocated_object}
 use Rattle.graphql_values.proofs.InputValueInduction.{value_ind, HoldsOfItems, HoldsOfPairs}
-use Rattle.graphql_values.proofs.SameValueLemmas.{Same, IsLike, get_or_any, items_from, have_from, are_from}
+use Rattle.graphql_values.proofs.SameValueLemmas.{Same, items_from}
+use Rattle.graphql_values.proofs.OrderLemmas.{fields_from}
 use Rattle.graphql_values.proofs.SameValueLaws.{same_as_itself, either_way, by_a_third}
 use Rattle.graphql_read_back.specs.Laws.{SameWithoutPlaces}
 
@@ -32,18 +34,9 @@ module _ {S : Type 0} (eq : S → S → Bool) (laws : IsEquivalence eq) where
       (λ k x y within. subst (λ z. Same eq (get_or xs k x).item z.item) (sym (get_or-map bare_item xs k x y within)) (each k x within))))
 
   bare_pairs : (ps : List (Pair (InputValue S))) → HoldsOfPairs SameBare ps → SameBare (v.Object ps)
-  bare_pairs ps each =
-      let sizes : length (map bare_pair ps) ≡ length ps = length-map ps bare_pair in
-      bare_by (v.Object ps) (v.Object (map bare_pair ps)) (unlocated_object ps) (same_object ps (map bare_pair ps) (sym sizes)
-      (have_from eq ps (map bare_pair ps) (λ k d within.
-      let inside : k < length (map bare_pair ps) = omega arith in
-      let p = get_or ps k d in
-      let q = get_or (map bare_pair ps) k d in
-      (k, q, inside, get_or_any (map bare_pair ps) k q d inside, subst (λ z. IsLike eq p z) (sym (get_or-map bare_pair ps k d d within)) (refl, each k d within))))
-      (are_from eq ps (map bare_pair ps) (λ k d inside.
-      let within : k < length ps = omega arith in
-      let p = get_or ps k d in
-      (k, p, within, get_or_any ps k p d within, subst (λ z. IsLike eq p z) (sym (get_or-map bare_pair ps k d d within)) (refl, each k d within)))))
+  bare_pairs ps each = bare_by (v.Object ps) (v.Object (map bare_pair ps)) (unlocated_object ps) (same_object ps (map bare_pair ps)
+      (fields_from eq ps (map bare_pair ps) (sym (map-map (λ p. p.0.item) bare_pair ps))
+      (λ k x y within. subst (λ z. Same eq (get_or ps k x).1.item z.1.item) (sym (get_or-map bare_pair ps k x y within)) (each k x within))))
 
   -- a value is the same as without its places
   same_bare : (a : InputValue S) → SameBare a

@@ -3,10 +3,11 @@ pub mod InputValueInduction
 pub mod VariableLemmas
 pub mod Growing
 pub mod ConversionLemmas
+pub mod UnderLemmas
 pub mod SameValueLemmas
-pub mod LikesBack
-pub mod NameLemmas
+pub mod OrderLemmas
 pub mod SameValueLaws
+pub mod SameObjectLaws
 pub mod InputValueTextLemmas
 pub mod InputOfOutputLemmas
 pub mod PartsLemmas

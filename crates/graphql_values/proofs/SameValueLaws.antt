@@ -1,28 +1,26 @@
 -- Being the same value is an equivalence, where the scalars' equality is one.
-use Rattle.std.proofs.Common.{◌≡◌, ℕ, ◌<◌, Bool, true, List, [], ◌∷◌, length, get_or, ap, sym, subst, refl, ◌∙◌, arith}
+use Rattle.std.proofs.Common.{◌≡◌, Bool, true, List, length, get_or, ap, sym, subst, refl, ◌∙◌, arith}
 use Rattle.std.specs.Cmp.{IsEquivalence}
-use Rattle.std.specs.List.{Any}
 use Rattle.graphql_items.specs.declared.text.Text.{Text}
 use Rattle.graphql_values.specs.declared.input_value.InputValue.{InputValue, out-InputValue, roll-InputValue, roll-out-InputValue}
 use Rattle.graphql_values.specs.declared.input_value.InputValue.TheOpen.{InputValue-F}
 use Rattle.graphql_values.specs.declared.input_value.InputValue.TheVariants as value
 use Rattle.graphql_values.specs.InputValues.{Placed, Pair}
 use Rattle.graphql_values.specs.Laws.{SameAsItself, SameEitherWay, SameByAThird}
-use Rattle.graphql_values.specs.SameValue.{SameValue, SameItems, HaveLikes, AreLikes, same_null, same_scalar, same_enum, same_variable, same_list, same_object, no_items, more_items, no_fields, more_fields, none_like, more_like}
+use Rattle.graphql_values.specs.SameValue.{SameItems, SameFields, under, same_null, same_scalar, same_enum, same_variable, same_list, same_object, no_items, more_items}
 use Rattle.graphql_values.proofs.InputValueInduction.{value_ind, HoldsOfItems, HoldsOfPairs}
-use Rattle.graphql_values.proofs.SameValueLemmas.{Same, IsLike, Level, null_level, level_of, same_at, get_or_any, items_from, items_length, items_at, have_from, have_at, are_from, are_at}
+use Rattle.graphql_values.proofs.UnderLemmas.{under_holds}
+use Rattle.graphql_values.proofs.SameValueLemmas.{Same, Level, null_level, level_of, same_at, get_or_any, items_from, items_length, items_at}
 
 module _ {S : Type 0} (eq : S → S → Bool) (laws : IsEquivalence eq) where
-  itself_items : (xs : List (Placed (InputValue S))) → HoldsOfItems (λ a. Same eq a a) xs → Same eq (value.List xs) (value.List xs)
-  itself_items xs each = same_list xs xs (items_from eq xs xs refl (λ k x y within. subst (λ z. Same eq (get_or xs k x).item z.item) (get_or_any xs k x y within) (each k x within)))
+  itself_items : (xs : List (Placed (InputValue S))) → HoldsOfItems (λ a. Same eq a a) xs → SameItems S eq xs xs
+  itself_items xs each = items_from eq xs xs refl (λ k x y within. subst (λ z. Same eq (get_or xs k x).item z.item) (get_or_any xs k x y within) (each k x within))
 
   itself_pairs : (ps : List (Pair (InputValue S))) → HoldsOfPairs (λ a. Same eq a a) ps → Same eq (value.Object ps) (value.Object ps)
-  itself_pairs ps each = same_object ps ps refl
-      (have_from eq ps ps (λ k d within. (k, get_or ps k d, within, get_or_any ps k (get_or ps k d) d within, (refl, each k d within))))
-      (are_from eq ps ps (λ k d within. (k, get_or ps k d, within, get_or_any ps k (get_or ps k d) d within, (refl, each k d within))))
+  itself_pairs ps each = same_object ps ps (λ name. itself_items (under name ps) (under_holds (λ x. Same eq x.item x.item) name ps each))
 
   pub same_as_itself : SameAsItself eq
-  same_as_itself = value_ind (λ a. Same eq a a) same_null (λ s. same_scalar s s (laws.refl s)) same_enum same_variable itself_items itself_pairs
+  same_as_itself = value_ind (λ a. Same eq a a) same_null (λ s. same_scalar s s (laws.refl s)) same_enum same_variable (λ xs each. same_list xs xs (itself_items xs each)) itself_pairs
 
   mutual
     pub either_way : SameEitherWay eq
@@ -31,19 +29,11 @@ module _ {S : Type 0} (eq : S → S → Bool) (laws : IsEquivalence eq) where
     either_way _ _ (same_enum n) = same_enum n
     either_way _ _ (same_variable n) = same_variable n
     either_way _ _ (same_list xs ys h) = same_list ys xs (either_items xs ys h)
-    either_way _ _ (same_object ps qs e h k) = same_object qs ps (sym e) (are_have ps qs k) (have_are ps qs h)
+    either_way _ _ (same_object ps qs h) = same_object qs ps (λ name. either_items (under name ps) (under name qs) (h name))
 
     either_items : (xs ys : List (Placed (InputValue S))) → SameItems S eq xs ys → SameItems S eq ys xs
     either_items _ _ no_items = no_items
     either_items _ _ (more_items x y xs ys here rest) = more_items y x ys xs (either_way x.item y.item here) (either_items xs ys rest)
-
-    have_are : (ps qs : List (Pair (InputValue S))) → HaveLikes S eq ps qs → AreLikes S eq qs ps
-    have_are _ _ (no_fields qs) = none_like qs
-    have_are _ _ (more_fields p q ps qs among key here rest) = more_like q p qs ps among (sym key) (either_way p.1.item q.1.item here) (have_are ps qs rest)
-
-    are_have : (ps qs : List (Pair (InputValue S))) → AreLikes S eq ps qs → HaveLikes S eq qs ps
-    are_have _ _ (none_like ps) = no_fields ps
-    are_have _ _ (more_like p q ps qs among key here rest) = more_fields q p qs ps among (sym key) (either_way p.1.item q.1.item here) (are_have ps qs rest)
 
   -- ---- what is the same as a value of some form has that form
 
@@ -64,8 +54,8 @@ module _ {S : Type 0} (eq : S → S → Bool) (laws : IsEquivalence eq) where
       (w.0, rolled b _ w.1 ∙ value.rolls-List w.0, w.2)
 
   object_level : (ps : List (Pair (InputValue S))) (m : InputValue-F S (InputValue S)) → Level eq (InputValue-F.Object ps) m
-      → (qs : List (Pair (InputValue S))) × (m ≡ InputValue-F.Object qs) × (length ps ≡ length qs) × HaveLikes S eq ps qs × AreLikes S eq ps qs
-  object_level ps (InputValue-F.Object qs) h = (qs, refl, h.0, h.1, h.2)
+      → (qs : List (Pair (InputValue S))) × (m ≡ InputValue-F.Object qs) × SameFields S eq ps qs
+  object_level ps (InputValue-F.Object qs) h = (qs, refl, h)
   object_level ps InputValue-F.Null h = absurd h
   object_level ps (InputValue-F.Scalar _) h = absurd h
   object_level ps (InputValue-F.Enum _) h = absurd h
@@ -73,10 +63,10 @@ module _ {S : Type 0} (eq : S → S → Bool) (laws : IsEquivalence eq) where
   object_level ps (InputValue-F.List _) h = absurd h
 
   same_as_object : (ps : List (Pair (InputValue S))) (b : InputValue S) → Same eq (value.Object ps) b
-      → (qs : List (Pair (InputValue S))) × (b ≡ value.Object qs) × (length ps ≡ length qs) × HaveLikes S eq ps qs × AreLikes S eq ps qs
+      → (qs : List (Pair (InputValue S))) × (b ≡ value.Object qs) × SameFields S eq ps qs
   same_as_object ps b s =
       let w = object_level ps (out-InputValue S b) (level_of eq (value.Object ps) b _ _ (value.outs-Object ps) refl s) in
-      (w.0, rolled b _ w.1 ∙ value.rolls-Object w.0, w.2, w.3, w.4)
+      (w.0, rolled b _ w.1 ∙ value.rolls-Object w.0, w.2)
 
   scalar_level : (x : S) (m : InputValue-F S (InputValue S)) → Level eq (InputValue-F.Scalar x) m → (y : S) × (m ≡ InputValue-F.Scalar y) × (eq x y ≡ true)
   scalar_level x (InputValue-F.Scalar y) h = (y, refl, h)
@@ -129,28 +119,22 @@ module _ {S : Type 0} (eq : S → S → Bool) (laws : IsEquivalence eq) where
       let e : b ≡ value.Variable n = rolled b _ (variable_level n (out-InputValue S b) (level_of eq (value.Variable n) b _ _ (value.outs-Variable n) refl s)) ∙ value.rolls-Variable n in
       subst (λ z. Same eq z c) e t
 
+  items_pass : (xs ys zs : List (Placed (InputValue S))) → HoldsOfItems Passes xs → SameItems S eq xs ys → SameItems S eq ys zs → SameItems S eq xs zs
+  items_pass xs ys zs each h k =
+      let e : length xs ≡ length ys = items_length eq xs ys h in
+      items_from eq xs zs (e ∙ items_length eq ys zs k) (λ n x z within. each n x within _ _ (items_at eq xs ys h n x x within) (items_at eq ys zs k n x z (omega arith)))
+
   by_list : (xs : List (Placed (InputValue S))) → HoldsOfItems Passes xs → Passes (value.List xs)
   by_list xs each b c s t =
       let v = same_as_list xs b s in
       let w = same_as_list v.0 c (subst (λ z. Same eq z c) v.1 t) in
-      let e : length xs ≡ length v.0 = items_length eq xs v.0 v.2 in
-      same_at eq _ c _ _ refl w.1 (same_list xs w.0 (items_from eq xs w.0 (e ∙ items_length eq v.0 w.0 w.2)
-      (λ k x z within. each k x within _ _ (items_at eq xs v.0 v.2 k x x within) (items_at eq v.0 w.0 w.2 k x z (omega arith)))))
+      same_at eq _ c _ _ refl w.1 (same_list xs w.0 (items_pass xs v.0 w.0 each v.2 w.2))
 
   by_object : (ps : List (Pair (InputValue S))) → HoldsOfPairs Passes ps → Passes (value.Object ps)
   by_object ps each b c s t =
       let v = same_as_object ps b s in
       let w = same_as_object v.0 c (subst (λ z. Same eq z c) v.1 t) in
-      same_at eq _ c _ _ refl w.1 (same_object ps w.0 (v.2 ∙ w.2)
-      (have_from eq ps w.0 (λ k d within.
-      let q : Any (IsLike eq (get_or ps k d)) v.0 = have_at eq ps v.0 v.3 k d within in
-      let r : Any (IsLike eq q.1) w.0 = subst (λ z. Any (IsLike eq z) w.0) q.3 (have_at eq v.0 w.0 w.3 q.0 q.1 q.2) in
-      (r.0, r.1, r.2, r.3, (q.4.0 ∙ r.4.0, each k d within _ _ q.4.1 r.4.1))))
-      (are_from eq ps w.0 (λ k d within.
-      let q : Any (λ q. IsLike eq q (get_or w.0 k d)) v.0 = are_at eq v.0 w.0 w.4 k d within in
-      let p : Any (λ p. IsLike eq p q.1) ps = subst (λ z. Any (λ p. IsLike eq p z) ps) q.3 (are_at eq ps v.0 v.4 q.0 q.1 q.2) in
-      let passes : Passes p.1.1.item = subst (λ z. Passes z.1.item) p.3 (each p.0 p.1 p.2) in
-      (p.0, p.1, p.2, p.3, (p.4.0 ∙ q.4.0, passes _ _ p.4.1 q.4.1)))))
+      same_at eq _ c _ _ refl w.1 (same_object ps w.0 (λ name. items_pass (under name ps) (under name v.0) (under name w.0) (under_holds (λ x. Passes x.item) name ps each) (v.2 name) (w.2 name)))
 
   null_same : (b : InputValue S) → Same eq value.Null b → b ≡ value.Null
   null_same b s = rolled b _ (null_level eq (out-InputValue S b) (level_of eq value.Null b _ _ value.outs-Null refl s)) ∙ value.rolls-Null

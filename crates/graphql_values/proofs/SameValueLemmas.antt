@@ -1,48 +1,29 @@
 -- What it is for two values to be the same, by their forms.
-use Rattle.std.proofs.Common.{◌≡◌, ◌↔◌, ℕ, zero, suc, ◌+◌, ◌<◌, ◌≤◌, Bool, true, false, IsTrue, List, [], ◌∷◌, length, get_or, ap, sym, subst, refl, ◌∙◌, arith}
-use Rattle.std.specs.List.{Any, Contains, AllWithin}
+use Rattle.std.proofs.Common.{◌≡◌, ◌↔◌, ℕ, zero, suc, ◌+◌, ◌<◌, ◌≤◌, Bool, true, false, IsTrue, List, [], ◌∷◌, ◌++◌, length, take, drop, get_or, slice_get, Option, Some, MatchOption, ap, sym, subst, refl, ◌∙◌, arith}
 use Rattle.std.proofs.lemmas.Bool.{false≢true}
-use Rattle.std.proofs.lemmas.List.Elements.{AllWithin-more}
 use Rattle.graphql_items.specs.declared.text.Text.{Text}
 use Rattle.graphql_values.specs.declared.input_value.InputValue.{InputValue, out-InputValue, roll-InputValue, roll-out-InputValue}
 use Rattle.graphql_values.specs.declared.input_value.InputValue.TheOpen.{InputValue-F}
 use Rattle.graphql_values.specs.declared.input_value.InputValue.TheVariants as value
 use Rattle.graphql_values.specs.InputValues.{Placed, Pair}
-use Rattle.graphql_values.specs.SameValue.{SameValue, SameItems, HaveLikes, AreLikes, same_null, same_scalar, same_enum, same_variable, same_list, same_object, no_items, more_items, no_fields, more_fields, none_like, more_like}
+use Rattle.graphql_values.specs.SameValue.{SameValue, SameItems, SameFields, under, same_null, same_scalar, same_enum, same_variable, same_list, same_object, no_items, more_items}
+use Rattle.graphql_values.proofs.UnderLemmas.{by_its_name, around, taken_named, taken_other, counted}
 
 -- ---- facts about lists
 
 pub refuted : {A : Type 0} (r : Bool) → r ≡ false → IsTrue r → A
 refuted r isnt is = absurd (false≢true (sym isnt ∙ is))
 
-pub found_at : {X : Type 0} (P : X → Type 0) (xs ys : List X) (k : ℕ) (x : X) → xs ≡ ys → k < length xs → x ≡ get_or xs k x → P x → Any P ys
-found_at P xs ys k x same within is here = subst (Any P) same (k, x, within, sym is, here)
-
 pub get_or_any : {X : Type 0} (xs : List X) (n : ℕ) (x d : X) → n < length xs → get_or xs n x ≡ get_or xs n d
 get_or_any [] n x d within = absurd (omega arith)
 get_or_any (y ∷ xs) zero x d within = refl
 get_or_any (y ∷ xs) (suc n) x d within = get_or_any xs n x d (omega arith)
 
-module _ {X : Type 0} (P : X → Type 0) where
-  pub one_more : (xs : List X) (n : ℕ) (x : X) → AllWithin P xs 0 n → n < length xs → x ≡ get_or xs n x → P x → AllWithin P xs 0 (n + 1)
-  one_more xs n x before within is here = AllWithin-more P xs 0 n before (λ d. subst P (is ∙ get_or_any xs n x d within) here)
-
-  pub all_of : (xs ys : List X) (n : ℕ) → xs ≡ ys → AllWithin P xs 0 n → length xs ≤ n → (k : ℕ) (d : X) → k < length ys → P (get_or ys k d)
-  all_of xs ys n same all past k d within = subst (λ zs. P (get_or zs k d)) same (all k d (omega arith) (let there : k < length xs = subst (λ zs. k < length zs) (sym same) within in omega arith))
-
-  -- what holds at each place holds of the item that stands there
-  pub holds_of : (xs ys : List X) (k : ℕ) (x : X) → xs ≡ ys → k < length xs → x ≡ get_or xs k x → ((k : ℕ) (d : X) → k < length ys → P (get_or ys k d)) → P x
-  holds_of xs ys k x same within is all = subst P (sym (is ∙ ap (λ zs. get_or zs k x) same)) (all k x (subst (λ zs. k < length zs) same within))
-
 module _ {S : Type 0} (eq : S → S → Bool) where
   abbrev pub Same : InputValue S → InputValue S → Type 0
   Same = SameValue S eq
 
-  -- a field of the same name and the same value
-  abbrev pub IsLike : Pair (InputValue S) → Pair (InputValue S) → Type 0
-  IsLike p q = (p.0.item ≡ q.0.item) × Same p.1.item q.1.item
-
-  -- ---- lists and fields, place by place
+  -- ---- lists, place by place
 
   pub items_from : (xs ys : List (Placed (InputValue S))) → length xs ≡ length ys → ((k : ℕ) (x y : Placed (InputValue S)) → k < length xs → Same (get_or xs k x).item (get_or ys k y).item) → SameItems S eq xs ys
   items_from [] [] e h = no_items
@@ -65,27 +46,79 @@ module _ {S : Type 0} (eq : S → S → Bool) where
       let here : Same (get_or us k x).item (get_or vs k y).item = items_at us vs same k x y (subst (λ zs. k < length zs) left within) in
       subst (λ z. Same z.item y.item) (sym (is_x ∙ ap (λ zs. get_or zs k x) left)) (subst (λ z. Same (get_or us k x).item z.item) (sym (is_y ∙ ap (λ zs. get_or zs k y) right)) here)
 
-  pub have_from : (ps qs : List (Pair (InputValue S))) → ((k : ℕ) (d : Pair (InputValue S)) → k < length ps → Any (IsLike (get_or ps k d)) qs) → HaveLikes S eq ps qs
-  have_from [] qs h = no_fields qs
-  have_from (p ∷ ps) qs h =
-      let w : Any (IsLike p) qs = h 0 p (omega arith) in
-      more_fields p w.1 ps qs (w.0, w.2, w.3) w.4.0 w.4.1 (have_from ps qs (λ k d within. h (suc k) d (omega arith)))
+  -- ---- values that stand first, place by place, among others
 
-  pub have_at : (ps qs : List (Pair (InputValue S))) → HaveLikes S eq ps qs → (k : ℕ) (d : Pair (InputValue S)) → k < length ps → Any (IsLike (get_or ps k d)) qs
-  have_at _ _ (no_fields qs) k d within = absurd (omega arith)
-  have_at _ _ (more_fields p q ps qs among key here rest) zero d within = (among.0, q, among.1, among.2, (key, here))
-  have_at _ _ (more_fields p q ps qs among key here rest) (suc k) d within = have_at ps qs rest k d (omega arith)
+  abbrev pub Leads : List (Placed (InputValue S)) → List (Placed (InputValue S)) → Type 0
+  Leads [] ys = Unit {0}
+  Leads (x ∷ xs) [] = ⊥
+  Leads (x ∷ xs) (y ∷ ys) = Same x.item y.item × Leads xs ys
 
-  pub are_from : (ps qs : List (Pair (InputValue S))) → ((k : ℕ) (d : Pair (InputValue S)) → k < length qs → Any (λ p. IsLike p (get_or qs k d)) ps) → AreLikes S eq ps qs
-  are_from ps [] h = none_like ps
-  are_from ps (q ∷ qs) h =
-      let w : Any (λ p. IsLike p q) ps = h 0 q (omega arith) in
-      more_like w.1 q ps qs (w.0, w.2, w.3) w.4.0 w.4.1 (are_from ps qs (λ k d within. h (suc k) d (omega arith)))
+  items_lead : (xs ys : List (Placed (InputValue S))) → SameItems S eq xs ys → Leads xs ys
+  items_lead _ _ no_items = tt
+  items_lead _ _ (more_items x y xs ys here rest) = (here, items_lead xs ys rest)
 
-  pub are_at : (ps qs : List (Pair (InputValue S))) → AreLikes S eq ps qs → (k : ℕ) (d : Pair (InputValue S)) → k < length qs → Any (λ p. IsLike p (get_or qs k d)) ps
-  are_at _ _ (none_like ps) k d within = absurd (omega arith)
-  are_at _ _ (more_like p q ps qs among key here rest) zero d within = (among.0, p, among.1, among.2, (key, here))
-  are_at _ _ (more_like p q ps qs among key here rest) (suc k) d within = are_at ps qs rest k d (omega arith)
+  leads_length : (xs ys : List (Placed (InputValue S))) → Leads xs ys → length xs ≤ length ys
+  leads_length [] ys h = omega arith
+  leads_length (x ∷ xs) [] h = absurd h
+  leads_length (x ∷ xs) (y ∷ ys) h = omega (arith, leads_length xs ys h.1)
+
+  -- and no others
+  leads_same : (xs ys : List (Placed (InputValue S))) → Leads xs ys → length ys ≤ length xs → SameItems S eq xs ys
+  leads_same [] [] h fit = no_items
+  leads_same [] (y ∷ ys) h fit = absurd (omega (arith, fit))
+  leads_same (x ∷ xs) [] h fit = absurd h
+  leads_same (x ∷ xs) (y ∷ ys) h fit = more_items x y xs ys h.0 (leads_same xs ys h.1 (omega (arith, fit)))
+
+  -- the same value stands at the place
+  abbrev pub IsRanked : Option (Placed (InputValue S)) → InputValue S → Type 0
+  IsRanked found a = MatchOption found ⊥ (λ y. Same a y.item)
+
+  pub ranked_when : (r : Bool) (a : InputValue S) (found : Option (Placed (InputValue S))) (y : Placed (InputValue S)) → found ≡ Some y → (IsTrue r ↔ Same a y.item) → (IsTrue r ↔ IsRanked found a)
+  ranked_when r a found y is = subst (λ f. IsTrue r ↔ IsRanked f a) (sym is)
+
+  leads_more : (xs ys : List (Placed (InputValue S))) (x : Placed (InputValue S)) → Leads xs ys → IsRanked (slice_get ys (length xs)) x.item → Leads (xs ++ x ∷ []) ys
+  leads_more [] [] x h ranked = absurd ranked
+  leads_more [] (y ∷ ys) x h ranked = (ranked, tt)
+  leads_more (w ∷ xs) [] x h ranked = absurd h
+  leads_more (w ∷ xs) (y ∷ ys) x h ranked = (h.0, leads_more xs ys x h.1 ranked)
+
+  leads_at : (us vs ys : List (Placed (InputValue S))) (x : Placed (InputValue S)) → Leads (us ++ x ∷ vs) ys → IsRanked (slice_get ys (length us)) x.item
+  leads_at [] vs [] x h = absurd h
+  leads_at [] vs (y ∷ ys) x h = h.0
+  leads_at (u ∷ us) vs [] x h = absurd h
+  leads_at (u ∷ us) vs (y ∷ ys) x h = leads_at us vs ys x h.1
+
+  -- ---- fields, name by name
+
+  abbrev pub AllLead : List (Pair (InputValue S)) → List (Pair (InputValue S)) → Type 0
+  AllLead ps qs = (name : Text) → Leads (under name ps) (under name qs)
+
+  pub fields_length : (ps qs : List (Pair (InputValue S))) → SameFields S eq ps qs → length ps ≡ length qs
+  fields_length ps qs same =
+      let there = counted ps qs (λ name. omega (arith, items_length _ _ (same name))) in
+      let back = counted qs ps (λ name. omega (arith, items_length _ _ (same name))) in
+      omega (arith, there.0, back.0)
+
+  pub fields_fit : (ps qs : List (Pair (InputValue S))) → length ps ≡ length qs → AllLead ps qs → SameFields S eq ps qs
+  fields_fit ps qs e lead name = leads_same _ _ (lead name) ((counted ps qs (λ n. leads_length _ _ (lead n))).1 e name)
+
+  module _ (ps fs qs : List (Pair (InputValue S))) (fields : fs ≡ ps) (k : ℕ) (p : Pair (InputValue S)) (within : k < length fs) (is : p ≡ get_or fs k p) (rank : ℕ) (ranks : rank ≡ length (under p.0.item (take k fs))) where
+    abbrev HasLike : ℕ → Type 0
+    HasLike n = IsRanked (slice_get (under p.0.item qs) n) p.1.item
+
+    -- the field at a place has its like, of the same name and rank
+    pub fields_at : SameFields S eq ps qs → HasLike rank
+    fields_at same = subst HasLike (sym ranks) (leads_at (under p.0.item (take k fs)) (under p.0.item (drop (k + 1) fs)) (under p.0.item qs) p.1
+        (subst (λ xs. Leads xs (under p.0.item qs)) (around fs k p within is) (items_lead _ _ (subst (λ zs. SameFields S eq zs qs) (sym fields) same p.0.item))))
+
+    one_field_more : HasLike (length (under p.0.item (take k fs))) → AllLead (take k fs) qs → AllLead (take (k + 1) fs) qs
+    one_field_more like before name = by_its_name p name
+        (λ named. subst (λ xs. Leads xs (under name qs)) (sym (taken_named fs k p within is name named))
+        (leads_more (under name (take k fs)) (under name qs) p.1 (before name) (subst (λ n. IsRanked (slice_get (under n qs) (length (under n (take k fs)))) p.1.item) named like)))
+        (λ differs. subst (λ xs. Leads xs (under name qs)) (sym (taken_other fs k p within is name differs)) (before name))
+
+    pub fields_more : HasLike rank → AllLead (take k ps) qs → AllLead (take (k + 1) ps) qs
+    fields_more like before = subst (λ zs. AllLead (take (k + 1) zs) qs) fields (one_field_more (subst HasLike ranks like) (subst (λ zs. AllLead (take k zs) qs) (sym fields) before))
 
   -- ---- the forms of the two values
 
@@ -95,7 +128,7 @@ module _ {S : Type 0} (eq : S → S → Bool) where
   Level (InputValue-F.Enum m) (InputValue-F.Enum n) = m ≡ n
   Level (InputValue-F.Variable m) (InputValue-F.Variable n) = m ≡ n
   Level (InputValue-F.List xs) (InputValue-F.List ys) = SameItems S eq xs ys
-  Level (InputValue-F.Object ps) (InputValue-F.Object qs) = (length ps ≡ length qs) × HaveLikes S eq ps qs × AreLikes S eq ps qs
+  Level (InputValue-F.Object ps) (InputValue-F.Object qs) = SameFields S eq ps qs
   Level _ _ = ⊥
 
   abbrev out : InputValue S → InputValue-F S (InputValue S)
@@ -110,7 +143,7 @@ module _ {S : Type 0} (eq : S → S → Bool) where
   to_level _ _ (same_enum n) = closed (value.Enum n) (value.Enum n) _ _ (value.outs-Enum n) (value.outs-Enum n) refl
   to_level _ _ (same_variable n) = closed (value.Variable n) (value.Variable n) _ _ (value.outs-Variable n) (value.outs-Variable n) refl
   to_level _ _ (same_list xs ys h) = closed (value.List xs) (value.List ys) _ _ (value.outs-List xs) (value.outs-List ys) h
-  to_level _ _ (same_object ps qs e h k) = closed (value.Object ps) (value.Object qs) _ _ (value.outs-Object ps) (value.outs-Object qs) (e, h, k)
+  to_level _ _ (same_object ps qs h) = closed (value.Object ps) (value.Object qs) _ _ (value.outs-Object ps) (value.outs-Object qs) h
 
   -- the same values, seen a layer deep
   pub level_of : (a b : InputValue S) (l m : InputValue-F S (InputValue S)) → out a ≡ l → out b ≡ m → Same a b → Level l m
@@ -142,5 +175,5 @@ module _ {S : Type 0} (eq : S → S → Bool) where
   pub list_case : (r : Bool) (a b : InputValue S) (xs ys : List (Placed (InputValue S))) → a ≡ value.List xs → b ≡ value.List ys → (IsTrue r ↔ SameItems S eq xs ys) → (IsTrue r ↔ Same a b)
   list_case r a b xs ys p q h = (λ t. same_at a b _ _ p q (same_list xs ys (h.0 t)), λ s. h.1 (level_of a b _ _ (ap out p ∙ value.outs-List xs) (ap out q ∙ value.outs-List ys) s))
 
-  pub object_case : (r : Bool) (a b : InputValue S) (ps qs : List (Pair (InputValue S))) → a ≡ value.Object ps → b ≡ value.Object qs → length ps ≡ length qs → HaveLikes S eq ps qs → (IsTrue r ↔ AreLikes S eq ps qs) → (IsTrue r ↔ Same a b)
-  object_case r a b ps qs p q e have h = (λ t. same_at a b _ _ p q (same_object ps qs e have (h.0 t)), λ s. h.1 (level_of a b _ _ (ap out p ∙ value.outs-Object ps) (ap out q ∙ value.outs-Object qs) s).2)
+  pub object_case : (r : Bool) (a b : InputValue S) (ps qs : List (Pair (InputValue S))) → a ≡ value.Object ps → b ≡ value.Object qs → (IsTrue r ↔ SameFields S eq ps qs) → (IsTrue r ↔ Same a b)
+  object_case r a b ps qs p q h = (λ t. same_at a b _ _ p q (same_object ps qs (h.0 t)), λ s. h.1 (level_of a b _ _ (ap out p ∙ value.outs-Object ps) (ap out q ∙ value.outs-Object qs) s))

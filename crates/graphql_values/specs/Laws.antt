@@ -1,9 +1,11 @@
 -- Laws of the definitions.
-use Rattle.std.specs.Prelude.{◌≡◌, ◌↔◌, List, [], Bool, Option, Some, None}
-use Rattle.std.specs.List.{Contains}
+use Rattle.std.specs.Prelude.{◌≡◌, ◌↔◌, List, [], length, Bool, Option, Some, None}
+use Rattle.std.specs.List.{All, Any, Contains}
 use Rattle.graphql_items.specs.declared.text.Text.{Text}
 use Rattle.graphql_values.specs.declared.input_value.InputValue.{InputValue}
-use Rattle.graphql_values.specs.SameValue.{SameValue}
+use Rattle.graphql_values.specs.declared.input_value.InputValue.TheVariants as value
+use Rattle.graphql_values.specs.InputValues.{Pair}
+use Rattle.graphql_values.specs.SameValue.{SameValue, UniqueNames}
 use Rattle.graphql_values.specs.Variables.{Occurs, IsConstant, variables_in, constant_of}
 
 module _ {S : Type 0} (eq : S → S → Bool) where
@@ -18,6 +20,13 @@ module _ {S : Type 0} (eq : S → S → Bool) where
   -- what is the same as a third value is the same
   abbrev pub SameByAThird : Type 0
   SameByAThird = (a b c : InputValue S) → SameValue S eq a b → SameValue S eq b c → SameValue S eq a c
+
+  -- where no name stands twice, objects are the same exactly if they have equally many fields, and each of the one has one of the same name and value in the other
+  abbrev pub SameByUniqueNames : Type 0
+  SameByUniqueNames =
+      (ps qs : List (Pair (InputValue S))) → UniqueNames ps → UniqueNames qs
+      → SameValue S eq (value.Object ps) (value.Object qs)
+      ↔ ((length ps ≡ length qs) × All (λ p. Any (λ q. (p.0.item ≡ q.0.item) × SameValue S eq p.1.item q.1.item) qs) ps)
 
 module _ (S : Type 0) where
   -- a value's variables are listed: each that stands in it, and no other

@@ -1,69 +1,52 @@
-use Rattle.std.proofs.Common.{◌≡◌, length, true, eqb, refl, ap, sym, subst, ◌∙◌, arith}
-use Rattle.std.specs.List.{Any}
+use Rattle.std.proofs.Common.{◌≡◌, ◌≤◌, length, refl, ap, sym, subst, ◌∙◌, arith}
+use Rattle.std.specs.Option.{option_copied}
 use Rattle.std.proofs.lemmas.Bool.{false≢true}
-use Rattle.std.proofs.lemmas.Bool.Decides.{nat_tests}
-use Rattle.graphql_values.specs.InputValues.{Pair}
-use Rattle.graphql_values.specs.declared.input_value.InputValue.{InputValue}
-use Rattle.graphql_values.proofs.SameValueLemmas.{IsLike, Same, refuted, found_at, one_more, all_of, holds_of, items_from, items_length, items_here, have_from, have_at, are_from, are_at, null_case, scalar_case, enum_case, variable_case, list_case, object_case}
-use Rattle.graphql_values.proofs.LikesBack.{likes_back}
+use Rattle.std.proofs.lemmas.List.{take_all}
+use Rattle.graphql_values.proofs.SameValueLemmas.{Same, AllLead, refuted, ranked_when, items_from, items_length, items_here, fields_length, fields_fit, fields_at, fields_more, null_case, scalar_case, enum_case, variable_case, list_case, object_case}
+use Rattle.graphql_values.proofs.OrderLemmas.{fields_from, fields_here}
 use Rattle.graphql_values.proofs.input_value.equality.+same.Goals as goal
-use Rattle.graphql_values.proofs.input_value.equality.+same.Goals.{has_like-else-is-via-then-is+else-same_value, has_like-else-is-via-else-is, is_like-else-is-via-then-is+else-same_value, is_like-else-is-via-else-is, same_value-then-len, same_value-else-len}
 
 -- ---- fields
 
-pub has_like-returns-then-same_value : goal.has_like-returns-then-same_value
-has_like-returns-then-same_value g t c =
-    let like = λ (q : Pair (InputValue g.row.S.Denot)). (c.args.name.now ≡ q.0.item) × Same g.S.PartialEq.eq c.args.value.now q.1.item in
-    (λ _. found_at like _ _ c.loop-pair.pair-index c.pair-item.result c.as_slice-pair-items.ensures c.loop-pair-test.true c.pair-item.is (c.is.ensures.same.0 c.if-is.true ∙ c.as_str.ensures, c.same_value.ensures.0 c.if-same_value.true), λ _. refl)
+pub is_ranked_under-returns-in-Some : goal.is_ranked_under-returns-in-Some
+is_ranked_under-returns-in-Some g t c = ranked_when g.S.PartialEq.eq c.same_value.result c.args.value.now _ c.in-Some.other.now (sym c.ranked_under.ensures ∙ ap option_copied c.in-Some.is) c.same_value.ensures
 
-pub has_like-loop-pair-preserved : goal.has_like-loop-pair-preserved
-has_like-loop-pair-preserved g t c =
-    let like = λ (q : Pair (InputValue g.row.S.Denot)). (c.args.name.now ≡ q.0.item) × Same g.S.PartialEq.eq c.args.value.now q.1.item in
-    one_more (λ q. like q → ⊥) _ c.loop-pair.pair-index c.pair-item.result c.loop-pair.invariant c.loop-pair-test.true c.pair-item.is (λ is. elim c.else-is.branch [
-      | has_like-else-is-via-then-is+else-same_value w ↦ refuted _ w.if-same_value.false (w.same_value.ensures.1 is.1)
-      | has_like-else-is-via-else-is w ↦ refuted _ w.if-is.false (c.is.ensures.same.1 (is.0 ∙ sym c.as_str.ensures))
-    ])
+pub same_by_name-returns-then-fields-len : goal.same_by_name-returns-then-fields-len
+same_by_name-returns-then-fields-len g t c =
+    let long : length c.as_slice-fields.result.now ≡ length c.args.left.now = ap length c.as_slice-fields.ensures in
+    (λ f. absurd (false≢true f), λ same. let e : length c.args.left.now ≡ length c.args.right.now = fields_length g.S.PartialEq.eq c.args.left.now c.args.right.now same in absurd (omega (arith, long, e)))
 
-pub is_like-returns-then-same_value : goal.is_like-returns-then-same_value
-is_like-returns-then-same_value g t c =
-    let like = λ (p : Pair (InputValue g.row.S.Denot)). (p.0.item ≡ c.args.name.now) × Same g.S.PartialEq.eq p.1.item c.args.value.now in
-    (λ _. found_at like _ _ c.loop-pair.pair-index c.pair-item.result c.as_slice-pair-items.ensures c.loop-pair-test.true c.pair-item.is (c.is.ensures.same.0 c.if-is.true ∙ c.as_str.ensures, c.same_value.ensures.0 c.if-same_value.true), λ _. refl)
+pub same_by_name-returns-then-not-is_ranked_under : goal.same_by_name-returns-then-not-is_ranked_under
+same_by_name-returns-then-not-is_ranked_under g t c = (
+  λ f. absurd (false≢true f),
+  λ same. refuted _ c.if-not-is_ranked_under.true (c.is_ranked_under.ensures.1
+      (fields_at g.S.PartialEq.eq c.args.left.now c.as_slice-fields.result.now c.args.right.now c.as_slice-fields.ensures c.loop-index.index c.index-fields-index.result c.loop-index-test.true c.index-fields-index.is c.count_under-rank.result c.count_under-rank.ensures same)),
+)
 
-pub is_like-loop-pair-preserved : goal.is_like-loop-pair-preserved
-is_like-loop-pair-preserved g t c =
-    let like = λ (p : Pair (InputValue g.row.S.Denot)). (p.0.item ≡ c.args.name.now) × Same g.S.PartialEq.eq p.1.item c.args.value.now in
-    one_more (λ p. like p → ⊥) _ c.loop-pair.pair-index c.pair-item.result c.loop-pair.invariant c.loop-pair-test.true c.pair-item.is (λ is. elim c.else-is.branch [
-      | is_like-else-is-via-then-is+else-same_value w ↦ refuted _ w.if-same_value.false (w.same_value.ensures.1 is.1)
-      | is_like-else-is-via-else-is w ↦ refuted _ w.if-is.false (c.is.ensures.same.1 (is.0 ∙ sym c.as_str.ensures))
-    ])
+pub same_by_name-loop-index-preserved : goal.same_by_name-loop-index-preserved
+same_by_name-loop-index-preserved g t c =
+    fields_more g.S.PartialEq.eq c.args.left.now c.as_slice-fields.result.now c.args.right.now c.as_slice-fields.ensures c.loop-index.index c.index-fields-index.result c.loop-index-test.true c.index-fields-index.is c.count_under-rank.result c.count_under-rank.ensures
+    (c.is_ranked_under.ensures.0 c.if-not-is_ranked_under.false) c.loop-index.invariant
 
-pub have_likes-returns-then-not-has_like : goal.have_likes-returns-then-not-has_like
-have_likes-returns-then-not-has_like g t c =
+pub same_by_name-returns : goal.same_by_name-returns
+same_by_name-returns g t c =
     let eq = g.S.PartialEq.eq in
-    (λ f. absurd (false≢true f), λ have. refuted _ c.if-not-has_like.true (c.has_like.ensures.1 (holds_of (λ (p : Pair (InputValue g.row.S.Denot)). Any (IsLike eq p) c.args.right.now) _ c.args.left.now c.loop-pair.pair-index c.pair-item.result c.as_slice-pair-items.ensures c.loop-pair-test.true c.pair-item.is (have_at eq c.args.left.now c.args.right.now have))))
+    let long : length c.as_slice-fields.result.now ≡ length c.args.left.now = ap length c.as_slice-fields.ensures in
+    let e : length c.args.left.now ≡ length c.args.right.now = omega (arith, long) in
+    let lead = subst (λ ps. AllLead eq ps c.args.right.now) (take_all c.loop-index.index c.args.left.now (subst (λ ps. length ps ≤ c.loop-index.index) c.as_slice-fields.ensures c.loop-index-test.false)) c.loop-index.invariant in
+    (λ _. fields_fit eq c.args.left.now c.args.right.now e lead, λ _. refl)
 
-pub have_likes-loop-pair-preserved : goal.have_likes-loop-pair-preserved
-have_likes-loop-pair-preserved g t c =
-    one_more (λ (p : Pair (InputValue g.row.S.Denot)). Any (IsLike g.S.PartialEq.eq p) c.args.right.now) _ c.loop-pair.pair-index c.pair-item.result c.loop-pair.invariant c.loop-pair-test.true c.pair-item.is (c.has_like.ensures.0 c.if-not-has_like.false)
+pub same_in_order-returns-then-not-same_value : goal.same_in_order-returns-then-not-same_value
+same_in_order-returns-then-not-same_value g t c = (
+  λ f. absurd (false≢true f),
+  λ same. refuted _ c.if-not-same_value.true (c.same_value.ensures.1
+      (subst (λ q. Same g.S.PartialEq.eq c.pair-item.result.1.item q.1.item) c.index-others-index.is (fields_here g.S.PartialEq.eq c.as_slice-pair-items.result.now c.as_slice-others.result.now c.args.left.now c.args.right.now c.loop-index.index c.pair-item.result c.index-others-index.result c.as_slice-pair-items.ensures c.as_slice-others.ensures c.loop-index-test.true c.pair-item.is c.index-others-index.is c.requires same))),
+)
 
-pub have_likes-returns : goal.have_likes-returns
-have_likes-returns g t c =
-    let eq = g.S.PartialEq.eq in
-    (λ _. have_from eq c.args.left.now c.args.right.now (all_of (λ (p : Pair (InputValue g.row.S.Denot)). Any (IsLike eq p) c.args.right.now) _ c.args.left.now c.loop-pair.pair-index c.as_slice-pair-items.ensures c.loop-pair.invariant c.loop-pair-test.false), λ _. refl)
-
-pub are_likes-returns-then-not-is_like : goal.are_likes-returns-then-not-is_like
-are_likes-returns-then-not-is_like g t c =
-    let eq = g.S.PartialEq.eq in
-    (λ f. absurd (false≢true f), λ are. refuted _ c.if-not-is_like.true (c.is_like.ensures.1 (holds_of (λ (q : Pair (InputValue g.row.S.Denot)). Any (λ p. IsLike eq p q) c.args.left.now) _ c.args.right.now c.loop-pair.pair-index c.pair-item.result c.as_slice-pair-items.ensures c.loop-pair-test.true c.pair-item.is (are_at eq c.args.left.now c.args.right.now are))))
-
-pub are_likes-loop-pair-preserved : goal.are_likes-loop-pair-preserved
-are_likes-loop-pair-preserved g t c =
-    one_more (λ (q : Pair (InputValue g.row.S.Denot)). Any (λ p. IsLike g.S.PartialEq.eq p q) c.args.left.now) _ c.loop-pair.pair-index c.pair-item.result c.loop-pair.invariant c.loop-pair-test.true c.pair-item.is (c.is_like.ensures.0 c.if-not-is_like.false)
-
-pub are_likes-returns : goal.are_likes-returns
-are_likes-returns g t c =
-    let eq = g.S.PartialEq.eq in
-    (λ _. are_from eq c.args.left.now c.args.right.now (all_of (λ (q : Pair (InputValue g.row.S.Denot)). Any (λ p. IsLike eq p q) c.args.left.now) _ c.args.right.now c.loop-pair.pair-index c.as_slice-pair-items.ensures c.loop-pair.invariant c.loop-pair-test.false), λ _. refl)
+pub same_in_order-returns : goal.same_in_order-returns
+same_in_order-returns g t c =
+    let long : length c.as_slice-pair-items.result.now ≡ length c.args.left.now = ap length c.as_slice-pair-items.ensures in
+    (λ _. fields_from g.S.PartialEq.eq c.args.left.now c.args.right.now c.requires (λ k x y within. c.loop-index.invariant k x y (omega (arith, long, within, c.loop-index-test.false))), λ _. refl)
 
 -- ---- items
 
@@ -100,28 +83,5 @@ same_value-returns-in-Variable-right g t c =
 pub same_value-returns-in-List-right : goal.same_value-returns-in-List-right
 same_value-returns-in-List-right g t c = list_case g.S.PartialEq.eq c.same_items.result c.args.left.now c.args.right.now c.in-List.items c.in-List-right.others c.in-List.is c.in-List-right.is c.same_items.ensures
 
-pub same_value-returns-then-has_unique_names : goal.same_value-returns-then-has_unique_names
-same_value-returns-then-has_unique_names g t c =
-    let eq = g.S.PartialEq.eq in
-    elim c.if-len.branch [
-      | same_value-then-len w ↦
-          let e : length c.in-Object.pairs ≡ length c.in-Object-right.others = omega arith in
-          let have = w.have_likes.ensures.0 (sym w.value-is ∙ c.if-have_likes.true) in
-          object_case eq c.has_unique_names.result c.args.left.now c.args.right.now c.in-Object.pairs c.in-Object-right.others c.in-Object.is c.in-Object-right.is e have (λ _. likes_back eq c.in-Object.pairs c.in-Object-right.others e (c.has_unique_names.ensures.0 c.if-has_unique_names.true) have, λ _. c.if-has_unique_names.true)
-      | same_value-else-len w ↦
-          let e : eqb c.len.result c.len-in-Object-right.result ≡ true = sym w.value-is ∙ c.if-have_likes.true in
-          absurd (grind (arith, nat_tests))
-    ]
-
-pub same_value-returns-else-has_unique_names : goal.same_value-returns-else-has_unique_names
-same_value-returns-else-has_unique_names g t c =
-    let eq = g.S.PartialEq.eq in
-    elim c.if-len.branch [
-      | same_value-then-len w ↦
-          let e : length c.in-Object.pairs ≡ length c.in-Object-right.others = omega arith in
-          let have = w.have_likes.ensures.0 (sym w.value-is ∙ c.if-have_likes.true) in
-          object_case eq c.are_likes.result c.args.left.now c.args.right.now c.in-Object.pairs c.in-Object-right.others c.in-Object.is c.in-Object-right.is e have c.are_likes.ensures
-      | same_value-else-len w ↦
-          let e : eqb c.len.result c.len-in-Object-right.result ≡ true = sym w.value-is ∙ c.if-have_likes.true in
-          absurd (grind (arith, nat_tests))
-    ]
+pub same_value-returns-in-Object-right : goal.same_value-returns-in-Object-right
+same_value-returns-in-Object-right g t c = object_case g.S.PartialEq.eq c.same_fields.result c.args.left.now c.args.right.now c.in-Object.pairs c.in-Object-right.others c.in-Object.is c.in-Object-right.is c.same_fields.ensures
