@@ -1,16 +1,15 @@
 -- The first faulty token of a text is that of each text with the same tokens, for any grammar that does not see places.
-use Rattle.std.proofs.Common.{◌≡◌, inl, inr, List, [], ◌∷◌, ◌++◌, drop, Result, ap, ◌∙◌, sym, refl, subst}
+use Rattle.std.proofs.Common.{◌≡◌, inl, inr, List, [], ◌∷◌, ◌++◌, drop, ap, ◌∙◌, sym, refl, subst}
 use Rattle.std.proofs.lemmas.List.{map-append}
 use Rattle.graphql_text.specs.declared.position.Span.{Span}
 use Rattle.graphql_text.specs.declared.position.SourcePosition.{SourcePosition}
 use Rattle.graphql_text.specs.declared.token.Token.TheVariants as t
-use Rattle.graphql_text.specs.declared.token.ScalarToken.{ScalarToken}
-use Rattle.graphql_text.specs.declared.parse_error.ParseError.{ParseError}
 use Rattle.graphql_grammar.specs.Input.{Located, Fault, first, unexpected}
 use Rattle.graphql_grammar.specs.Ahead.{mk}
-use Rattle.graphql_grammar.specs.Faults.{IsScalar, BadScalar, GoodScalar, Begins, FaultOf, unexpected_token, refused_scalar, FirstFaultyToken}
+use Rattle.graphql_grammar.specs.Faults.{Reading, IsScalar, BadScalar, Begins, TakesScalar, FaultOf, unexpected_token, refused_scalar, FirstFaultyToken}
 use Rattle.graphql_grammar.specs.Alike.{tokens_of, SameTokens, Corresponding}
 use Rattle.graphql_grammar.proofs.Alike.{same_first}
+use Rattle.graphql_grammar.proofs.FirstFaults.{fault_span}
 
 -- ---- the same tokens, cut and joined
 
@@ -51,48 +50,48 @@ first_corresponds (a ∷ before) [] rest r f g h u = absurd (cc)
 
 -- ---- the first faulty token
 
-module _ {S A : Type 0} (reads : ScalarToken → Result S ParseError) (Tree : List Located → A → Type 0) (again : (ts us : List Located) (x : A) → SameTokens ts us → Tree ts x → (y : A) × Tree us y) where
-  begins_again : (ts us : List Located) → SameTokens ts us → Begins reads Tree ts → Begins reads Tree us
-  begins_again ts us h b = let r = again (ts ++ b.more) (us ++ b.more) b.tree (same_append ts us b.more b.more h refl) b.spells in record { more = b.more; tree = r.0; spells = r.1 }
+module _ {S A : Type 0} (Tree : Reading S → List Located → A → Type 0) (again : (reads : Reading S) (ts us : List Located) (x : A) → SameTokens ts us → Tree reads ts x → (y : A) × Tree reads us y) (reads : Reading S) where
+  begins_again : (ts us : List Located) → SameTokens ts us → Begins reads (Tree reads) ts → Begins reads (Tree reads) us
+  begins_again ts us h b = let r = again reads (ts ++ b.more) (us ++ b.more) b.tree (same_append ts us b.more b.more h refl) b.spells in record { more = b.more; tree = r.0; spells = r.1 }
 
   -- the next token in place of one like it
-  begins_with : (ts us : List Located) (a b : Located) → SameTokens ts us → a.item ≡ b.item → Begins reads Tree (ts ++ a ∷ []) → Begins reads Tree (us ++ b ∷ [])
+  begins_with : (ts us : List Located) (a b : Located) → SameTokens ts us → a.item ≡ b.item → Begins reads (Tree reads) (ts ++ a ∷ []) → Begins reads (Tree reads) (us ++ b ∷ [])
   begins_with ts us a b h is = begins_again (ts ++ a ∷ []) (us ++ b ∷ []) (same_append ts us (a ∷ []) (b ∷ []) h (ap (λ z. z ∷ []) is))
+
+module _ {S A : Type 0} (reads : Reading S) (Tree : Reading S → List Located → A → Type 0) (again : (reads : Reading S) (ts us : List Located) (x : A) → SameTokens ts us → Tree reads ts x → (y : A) × Tree reads us y) where
+  takes_again : (ts us : List Located) → SameTokens ts us → TakesScalar Tree ts → TakesScalar Tree us
+  takes_again ts us h takes = record { reading = takes.reading; at = takes.at; scalar = takes.scalar; begins = begins_with Tree again takes.reading ts us takes.at takes.at h refl takes.begins }
 
   -- the same fault at what stands next
   abbrev moved : Span → List Located → Fault → Fault
   moved g r e = record { item = e.item; span = (first g r).span }
 
-  fault_span : (f : Span) (before rest : List Located) (e : Fault) → FaultOf reads Tree f before rest e → e.span ≡ (first f rest).span
-  fault_span f before rest e (unexpected_token is none) = ap (λ (z : Fault). z.span) is
-  fault_span f before rest e (refused_scalar a more at bad good) = ap (λ (z : Fault). z.span) bad.fault ∙ sym (ap (λ z. (first f z).span) at)
-
-  none_again : (before l rest r : List Located) → SameTokens before l → SameTokens rest r → ((a b : Located) (more : List Located) → rest ≡ a ∷ more → IsScalar a → IsScalar b → Begins reads Tree (before ++ b ∷ []) → ⊥)
-      → (a b : Located) (more : List Located) → r ≡ a ∷ more → IsScalar a → IsScalar b → Begins reads Tree (l ++ b ∷ []) → ⊥
-  none_again before l [] r h u none a b more at s v c = absurd (cc)
-  none_again before l (x ∷ rest) r h u none a b more at s v c =
-      none x b rest refl (record { token = s.token; is = same_head x a rest more (u ∙ ap tokens_of at) ∙ s.is }) v (begins_with l before b b (sym h) refl c)
+  none_again : (before l rest r : List Located) → SameTokens before l → SameTokens rest r → ((a : Located) (more : List Located) → rest ≡ a ∷ more → IsScalar a → TakesScalar Tree before → ⊥)
+      → (a : Located) (more : List Located) → r ≡ a ∷ more → IsScalar a → TakesScalar Tree l → ⊥
+  none_again before l [] r h u none a more at s takes = absurd (cc)
+  none_again before l (x ∷ rest) r h u none a more at s takes =
+      none x rest refl (record { token = s.token; is = same_head x a rest more (u ∙ ap tokens_of at) ∙ s.is }) (takes_again l before (sym h) takes)
 
   scalar_again : (g : Span) (before l rest r : List Located) (e : Fault) (a : Located) (more : List Located) → SameTokens before l → SameTokens rest r → rest ≡ a ∷ more → BadScalar reads a e
-      → ((b : Located) → GoodScalar reads b → Begins reads Tree (before ++ b ∷ [])) → FaultOf reads Tree g l r (moved g r e)
-  scalar_again g before l rest [] e a more h u at bad good = absurd (cc)
-  scalar_again g before l rest (b ∷ r) e a more h u at bad good = let like = same_head a b more r (sym (ap tokens_of at) ∙ u) in
+      → TakesScalar Tree before → FaultOf reads Tree g l r (moved g r e)
+  scalar_again g before l rest [] e a more h u at bad takes = absurd (cc)
+  scalar_again g before l rest (b ∷ r) e a more h u at bad takes = let like = same_head a b more r (sym (ap tokens_of at) ∙ u) in
       refused_scalar b r refl
       (record { token = bad.token; error = bad.error; is = sym like ∙ bad.is; reads_not = bad.reads_not; fault = ap (λ (z : Fault). moved b.span [] z) bad.fault })
-      (λ c s. begins_with before l c c h refl (good c s))
+      (takes_again before l h takes)
 
   fault_again : (f g : Span) (before l rest r : List Located) (e : Fault) → SameTokens before l → SameTokens rest r → FaultOf reads Tree f before rest e → FaultOf reads Tree g l r (moved g r e)
   fault_again f g before l rest r e h u (unexpected_token is none) =
       unexpected_token (ap (λ z. record { item = z; span = (first g r).span }) (ap (λ (z : Fault). z.item) is ∙ ap unexpected (same_first f g rest r u))) (none_again before l rest r h u none)
-  fault_again f g before l rest r e h u (refused_scalar a more at bad good) = scalar_again g before l rest r e a more h u at bad good
+  fault_again f g before l rest r e h u (refused_scalar a more at bad takes) = scalar_again g before l rest r e a more h u at bad takes
 
-  impossible_again : (before l rest r : List Located) → SameTokens before l → SameTokens rest r → ((a : Located) (more : List Located) → rest ≡ a ∷ more → Begins reads Tree (before ++ a ∷ []) → ⊥)
-      → (a : Located) (more : List Located) → r ≡ a ∷ more → Begins reads Tree (l ++ a ∷ []) → ⊥
+  impossible_again : (before l rest r : List Located) → SameTokens before l → SameTokens rest r → ((a : Located) (more : List Located) → rest ≡ a ∷ more → Begins reads (Tree reads) (before ++ a ∷ []) → ⊥)
+      → (a : Located) (more : List Located) → r ≡ a ∷ more → Begins reads (Tree reads) (l ++ a ∷ []) → ⊥
   impossible_again before l [] r h u none a more at b = absurd (cc)
-  impossible_again before l (x ∷ rest) r h u none a more at b = none x rest refl (begins_with l before a x (sym h) (sym (same_head x a rest more (u ∙ ap tokens_of at))) b)
+  impossible_again before l (x ∷ rest) r h u none a more at b = none x rest refl (begins_with Tree again reads l before a x (sym h) (sym (same_head x a rest more (u ∙ ap tokens_of at))) b)
 
-  too_short_again : (before l rest r : List Located) → SameTokens before l → SameTokens rest r → (rest ≡ [] → (x : A) → Tree before x → ⊥) → r ≡ [] → (x : A) → Tree l x → ⊥
-  too_short_again before l [] r h u short ends x spells = let y = again l before x (sym h) spells in short refl y.0 y.1
+  too_short_again : (before l rest r : List Located) → SameTokens before l → SameTokens rest r → (rest ≡ [] → (x : A) → Tree reads before x → ⊥) → r ≡ [] → (x : A) → Tree reads l x → ⊥
+  too_short_again before l [] r h u short ends x spells = let y = again reads l before x (sym h) spells in short refl y.0 y.1
   too_short_again before l (a ∷ rest) r h u short ends x spells = absurd (cc)
 
   corresponds : (f g : Span) (ts us before l rest r : List Located) (e : Fault) → ts ≡ before ++ rest → us ≡ l ++ r → SameTokens before l → SameTokens rest r → e.span ≡ (first f rest).span
@@ -111,11 +110,11 @@ module _ {S A : Type 0} (reads : ScalarToken → Result S ParseError) (Tree : Li
       before = c.0;
       rest = c.1;
       front = c.2;
-      possible = begins_again at.before c.0 c.3 at.possible;
+      possible = begins_again Tree again reads at.before c.0 c.3 at.possible;
       impossible = impossible_again at.before c.0 at.rest c.1 c.3 c.4 at.impossible;
       too_short = too_short_again at.before c.0 at.rest c.1 c.3 c.4 at.too_short;
       fault = fault_again f g at.before c.0 at.rest c.1 e c.3 c.4 at.fault;
     },
     refl,
-    corresponds f g ts us at.before c.0 at.rest c.1 e at.front c.2 c.3 c.4 (fault_span f at.before at.rest e at.fault),
+    corresponds f g ts us at.before c.0 at.rest c.1 e at.front c.2 c.3 c.4 (fault_span reads Tree f at.before at.rest e at.fault),
   )

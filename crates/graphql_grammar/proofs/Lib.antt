@@ -4,7 +4,11 @@ pub mod Law
 pub mod Choices
 pub mod Loops
 pub mod Recursion
+pub mod Readings
+pub mod Marks
+pub mod Fronts
 pub mod FirstFaults
+pub mod OneFault
 pub mod Cursors
 pub mod Begins
 pub mod Ends
@@ -13,3 +17,4 @@ pub mod Parts
 pub mod Alike
 pub mod AlikeFaults
 pub mod KindTests
+pub mod Leaves

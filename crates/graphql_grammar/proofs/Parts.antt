@@ -1,5 +1,5 @@
 -- What parsers made of others read, from what these read.
-use Rattle.std.proofs.Common.{◌≡◌, ◌≢◌, List, Result, true, false, if◌then◌else◌, Some, None, Ok, Err, sym, ap, ◌∙◌}
+use Rattle.std.proofs.Common.{◌≡◌, ◌≢◌, Result, true, false, if◌then◌else◌, Some, None, Ok, Err, sym, ap, ◌∙◌}
 use Rattle.std.specs.Result.{IsErrAnd}
 use Rattle.graphql_text.specs.declared.position.SourcePosition.{SourcePosition}
 use Rattle.graphql_text.specs.declared.parse_error.ParseError.TheVariants.{Memory}

@@ -6,3 +6,4 @@ pub mod Ahead
 pub mod Faults
 pub mod Cursor
 pub mod Alike
+pub mod Leaves

@@ -11,6 +11,7 @@ ghost use Rattle.graphql_grammar.specs.Input.{IsMemory, Reads, StandsFor, Stands
 ghost use Rattle.graphql_grammar.specs.Steps as steps;
 ghost use Rattle.graphql_grammar.specs.Steps.{sees};
 ghost use Rattle.graphql_grammar.specs.Cursor.{IsStart, IsLexical, after};
+ghost use Rattle.graphql_grammar.specs.Leaves.{Behind};
 
 use crate::kind::{Kind, kind_of};
 use graphql_text::{Items, ParseError, SourcePosition, Span, Spanning, TextRef, Token, lex_all};
@@ -157,8 +158,10 @@ impl<'a> Cursor<'a> {
     }
 
     /// Goes behind the next token, which is of this kind; else refuses it, and stays.
+    #[tactic(auto, using(crate::proofs::Leaves::behind_after))]
     pub fn expect(&mut self, alloc: Global, wanted: Kind) -> Result<(), Fault>
         ensures reads { Reads (steps.expect wanted self.old) result self.new }
+        ensures behind { Behind self.old self.new }
         ensures no_more { left self.new ≤ left self.old }
         ensures fewer { wanted ≢ k.EndOfFile → OnOk result (left self.new < left self.old) }
         ensures stays { OnErr result (self.new ≡ self.old) }
@@ -173,8 +176,10 @@ impl<'a> Cursor<'a> {
 
     /// Goes behind the next token, which is a name, and gives the name; else refuses the token, and
     /// stays.
+    #[tactic(auto, using(crate::proofs::Leaves::behind_next))]
     pub fn name(&mut self, alloc: Global) -> Result<TextRef<'a>, Fault>
         ensures reads { Reads (steps.name self.old) result self.new }
+        ensures behind { Behind self.old self.new }
         ensures no_more { left self.new ≤ left self.old }
         ensures fewer { OnOk result (left self.new < left self.old) }
         ensures stays { OnErr result (self.new ≡ self.old) }

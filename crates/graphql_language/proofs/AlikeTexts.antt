@@ -18,7 +18,7 @@ use Rattle.graphql_tree.specs.declared.document.Definition.{Definition}
 use Rattle.graphql_language.specs.ReadDocuments.{document}
 use Rattle.graphql_tree.specs.Unlocated.{unlocated_document}
 use Rattle.graphql_language.specs.Documents.{DocumentOf}
-use Rattle.graphql_language.specs.Texts.{IsCut}
+use Rattle.graphql_language.specs.Texts.{IsCut, Documents}
 use Rattle.graphql_language.specs.Alike.{AreAlike, DifferInPlaces, RefusedAlike}
 use Rattle.graphql_language.proofs.DocumentLaws.{law_document}
 use Rattle.graphql_language.proofs.DocumentPlaces.{even_document}
@@ -74,12 +74,13 @@ module _ {S : Type 0} (reads : ScalarToken → Result S ParseError) (of_bool : B
       let same = (even_document reads of_bool).at (mk (ts ++ []) f origin) (mk us f origin) (ap tokens_of (append-nil ts) ∙ h) in
       read_again us x f (end_of origin ts) (document reads of_bool (mk us f origin)) refl (subst (λ o. SameOutcome unlocated_document o (document reads of_bool (mk us f origin))) read same)
 
+module _ {S : Type 0} (reads : ScalarToken → Result S ParseError) (of_bool : Bool → S) where
   pub differ_in_places : DifferInPlaces S reads of_bool
-  differ_in_places text other alike tree d = let c = cut_again text other alike d.tokens d.finish d.cut in let y = document_again d.tokens c.others tree c.same d.spells in
+  differ_in_places text other alike tree d = let c = cut_again text other alike d.tokens d.finish d.cut in let y = document_again reads of_bool d.tokens c.others tree c.same d.spells in
       (y.0, record { tokens = c.others; finish = c.finish; cut = c.cut; spells = y.1 }, y.2)
 
   pub refused_alike : RefusedAlike S reads of_bool
   refused_alike text other alike fault (inl r) = absurd (lexical.not_both text alike.tokens r.0 alike.divided r.1)
   refused_alike text other alike fault (inr r) = let c = cut_again text other alike r.tokens r.finish r.cut in
-      let d = first_fault_again reads Doc (λ ts us x h spells. let y = document_again ts us x h spells in (y.0, y.1)) r.tokens c.others r.finish c.finish origin origin fault c.same r.first in
+      let d = first_fault_again reads (Documents S reads of_bool) (λ q ts us x h spells. let y = document_again q of_bool ts us x h spells in (y.0, y.1)) r.tokens c.others r.finish c.finish origin origin fault c.same r.first in
       (d.0, inr (record { tokens = c.others; finish = c.finish; cut = c.cut; first = d.1 }), d.2, subst₂ (λ ts us. Corresponding ts us fault.span d.0.span) (sym c.whole) (sym c.whole_other) d.3)

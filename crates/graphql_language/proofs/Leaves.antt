@@ -1,35 +1,23 @@
 -- A list between two tokens leaves the rest of the input.
-use Rattle.std.proofs.Common.{◌≡◌, Some, None, List, [], ◌∷◌, ◌++◌, Result, Ok, Err, ap, ◌∙◌, sym, refl, subst, append_assoc}
+use Rattle.std.proofs.Common.{◌≡◌, Some, None, List, [], ◌∷◌, ◌++◌, Result, Ok, Err, ap, ◌∙◌, sym, subst}
 use Rattle.std.proofs.lemmas.Option.{MatchOption-at_none}
 use Rattle.graphql_text.specs.declared.token.Token.{Token}
 use Rattle.graphql_grammar.specs.Input.{At, Input, Located, Fault, IsMemory, peek}
-use Rattle.graphql_grammar.specs.Ahead.{mk}
-use Rattle.graphql_grammar.specs.Relations.{end_of}
-use Rattle.graphql_grammar.proofs.Stops.{end-append}
+use Rattle.graphql_grammar.specs.Leaves.{Behind}
+use Rattle.graphql_grammar.proofs.Leaves.{behind_same, behind_then}
 use Rattle.graphql_language.specs.Parser.{State, Rule, CallsFresh, Calls, RefusesAgain, ThisToken, MaybeToken, KeepsRefusal}
 use Rattle.graphql_language.specs.Lists.{Call, Function, Item, Full, Until, closed, unclosed, refused, more, full, SomeItems, first as first_item, no_first, no_room, Delimited, unopened, unlisted, listed, AnyItems}
-use Rattle.graphql_language.specs.Leaves.{Behind, Stops, Leaves, LeavesRest, ListsLeaveRest, SomeListsLeaveRest}
+use Rattle.graphql_language.specs.Leaves.{Stops, Leaves, LeavesRest, ListsLeaveRest, SomeListsLeaveRest}
 use Rattle.graphql_language.proofs.NextTokens.{TokenRead, opened, last_read}
 
 -- ---- behind some tokens
 
-behind_same : {i j : Input} → j ≡ i → Behind i j
-behind_same {i} {j} is = subst (λ z. Behind i z) (sym is) (record { tokens = []; front = refl; after = refl })
-
 behind_token : {wanted : Token} {i : Input} {token : Located} {j : Input} → TokenRead wanted i token j → Behind i j
 behind_token {token = token} read = record { tokens = token ∷ []; front = read.front; after = read.after }
 
-behind_then : (i m j : Input) → Behind i m → Behind m j → Behind i j
-behind_then i m j a b = record {
-  tokens = a.tokens ++ b.tokens;
-  front = a.front ∙ ap (λ ts. a.tokens ++ ts) b.front ∙ sym (append_assoc a.tokens b.tokens j.ahead);
-  after = b.after ∙ ap (λ z. mk j.ahead z (end_of m.end b.tokens)) (ap (λ (k : Input). k.finish) a.after) ∙ ap (λ z. mk j.ahead i.finish (end_of z b.tokens)) (ap (λ (k : Input). k.end) a.after)
-      ∙ ap (λ z. mk j.ahead i.finish z) (sym (end-append i.end a.tokens b.tokens));
-}
-
 leaves_then : {A : Type 0} (i : Input) (m t : State) (r : Result A Fault) → Behind i m.input → Leaves m.input r t → Leaves i r t
-leaves_then i m t (Ok x) before left = (behind_then i m.input t.input before left.0, left.1)
-leaves_then i m t (Err e) before left = λ told. let b = left told in (behind_then i m.input t.input before b.0, b.1)
+leaves_then i m t (Ok x) before left = (behind_then before left.0, left.1)
+leaves_then i m t (Err e) before left = λ told. let b = left told in (behind_then before b.0, b.1)
 
 -- ---- single tokens
 
@@ -85,7 +73,7 @@ module _ {F A : Type 0} (function : Function F A) (f : F) (leaves : LeavesRest f
     until_leaves _ _ _ _ (more found s m n t x r none item rest) fresh =
         let skipped = fresh_call (MaybeToken closing) s m (Ok None) fresh none in
         let left = item_leaves m n (Ok x) skipped.1 item in
-        leaves_then s.input n t r (behind_then s.input m.input n.input (behind_same skipped.0.2) left.0) (until_leaves (found ++ x ∷ []) n t r rest left.1)
+        leaves_then s.input n t r (behind_then (behind_same skipped.0.2) left.0) (until_leaves (found ++ x ∷ []) n t r rest left.1)
     until_leaves _ _ _ _ (full found s m n t x e none item memory) fresh = full_stops s.input n t e memory
 
     some_leaves : (s t : State) (r : Result (List A × Located) Fault) → SomeItems closing (Item function f) s r t → s.refused ≡ None → Leaves s.input r t

@@ -15,3 +15,4 @@ pub mod SelectionLevels
 pub mod SelectionParts
 pub mod OpenSets
 pub mod DocumentParts
+pub mod DocumentReadings

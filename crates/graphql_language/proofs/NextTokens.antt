@@ -6,10 +6,11 @@ use Rattle.graphql_text.specs.declared.token.Token.{Token}
 use Rattle.graphql_text.specs.declared.token.Token.TheVariants.{EndOfFile}
 use Rattle.graphql_text.specs.declared.token.Token.TheVariants as t
 use Rattle.graphql_grammar.specs.Kinds.{names}
-use Rattle.graphql_grammar.specs.Input.{At, Input, Located, Fault, Outcome, Reads, first, end_after, peek, peek_kind, next, refusal}
+use Rattle.graphql_grammar.specs.Input.{At, Input, Located, Fault, Reads, first, end_after, peek, peek_kind, next, refusal}
 use Rattle.graphql_grammar.specs.Steps.{sees, name, name_of}
 use Rattle.graphql_grammar.specs.Ahead.{mk}
 use Rattle.graphql_grammar.proofs.Cursors.{token_yes, token_no}
+use Rattle.graphql_grammar.proofs.FirstFaults.{same_pair}
 use Rattle.graphql_value_syntax.proofs.ValueLaws.{name_token, name_kind}
 use Rattle.graphql_language.specs.Parser.{State, Rule, CallsFresh, Calls, RefusesAgain, ReadsBy, ThisToken, MaybeToken, NextName}
 
@@ -49,14 +50,6 @@ pub last_read : (wanted : Token) (s t : State) (token : Located) → Calls (Mayb
 last_read wanted s t token calls = let r = answered (MaybeToken wanted) s t (Some token) calls in token_read wanted s.input t.input token r.0 r.1 r.2 r.3
 
 -- ---- names
-
-got : {A : Type 0} → A × Input → Outcome A → A × Input
-got d (Ok q) = q
-got d (Err e) = d
-
-same_pair : {A : Type 0} (p q : A × Input) → Path (Outcome A) (Ok p) (Ok q) → p ≡ q
-unfolding got
-same_pair p q h = ap (got p) h
 
 name_next : (i j : Input) (n : List ℕ) (b : Bool) → sees names i ≡ b → name i ≡ Ok (n, j) → ((peek i).item ≡ t.Name n) × (j ≡ next i)
 unfolding sees peek_kind

@@ -7,24 +7,27 @@ use Rattle.graphql_text.specs.declared.parse_error.ParseError.{ParseError}
 use Rattle.graphql_text.specs.declared.parse_error.ParseError.TheVariants.{Memory}
 use Rattle.graphql_text.specs.Position.{origin}
 use Rattle.graphql_text.specs.Tokens.{is_end}
+use Rattle.graphql_text.specs.Reading.{Refusal}
 use Rattle.graphql_text.specs.Refusals.{parse_error_of}
 use Rattle.graphql_grammar.specs.declared.kind.Kind.TheVariants as k
 use Rattle.graphql_grammar.specs.Kinds.{only}
 use Rattle.graphql_grammar.specs.Input.{Input, Located, Fault, Outcome, Reads, ◌>>=◌}
 use Rattle.graphql_grammar.specs.Steps.{finished, all}
 use Rattle.graphql_grammar.specs.Ahead.{mk, kind_ahead}
-use Rattle.graphql_grammar.specs.Faults.{Begins, FirstFaultyToken}
+use Rattle.graphql_grammar.specs.Faults.{Reading, Begins, FirstFaultyToken}
 use Rattle.graphql_grammar.specs.Cursor.{NoEnd, IsStart}
 use Rattle.graphql_text.proofs.GrammarLaws as lexical
 use Rattle.graphql_grammar.proofs.Cursors.{end_or_not, starts}
 use Rattle.graphql_grammar.proofs.Stops.{ran_before}
 use Rattle.graphql_grammar.proofs.Ends.{finished_end}
 use Rattle.graphql_grammar.proofs.FirstFaults.{spelled, first_fault, one_tree}
+use Rattle.graphql_grammar.proofs.OneFault.{one_first_fault}
 use Rattle.graphql_tree.specs.declared.document.Definition.{Definition}
 use Rattle.graphql_language.specs.ReadDocuments.{definition_kinds, definition, document}
 use Rattle.graphql_language.specs.Documents.{DocumentOf}
-use Rattle.graphql_language.specs.Texts.{IsDocument, IsRefused, OnlyDocument, OneDocument, DocumentOrRefused, NotBoth}
+use Rattle.graphql_language.specs.Texts.{Documents, IsDocument, IsUngrammatical, IsRefused, OnlyDocument, OneDocument, DocumentOrRefused, NotBoth, OneFault}
 use Rattle.graphql_language.proofs.DocumentLaws.{law_document}
+use Rattle.graphql_language.proofs.DocumentReadings.{twins_document}
 
 no_end_behind : (ts us : List Located) → NoEnd (ts ++ us) → NoEnd us
 no_end_behind [] us h = h
@@ -39,17 +42,20 @@ same_front : (ts us : List Located) (a b : Located) → ts ++ a ∷ [] ≡ us ++
 same_front ts us a b h = (same_from_push ts us a b h).0
 
 -- no tree is spelled by tokens of which one is the first faulty one
-module _ {S A : Type 0} (reads : ScalarToken → Result S ParseError) (Tree : List Located → A → Type 0) where
-  fits_by : (before rest : List Located) (x : A) → ((a : Located) (more : List Located) → rest ≡ a ∷ more → Begins reads Tree (before ++ a ∷ []) → ⊥) → (rest ≡ [] → (y : A) → Tree before y → ⊥) → Tree (before ++ rest) x → ⊥
-  fits_by before [] x no_more too_short d = too_short refl x (subst (λ us. Tree us x) (append-nil before) d)
-  fits_by before (a ∷ more) x no_more too_short d = no_more a more refl (record { more = more; tree = x; spells = subst (λ us. Tree us x) (sym (append_assoc before (a ∷ []) more)) d })
+module _ {S A : Type 0} (reads : Reading S) (Tree : Reading S → List Located → A → Type 0) where
+  fits_by : (before rest : List Located) (x : A) → ((a : Located) (more : List Located) → rest ≡ a ∷ more → Begins reads (Tree reads) (before ++ a ∷ []) → ⊥) → (rest ≡ [] → (y : A) → Tree reads before y → ⊥) → Tree reads (before ++ rest) x → ⊥
+  fits_by before [] x no_more too_short d = too_short refl x (subst (λ us. Tree reads us x) (append-nil before) d)
+  fits_by before (a ∷ more) x no_more too_short d = no_more a more refl (record { more = more; tree = x; spells = subst (λ us. Tree reads us x) (sym (append_assoc before (a ∷ []) more)) d })
 
-  fits : (ts : List Located) (finish : Span) (x : A) (e : Fault) → FirstFaultyToken reads Tree (mk ts finish origin) e → Tree ts x → ⊥
-  fits ts finish x e f d = fits_by f.before f.rest x f.impossible f.too_short (subst (λ us. Tree us x) f.front d)
+  fits : (ts : List Located) (finish : Span) (x : A) (e : Fault) → FirstFaultyToken reads Tree (mk ts finish origin) e → Tree reads ts x → ⊥
+  fits ts finish x e f d = fits_by f.before f.rest x f.impossible f.too_short (subst (λ us. Tree reads us x) f.front d)
 
 module _ {S : Type 0} (reads : ScalarToken → Result S ParseError) (of_bool : Bool → S) where
   abbrev Doc : List Located → List (Definition S) → Type 0
   Doc = DocumentOf S reads of_bool
+
+  abbrev Docs : Reading S → List Located → List (Definition S) → Type 0
+  Docs = Documents S reads of_bool
 
   ends_there : (i j : Input) (tree : List (Definition S)) → document reads of_bool i ≡ Ok (tree, j) → only k.EndOfFile (kind_ahead j.ahead) ≡ true
   unfolding document
@@ -75,7 +81,8 @@ module _ {S : Type 0} (reads : ScalarToken → Result S ParseError) (of_bool : B
     tokens = i.ahead;
     finish = i.finish;
     cut = start.divided;
-    first = subst (λ (s : Input). FirstFaultyToken reads Doc s e) (start_is text i start) (first_fault reads Doc (document reads of_bool) (law_document reads of_bool) refl i e r);
+    first = subst (λ (s : Input). FirstFaultyToken reads Docs s e) (start_is text i start)
+        (first_fault Docs (λ q. document q of_bool) (λ q. law_document q of_bool) refl (λ p q. twins_document p q of_bool) (of_bool true) reads i e r);
   })
 
   -- ---- laws
@@ -88,7 +95,20 @@ module _ {S : Type 0} (reads : ScalarToken → Result S ParseError) (of_bool : B
   pub not_both : NotBoth S reads of_bool
   not_both text tree fault d (inl r) = lexical.not_both text _ r.0 d.cut r.1
   not_both text tree fault d (inr r) = let same = lexical.one_list text _ _ r.cut d.cut in
-      fits reads Doc r.tokens r.finish tree fault r.first (subst (λ us. Doc us tree) (sym (same_front r.tokens d.tokens _ _ same)) d.spells)
+      fits reads Docs r.tokens r.finish tree fault r.first (subst (λ us. Doc us tree) (sym (same_front r.tokens d.tokens _ _ same)) d.spells)
+
+  ungrammatical_once : (text : List ℕ) (e f : Fault) → IsUngrammatical S reads of_bool text e → IsUngrammatical S reads of_bool text f → e ≡ f
+  ungrammatical_once text e f x y =
+      let same = same_from_push x.tokens y.tokens _ _ (lexical.one_list text _ _ x.cut y.cut) in
+      let finish : x.finish ≡ y.finish = ap (λ (z : Located). z.span) same.1 in
+      let there = subst (λ zs. FirstFaultyToken reads Docs (mk zs x.finish origin) e) same.0 x.first in
+      one_first_fault reads Docs (mk y.tokens y.finish origin) e f (subst (λ z. FirstFaultyToken reads Docs (mk y.tokens z origin) e) finish there) y.first
+
+  pub one_fault : OneFault S reads of_bool
+  one_fault text e f (inl x) (inl y) = x.2 ∙ ap (λ (z : Refusal). record { item = parse_error_of z.item; span = z.span }) (lexical.one_fault text x.0 y.0 x.1 y.1) ∙ sym y.2
+  one_fault text e f (inl x) (inr y) = absurd (lexical.not_both text _ x.0 y.cut x.1)
+  one_fault text e f (inr x) (inl y) = absurd (lexical.not_both text _ y.0 x.cut y.1)
+  one_fault text e f (inr x) (inr y) = ungrammatical_once text e f x y
 
   of_start : (text : List ℕ) (i : Input) → IsStart text i → (o : Outcome (List (Definition S))) → document reads of_bool i ≡ o → ((tree : List (Definition S)) × IsDocument S reads of_bool text tree) ⊎ ((fault : Fault) × IsRefused S reads of_bool text fault)
   of_start text i start (Ok p) r = inl (p.0, read_document text i p.1 p.0 start r)

@@ -1,23 +1,16 @@
 -- What functions that take a parser leave of its input.
-use Rattle.std.specs.Prelude.{◌≡◌, List, ◌++◌, None, Result, Ok, Err}
+use Rattle.std.specs.Prelude.{◌≡◌, List, None, Result, Ok, Err}
 use Rattle.std.specs.Borrow.{MutBor}
 use Rattle.graphql_text.specs.declared.token.Token.{Token}
 use Rattle.graphql_items.specs.Memory.{UnlessMemory}
-use Rattle.graphql_grammar.specs.Ahead.{mk}
-use Rattle.graphql_grammar.specs.Input.{At, Input, Located, Fault, IsMemory, peek}
-use Rattle.graphql_grammar.specs.Relations.{end_of}
+use Rattle.graphql_grammar.specs.Input.{At, Input, Fault, IsMemory}
+use Rattle.graphql_grammar.specs.Leaves.{Behind, LeftAt}
 use Rattle.graphql_language.specs.Parser.{State}
 use Rattle.graphql_language.specs.Lists.{Function, Item, AnyItems, SomeItems, Delimited}
 
--- what is left stands behind some tokens in front
-pub record Behind (i j : Input) : Type 0 where
-  pub tokens : List Located
-  pub front : i.ahead ≡ tokens ++ j.ahead
-  pub after : j ≡ mk j.ahead i.finish (end_of i.end tokens)
-
--- what is left begins with the token that the fault is about, want of memory aside
+-- behind some tokens in front what is left begins with the token that the fault is about, want of memory aside
 abbrev pub Stops : Input → Fault → State → Type 0
-Stops i e new = UnlessMemory IsMemory e (Behind i new.input × ((peek new.input).span ≡ e.span))
+Stops i e new = UnlessMemory IsMemory e (LeftAt i e new.input)
 
 -- the rest is left: behind what was read, of a parser that has not failed, else from the faulty token on
 abbrev pub Leaves : {A : Type 0} → Input → Result A Fault → State → Type 0

@@ -8,7 +8,8 @@ use Rattle.graphql_text.specs.Position.{origin}
 use Rattle.graphql_text.specs.Grammar.{IsDivided}
 use Rattle.graphql_grammar.specs.Input.{Located, Fault}
 use Rattle.graphql_grammar.specs.Ahead.{mk}
-use Rattle.graphql_grammar.specs.Faults.{FirstFaultyToken}
+use Rattle.graphql_grammar.specs.Relations.{Rel}
+use Rattle.graphql_grammar.specs.Faults.{Reading, FirstFaultyToken}
 use Rattle.graphql_grammar.specs.Cursor.{IsLexical}
 use Rattle.graphql_tree.specs.declared.document.Definition.{Definition}
 use Rattle.graphql_language.specs.Documents.{DocumentOf}
@@ -29,12 +30,16 @@ module _ (S : Type 0) (reads : ScalarToken → Result S ParseError) (of_bool : B
   abbrev pub OnlyDocument : List ℕ → List (Definition S) → Type 0
   OnlyDocument text tree = (other : List (Definition S)) → IsDocument text other → other ≡ tree
 
+  -- which tokens spell which document, by what scalars mean
+  abbrev pub Documents : Reading S → Rel (List (Definition S))
+  Documents reading = DocumentOf S reading of_bool
+
   -- the fault of the first token that no document could have there
   pub record IsUngrammatical (text : List ℕ) (fault : Fault) : Type 0 where
     pub tokens : List Located
     pub finish : Span
     pub cut : IsCut text tokens finish
-    pub first : FirstFaultyToken reads (DocumentOf S reads of_bool) (mk tokens finish origin) fault
+    pub first : FirstFaultyToken reads Documents (mk tokens finish origin) fault
 
   -- a lexical fault comes before every other
   abbrev pub IsRefused : List ℕ → Fault → Type 0
@@ -50,3 +55,6 @@ module _ (S : Type 0) (reads : ScalarToken → Result S ParseError) (of_bool : B
 
   abbrev pub NotBoth : Type 0
   NotBoth = (text : List ℕ) (tree : List (Definition S)) (fault : Fault) → IsDocument text tree → IsRefused text fault → ⊥
+
+  abbrev pub OneFault : Type 0
+  OneFault = (text : List ℕ) (fault other : Fault) → IsRefused text fault → IsRefused text other → fault ≡ other

@@ -5,9 +5,9 @@ ghost use Rattle.std.specs.Prelude.{Bool, List};
 ghost use Rattle.graphql_grammar.specs.Input.{Located};
 ghost use Rattle.graphql_language.specs.Alike.{DifferInPlaces, RefusedAlike};
 ghost use Rattle.graphql_language.specs.Leaves.{ListsLeaveRest, SomeListsLeaveRest};
-ghost use Rattle.graphql_language.specs.Literals.{NextValue, NextType, NeverBoth, ReadOrRefused};
+ghost use Rattle.graphql_language.specs.Literals.{NextValue, NextType, NeverBoth, ReadOrRefused, OneRefusal};
 ghost use Rattle.graphql_language.specs.SpelledLists.{ListsAreSpelled, SomeListsAreSpelled};
-ghost use Rattle.graphql_language.specs.Texts.{OneDocument, DocumentOrRefused, NotBoth};
+ghost use Rattle.graphql_language.specs.Texts.{OneDocument, DocumentOrRefused, NotBoth, OneFault};
 
 use crate::parser::Parser;
 use graphql_grammar::Fault;
@@ -40,6 +40,11 @@ pub fn not_both<S: ScalarValue>()
     ensures { NotBoth S S.reads S.of_bool }
 {}
 
+/// A text is refused by one fault at most, whatever scalars mean.
+pub fn one_fault<S: ScalarValue>()
+    ensures { OneFault S S.reads S.of_bool }
+{}
+
 /// Two texts whose tokens have the same kinds and texts, one by one, are both documents, which
 /// differ in places alone, or both refused, with the same fault at the token of the same index
 /// (GraphQL October 2021, 2.1.7 Ignored Tokens).
@@ -48,18 +53,22 @@ pub fn differ_in_places<S: ScalarValue>()
     ensures faults { RefusedAlike S S.reads S.of_bool }
 {}
 
-/// What stands next is a value or refused, and never both (GraphQL October 2021, 2.9 Input Values).
+/// What stands next is a value or refused, by one fault, and never both (GraphQL October 2021, 2.9
+/// Input Values).
 /// So where tokens in front spell a value it is read, whatever follows it.
 pub fn value_or_refused<S: ScalarValue>()
     ensures one { (is_const : Bool) → ReadOrRefused (NextValue S S.reads S.of_bool is_const) }
     ensures never_both { (is_const : Bool) → NeverBoth (NextValue S S.reads S.of_bool is_const) }
+    ensures one_fault { (is_const : Bool) → OneRefusal (NextValue S S.reads S.of_bool is_const) }
 {}
 
-/// What stands next is a type reference or refused, and never both (GraphQL October 2021, 2.11 Type
-/// References). So where tokens in front spell a type reference one is read, whatever follows it.
+/// What stands next is a type reference or refused, by one fault, and never both (GraphQL October
+/// 2021, 2.11 Type References). So where tokens in front spell a type reference one is read, whatever
+/// follows it.
 pub fn type_or_refused()
     ensures one { ReadOrRefused NextType }
     ensures never_both { NeverBoth NextType }
+    ensures one_fault { OneRefusal NextType }
 {}
 
 /// Where the function that reads an item reads what a production spells, a list between two tokens

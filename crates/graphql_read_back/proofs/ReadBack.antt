@@ -4,7 +4,6 @@ use Rattle.std.specs.Str.{chars}
 use Rattle.std.proofs.lemmas.List.{append-nil, same_from_push}
 use Rattle.std.proofs.lemmas.Option.{MatchOption-at_none}
 use Rattle.graphql_text.specs.declared.position.Span.{Span}
-use Rattle.graphql_text.specs.declared.token.ScalarToken.{ScalarToken}
 use Rattle.graphql_text.specs.declared.parse_error.ParseError.{ParseError}
 use Rattle.graphql_text.specs.declared.parse_error.ParseError.TheVariants.{UnexpectedToken, UnexpectedEndOfFile, LexerError, ExpectedScalarError, Memory}
 use Rattle.graphql_text.specs.Tokens.{Located}
@@ -17,9 +16,9 @@ use Rattle.graphql_grammar.specs.Input.{At, Input, Fault, Outcome}
 use Rattle.graphql_grammar.specs.Ahead.{mk}
 use Rattle.graphql_grammar.specs.Relations.{end_of}
 use Rattle.graphql_grammar.specs.Cursor.{IsStart, IsLexical}
-use Rattle.graphql_grammar.specs.Faults.{Begins, FirstFaultyToken}
+use Rattle.graphql_grammar.specs.Faults.{Reading, Begins, FirstFaultyToken}
 use Rattle.graphql_grammar.proofs.FirstFaults.{one_tree}
-use Rattle.graphql_language.specs.Literals.{NextValue}
+use Rattle.graphql_language.specs.Literals.{Values, NextValue}
 use Rattle.graphql_language.specs.Parser.{State, Rule, Fails, CallsFresh, Calls, RefusesAgain}
 use Rattle.graphql_language.specs.Texts.{IsCut}
 use Rattle.graphql_value_syntax.specs.ReadValues.{value}
@@ -34,12 +33,15 @@ use Rattle.graphql_read_back.proofs.Values.{written}
 -- ---- any grammar
 
 -- no token is faulty where all spell a tree
-module _ {S A : Type 0} (reads : ScalarToken → Result S ParseError) (Tree : List Located → A → Type 0) where
+module _ {S A : Type 0} (reads : Reading S) (Trees : Reading S → List Located → A → Type 0) where
+  abbrev Tree : List Located → A → Type 0
+  Tree = Trees reads
+
   fits_by : (before rest : List Located) (x : A) → ((a : Located) (more : List Located) → rest ≡ a ∷ more → Begins reads Tree (before ++ a ∷ []) → ⊥) → (rest ≡ [] → (y : A) → Tree before y → ⊥) → Tree (before ++ rest) x → ⊥
   fits_by before [] x no_more too_short d = too_short refl x (subst (λ us. Tree us x) (append-nil before) d)
   fits_by before (a ∷ more) x no_more too_short d = no_more a more refl (record { more = more; tree = x; spells = subst (λ us. Tree us x) (sym (append_assoc before (a ∷ []) more)) d })
 
-  pub no_fault : (i : Input) (x : A) (e : Fault) → Tree i.ahead x → FirstFaultyToken reads Tree i e → ⊥
+  pub no_fault : (i : Input) (x : A) (e : Fault) → Tree i.ahead x → FirstFaultyToken reads Trees i e → ⊥
   no_fault i x e d f = fits_by f.before f.rest x f.impossible f.too_short (subst (λ us. Tree us x) f.front d)
 
 -- what only want of memory is left for
@@ -110,7 +112,7 @@ shown_is_found is_const v h i start (Ok (x, j)) (spelled, only) =
 shown_is_found is_const v h i start (Err e) fault =
     let s = shown_spells is_const v h in
     let ahead = start_tokens (chars (value_text v)) s.tokens s.finish i s.cut start in
-    no_fault reads (Of is_const) i s.tree e (subst (λ ts. Of is_const ts s.tree) (sym ahead) s.spells) fault
+    no_fault reads (Values scalar.Boolean is_const) i s.tree e (subst (λ ts. Of is_const ts s.tree) (sym ahead) s.spells) fault
 
 given_back : (is_const : Bool) (v : Value) → IsWritable is_const v → (i : Input) (new : State) (r : Result (At Value) Fault) → IsStart (chars (value_text v)) i → CallsFresh (NextValue DefaultScalarValue reads scalar.Boolean is_const) i r new → GivesBack is_const v r new
 given_back is_const v h i new (Ok x) start gives = shown_is_found is_const v h i start (Ok (x, new.input)) gives.0

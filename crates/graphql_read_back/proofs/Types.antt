@@ -17,7 +17,7 @@ use Rattle.graphql_grammar.specs.Cursor.{IsStart}
 use Rattle.graphql_grammar.specs.Relations.{end_of, span_of}
 use Rattle.graphql_grammar.specs.Faults.{BadScalar, GoodScalar, Spelled}
 use Rattle.graphql_grammar.proofs.FirstFaults.{one_tree}
-use Rattle.graphql_language.specs.Literals.{NextType}
+use Rattle.graphql_language.specs.Literals.{Types, NextType}
 use Rattle.graphql_language.specs.Parser.{State, CallsFresh, RefusesAgain}
 use Rattle.graphql_language.specs.Texts.{IsCut}
 use Rattle.graphql_value_syntax.specs.ReadTypes.{TypeRef, type_ref}
@@ -141,7 +141,7 @@ written_is_found x h i start (Err e) fault =
     let s = written_spells x h in
     let ahead = start_tokens (chars (written x.name x.modifiers)) s.tokens s.finish i s.cut start in
     let tree : At TypeRef = record { item = x; span = s.span } in
-    no_fault no_scalar TypeOf i tree e (subst (λ ts. TypeOf ts tree) (sym ahead) s.spells) fault
+    no_fault no_scalar Types i tree e (subst (λ ts. TypeOf ts tree) (sym ahead) s.spells) fault
 
 given_back : (x : TypeRef) → IsWritableType x → (i : Input) (new : State) (r : Result (At TypeRef) Fault) → IsStart (chars (written x.name x.modifiers)) i → CallsFresh NextType i r new → GivesTypeBack x r new
 given_back x h i new (Ok y) start gives = written_is_found x h i start (Ok (y, new.input)) gives.0

@@ -16,7 +16,7 @@ use Rattle.graphql_type_references.specs.TypeReference.{written}
 use Rattle.graphql_grammar.specs.Input.{At, Input, Fault, Outcome}
 use Rattle.graphql_grammar.specs.Cursor.{IsStart}
 use Rattle.graphql_grammar.specs.Faults.{Found, Sought}
-use Rattle.graphql_language.specs.Literals.{NextValue, NextType}
+use Rattle.graphql_language.specs.Literals.{Values, Types, NextValue, NextType}
 use Rattle.graphql_language.specs.Parser.{State, Calls}
 use Rattle.graphql_language.specs.Texts.{IsCut}
 use Rattle.graphql_value_syntax.specs.Values.{ValueOf}
@@ -71,7 +71,7 @@ IsFound is_const value (Err e) = ⊥
 -- whatever is found at the start of the text of a value is that value
 abbrev pub ShownIsFound : Type 0
 ShownIsFound =
-    (is_const : Bool) (value : Value) → IsWritable is_const value → (i : Input) → IsStart (chars (value_text value)) i → (found : Outcome (At Value)) → Found reads (Of is_const) i found → IsFound is_const value found
+    (is_const : Bool) (value : Value) → IsWritable is_const value → (i : Input) → IsStart (chars (value_text value)) i → (found : Outcome (At Value)) → Found reads (Values scalar.Boolean is_const) i found → IsFound is_const value found
 
 -- a parser gives the value, places aside, as its text spells it, and stands at the end; else memory ran out
 abbrev pub GivesBack : Bool → Value → Result (At Value) Fault → State → Type 0
@@ -111,7 +111,7 @@ IsTypeFound t (Err e) = ⊥
 -- the longest type that is found at the start of what a type is displayed as is that type
 abbrev pub WrittenIsFound : Type 0
 WrittenIsFound =
-    (t : TypeRef) → IsWritableType t → (i : Input) → IsStart (chars (written t.name t.modifiers)) i → (found : Outcome (At TypeRef)) → Sought no_scalar TypeOf i found → IsTypeFound t found
+    (t : TypeRef) → IsWritableType t → (i : Input) → IsStart (chars (written t.name t.modifiers)) i → (found : Outcome (At TypeRef)) → Sought no_scalar Types i found → IsTypeFound t found
 
 -- a parser gives the type and stands at the end; else memory ran out
 abbrev pub GivesTypeBack : TypeRef → Result (At TypeRef) Fault → State → Type 0

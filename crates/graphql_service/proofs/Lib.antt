@@ -2,7 +2,6 @@ pub mod Lookups
 pub mod Values
 pub mod Trees
 pub mod Thin
-pub mod OneFault
 pub mod Evaluations
 pub mod ErrorWritings
 pub mod Lines

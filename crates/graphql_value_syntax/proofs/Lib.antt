@@ -9,3 +9,4 @@ pub mod ValueSteps
 pub mod OpenValues
 pub mod TypeSteps
 pub mod Places
+pub mod Readings

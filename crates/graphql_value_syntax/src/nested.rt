@@ -5,6 +5,7 @@
 
 ghost use Rattle.std.specs.Prelude.{◌≡◌, ◌<◌, ◌≤◌, IfOk, OnOk};
 ghost use Rattle.graphql_grammar.specs.Input.{Reads, StandsAt, left};
+ghost use Rattle.graphql_grammar.specs.Leaves.{Behind};
 ghost use Rattle.graphql_value_syntax.specs.ReadNested as spec;
 
 use crate::value::{owned_key, single};
@@ -49,6 +50,7 @@ pub(crate) fn begin<S: ScalarValue>(
     ensures reads { Reads (spec.begun S.reads S.of_bool is_const cursor.old) result cursor.new }
     ensures no_more { left cursor.new ≤ left cursor.old }
     ensures fewer { OnOk result (left cursor.new < left cursor.old) }
+    ensures behind { Behind cursor.old cursor.new }
     ensures stands { StandsAt result cursor.new }
 {
     let start = cursor.start();
@@ -77,6 +79,7 @@ pub(crate) fn rest<S: ScalarValue>(
 ) -> Result<Spanning<InputValue<S>>, Fault>
     ensures reads { Reads (spec.rest S.reads S.of_bool is_const outermost cursor.old) result cursor.new }
     ensures no_more { left cursor.new ≤ left cursor.old }
+    ensures behind { Behind cursor.old cursor.new }
     ensures stands { StandsAt result cursor.new }
 {
     let mut outer = Items::new(alloc);
@@ -129,6 +132,7 @@ fn next_place<S: Drop>(
 ) -> Result<Place<S>, Fault>
     ensures reads { Reads (spec.place holder cursor.old) result cursor.new }
     ensures no_more { left cursor.new ≤ left cursor.old }
+    ensures behind { Behind cursor.old cursor.new }
     ensures stands { StandsAt result cursor.new }
 {
     match holder {

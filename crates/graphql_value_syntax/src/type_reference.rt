@@ -3,6 +3,7 @@
 ghost use Rattle.std.specs.Prelude.{◌≡◌, ◌≤◌, ℕ, List, Ok, IfErr, OnOk};
 ghost use Rattle.graphql_text.specs.declared.parse_error.ParseError.TheVariants.{Memory};
 ghost use Rattle.graphql_grammar.specs.Input.{Reads, StandsAt, left};
+ghost use Rattle.graphql_grammar.specs.Leaves.{Behind};
 ghost use Rattle.graphql_value_syntax.specs.ReadTypes as spec;
 ghost use Rattle.graphql_value_syntax.specs.ReadWraps as wraps;
 
@@ -21,6 +22,7 @@ pub fn type_reference<'a>(
 ) -> Result<Spanning<Type<TextRef<'a>>>, Fault>
     ensures reads { Reads (spec.type_ref cursor.old) result cursor.new }
     ensures no_more { left cursor.new ≤ left cursor.old }
+    ensures behind { Behind cursor.old cursor.new }
     ensures stands { StandsAt result cursor.new }
 {
     let start = cursor.start();
@@ -33,6 +35,7 @@ pub fn type_reference<'a>(
 /// Goes behind the opening brackets that stand next, and tells how many they are.
 fn brackets(cursor: &mut Cursor<'_>) -> usize
     ensures inside { spec.bare_type spec.type_ref cursor.old ≡ wraps.inside result cursor.new }
+    ensures behind { Behind cursor.old cursor.new }
     ensures no_more { left cursor.new ≤ left cursor.old }
 {
     let most = cursor.left();
@@ -53,6 +56,7 @@ fn wrapped<'a>(
 ) -> Result<Type<TextRef<'a>>, Fault>
     ensures reads { Reads (wraps.behind depth name.entry cursor.old) result cursor.new }
     ensures no_more { left cursor.new ≤ left cursor.old }
+    ensures behind { Behind cursor.old cursor.new }
     ensures stands { StandsAt result cursor.new }
 {
     let mut modifiers = Items::new(alloc);
@@ -69,6 +73,7 @@ fn wrapped<'a>(
 fn non_null(cursor: &mut Cursor<'_>, found: &mut TypeModifiers) -> Result<(), Fault>
     ensures ok { OnOk result ((name : List ℕ) → wraps.marked (wraps.of name found.old) cursor.old ≡ Ok (wraps.of name found.new, cursor.new)) }
     ensures memory { IfErr result (λ e. e.item ≡ Memory) }
+    ensures behind { Behind cursor.old cursor.new }
     ensures no_more { left cursor.new ≤ left cursor.old }
 {
     if !cursor.eat(Kind::ExclamationMark) {

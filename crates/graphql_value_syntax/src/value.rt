@@ -4,6 +4,7 @@ ghost use Rattle.std.specs.Prelude.{◌≡◌, ◌<◌, ◌≤◌, OnOk};
 ghost use Rattle.graphql_values.specs.declared.input_value.InputValue.TheVariants as v;
 ghost use Rattle.graphql_grammar.specs.declared.kind.Kind.TheVariants as k;
 ghost use Rattle.graphql_grammar.specs.Input.{Reads, StandsAt, left};
+ghost use Rattle.graphql_grammar.specs.Leaves.{Behind};
 ghost use Rattle.graphql_value_syntax.specs.ReadParts as parts;
 ghost use Rattle.graphql_value_syntax.specs.ReadValues as spec;
 
@@ -25,6 +26,7 @@ pub fn value<S: ScalarValue>(
 ) -> Result<Spanning<InputValue<S>>, Fault>
     ensures reads { Reads (spec.value S.reads S.of_bool is_const cursor.old) result cursor.new }
     ensures no_more { left cursor.new ≤ left cursor.old }
+    ensures behind { Behind cursor.old cursor.new }
     ensures stands { StandsAt result cursor.new }
 {
     match begin(alloc, cursor, is_const)? {
@@ -52,6 +54,7 @@ pub(crate) fn named<'a, S: ScalarValue>(
 fn key<'a>(alloc: Global, cursor: &mut Cursor<'a>) -> Result<Spanning<TextRef<'a>>, Fault>
     ensures reads { Reads (parts.key cursor.old) result cursor.new }
     ensures no_more { left cursor.new ≤ left cursor.old }
+    ensures behind { Behind cursor.old cursor.new }
     ensures stands { StandsAt result cursor.new }
     ensures fewer { OnOk result (left cursor.new < left cursor.old) }
 {
@@ -66,6 +69,7 @@ fn key<'a>(alloc: Global, cursor: &mut Cursor<'a>) -> Result<Spanning<TextRef<'a
 pub(crate) fn owned_key(alloc: Global, cursor: &mut Cursor<'_>) -> Result<Spanning<Text>, Fault>
     ensures reads { Reads (parts.key cursor.old) result cursor.new }
     ensures no_more { left cursor.new ≤ left cursor.old }
+    ensures behind { Behind cursor.old cursor.new }
     ensures stands { StandsAt result cursor.new }
     ensures fewer { OnOk result (left cursor.new < left cursor.old) }
 {
@@ -83,6 +87,7 @@ pub(crate) fn single<S: ScalarValue>(
 ) -> Result<InputValue<S>, Fault>
     ensures reads { Reads (spec.variable_or S.reads S.of_bool is_const cursor.old) result cursor.new }
     ensures no_more { left cursor.new ≤ left cursor.old }
+    ensures behind { Behind cursor.old cursor.new }
     ensures stands { StandsAt result cursor.new }
 {
     match cursor.kind() {
@@ -96,6 +101,7 @@ pub(crate) fn single<S: ScalarValue>(
 fn variable<S: ScalarValue>(alloc: Global, cursor: &mut Cursor<'_>) -> Result<InputValue<S>, Fault>
     ensures reads { Reads (spec.variable S.reads S.of_bool cursor.old) result cursor.new }
     ensures no_more { left cursor.new ≤ left cursor.old }
+    ensures behind { Behind cursor.old cursor.new }
     ensures stands { StandsAt result cursor.new }
 {
     cursor.expect(alloc, Kind::Dollar)?;
@@ -108,6 +114,7 @@ fn variable<S: ScalarValue>(alloc: Global, cursor: &mut Cursor<'_>) -> Result<In
 fn scalar<S: ScalarValue>(alloc: Global, cursor: &mut Cursor<'_>) -> Result<InputValue<S>, Fault>
     ensures reads { Reads (parts.by_scalar S.reads v.Scalar cursor.old) result cursor.new }
     ensures no_more { left cursor.new ≤ left cursor.old }
+    ensures behind { Behind cursor.old cursor.new }
     ensures stands { StandsAt result cursor.new }
 {
     let next = cursor.peek();
@@ -128,6 +135,7 @@ fn scalar<S: ScalarValue>(alloc: Global, cursor: &mut Cursor<'_>) -> Result<Inpu
 fn word<S: ScalarValue>(alloc: Global, cursor: &mut Cursor<'_>) -> Result<InputValue<S>, Fault>
     ensures reads { Reads (spec.word S.reads S.of_bool cursor.old) result cursor.new }
     ensures no_more { left cursor.new ≤ left cursor.old }
+    ensures behind { Behind cursor.old cursor.new }
     ensures stands { StandsAt result cursor.new }
 {
     match cursor.kind() {
@@ -154,6 +162,7 @@ fn enum_value<S: ScalarValue>(
 ) -> Result<InputValue<S>, Fault>
     ensures reads { Reads (parts.by_name v.Enum cursor.old) result cursor.new }
     ensures no_more { left cursor.new ≤ left cursor.old }
+    ensures behind { Behind cursor.old cursor.new }
     ensures stands { StandsAt result cursor.new }
 {
     let name = cursor.name(alloc)?;

@@ -17,7 +17,8 @@ use graphql_values::{InputValue, ScalarValue, Type};
 /// It refuses only where no tokens in front spell a value, whatever follows one. A refusal is about
 /// the first token that no value could have there: `UnexpectedEndOfFile` at the end of the text; what
 /// the scalar type says of a literal that it refuses; `UnexpectedToken` with the token's source text.
-/// By a refusal the parser has failed. `Memory` comes only where memory ran out.
+/// By a refusal the parser has failed, and stands at that token, behind those before it. `Memory`
+/// comes only where memory ran out.
 pub fn parse_value_literal<S: ScalarValue>(
     parser: &mut Parser<'_>,
     is_const: bool,
@@ -36,7 +37,8 @@ pub fn parse_value_literal<S: ScalarValue>(
 /// It refuses only where no tokens in front spell a type reference, whatever follows one. A refusal
 /// is about the first token that no type reference could have there: `UnexpectedEndOfFile` at the
 /// end of the text, `UnexpectedToken` with the token's source text. By a refusal the parser has
-/// failed. `Memory` comes only where memory ran out.
+/// failed, and stands at that token, behind those before it. `Memory` comes only where memory ran
+/// out.
 pub fn parse_type<'a>(parser: &mut Parser<'a>) -> ParseResult<Type<TextRef<'a>>>
     ensures calls { Calls NextType parser.old result parser.new }
     ensures fewer { OnOk result (left parser.new.input < left parser.old.input) }

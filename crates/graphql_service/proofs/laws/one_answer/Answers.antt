@@ -15,7 +15,6 @@ use Rattle.graphql_service.specs.Json.{data_line}
 use Rattle.graphql_service.specs.Request.{Request, requested}
 use Rattle.graphql_service.specs.Service.{Service}
 use Rattle.graphql_service.specs.Answers.{IsAnswerTo, IsAccepted, refusal_line, outcome_of, line_too_long, no_request, parse_error, not_thin, data_of}
-use Rattle.graphql_service.proofs.OneFault.{one_fault}
 use Rattle.graphql_service.proofs.laws.one_answer.Goals as goal
 
 within : {A : Type 0} (limit size : ℕ) → limit < size → size ≤ limit → A
@@ -40,7 +39,7 @@ module _ (line : Bytes) (q r : Request) (read : requested line ≡ Ok q) (again 
   same_request = ap (request_or q) (sym again ∙ read)
 
   same_fault : (e f : Fault) → IsRefused (chars q.query) e → IsRefused (chars r.query) f → e ≡ f
-  same_fault e f x y = one_fault (chars q.query) e f x (subst (λ p. IsRefused (chars p.query) f) same_request y)
+  same_fault e f x y = language.one_fault reads Boolean (chars q.query) e f x (subst (λ p. IsRefused (chars p.query) f) same_request y)
 
   same_document : (d e : List Definition) → IsDocument (chars q.query) d → IsDocument (chars r.query) e → e ≡ d
   same_document d e x y = one_document reads Boolean (chars q.query) e d (subst (λ p. IsDocument (chars p.query) e) same_request y) x

@@ -6,6 +6,7 @@ use Rattle.graphql_grammar.proofs.Parts.{exits_with}
 use Rattle.graphql_value_syntax.proofs.ValueDepth.{single_uses}
 use Rattle.graphql_value_syntax.proofs.ValueSteps.{sees_only}
 use Rattle.graphql_value_syntax.proofs.OpenValues.{begins_list, begins_object, begins_refused, begins_whole}
+use Rattle.graphql_grammar.proofs.Leaves.{behind_next}
 use Rattle.graphql_value_syntax.proofs.nested.begin.Goals as goal
 
 pub returns-in_err-item-in_default : goal.returns-in_err-item-in_default
@@ -15,6 +16,7 @@ returns-in_err-item-in_default g c =
           (begins_refused {S = g.row.S.Denot} g.S.ParseScalarValue.reads g.S.ScalarValue.of_bool c.args.is_const c.args.cursor.now (λ e. c.in_default.not-BracketOpen (c.kind.ensures ∙ e)) (λ e. c.in_default.not-CurlyOpen (c.kind.ensures ∙ e)));
       no_more = c.in_err-item-in_default.ensures.no_more;
       fewer = search rules;
+      behind = c.in_err-item-in_default.ensures.behind;
       stands = search rules;
     }
 
@@ -44,5 +46,12 @@ returns-in_ok-item-in_default g c =
           c.in_ok-item-in_default.ensures.reads c.start-start.ensures c.closed.ensures;
       no_more = c.in_ok-item-in_default.ensures.no_more;
       fewer = omega (arith, takes);
+      behind = c.in_ok-item-in_default.ensures.behind;
       stands = tt;
     }
+
+pub returns-in-BracketOpen-clause-behind : goal.returns-in-BracketOpen-clause-behind
+returns-in-BracketOpen-clause-behind g c = behind_next c.advance.ensures.next
+
+pub returns-in-CurlyOpen-clause-behind : goal.returns-in-CurlyOpen-clause-behind
+returns-in-CurlyOpen-clause-behind g c = behind_next c.advance-in-CurlyOpen.ensures.next

@@ -1,4 +1,6 @@
 use Rattle.std.proofs.Common.{Ok, ap, ◌∙◌, arith}
+use Rattle.graphql_grammar.specs.Kinds.{only}
+use Rattle.graphql_grammar.proofs.Leaves.{behind_then, behind_after}
 use Rattle.graphql_grammar.proofs.Parts.{exits_with}
 use Rattle.graphql_value_syntax.proofs.OpenValues.{parts_fewer, parts_end, part_ends, parts_unnamed, parts_refused, parts_more, parts_open}
 use Rattle.graphql_value_syntax.specs.declared.nested.Begun.{Begun}
@@ -13,6 +15,7 @@ parts-preserved-in-Some g c =
     record {
       reads = part_ends {S = g.row.S.Denot} g.S.ParseScalarValue.reads g.S.ScalarValue.of_bool c.args.is_const c.parts.invariant.reads c.closing.ensures c.eat.ensures.result c.eat.ensures.after c.if-eat.true
           c.in-Some.place c.end.ensures c.closed-value.ensures c.in-Some.ensures c.in_ok-holder-in-Some.ensures;
+      behind = behind_then c.parts.invariant.behind (behind_after (only c.closing.result) c.eat.ensures.after);
       no_more = omega (arith, c.eat.ensures.no_more, c.parts.invariant.no_more);
     }
 
@@ -36,6 +39,7 @@ parts-preserved-in-Whole g c =
     record {
       reads = parts_more {S = g.row.S.Denot} g.S.ParseScalarValue.reads g.S.ScalarValue.of_bool c.args.is_const c.parts.invariant.reads c.closing.ensures c.eat.ensures.result c.eat.ensures.after c.if-eat.false c.in_ok-place.ensures.reads
           (c.in_ok-value.ensures.reads ∙ ap (λ (x : Begun g.row.S.Denot). Ok (x, c.begin.new.cursor)) c.in-Whole.is) c.in_ok-holder-in-Whole.ensures;
+      behind = behind_then c.parts.invariant.behind (behind_then (behind_after (only c.closing.result) c.eat.ensures.after) (behind_then c.in_ok-place.ensures.behind c.in_ok-value.ensures.behind));
       no_more = omega (arith, c.in_ok-value.ensures.no_more, c.in_ok-place.ensures.no_more, c.eat.ensures.no_more, c.parts.invariant.no_more);
     }
 
@@ -44,5 +48,24 @@ parts-preserved g c =
     record {
       reads = parts_open {S = g.row.S.Denot} g.S.ParseScalarValue.reads g.S.ScalarValue.of_bool c.args.is_const c.parts.invariant.reads c.closing.ensures c.eat.ensures.result c.eat.ensures.after c.if-eat.false c.in_ok-place.ensures.reads
           (c.in_ok-value.ensures.reads ∙ ap (λ (x : Begun g.row.S.Denot). Ok (x, c.begin.new.cursor)) c.in-Opens.is) c.in_ok-keep-in-Opens.ensures.ok;
+      behind = behind_then c.parts.invariant.behind (behind_then (behind_after (only c.closing.result) c.eat.ensures.after) (behind_then c.in_ok-place.ensures.behind c.in_ok-value.ensures.behind));
       no_more = omega (arith, c.in_ok-value.ensures.no_more, c.in_ok-place.ensures.no_more, c.eat.ensures.no_more, c.parts.invariant.no_more);
     }
+
+pub returns-in_err-holder-in-Some-clause-behind : goal.returns-in_err-holder-in-Some-clause-behind
+returns-in_err-holder-in-Some-clause-behind g c = behind_then c.parts.invariant.behind (behind_after (only c.closing.result) c.eat.ensures.after)
+
+pub returns-in-None-clause-behind : goal.returns-in-None-clause-behind
+returns-in-None-clause-behind g c = behind_then c.parts.invariant.behind (behind_after (only c.closing.result) c.eat.ensures.after)
+
+pub returns-in_err-place-clause-behind : goal.returns-in_err-place-clause-behind
+returns-in_err-place-clause-behind g c = behind_then c.parts.invariant.behind (behind_then (behind_after (only c.closing.result) c.eat.ensures.after) c.in_err-place.ensures.behind)
+
+pub returns-in_err-value-clause-behind : goal.returns-in_err-value-clause-behind
+returns-in_err-value-clause-behind g c = behind_then c.parts.invariant.behind (behind_then (behind_after (only c.closing.result) c.eat.ensures.after) (behind_then c.in_ok-place.ensures.behind c.in_err-value.ensures.behind))
+
+pub returns-in_err-holder-in-Whole-clause-behind : goal.returns-in_err-holder-in-Whole-clause-behind
+returns-in_err-holder-in-Whole-clause-behind g c = behind_then c.parts.invariant.behind (behind_then (behind_after (only c.closing.result) c.eat.ensures.after) (behind_then c.in_ok-place.ensures.behind c.in_ok-value.ensures.behind))
+
+pub returns-in_err-keep-in-Opens-clause-behind : goal.returns-in_err-keep-in-Opens-clause-behind
+returns-in_err-keep-in-Opens-clause-behind g c = behind_then c.parts.invariant.behind (behind_then (behind_after (only c.closing.result) c.eat.ensures.after) (behind_then c.in_ok-place.ensures.behind c.in_ok-value.ensures.behind))

@@ -2,6 +2,7 @@ use Rattle.std.proofs.Common.{◌≡◌, ◌<◌, ℕ, List, Ok, Err, ◌∙◌,
 use Rattle.graphql_text.specs.declared.token.Token.TheVariants.{Name}
 use Rattle.graphql_grammar.specs.Input.{Input, Located, peek, left}
 use Rattle.graphql_grammar.proofs.Cursors.{name_read, name_refused, fewer_name, refused_stands}
+use Rattle.graphql_grammar.proofs.Leaves.{behind_same}
 use Rattle.graphql_grammar.proofs.cursor.Cursor.name.Goals as goal
 
 pub returns-in-Name-clause-reads : goal.returns-in-Name-clause-reads
@@ -24,6 +25,7 @@ returns-in_default c =
     let i = c.args.self.now in
     record {
       reads = λ told. name_refused i (λ n is. c.in_default.not-Name n (ap (λ (p : Located). p.item) c.peek.ensures ∙ is)) ∙ ap Err (c.refuse.ensures told);
+      behind = behind_same refl;
       no_more = omega arith;
       fewer = tt;
       stays = refl;
