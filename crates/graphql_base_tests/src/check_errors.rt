@@ -1,5 +1,5 @@
 use crate::told::check;
-use graphql_scalars::{DefaultScalarValue, Scalar, WrongInputScalarTypeError};
+use graphql_scalars::{CheckError, DefaultScalarValue, Scalar, WrongInputScalarTypeError};
 use graphql_text::{Text, TextRef};
 use std::alloc::{AllocError, Global};
 
@@ -17,4 +17,17 @@ fn no_boolean(alloc: Global) -> Result<String, AllocError> {
 fn errors_say_what_was_found(rt: HostRuntime) -> Result<(), AllocError> {
     let told = no_boolean(rt.alloc());
     check(&rt, told, "Expected `Boolean`, found: \"yes\"")
+}
+
+/// The copy of an error, as `{:?}` writes it.
+fn copy_text(alloc: Global) -> Result<String, AllocError> {
+    let error = CheckError::Message(Text::from_str(alloc, "no name")?);
+    let copy = error.clone()?;
+    format!(in alloc; "{copy:?}")
+}
+
+#[test]
+fn errors_are_copied(rt: HostRuntime) -> Result<(), AllocError> {
+    let told = copy_text(rt.alloc());
+    check(&rt, told, "Message(\"no name\")")
 }

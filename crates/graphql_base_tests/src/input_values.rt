@@ -2,7 +2,8 @@ use crate::told::check;
 use graphql_scalars::DefaultScalarValue;
 use graphql_text::Text;
 use graphql_values::laws::{
-    same_value_is_an_equivalence, variables_are_listed, variables_are_replaced,
+    same_objects_have_the_same_fields, same_value_is_an_equivalence, variables_are_listed,
+    variables_are_replaced,
 };
 use graphql_values::{InputValue, Variables};
 use std::alloc::{AllocError, Global};
@@ -232,6 +233,26 @@ fn deep_are_same(alloc: Global) -> Result<(bool, bool), AllocError> {
     Ok((one.unlocated_eq(&one), one.unlocated_eq(&other)))
 }
 
+/// An object of two fields of one name, of which the first is such an object, and so on.
+fn nested_twice(alloc: Global, depth: usize) -> Result<InputValue, AllocError> {
+    let mut value = InputValue::scalar(1);
+    for _ in 0..depth {
+        let first = (Text::from_str(alloc, "k")?, value);
+        let second = (Text::from_str(alloc, "k")?, InputValue::null());
+        let fields = vec![in alloc; first, second]?;
+        value = InputValue::object(alloc, fields)?;
+    }
+    Ok(value)
+}
+
+/// Whether deep objects in which names stand twice are the same, in a time that grows with the
+/// number of their fields.
+fn repeated_are_same(alloc: Global) -> Result<bool, AllocError> {
+    let one = nested_twice(alloc, 200)?;
+    let other = nested_twice(alloc, 200)?;
+    Ok(one.unlocated_eq(&other))
+}
+
 #[test]
 fn objects_are_compared(rt: HostRuntime) -> Result<(), AllocError> {
     let alloc = rt.alloc();
@@ -242,14 +263,20 @@ fn objects_are_compared(rt: HostRuntime) -> Result<(), AllocError> {
     let first = are_same(alloc, repeated, two)?;
     let last = are_same(alloc, two, repeated)?;
     assert!(rt; !first && !last);
+    let in_order = are_same(alloc, [("k", 1), ("k", 2)], [("k", 1), ("k", 2)])?;
+    let out_of_order = are_same(alloc, [("k", 1), ("k", 2)], [("k", 2), ("k", 1)])?;
+    assert!(rt; in_order && !out_of_order);
     let (same, other) = deep_are_same(alloc)?;
     assert!(rt; same && !other);
+    let repeated = repeated_are_same(alloc)?;
+    assert!(rt; repeated);
     Ok(())
 }
 
 #[test]
 fn laws_are_stated() {
     same_value_is_an_equivalence::<DefaultScalarValue>();
+    same_objects_have_the_same_fields::<DefaultScalarValue>();
     variables_are_listed::<DefaultScalarValue>();
     variables_are_replaced::<DefaultScalarValue>();
 }

@@ -220,6 +220,35 @@ fn order_of_fields_is_not_seen(rt: HostRuntime) -> Result<(), AllocError> {
     Ok(())
 }
 
+/// The object of a field for each of these letters, whose value is `true`.
+fn lettered(alloc: Global, letters: &str) -> Result<Fields, AllocError> {
+    let mut fields: Fields = Object::with_capacity(alloc, letters.len())?;
+    for letter in letters.chars() {
+        let mut key = Text::new(alloc);
+        key.push(letter)?;
+        let _ = fields.add_field(key, Value::scalar(true))?;
+    }
+    Ok(fields)
+}
+
+/// Whether objects of more fields than are gone through for each key are equal: a clone, another order,
+/// and another key.
+fn many_equalities(alloc: Global) -> Result<(bool, bool, bool), AllocError> {
+    let fields = lettered(alloc, "abcdefghijkl")?;
+    Ok((
+        fields == fields.clone()?,
+        fields == lettered(alloc, "lkjihgfedcba")?,
+        fields == lettered(alloc, "zkjihgfedcba")?,
+    ))
+}
+
+#[test]
+fn order_of_many_fields_is_not_seen(rt: HostRuntime) -> Result<(), AllocError> {
+    let (copy, same, other) = many_equalities(rt.alloc())?;
+    assert!(rt; copy && same && !other);
+    Ok(())
+}
+
 /// Which value another value becomes, as `{}` writes it.
 fn becoming<T: IntoValue<DefaultScalarValue>>(
     alloc: Global,
@@ -254,4 +283,9 @@ fn laws_hold_of_the_default_scalars() {
     laws::made_distinct::<DefaultScalarValue>();
     laws::put_under::<DefaultScalarValue>();
     laws::keys_keep_places::<DefaultScalarValue>();
+    laws::distinct_by_forms::<DefaultScalarValue>();
+    laws::distinct_under_keys::<DefaultScalarValue>();
+    laws::distinct_once_written::<DefaultScalarValue>();
+    laws::made_distinct_throughout::<DefaultScalarValue>();
+    laws::mapped_keeps_keys::<DefaultScalarValue, DefaultScalarValue>();
 }

@@ -77,3 +77,17 @@ fn null_comes_back(rt: HostRuntime) -> Result<(), AllocError> {
     let told = nullable_text(rt.alloc());
     check(&rt, told, "[[Int!]!] 4 Some(List(Some(3)))")
 }
+
+/// The copy of the nested type, as it is written, and whether it is equal to that type.
+fn copy_text(alloc: Global) -> Result<String, AllocError> {
+    let given = nested(alloc)?;
+    let copy = given.clone()?;
+    let is_equal = copy == given;
+    format!(in alloc; "{copy} {is_equal}")
+}
+
+#[test]
+fn types_are_copied(rt: HostRuntime) -> Result<(), AllocError> {
+    let told = copy_text(rt.alloc());
+    check(&rt, told, "[[Int!]!]! true")
+}

@@ -90,6 +90,24 @@ fn documents_of_the_grammar(rt: HostRuntime) -> Result<(), AllocError> {
     check_each(&rt, &definitions, &DOCUMENTS)
 }
 
+/// Whether a clone of the text's document is told as the document is.
+fn is_cloned(alloc: Global, text: &str) -> Result<bool, Fail> {
+    let document = parsed(alloc, text)?;
+    let copy = document.clone()?;
+    let told = format!(in alloc; "{document:?}")?;
+    let again = format!(in alloc; "{copy:?}")?;
+    Ok(told == again)
+}
+
+#[test]
+fn clones_of_documents(rt: HostRuntime) -> Result<(), Fail> {
+    for row in DOCUMENTS {
+        let cloned = is_cloned(rt.alloc(), row.0)?;
+        assert!(rt; cloned);
+    }
+    Ok(())
+}
+
 /// A field in a selection set in a field, and so on.
 fn nested(alloc: Global) -> Result<String, AllocError> {
     let opened = "{a".repeat(alloc, 100_000)?;

@@ -47,6 +47,14 @@ module _ {S : Type 0} where
       let others = count-object (record { fields = rest }) in
       ap value_count is ∙ count-object o ∙ ap (λ fields. 1 + sum_by field_count fields) popped ∙ ap (λ n. 1 + n) (sum_by_push field_count rest last) ∙ omega (arith, others)
 
-  -- the last field counts less than the object
-  pub count-last : (v : Value S) (o : Object S) (rest : List (Pair (Value S))) (last : Pair (Value S)) → v ≡ value.Object o → o.fields ≡ rest ++ last ∷ [] → value_count last.1 < value_count v
-  count-last v o rest last is popped = omega (arith, count-popped v o rest last is popped, count-object (record { fields = rest }))
+  -- the value of the only field, and the object
+  pub count-only :
+      (v : Value S) (o : Object S) (rest : List (Pair (Value S))) (last : Pair (Value S)) → v ≡ value.Object o → o.fields ≡ rest ++ last ∷ [] → rest ≡ [] → value_count v ≡ value_count last.1 + 1
+  count-only v o rest last is popped none =
+      let others = count-object (record { fields = rest }) in
+      let nothing : sum_by field_count rest ≡ 0 = ap (sum_by field_count) none in
+      omega (arith, count-popped v o rest last is popped, others, nothing)
+
+  -- an object of no fields is one value
+  pub count-empty : (v : Value S) (o : Object S) → v ≡ value.Object o → o.fields ≡ [] → value_count v ≡ 1
+  count-empty v o is none = ap value_count is ∙ count-object o ∙ ap (λ fields. 1 + sum_by field_count fields) none

@@ -1,5 +1,5 @@
 -- What a walk over items or fields finds of their equality.
-use Rattle.std.proofs.Common.{◌≡◌, ◌<◌, Bool, true, false, not, cond, ◌&&◌, List, [], ◌∷◌, ℕ, zero, suc, length, get_or, Option, Some, None, is_some, take, ap, sym, refl, ◌∙◌, ◌+◌, add-one, arith}
+use Rattle.std.proofs.Common.{◌≡◌, ◌<◌, Bool, true, false, cond, ◌&&◌, List, [], ◌∷◌, ℕ, zero, suc, length, get_or, Option, Some, None, is_some, take, ap, sym, refl, ◌∙◌, ◌+◌, add-one, arith}
 use Rattle.std.proofs.Math.Bool.{and-true, and_assoc}
 use Rattle.std.specs.Cmp.{both_ways}
 use Rattle.std.specs.List.{list_all}
@@ -38,16 +38,6 @@ module _ {A : Type 0} (E : A → A → Bool) where
   items_unlike [] (y ∷ ys) unlike = refl
   items_unlike (x ∷ xs) [] unlike = refl
   items_unlike (x ∷ xs) (y ∷ ys) unlike = ap (λ b. E x y && b) (items_unlike xs ys (λ e. unlike (ap suc e))) ∙ and_false (E x y)
-
-  -- under a key that the first has not
-  pub agree_none : (o : Option A) → not (is_some o) ≡ agree E None o
-  agree_none None = refl
-  agree_none (Some y) = refl
-
-  -- and under one that only the first has
-  pub agree_some : (o : Option A) → is_some o ≡ true → agree E o None ≡ false
-  agree_some None s = absurd (cc)
-  agree_some (Some x) s = refl
 
   some_both : (o p : Option A) → agree E o p ≡ true → is_some p ≡ true → is_some o ≡ true
   some_both None None h s = s

@@ -9,3 +9,5 @@ pub mod ValueTextLemmas
 pub mod FieldLaws
 pub mod PutLaws
 pub mod DistinctKeyLaws
+pub mod LookupLemmas
+pub mod EqualByKeys

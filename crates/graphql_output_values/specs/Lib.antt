@@ -12,5 +12,6 @@ pub mod EqualityEquations
 pub mod EqualityLaws
 pub mod EqualValues
 pub mod ValueText
+pub mod Lookups
 pub mod Laws
 pub mod DistinctLaws

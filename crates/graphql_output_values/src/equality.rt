@@ -1,10 +1,14 @@
 //! Equality of values and of objects, to which the order of fields says nothing.
 
-ghost use Rattle.std.specs.Prelude.{◌≡◌, is_some};
+ghost use Rattle.std.specs.Prelude.{◌≡◌, ◌↔◌, IsTrue, Some, is_some};
 ghost use Rattle.std.specs.List.{list_all};
-ghost use Rattle.graphql_output_values.specs.Equality.{agree_under, equal, equal_objects, items_equal};
+ghost use Rattle.std.specs.Map.{keys_of};
+ghost use Rattle.std.specs.Option.{option_copied};
+ghost use Rattle.graphql_output_values.specs.Equality.{agree, equal, equal_objects, items_equal};
+ghost use Rattle.graphql_output_values.specs.Lookups.{found};
 ghost use Rattle.graphql_output_values.specs.Objects.{field_value};
 
+use crate::lookup::Lookup;
 use crate::object::Object;
 use crate::value::Value;
 
@@ -46,30 +50,72 @@ fn same_items<S: PartialEq>(mine: &[Value<S>], theirs: &[Value<S>]) -> bool
     true
 }
 
-/// Whether there are equal values under each key of either object.
+/// Whether there are equal values under each key of either object. In proportion to the fields where
+/// the keys stand in one order, or where there is memory for an index; no two values are compared twice.
 #[cycle(equality)]
 fn same_fields<S: PartialEq>(mine: &Object<S>, theirs: &Object<S>) -> bool
     ensures { result ≡ equal_objects S.eq mine.now theirs.now }
 {
-    for field in mine.fields.as_slice() {
-        if !same_under(mine, theirs, field.0.as_str()) {
+    if have_same_keys(mine, theirs) {
+        return same_in_order(mine, theirs);
+    }
+    same_by_keys(mine, theirs)
+}
+
+/// Whether the objects have the same keys, in the same order.
+fn have_same_keys<S>(mine: &Object<S>, theirs: &Object<S>) -> bool
+    ensures { IsTrue result ↔ (keys_of mine.now.fields ≡ keys_of theirs.now.fields) }
+{
+    let others = theirs.fields.as_slice();
+    if mine.field_count() != others.len() {
+        return false;
+    }
+    for (place, field) in mine.fields.as_slice().iter().enumerate() {
+        if field.0 != others[place].0 {
+            return false;
+        }
+    }
+    true
+}
+
+/// The same of objects with the same keys in the same order, whose values are compared place by place.
+#[cycle(equality)]
+fn same_in_order<S: PartialEq>(mine: &Object<S>, theirs: &Object<S>) -> bool
+    requires { keys_of mine.now.fields ≡ keys_of theirs.now.fields }
+    ensures { result ≡ equal_objects S.eq mine.now theirs.now }
+{
+    let others = theirs.fields.as_slice();
+    for (place, field) in mine.fields.as_slice().iter().enumerate() {
+        if !same_value(&field.1, &others[place].1) && mine.is_first(field.0.as_str(), place) {
+            return false;
+        }
+    }
+    true
+}
+
+/// The same of any objects, where the values of the other one are looked up by their keys.
+#[cycle(equality)]
+fn same_by_keys<S: PartialEq>(mine: &Object<S>, theirs: &Object<S>) -> bool
+    ensures { result ≡ equal_objects S.eq mine.now theirs.now }
+{
+    let others = Lookup::new(theirs);
+    for (place, field) in mine.fields.as_slice().iter().enumerate() {
+        let found = others.get(field.0.as_str());
+        if !same_found(&field.1, found) && mine.is_first(field.0.as_str(), place) {
             return false;
         }
     }
     has_keys_of(mine, theirs)
 }
 
-/// Whether neither object has a field of this key, or both have one, with equal values.
+/// Whether a value was found, and an equal one.
 #[cycle(equality)]
-fn same_under<S: PartialEq>(mine: &Object<S>, theirs: &Object<S>, key: &str) -> bool
-    ensures { result ≡ agree_under (equal S.eq) mine.now.fields theirs.now.fields key.now }
+fn same_found<S: PartialEq>(mine: &Value<S>, found: Option<&Value<S>>) -> bool
+    ensures { result ≡ agree (equal S.eq) (Some mine.now) (option_copied found.entry) }
 {
-    match mine.place_of(key) {
-        Some(place) => match theirs.get_field_value(key) {
-            Some(value) => same_value(&mine.fields.as_slice()[place].1, value),
-            None => false,
-        },
-        None => !theirs.contains_field(key),
+    match found {
+        Some(value) => same_value(mine, value),
+        None => false,
     }
 }
 
@@ -77,10 +123,18 @@ fn same_under<S: PartialEq>(mine: &Object<S>, theirs: &Object<S>, key: &str) -> 
 fn has_keys_of<S>(object: &Object<S>, other: &Object<S>) -> bool
     ensures { result ≡ list_all (λ field. is_some (field_value object.now.fields field.0)) other.now.fields }
 {
-    other
+    let values = Lookup::new(object);
+    finds_all(&values, other)
+}
+
+/// Whether a field of each key of the object is found.
+fn finds_all<S>(values: &Lookup<'_, S>, object: &Object<S>) -> bool
+    ensures { result ≡ list_all (λ field. is_some (found values.now field.0)) object.now.fields }
+{
+    object
         .fields
         .iter()
-        .all(|field| object.contains_field(field.0.as_str()))
+        .all(|field| values.contains(field.0.as_str()))
 }
 
 // Values of one form that are equal in what they hold: scalars by their own equality, lists item by

@@ -6,6 +6,7 @@ mod display;
 mod equality;
 mod into_value;
 pub mod laws;
+mod lookup;
 mod object;
 mod value;
 mod walk;

@@ -1,6 +1,6 @@
 //! Objects: fields with their values.
 
-ghost use Rattle.std.specs.Prelude.{◌≡◌, [], None, IfOk, OnOk, OnErr, length, is_some, position, ◌<◌, ◌^◌, slice_get};
+ghost use Rattle.std.specs.Prelude.{◌≡◌, ◌↔◌, IsTrue, [], Some, None, IfOk, OnOk, OnErr, length, is_some, position, ◌<◌, ◌^◌, slice_get};
 ghost use Rattle.std.specs.Borrow.{sem};
 ghost use Rattle.std.specs.Option.{option_copied, option_copied_mut, option_map};
 ghost use Rattle.std.specs.Str.{bytes_eq};
@@ -60,6 +60,13 @@ impl<S> Object<S> {
         ensures { result ≡ position (λ field. bytes_eq key.now field.0) self.now.fields }
     {
         self.fields.iter().position(|field| key == field.0.as_str())
+    }
+
+    /// Whether the first field of this key stands at this place. A scan.
+    pub(crate) fn is_first(&self, key: &str, place: usize) -> bool
+        ensures { IsTrue result ↔ (position (λ field. bytes_eq key.now field.0) self.now.fields ≡ Some place) }
+    {
+        self.place_of(key) == Some(place)
     }
 
     /// Whether there is a field of this key. A scan.

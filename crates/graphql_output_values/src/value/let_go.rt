@@ -6,7 +6,7 @@
 //! another from then on, and only a part behind the first is gone through. So each value is gone
 //! through once.
 
-ghost use Rattle.std.specs.Prelude.{◌<◌, ◌+◌, IfSome};
+ghost use Rattle.std.specs.Prelude.{◌≡◌, ◌+◌, MatchOption};
 ghost use Rattle.graphql_output_values.specs.Counts.{value_count};
 
 use super::Value;
@@ -17,7 +17,7 @@ impl<S: Drop> Value<S> {
     /// Lets one of the values go that stand in this one, itself among them, and gives the others as one
     /// value; `None` where there is no other. Takes no memory.
     pub(super) fn let_one_go(self) -> Option<Value<S>>
-        ensures { IfSome result (λ left. value_count left < value_count self) }
+        ensures { MatchOption result (value_count self ≡ 1) (λ others. value_count self ≡ value_count others + 1) }
     {
         match self {
             Value::Null => None,
@@ -55,7 +55,7 @@ impl<S: Drop> Value<S> {
     /// one on the way there holds in its first place what was around it; this value holds `rest`.
     /// Takes no memory.
     fn inside_out(mut self, rest: Value<S>) -> Value<S>
-        ensures { value_count result < value_count self + value_count rest }
+        ensures { value_count self + value_count rest ≡ value_count result + 1 }
     {
         let mut around = rest;
         'inwards: loop {

@@ -45,6 +45,8 @@ fn directives_are_made(rt: HostRuntime) {
     assert!(rt; bare);
     let told = is_skip(&skip(&rt, alloc));
     assert!(rt; told);
+    let copy = skip(&rt, alloc).clone().expect(&rt, "memory");
+    assert!(rt; is_skip(&copy));
     let words = text(&rt, alloc, "Leaves it out");
     let described = is_described(&skip(&rt, alloc).description(words), "Leaves it out");
     assert!(rt; described);

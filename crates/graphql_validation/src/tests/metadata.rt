@@ -53,6 +53,8 @@ fn is_hero(field: &Field<DefaultScalarValue>) -> bool {
 fn fields_are_made(rt: HostRuntime) {
     let told = is_hero(&hero(&rt, rt.alloc()));
     assert!(rt; told);
+    let copy = hero(&rt, rt.alloc()).clone().expect(&rt, "memory");
+    assert!(rt; is_hero(&copy));
 }
 
 /// Whether it is deprecated without a reason.
@@ -64,6 +66,8 @@ fn is_deprecated(status: &DeprecationStatus) -> bool {
 fn values_are_made(rt: HostRuntime) {
     let told = is_deprecated(&red(&rt, rt.alloc()).deprecation_status);
     assert!(rt; told && !DeprecationStatus::Current.is_deprecated());
+    let copy = red(&rt, rt.alloc()).clone().expect(&rt, "memory");
+    assert!(rt; copy == red(&rt, rt.alloc()));
 }
 
 fn query(rt: &impl Abort, alloc: Global) -> Meta {

@@ -1,37 +1,111 @@
-use Rattle.std.proofs.Common.{◌≡◌, ◌<◌, Some, None, true, false, not, is_some, get_or, length, ap, sym, subst, ◌∙◌, rules, arith}
-use Rattle.std.proofs.lemmas.Grind.{common_steps}
-use Rattle.std.proofs.lemmas.List.Folds.{list_all_at}
-use Rattle.std.specs.List.{list_all}
+use Rattle.std.proofs.Common.{◌≡◌, ◌<◌, ◌≤◌, Some, true, false, get_or, length, ap, sym, subst, ◌∙◌, rules, arith}
 use Rattle.std.specs.Option.{option_copied}
-use Rattle.graphql_output_values.specs.Equality.{agree, agree_under, equal, items_equal}
+use Rattle.graphql_output_values.specs.Equality.{agree, equal, items_equal}
 use Rattle.graphql_output_values.specs.Objects.{field_value}
 use Rattle.graphql_output_values.specs.Values.{Holds}
 use Rattle.graphql_output_values.specs.declared.value.Value.TheVariants as value
-use Rattle.graphql_output_values.proofs.ObjectLemmas.{value_at, value_nowhere, there_if_value}
 use Rattle.graphql_output_values.specs.EqualityEquations.{equal_lists, equal_as_objects}
-use Rattle.graphql_output_values.proofs.EqualityTests.{agree_none, agree_some, items_more, items_apart, has_others, fields_apart}
+use Rattle.graphql_output_values.proofs.EqualByKeys.{across, all_agree, apart_here, in_order, more_agree}
+use Rattle.graphql_output_values.proofs.EqualityTests.{items_more, items_apart, has_others}
+use Rattle.graphql_output_values.proofs.ObjectLemmas.{place}
 use Rattle.graphql_output_values.proofs.equality.+equality.Goals as goal
+use Rattle.graphql_output_values.proofs.equality.+equality.Goals.{same_by_keys-else-not-same_found-via-then-not-same_found+else-is_first, same_by_keys-else-not-same_found-via-else-not-same_found}
+use Rattle.graphql_output_values.proofs.equality.+equality.Goals.{same_in_order-else-not-same_value-via-then-not-same_value+else-is_first, same_in_order-else-not-same_value-via-else-not-same_value}
 
-pub same_under-returns-in-Some-get_field_value : goal.same_under-returns-in-Some-get_field_value
-same_under-returns-in-Some-get_field_value g t c =
-    let mine = value_at c.args.key.now c.args.mine.now.fields c.in-Some.place c.index-as_slice-place.result (sym c.place_of.ensures ∙ c.in-Some.is) in
-    let theirs : field_value c.args.theirs.now.fields c.args.key.now ≡ Some c.in-Some-get_field_value.value.now = sym c.get_field_value.ensures ∙ ap option_copied c.in-Some-get_field_value.is in
-    c.same_value.ensures
-    ∙ ap (λ s. equal g.S.PartialEq.eq (get_or s c.in-Some.place c.index-as_slice-place.result).1 c.in-Some-get_field_value.value.now) c.as_slice.ensures
-    ∙ sym (λ i. agree (equal g.S.PartialEq.eq) (mine i) (theirs i))
+pub same_in_order-returns-then-is_first : goal.same_in_order-returns-then-is_first
+same_in_order-returns-then-is_first g t c =
+    let E = equal g.S.PartialEq.eq in
+    let fields = c.args.mine.now.fields in
+    let others = c.args.theirs.now.fields in
+    let i = c.loop-place.place in
+    let field = c.field-item.result in
+    let other = c.index-others-place.result in
+    let at : field ≡ get_or fields i field = c.field-item.is ∙ ap (λ fs. get_or fs i field) c.as_slice-field-items.ensures in
+    let beside : other ≡ get_or others i other = c.index-others-place.is ∙ ap (λ gs. get_or gs i other) c.as_slice-others.ensures in
+    let within : i < length fields = omega (arith, ap length c.as_slice-field-items.ensures) in
+    let first : place field.0 fields ≡ Some i = ap (λ key. place key fields) (sym c.as_str.ensures) ∙ c.is_first.ensures.0 c.if-is_first.true in
+    let theirs : field_value others field.0 ≡ Some other.1 = across E fields others i field other c.requires first ∙ ap (λ p. Some p.1) (sym beside) in
+    let unlike : c.same_value.result ≡ false = search rules in
+    sym (apart_here E fields others i field within at first (ap (agree E (Some field.1)) theirs ∙ ap (λ p. E field.1 p.1) c.index-others-place.is ∙ sym c.same_value.ensures ∙ unlike))
 
-pub same_under-returns-in-None-get_field_value : goal.same_under-returns-in-None-get_field_value
-same_under-returns-in-None-get_field_value g t c =
-    let mine = sym (there_if_value c.args.key.now c.args.mine.now.fields) ∙ ap is_some (sym c.place_of.ensures ∙ c.in-Some.is) in
-    let theirs : field_value c.args.theirs.now.fields c.args.key.now ≡ None = sym c.get_field_value.ensures ∙ ap option_copied c.in-None-get_field_value.is in
-    sym (ap (agree (equal g.S.PartialEq.eq) (field_value c.args.mine.now.fields c.args.key.now)) theirs ∙ agree_some (equal g.S.PartialEq.eq) (field_value c.args.mine.now.fields c.args.key.now) mine)
+pub same_in_order-loop-place-preserved : goal.same_in_order-loop-place-preserved
+same_in_order-loop-place-preserved g t c =
+    let E = equal g.S.PartialEq.eq in
+    let fields = c.args.mine.now.fields in
+    let others = c.args.theirs.now.fields in
+    let i = c.loop-place.place in
+    let field = c.field-item.result in
+    let other = c.index-others-place.result in
+    let at : field ≡ get_or fields i field = c.field-item.is ∙ ap (λ fs. get_or fs i field) c.as_slice-field-items.ensures in
+    let beside : other ≡ get_or others i other = c.index-others-place.is ∙ ap (λ gs. get_or gs i other) c.as_slice-others.ensures in
+    let within : i < length fields = omega (arith, ap length c.as_slice-field-items.ensures) in
+    more_agree E fields others i field within at c.loop-place.invariant
+    (λ first.
+    let theirs : field_value others field.0 ≡ Some other.1 = across E fields others i field other c.requires first ∙ ap (λ p. Some p.1) (sym beside) in
+    ap (agree E (Some field.1)) theirs
+    ∙ (elim c.else-not-same_value.branch as (λ w. E field.1 other.1 ≡ true) [
+      | same_in_order-else-not-same_value-via-then-not-same_value+else-is_first w ↦
+          let is_first = w.is_first.ensures.1 (ap (λ key. place key fields) w.as_str.ensures ∙ first) in
+          let is_not = w.if-is_first.false in
+          absurd (cc (is_first, is_not))
+      | same_in_order-else-not-same_value-via-else-not-same_value w ↦
+          let alike : c.same_value.result ≡ true = search rules in
+          ap (λ p. E field.1 p.1) c.index-others-place.is ∙ sym c.same_value.ensures ∙ alike
+    ]))
 
-pub same_under-returns-in-None : goal.same_under-returns-in-None
-same_under-returns-in-None g t c =
-    let mine = value_nowhere c.args.key.now c.args.mine.now.fields (sym c.place_of.ensures ∙ c.in-None.is) in
-    ap not c.contains_field.ensures
-    ∙ agree_none (equal g.S.PartialEq.eq) (field_value c.args.theirs.now.fields c.args.key.now)
-    ∙ ap (λ o. agree (equal g.S.PartialEq.eq) o (field_value c.args.theirs.now.fields c.args.key.now)) (sym mine)
+pub same_in_order-returns : goal.same_in_order-returns
+same_in_order-returns g t c =
+    let fields = c.args.mine.now.fields in
+    let past : length fields ≤ c.loop-place.place = omega (arith, ap length c.as_slice-field-items.ensures) in
+    sym (in_order (equal g.S.PartialEq.eq) fields c.args.theirs.now.fields c.requires (all_agree (equal g.S.PartialEq.eq) fields c.args.theirs.now.fields c.loop-place.place c.loop-place.invariant past))
+
+pub same_by_keys-returns-then-is_first : goal.same_by_keys-returns-then-is_first
+same_by_keys-returns-then-is_first g t c =
+    let E = equal g.S.PartialEq.eq in
+    let fields = c.args.mine.now.fields in
+    let others = c.args.theirs.now.fields in
+    let i = c.loop-place.place in
+    let field = c.field-item.result in
+    let at : field ≡ get_or fields i field = c.field-item.is ∙ ap (λ fs. get_or fs i field) c.as_slice-field-items.ensures in
+    let within : i < length fields = omega (arith, ap length c.as_slice-field-items.ensures) in
+    let first : place field.0 fields ≡ Some i = ap (λ key. place key fields) (sym c.as_str-then-not-same_found.ensures) ∙ c.is_first.ensures.0 c.if-is_first.true in
+    let theirs : field_value others field.0 ≡ option_copied c.get-found.result = ap (field_value others) (sym c.as_str.ensures) ∙ sym (c.loop-place.invariant.finds c.as_str.result.now) ∙ sym c.get-found.ensures in
+    let unlike : c.same_found.result ≡ false = search rules in
+    sym (apart_here E fields others i field within at first (ap (agree E (Some field.1)) theirs ∙ sym c.same_found.ensures ∙ unlike))
+
+pub same_by_keys-loop-place-preserved : goal.same_by_keys-loop-place-preserved
+same_by_keys-loop-place-preserved g t c =
+    let E = equal g.S.PartialEq.eq in
+    let fields = c.args.mine.now.fields in
+    let others = c.args.theirs.now.fields in
+    let i = c.loop-place.place in
+    let field = c.field-item.result in
+    let at : field ≡ get_or fields i field = c.field-item.is ∙ ap (λ fs. get_or fs i field) c.as_slice-field-items.ensures in
+    let within : i < length fields = omega (arith, ap length c.as_slice-field-items.ensures) in
+    let theirs : field_value others field.0 ≡ option_copied c.get-found.result = ap (field_value others) (sym c.as_str.ensures) ∙ sym (c.loop-place.invariant.finds c.as_str.result.now) ∙ sym c.get-found.ensures in
+    record {
+      finds = c.loop-place.invariant.finds;
+      so_far =
+          more_agree E fields others i field within at c.loop-place.invariant.so_far
+          (λ first.
+          ap (agree E (Some field.1)) theirs
+          ∙ (elim c.else-not-same_found.branch as (λ w. agree E (Some field.1) (option_copied c.get-found.result) ≡ true) [
+            | same_by_keys-else-not-same_found-via-then-not-same_found+else-is_first w ↦
+                let is_first = w.is_first.ensures.1 (ap (λ key. place key fields) w.as_str-then-not-same_found.ensures ∙ first) in
+                let is_not = w.if-is_first.false in
+                absurd (cc (is_first, is_not))
+            | same_by_keys-else-not-same_found-via-else-not-same_found w ↦
+                let alike : c.same_found.result ≡ true = search rules in
+                sym c.same_found.ensures ∙ alike
+          ]));
+    }
+
+pub same_by_keys-returns : goal.same_by_keys-returns
+same_by_keys-returns g t c =
+    let fields = c.args.mine.now.fields in
+    let past : length fields ≤ c.loop-place.place = omega (arith, ap length c.as_slice-field-items.ensures) in
+    c.has_keys_of.ensures
+    ∙ has_others (equal g.S.PartialEq.eq) fields c.args.theirs.now.fields (all_agree (equal g.S.PartialEq.eq) fields c.args.theirs.now.fields c.loop-place.place c.loop-place.invariant.so_far past)
 
 pub same_value-returns-in-Some-as_list_value : goal.same_value-returns-in-Some-as_list_value
 same_value-returns-in-Some-as_list_value g t c =
@@ -47,25 +121,6 @@ same_value-returns-in-Some-as_object_value g t c =
     c.same_fields.ensures
     ∙ sym (equal_as_objects g.S.PartialEq.eq c.in-Object.object c.in-Some-as_object_value.other.now)
     ∙ sym (λ i. equal g.S.PartialEq.eq (c.in-Object.is i) (theirs i))
-
-pub same_fields-returns-then-not-same_under : goal.same_fields-returns-then-not-same_under
-same_fields-returns-then-not-same_under g t c =
-    let fields = c.args.mine.now.fields in
-    let others = c.args.theirs.now.fields in
-    let at = c.loop-field.field-index in
-    let item = c.field-item.result in
-    let off : c.same_under.result ≡ false = search rules in
-    let within : at < length fields = omega (arith, ap length c.as_slice-field-items.ensures) in
-    let key : (get_or fields at item).0 ≡ c.as_str.result.now = ap (λ s. (get_or s at item).0) (sym c.as_slice-field-items.ensures) ∙ ap (λ f. f.0) (sym c.field-item.is) ∙ sym c.as_str.ensures in
-    let apart = ap (agree_under (equal g.S.PartialEq.eq) fields others) key ∙ sym c.same_under.ensures ∙ off in
-    sym (fields_apart (equal g.S.PartialEq.eq) fields others (list_all_at (λ f. agree_under (equal g.S.PartialEq.eq) fields others f.0) fields at item within apart))
-
-pub same_fields-returns : goal.same_fields-returns
-same_fields-returns g t c =
-    let fields = c.args.mine.now.fields in
-    let others = c.args.theirs.now.fields in
-    let all : list_all (λ f. agree_under (equal g.S.PartialEq.eq) fields others f.0) fields ≡ true = grind (arith, common_steps) in
-    c.has_keys_of.ensures ∙ has_others (equal g.S.PartialEq.eq) fields others all
 
 pub same_items-returns-then-not-same_value : goal.same_items-returns-then-not-same_value
 same_items-returns-then-not-same_value g t c =
