@@ -1,0 +1,3 @@
+pub mod InputFieldsLemmas
+pub mod ConformsLemmas
+pub mod Rows

@@ -1,0 +1,41 @@
+-- What a type asks of the values that are given to it (GraphQL October 2021, 3.11 List, 3.12 Non-Null: input coercion; 3.9 Enums; 3.10 Input Objects).
+use Rattle.std.specs.Prelude.{◌||◌, ℕ, Bool, true, nat_eq, List, Option, Some, None}
+use Rattle.std.specs.List.{list_all, list_any}
+use Rattle.graphql_type_references.specs.TypeReference.{outermost, is_non_null}
+use Rattle.graphql_type_references.specs.declared.type_modifier.TypeModifier.{TypeModifier}
+use Rattle.graphql_type_references.specs.declared.type_modifier.TypeModifier.TheVariants as modifier
+use Rattle.graphql_meta.specs.declared.meta.argument.Argument.{Argument}
+use Rattle.graphql_meta.specs.declared.meta.enumeration.EnumMeta.{EnumMeta}
+use Rattle.graphql_meta.specs.Types.{TypeOf}
+use Rattle.graphql_names.specs.Names.{Bytes, named, is_named, is_one_of}
+pub use Rattle.graphql_schema.specs.Executable.{is_optional}
+
+-- null is not among its values
+abbrev pub refuses_null : TypeOf → Bool
+refuses_null t = is_non_null (outermost t.modifiers)
+
+-- a list may have this many items: the size that is asked for, where one is
+abbrev pub allows : Option ℕ → ℕ → Bool
+allows None count = true
+allows (Some size) count = nat_eq count size
+
+abbrev pub may_hold_one : TypeModifier → Bool
+may_hold_one modifier.NonNull = true
+may_hold_one (modifier.List size) = allows size 1
+
+-- a value that is no list may stand there, as the one item of each list around the named type (3.11)
+abbrev pub may_stand_alone : TypeOf → Bool
+may_stand_alone t = list_all may_hold_one t.modifiers
+
+-- one of the enum's values has the name
+abbrev pub declares : {C : Type 0} → EnumMeta C → Bytes → Bool
+declares m name = list_any (is_named (λ v. v.name) name) m.values
+
+module _ {S : Type 0} where
+  -- the field of a name
+  abbrev pub argument_named : List (Argument S) → Bytes → Option (Argument S)
+  argument_named = named (λ a. a.name)
+
+  -- each declared field need not be given, or is among the names of those given
+  abbrev pub none_missing : List (Argument S) → List Bytes → Bool
+  none_missing declared given = list_all (λ a. is_optional a || is_one_of given a.name) declared

@@ -1,0 +1,4 @@
+pub mod InputTypes
+pub mod Conforms
+pub mod InputFields
+pub mod Judged

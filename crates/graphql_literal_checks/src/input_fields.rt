@@ -1,0 +1,123 @@
+//! The declared fields of an input object, and those that are given (GraphQL October 2021, 3.10 Input
+//! Objects).
+
+ghost use Rattle.std.specs.Prelude.{◌≡◌, ◌||◌, ℕ, List, IfOk, OnOk, MatchOption, Some, None, map, true, false, if◌then◌else◌};
+ghost use Rattle.std.specs.List.{list_all};
+ghost use Rattle.std.specs.Option.{option_copied, option_or};
+ghost use Rattle.std.specs.Str.{bytes_eq};
+ghost use Rattle.graphql_names.specs.Names.{is_one_of};
+ghost use Rattle.graphql_literal_checks.specs.InputFields.{found, has_name};
+ghost use Rattle.graphql_literal_checks.specs.InputTypes as spec;
+
+use graphql_meta::Argument;
+use graphql_text::{Spanning, Text};
+use graphql_values::InputValue;
+use std::alloc::{AllocError, Global};
+use std::collections::{HashMap, HashSet};
+
+/// The declared fields of an input object, each found by its name.
+#[derive(Drop)]
+pub(crate) struct InputFields<'s, S> {
+    declared: &'s [Argument<S>],
+    by_name: HashMap<&'s str, &'s Argument<S>>,
+    ghost finds: { (name : List ℕ) → found by_name name ≡ spec.argument_named declared.now name },
+}
+
+impl<'s, S> InputFields<'s, S> {
+    /// The fields by their names, the first where several have one name. Takes time in proportion to
+    /// the fields. An error is want of memory.
+    pub(crate) fn new(
+        alloc: Global,
+        declared: &'s [Argument<S>],
+    ) -> Result<InputFields<'s, S>, AllocError>
+        ensures { IfOk result (λ fields. fields.declared.now ≡ declared.now) }
+    {
+        let mut by_name: HashMap<&str, &Argument<S>> = HashMap::new(alloc);
+        'fields: for field in declared {
+            put_first(&mut by_name, field)?;
+        }
+        Ok(InputFields { declared, by_name })
+    }
+
+    /// The field of this name.
+    pub(crate) fn get(&self, name: &str) -> Option<&'s Argument<S>>
+        ensures { option_copied result ≡ spec.argument_named self.now.declared.now name.now }
+    {
+        match self.by_name.get(name) {
+            Some(field) => Some(*field),
+            None => None,
+        }
+    }
+}
+
+/// Puts a field behind those that are there, unless one of them has its name. An error is want of
+/// memory.
+fn put_first<'s, S>(
+    by_name: &mut HashMap<&'s str, &'s Argument<S>>,
+    field: &'s Argument<S>,
+) -> Result<(), AllocError>
+    ensures { OnOk result ((name : List ℕ) → found by_name.new name ≡ option_or (found by_name.old name) (if bytes_eq field.now.name name then Some field.now else None)) }
+{
+    let name = field.name.as_str();
+    if by_name.contains_key(name) {
+        return Ok(());
+    }
+    by_name.insert(name, field)?;
+    Ok(())
+}
+
+/// Whether the field need not be given: `null` is among its values, or it has a default.
+fn is_optional<S>(field: &Argument<S>) -> bool
+    ensures { result ≡ spec.is_optional field.now }
+{
+    !field.arg_type.is_non_null() || field.default_value.is_some()
+}
+
+/// Whether the field need not be given, or is.
+fn is_settled<S>(field: &Argument<S>, given: &HashSet<&str>) -> bool
+    ensures { result ≡ (spec.is_optional field.now || has_name given.now field.now.name) }
+{
+    is_optional(field) || given.contains(field.name.as_str())
+}
+
+/// The first declared field that has to be given, and is not. Takes time in proportion to the fields.
+/// An error is want of memory.
+pub(crate) fn missing<'s, S>(
+    alloc: Global,
+    declared: &'s [Argument<S>],
+    pairs: &[(Spanning<Text>, Spanning<InputValue<S>>)],
+) -> Result<Option<&'s Argument<S>>, AllocError>
+    ensures { IfOk result (λ found. MatchOption found (spec.none_missing declared.now (map (λ p. p.0.item) pairs.now) ≡ true) (λ _. spec.none_missing declared.now (map (λ p. p.0.item) pairs.now) ≡ false)) }
+{
+    let given = names_of(alloc, pairs)?;
+    Ok(first_unsettled(declared, &given))
+}
+
+/// The first field that has to be given, and is not.
+fn first_unsettled<'s, S>(
+    declared: &'s [Argument<S>],
+    given: &HashSet<&str>,
+) -> Option<&'s Argument<S>>
+    ensures { MatchOption result (list_all (λ a. spec.is_optional a || has_name given.now a.name) declared.now ≡ true) (λ _. list_all (λ a. spec.is_optional a || has_name given.now a.name) declared.now ≡ false) }
+{
+    for field in declared {
+        if !is_settled(field, given) {
+            return Some(field);
+        }
+    }
+    None
+}
+
+/// The names of the fields that are given. An error is want of memory.
+fn names_of<'a, S>(
+    alloc: Global,
+    pairs: &'a [(Spanning<Text>, Spanning<InputValue<S>>)],
+) -> Result<HashSet<&'a str>, AllocError>
+    ensures { IfOk result (λ names. (q : List ℕ) → has_name names q ≡ is_one_of (map (λ p. p.0.item) pairs.now) q) }
+{
+    let mut names: HashSet<&str> = HashSet::new(alloc);
+    'pairs: for pair in pairs {
+        names.insert(pair.0.item.as_str())?;
+    }
+    Ok(names)
+}

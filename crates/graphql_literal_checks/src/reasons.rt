@@ -1,0 +1,61 @@
+//! The reasons why values do not conform, in words.
+
+use crate::misfit::Misfit;
+use graphql_scalars::ScalarValue;
+use graphql_text::Text;
+use graphql_type_references::{BorrowedType, Type};
+use graphql_values::InputValue;
+use std::alloc::Global;
+
+/// `null` where the type has none.
+pub(crate) fn null_given<'a>(alloc: Global, asked: &BorrowedType<'_>) -> Misfit<'a> {
+    Misfit::told(alloc, format!(in alloc; "null given for type \"{asked}\""))
+}
+
+/// Another number of items than the list is to have.
+pub(crate) fn wrong_size<'a>(alloc: Global, expected: usize, found: usize) -> Misfit<'a> {
+    Misfit::told(
+        alloc,
+        format!(in alloc; "expected {expected} items, found {found}"),
+    )
+}
+
+/// No value of the type of this name.
+pub(crate) fn invalid_value<'a, S: ScalarValue>(
+    alloc: Global,
+    type_name: &str,
+    value: &InputValue<S>,
+) -> Misfit<'a> {
+    Misfit::told(
+        alloc,
+        format!(in alloc; "invalid value {value} for type \"{type_name}\""),
+    )
+}
+
+/// No value of the enum of this name.
+pub(crate) fn invalid_enum_value<'a, S: ScalarValue>(
+    alloc: Global,
+    enum_name: &str,
+    value: &InputValue<S>,
+) -> Misfit<'a> {
+    Misfit::told(
+        alloc,
+        format!(in alloc; "invalid value {value} for enum \"{enum_name}\""),
+    )
+}
+
+/// A field that the input object does not declare.
+pub(crate) fn unknown_field<'a>(alloc: Global, name: &str, type_name: &str) -> Misfit<'a> {
+    Misfit::told(
+        alloc,
+        format!(in alloc; "unknown field \"{name}\" on type \"{type_name}\""),
+    )
+}
+
+/// A field that has to be given, and is not.
+pub(crate) fn missing_field<'a>(alloc: Global, name: &str, field_type: &Type<Text>) -> Misfit<'a> {
+    Misfit::told(
+        alloc,
+        format!(in alloc; "missing field \"{name}\" of type \"{field_type}\""),
+    )
+}

@@ -1,0 +1,51 @@
+//! Why values do not conform to types, in words.
+
+ghost use Rattle.std.specs.Prelude.{IfOk, MatchOption};
+ghost use Rattle.graphql_literal_checks.specs.Conforms.{Conforms};
+ghost use Rattle.graphql_literal_checks.specs.Judged.{asked_for};
+ghost use Rattle.graphql_literal_checks.specs.declared.source.Source.TheVariants.{Literal};
+
+use crate::judging::judge;
+use crate::source::Source;
+use graphql_meta::SchemaScalar;
+use graphql_schema::SchemaType;
+use graphql_text::Text;
+use graphql_type_references::{Type, TypeModifier};
+use graphql_values::InputValue;
+use std::alloc::{AllocError, Global};
+use std::convert::{AsSlice, AsStr};
+
+/// Why a literal does not conform to a type of the schema (GraphQL October 2021, 5.6.1 Values of
+/// Correct Type), in words: the first fault. `None` where it conforms. Takes time in proportion to the
+/// value, the schema aside, and stack for each level that both the value and the type nest; where the
+/// reason shows a part of the value, its text takes stack for each level of that part. An error is want
+/// of memory.
+pub fn validate_literal_value<S: SchemaScalar, N: AsStr, M: AsSlice<TypeModifier>>(
+    alloc: Global,
+    schema: &SchemaType<S>,
+    asked: &Type<N, M>,
+    value: &InputValue<S>,
+) -> Result<Option<Text>, AllocError>
+    ensures { IfOk result (λ reason. MatchOption reason (Conforms S.answer S.Check.accepts schema.now.types Literal (asked_for N.text M.items asked.now) value.now) (λ _. Conforms S.answer S.Check.accepts schema.now.types Literal (asked_for N.text M.items asked.now) value.now → ⊥)) }
+{
+    validate_value(alloc, schema, Source::Literal, asked, value)
+}
+
+/// The same of a value from this source.
+pub fn validate_value<S: SchemaScalar, N: AsStr, M: AsSlice<TypeModifier>>(
+    alloc: Global,
+    schema: &SchemaType<S>,
+    source: Source,
+    asked: &Type<N, M>,
+    value: &InputValue<S>,
+) -> Result<Option<Text>, AllocError>
+    ensures { IfOk result (λ reason. MatchOption reason (Conforms S.answer S.Check.accepts schema.now.types source (asked_for N.text M.items asked.now) value.now) (λ _. Conforms S.answer S.Check.accepts schema.now.types source (asked_for N.text M.items asked.now) value.now → ⊥)) }
+{
+    match judge(alloc, schema, source, &asked.borrowed(), value) {
+        Ok(_) => Ok(None),
+        Err(misfit) => match misfit.into_text(alloc) {
+            Ok(reason) => Ok(Some(reason)),
+            Err(error) => Err(error),
+        },
+    }
+}
