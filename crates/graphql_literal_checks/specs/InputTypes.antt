@@ -7,7 +7,8 @@ use Rattle.graphql_type_references.specs.declared.type_modifier.TypeModifier.The
 use Rattle.graphql_meta.specs.declared.meta.argument.Argument.{Argument}
 use Rattle.graphql_meta.specs.declared.meta.enumeration.EnumMeta.{EnumMeta}
 use Rattle.graphql_meta.specs.Types.{TypeOf}
-use Rattle.graphql_names.specs.Names.{Bytes, named, is_named, is_one_of}
+use Rattle.graphql_names.specs.Names.{Bytes, is_named, is_one_of}
+pub use Rattle.graphql_schema.specs.Declarations.{argument_named}
 pub use Rattle.graphql_schema.specs.Executable.{is_optional}
 
 -- null is not among its values
@@ -32,10 +33,6 @@ abbrev pub declares : {C : Type 0} → EnumMeta C → Bytes → Bool
 declares m name = list_any (is_named (λ v. v.name) name) m.values
 
 module _ {S : Type 0} where
-  -- the field of a name
-  abbrev pub argument_named : List (Argument S) → Bytes → Option (Argument S)
-  argument_named = named (λ a. a.name)
-
   -- each declared field need not be given, or is among the names of those given
   abbrev pub none_missing : List (Argument S) → List Bytes → Bool
   none_missing declared given = list_all (λ a. is_optional a || is_one_of given a.name) declared

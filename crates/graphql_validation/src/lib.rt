@@ -1,8 +1,8 @@
 //! The validation layer of GraphQL: what a schema says of its types, and whether requests can be
 //! executed against it (GraphQL October 2021, 3 Type System).
 //!
-//! This crate gives the layer one name, and has no code of its own. It holds so far the layer's
-//! schemas:
+//! This crate gives the layer one name, and has no code of its own. It holds so far schemas, and what
+//! rules for documents will stand on:
 //!
 //! - the metadata of types, fields, arguments and directives, of which a schema is made;
 //! - the checks by which scalars, enums and input objects accept or refuse values, and in
@@ -10,15 +10,23 @@
 //! - [`SchemaType`], the schema itself, refused with a [`SchemaError`] where its types are at fault;
 //!   the references to its types, each a [`TypeType`]; and [`RootNode`], what requests are executed
 //!   over;
-//! - in [`laws`], what is proved of subtypes, possible types and types that overlap.
+//! - in [`laws`], what is proved of subtypes, possible types and types that overlap;
+//! - [`Walk`], a walk over a document, which tells each [`Event`] with the types around it;
+//! - [`validate_literal_value`], which tells why a literal does not conform to a type;
+//! - [`RuleError`], what a rule has against a document.
 #![tactic(auto)]
 
 #[cfg(test)]
 mod tests;
 
+pub use graphql_literal_checks::{Source, validate_literal_value, validate_value};
 pub use graphql_meta::{
     Argument, Check, DeprecationStatus, DirectiveLocation, DirectiveType, EnumMeta, EnumValue,
     Field, InputObjectMeta, InterfaceMeta, ListMeta, MetaType, NullableMeta, ObjectMeta,
     PlaceholderMeta, ScalarMeta, SchemaScalar, TypeCheck, TypeKind, UnionMeta, scalar_checks,
 };
+pub use graphql_occurrences::{
+    Around, Event, InputPlace, KnownField, Node, Owner, Seen, TypeLiteral, Walk,
+};
+pub use graphql_rule_errors::RuleError;
 pub use graphql_schema::{RootNode, SchemaError, SchemaType, TypeType, laws};

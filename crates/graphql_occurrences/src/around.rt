@@ -1,0 +1,208 @@
+//! The types around a node of a document.
+
+ghost use Rattle.std.specs.Prelude.{◌≡◌, None};
+ghost use Rattle.std.specs.Option.{option_copied, option_map};
+ghost use Rattle.graphql_meta.specs.Types.{arguments_of, reference_to};
+ghost use Rattle.graphql_schema.specs.Declarations.{declarations_of};
+ghost use Rattle.graphql_schema_faults.specs.Faults.{is_composite};
+ghost use Rattle.graphql_occurrences.specs.Lookups as spec;
+ghost use Rattle.graphql_occurrences.specs.Events.{asked, condition_around, selecting as around_selecting, set_around, top as around_top};
+ghost use Rattle.graphql_occurrences.specs.Lent.{around_of, field_of_known, input_of, literal_of};
+
+use crate::literal::TypeLiteral;
+use crate::place::InputPlace;
+use graphql_meta::{Argument, Field, MetaType, SchemaScalar};
+use graphql_schema::SchemaType;
+use graphql_text::{Spanning, TextRef};
+
+/// A field that its parent has: one that the schema declares, or `__typename`, which is a field of
+/// each object, each interface and each union (GraphQL October 2021, 4.1 Type Name Introspection).
+#[derive_where(Clone, Copy)]
+pub struct KnownField<'a, S> {
+    /// What the schema declares; `None` of `__typename`.
+    pub declared: Option<&'a Field<S>>,
+}
+
+impl<'a, S> KnownField<'a, S> {
+    /// The type of the field's values.
+    pub fn type_literal(self) -> TypeLiteral<'a>
+        ensures { literal_of result ≡ (field_of_known self.entry).field_type }
+    {
+        match self.declared {
+            Some(field) => TypeLiteral::of(&field.field_type),
+            None => TypeLiteral::named("String"),
+        }
+    }
+
+    /// The arguments that are declared for the field, in order.
+    pub fn arguments(self) -> &'a [Argument<S>]
+        ensures { result.now ≡ arguments_of (field_of_known self.entry) }
+    {
+        match self.declared {
+            Some(field) => match &field.arguments {
+                Some(arguments) => arguments.as_slice(),
+                None => &[],
+            },
+            None => &[],
+        }
+    }
+}
+
+/// The types around a node of a document, by the path to it from its definition. A type that the
+/// schema has not is `None`, and so is one of which the path tells nothing.
+#[derive_where(Clone, Copy)]
+pub struct Around<'a, S, C = <S as SchemaScalar>::Check> {
+    /// The type of what is selected: of a field that of its values, of a fragment with a condition
+    /// the condition. It may be one that the schema has not.
+    pub current: Option<TypeLiteral<'a>>,
+
+    /// The type that it is selected of.
+    pub parent: Option<&'a MetaType<S, C>>,
+
+    /// Where a value stands.
+    pub input: Option<InputPlace<'a>>,
+}
+
+impl<'a, S, C> Around<'a, S, C> {
+    /// No type is known.
+    pub(crate) fn nowhere() -> Around<'a, S, C>
+        ensures { around_of result ≡ around_top None }
+    {
+        Around {
+            current: None,
+            parent: None,
+            input: None,
+        }
+    }
+
+    /// The types around a definition, by the name of its type.
+    pub(crate) fn top(name: Option<&'a str>) -> Around<'a, S, C>
+        ensures { around_of result ≡ around_top (option_map (λ n. n.now) name.entry) }
+    {
+        let current = match name {
+            Some(name) => Some(TypeLiteral::named(name)),
+            None => None,
+        };
+        Around {
+            current,
+            parent: None,
+            input: None,
+        }
+    }
+
+    /// The same, and what is selected is of this type.
+    pub(crate) fn selecting(self, current: Option<TypeLiteral<'a>>) -> Around<'a, S, C>
+        ensures { around_of result ≡ around_selecting (around_of self.entry) (option_map literal_of current.entry) }
+    {
+        Around {
+            current,
+            parent: self.parent,
+            input: None,
+        }
+    }
+
+    /// The same, and a value stands here.
+    pub(crate) fn asking(self, input: Option<InputPlace<'a>>) -> Around<'a, S, C>
+        ensures { around_of result ≡ asked (around_of self.entry) (option_map input_of input.entry) }
+    {
+        Around {
+            current: self.current,
+            parent: self.parent,
+            input,
+        }
+    }
+
+    /// The types inside a fragment with this condition, or the same without one.
+    pub(crate) fn inside_condition(
+        self,
+        condition: &'a Option<Spanning<TextRef<'a>>>,
+    ) -> Around<'a, S, C>
+        ensures { around_of result ≡ condition_around (around_of self.entry) condition.now }
+    {
+        match condition {
+            Some(name) => self.selecting(Some(TypeLiteral::named(name.item.as_str()))),
+            None => self,
+        }
+    }
+
+    /// The types inside a selection set.
+    pub(crate) fn inside_set(self, schema: &'a SchemaType<S, C>) -> Around<'a, S, C>
+        ensures { around_of result ≡ set_around (declarations_of schema.now) (around_of self.entry) }
+    {
+        Around {
+            current: self.current,
+            parent: referred(schema, self.current),
+            input: None,
+        }
+    }
+}
+
+/// The type of the schema within every wrap of a reference.
+fn referred<'a, S, C>(
+    schema: &'a SchemaType<S, C>,
+    literal: Option<TypeLiteral<'a>>,
+) -> Option<&'a MetaType<S, C>>
+    ensures { option_copied result ≡ spec.referred (declarations_of schema.now) (option_map literal_of literal.entry) }
+{
+    match literal {
+        Some(literal) => schema.concrete_type_by_name(literal.name),
+        None => None,
+    }
+}
+
+/// Whether `__typename` is a field of the type: an object, an interface or a union.
+fn has_typename<S, C>(meta: &MetaType<S, C>) -> bool
+    ensures { result ≡ is_composite meta.now }
+{
+    meta.is_composite()
+}
+
+/// The field of this name that a type has.
+fn field_of_type<'a, S, C>(meta: &'a MetaType<S, C>, name: &str) -> Option<KnownField<'a, S>>
+    ensures { option_map field_of_known result ≡ spec.field_in meta.now name.now }
+{
+    if name == "__typename" && has_typename(meta) {
+        return Some(KnownField { declared: None });
+    }
+    match meta.field_by_name(name) {
+        Some(field) => Some(KnownField {
+            declared: Some(field),
+        }),
+        None => None,
+    }
+}
+
+/// The field of this name that a type has, if the type is known.
+pub(crate) fn field_of<'a, S, C>(
+    parent: Option<&'a MetaType<S, C>>,
+    name: &str,
+) -> Option<KnownField<'a, S>>
+    ensures { option_map field_of_known result ≡ spec.field_of (option_copied parent.entry) name.now }
+{
+    match parent {
+        Some(meta) => field_of_type(meta, name),
+        None => None,
+    }
+}
+
+/// The type of a field, if the field is known.
+pub(crate) fn type_of<'a, S>(field: Option<KnownField<'a, S>>) -> Option<TypeLiteral<'a>>
+    ensures { option_map literal_of result ≡ spec.field_type (option_map field_of_known field.entry) }
+{
+    match field {
+        Some(field) => Some(field.type_literal()),
+        None => None,
+    }
+}
+
+/// The arguments that are declared for a field, if the field is known.
+pub(crate) fn arguments_of_field<'a, S>(
+    field: Option<KnownField<'a, S>>,
+) -> Option<&'a [Argument<S>]>
+    ensures { option_copied result ≡ spec.field_arguments (option_map field_of_known field.entry) }
+{
+    match field {
+        Some(field) => Some(field.arguments()),
+        None => None,
+    }
+}

@@ -1,0 +1,113 @@
+//! Where values stand.
+
+ghost use Rattle.std.specs.Prelude.{◌≡◌};
+ghost use Rattle.std.specs.Option.{option_copied, option_map};
+ghost use Rattle.graphql_schema.specs.Declarations.{declarations_of};
+ghost use Rattle.graphql_occurrences.specs.Lookups as spec;
+ghost use Rattle.graphql_occurrences.specs.Lent.{input_of, literal_of};
+
+use crate::literal::TypeLiteral;
+use graphql_meta::Argument;
+use graphql_schema::SchemaType;
+
+/// Where a value stands: in an argument, in a list, in an input object, or as the default of a
+/// variable (GraphQL October 2021, 5.8.5 All Variable Usages Are Allowed).
+#[derive(Clone, Copy)]
+pub struct InputPlace<'a> {
+    /// The type of the values that are asked for.
+    pub asked: TypeLiteral<'a>,
+
+    /// Whether the place has a default, which stands where no value is given.
+    pub has_default: bool,
+}
+
+/// The first of the declared arguments that has this name.
+fn find_argument<'a, S>(declared: &'a [Argument<S>], name: &str) -> Option<&'a Argument<S>>
+    ensures { option_copied result ≡ spec.argument_named declared.now name.now }
+{
+    declared.iter().find(|argument| argument.name.is(name))
+}
+
+/// Where the value of an argument, or of a field of an input object, stands.
+fn place_in<'a, S>(argument: &'a Argument<S>) -> InputPlace<'a>
+    ensures { input_of result ≡ spec.place_of argument.now }
+{
+    InputPlace {
+        asked: TypeLiteral::of(&argument.arg_type),
+        has_default: argument.default_value.is_some(),
+    }
+}
+
+/// The same, where there is one.
+fn place_in_some<'a, S>(argument: Option<&'a Argument<S>>) -> Option<InputPlace<'a>>
+    ensures { option_map input_of result ≡ option_map spec.place_of (option_copied argument.entry) }
+{
+    match argument {
+        Some(argument) => Some(place_in(argument)),
+        None => None,
+    }
+}
+
+/// Where the value of the argument of this name stands, if the argument is declared.
+pub(crate) fn place_of_argument<'a, S>(
+    declared: Option<&'a [Argument<S>]>,
+    name: &str,
+) -> Option<InputPlace<'a>>
+    ensures { option_map input_of result ≡ spec.argument_place (option_copied declared.entry) name.now }
+{
+    match declared {
+        Some(declared) => place_in_some(find_argument(declared, name)),
+        None => None,
+    }
+}
+
+/// Where the items of a list of this type stand.
+fn place_in_list<'a>(literal: TypeLiteral<'a>) -> Option<InputPlace<'a>>
+    ensures { option_map input_of result ≡ option_map spec.bare_place (spec.item_type (literal_of literal.entry)) }
+{
+    match literal.items() {
+        Some(asked) => Some(InputPlace {
+            asked,
+            has_default: false,
+        }),
+        None => None,
+    }
+}
+
+/// Where the items of a list stand, if a list is asked for.
+pub(crate) fn place_of_items<'a>(input: Option<InputPlace<'a>>) -> Option<InputPlace<'a>>
+    ensures { option_map input_of result ≡ spec.item_place (option_map input_of input.entry) }
+{
+    match input {
+        Some(place) => place_in_list(place.asked),
+        None => None,
+    }
+}
+
+/// The field of this name of the input object within every wrap of a reference.
+fn input_field<'a, S, C>(
+    schema: &'a SchemaType<S, C>,
+    asked: TypeLiteral<'a>,
+    name: &str,
+) -> Option<&'a Argument<S>>
+    ensures { option_copied result ≡ spec.argument_named (spec.input_fields_within (declarations_of schema.now) (literal_of asked.entry)) name.now }
+{
+    match schema.concrete_type_by_name(asked.name) {
+        Some(meta) => meta.input_field_by_name(name),
+        None => None,
+    }
+}
+
+/// Where the value of a field of an input object stands, if the object and the field are known.
+pub(crate) fn place_of_field<'a, S, C>(
+    schema: &'a SchemaType<S, C>,
+    input: Option<InputPlace<'a>>,
+    name: &str,
+) -> Option<InputPlace<'a>>
+    ensures { option_map input_of result ≡ spec.field_place (declarations_of schema.now) (option_map input_of input.entry) name.now }
+{
+    match input {
+        Some(place) => place_in_some(input_field(schema, place.asked, name)),
+        None => None,
+    }
+}
