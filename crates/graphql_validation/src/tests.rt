@@ -5,6 +5,7 @@ mod checks;
 mod directives;
 mod examples;
 mod executable;
+mod literals;
 mod lookups;
 mod metadata;
 mod refusals;
