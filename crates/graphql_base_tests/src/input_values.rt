@@ -177,7 +177,7 @@ fn parts_are_lent_and_variables_filled(rt: HostRuntime) -> Result<(), AllocError
 fn are_same(alloc: Global, one: TwoFields, other: TwoFields) -> Result<bool, AllocError> {
     let one = two_fields(alloc, one)?;
     let other = two_fields(alloc, other)?;
-    Ok(one.unlocated_eq(&other))
+    one.unlocated_eq(alloc, &other)
 }
 
 /// An object of one field, which is an object of one field, and so on.
@@ -226,11 +226,30 @@ fn deep_values_go(rt: HostRuntime) -> Result<(), AllocError> {
     Ok(())
 }
 
+/// How long the text of a deep list is, and how many variables stand in it.
+fn told_of_deep(alloc: Global) -> Result<(usize, usize), AllocError> {
+    let value = nested_lists(alloc, 50_000)?;
+    let text = value.to_string(alloc)?;
+    let names = value.referenced_variables(alloc)?;
+    Ok((text.len(), names.len()))
+}
+
+#[test]
+fn deep_values_are_told(rt: HostRuntime) -> Result<(), AllocError> {
+    let (length, variables) = told_of_deep(rt.alloc())?;
+    assert_eq!(rt; length, 400_001);
+    assert_eq!(rt; variables, 0);
+    Ok(())
+}
+
 /// Whether a deep object is the same as itself, and not as one less deep.
 fn deep_are_same(alloc: Global) -> Result<(bool, bool), AllocError> {
-    let one = nested(alloc, 60)?;
-    let other = nested(alloc, 59)?;
-    Ok((one.unlocated_eq(&one), one.unlocated_eq(&other)))
+    let one = nested(alloc, 50_000)?;
+    let other = nested(alloc, 49_999)?;
+    Ok((
+        one.unlocated_eq(alloc, &one)?,
+        one.unlocated_eq(alloc, &other)?,
+    ))
 }
 
 /// An object of two fields of one name, of which the first is such an object, and so on.
@@ -250,7 +269,36 @@ fn nested_twice(alloc: Global, depth: usize) -> Result<InputValue, AllocError> {
 fn repeated_are_same(alloc: Global) -> Result<bool, AllocError> {
     let one = nested_twice(alloc, 200)?;
     let other = nested_twice(alloc, 200)?;
-    Ok(one.unlocated_eq(&other))
+    one.unlocated_eq(alloc, &other)
+}
+
+/// The object of a field for each of these letters, whose value is null.
+fn lettered(alloc: Global, letters: &str) -> Result<InputValue, AllocError> {
+    let mut fields = Vec::new(alloc);
+    for letter in letters.chars() {
+        let mut name = Text::new(alloc);
+        name.push(letter)?;
+        fields.push((name, InputValue::null()))?;
+    }
+    InputValue::object(alloc, fields)
+}
+
+/// Whether objects of many fields are the same: in another order, and with another name.
+fn many_are_same(alloc: Global) -> Result<(bool, bool), AllocError> {
+    let one = lettered(alloc, "abcdefghijklmnopqrstuvwxyz")?;
+    let turned = lettered(alloc, "zyxwvutsrqponmlkjihgfedcba")?;
+    let other = lettered(alloc, "zyxwvutsrqponmlkjihgfedcbz")?;
+    Ok((
+        one.unlocated_eq(alloc, &turned)?,
+        one.unlocated_eq(alloc, &other)?,
+    ))
+}
+
+#[test]
+fn many_fields_are_compared(rt: HostRuntime) -> Result<(), AllocError> {
+    let (turned, other) = many_are_same(rt.alloc())?;
+    assert!(rt; turned && !other);
+    Ok(())
 }
 
 #[test]

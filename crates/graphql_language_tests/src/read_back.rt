@@ -62,7 +62,7 @@ fn shown(alloc: Global) -> Result<String, AllocError> {
 fn is_value(alloc: Global, text: &str, value: &InputValue) -> Result<bool, Fault> {
     let mut parser = Parser::new(alloc, text)?;
     let found: Spanning<InputValue> = parse_value_literal(&mut parser, false)?;
-    Ok(found.item.unlocated_eq(value) && parser.peek().item == Token::EndOfFile)
+    Ok(found.item.unlocated_eq(alloc, value)? && parser.peek().item == Token::EndOfFile)
 }
 
 /// Whether what is displayed of that object is that object.
@@ -79,7 +79,7 @@ fn is_read_back(alloc: Global) -> Result<bool, Fault> {
         return Ok(false);
     }
     let found = read_back(alloc, &value, false)?;
-    Ok(found.item.unlocated_eq(&value))
+    Ok(found.item.unlocated_eq(alloc, &value)?)
 }
 
 /// The type `[[Int!]]!`.

@@ -1,9 +1,10 @@
--- What it is for a value to conform, by its form, and what a loop over its parts keeps.
-use Rattle.std.proofs.Common.{◌≡◌, ◌&&◌, inl, inr, ℕ, zero, suc, ◌+◌, ◌<◌, Bool, true, false, List, [], ◌∷◌, ◌++◌, Option, Some, None, Result, Ok, Err, Bor, map, length, get_or, take, ap, sym, subst, refl, ◌∙◌, arith}
+-- What it is for a value to conform, by its form.
+use Rattle.std.proofs.Common.{◌≡◌, ◌&&◌, inl, inr, ℕ, Bool, true, false, List, [], ◌∷◌, Option, Some, None, Ok, Bor, map, length, ap, sym, subst, refl, ◌∙◌, arith}
 use Rattle.std.specs.List.{list_all, flat_map}
 use Rattle.std.proofs.lemmas.Bool.{false≢true}
-use Rattle.std.proofs.lemmas.List.{take_more}
-use Rattle.std.proofs.lemmas.List.Folds.{list_all-append, list_all_more}
+use Rattle.std.proofs.Math.Bool.{and-true}
+use Rattle.std.proofs.lemmas.List.{same_from_push}
+use Rattle.std.proofs.lemmas.List.Folds.{list_all-append}
 use Rattle.std.proofs.lemmas.Option.{none-some, same_Some}
 use Rattle.graphql_scalars.specs.ScalarAnswers.{ScalarAnswer, as_text}
 use Rattle.graphql_values.specs.declared.input_value.InputValue.{InputValue, out-InputValue}
@@ -15,6 +16,7 @@ use Rattle.graphql_values.proofs.InputValueEquations.{fold_null, fold_variable}
 use Rattle.graphql_values.proofs.VariableLemmas.{variables_in_list, variables_in_object}
 use Rattle.graphql_values.proofs.VariableLaws.{none_is_listed}
 use Rattle.graphql_type_references.specs.declared.type_modifier.TypeModifier.{TypeModifier}
+use Rattle.graphql_type_references.specs.declared.type_modifier.TypeModifier.TheVariants as modifier
 use Rattle.graphql_type_references.specs.declared.type_reference.«Type».{«Type»}
 use Rattle.graphql_meta.specs.declared.meta.argument.Argument.{Argument}
 use Rattle.graphql_meta.specs.declared.meta.input_object.InputObjectMeta.{InputObjectMeta}
@@ -24,21 +26,29 @@ use Rattle.graphql_meta.specs.Types.{TypeOf}
 use Rattle.graphql_names.specs.Names.{Bytes}
 use Rattle.graphql_schema_faults.specs.Lookups.{type_named}
 use Rattle.graphql_literal_checks.specs.declared.source.Source.{Source}
-use Rattle.graphql_literal_checks.specs.declared.misfit.Misfit.{Misfit}
-use Rattle.graphql_literal_checks.specs.InputTypes.{refuses_null, may_stand_alone, argument_named, none_missing}
+use Rattle.graphql_literal_checks.specs.InputTypes.{allows, refuses_null, may_stand_alone, argument_named, none_missing}
 use Rattle.graphql_literal_checks.specs.Conforms.{Conforms, null, variable, scalar, enum, sent_enum, list, object, EachConforms, no_items, more_items, FieldsConform, no_fields, more_fields}
-use Rattle.graphql_literal_checks.specs.Judged.{Judged, Names, IsObject, ObjectFits, NamedFits, AloneFits, ListFits, FieldFits, lent, is_constant, are_constant, have_constants}
+use Rattle.graphql_literal_checks.specs.Judged.{IsListOf, Judged, Names, IsObject, ObjectFits, NamedFits, AloneFits, ListFits, FieldFits, lent, is_constant, are_constant, have_constants}
 
 -- ---- types that are lent
 
 pub lent_is : (b : «Type» Bytes (Bor (List TypeModifier))) (t : TypeOf) → b.name ≡ t.name → b.modifiers.now ≡ t.modifiers → lent b ≡ t
 lent_is b t name modifiers = ap (λ n. record { name = n; modifiers = b.modifiers.now }) name ∙ ap (λ m. record { name = t.name; modifiers = m }) modifiers
 
--- ---- answers
+-- ---- lists
 
-pub judged_iff : (P Q : Type 0) (r : Result Bool Misfit) (b c : Bool) → (P → Q) → (Q → P) → b ≡ c → Judged P b r → Judged Q c r
-judged_iff P Q (Ok told) b c to back same h = (to h.0, h.1 ∙ same)
-judged_iff P Q (Err m) b c to back same h = λ not_memory q. h not_memory (back q)
+none_there : {A : Type 0} (xs : List A) → length xs ≡ 0 → xs ≡ []
+none_there [] none = refl
+none_there (x ∷ xs) none = absurd (omega arith)
+
+nil-cons : {A : Type 0} (x : A) (xs : List A) → [] ≡ x ∷ xs → ⊥
+nil-cons x xs is = cc
+
+same_head : {A : Type 0} (x y : A) (xs ys : List A) → x ∷ xs ≡ y ∷ ys → x ≡ y
+same_head x y xs ys is = cc
+
+same_tail : {A : Type 0} (x y : A) (xs ys : List A) → x ∷ xs ≡ y ∷ ys → xs ≡ ys
+same_tail x y xs ys is = cc
 
 -- ---- constants
 
@@ -57,27 +67,23 @@ constant_variable : (S : Type 0) (name : Bytes) → false ≡ is_constant {S = S
 constant_variable S name = ap (list_all (λ _. false)) (sym (fold_variable {S = S} variables_layer name))
 
 module _ {S : Type 0} where
-  constant_list : (xs : List (Placed (InputValue S))) → are_constant xs ≡ is_constant (value.List xs)
+  pub constant_list : (xs : List (Placed (InputValue S))) → are_constant xs ≡ is_constant (value.List xs)
   constant_list xs = sym (ap (list_all (λ _. false)) (variables_in_list xs) ∙ all_nothing (λ (x : Placed (InputValue S)). variables_in x.item) xs)
 
-  constant_object : (ps : List (Pair (InputValue S))) → have_constants ps ≡ is_constant (value.Object ps)
+  pub constant_object : (ps : List (Pair (InputValue S))) → have_constants ps ≡ is_constant (value.Object ps)
   constant_object ps = sym (ap (list_all (λ _. false)) (variables_in_object ps) ∙ all_nothing (λ (p : Pair (InputValue S)). variables_in p.1.item) ps)
+
+  pub no_item_varies : (b : Bool) (xs : List (Placed (InputValue S))) → length xs ≡ 0 → b ≡ (b && are_constant xs)
+  no_item_varies b xs none = sym (and-true b) ∙ ap (λ ys. b && are_constant ys) (sym (none_there xs none))
+
+  pub no_field_varies : (b : Bool) (ps : List (Pair (InputValue S))) → length ps ≡ 0 → b ≡ (b && have_constants ps)
+  no_field_varies b ps none = sym (and-true b) ∙ ap (λ qs. b && have_constants qs) (sym (none_there ps none))
 
   is_constant_if : (v : InputValue S) → is_constant v ≡ true → IsConstant v
   is_constant_if v h = (none_is_listed S v).0 (nothing_if (variables_in v) h)
 
   constant_if : (v : InputValue S) → IsConstant v → is_constant v ≡ true
   constant_if v h = ap (list_all (λ _. false)) ((none_is_listed S v).1 h)
-
-  pub more_constant : (xs : List (Placed (InputValue S))) (k : ℕ) (x : Placed (InputValue S)) (a b : Bool) → k < length xs → x ≡ get_or xs k x → a ≡ are_constant (take k xs) → b ≡ is_constant x.item → (a && b) ≡ are_constant (take (k + 1) xs)
-  more_constant xs k x a b within is before here =
-      ap (λ c. c && b) before ∙ ap (λ c. are_constant (take k xs) && c) (here ∙ ap (λ (z : Placed (InputValue S)). is_constant z.item) is)
-      ∙ sym (list_all_more (λ (z : Placed (InputValue S)). is_constant z.item) xs k x within)
-
-  pub more_have_constants : (ps : List (Pair (InputValue S))) (k : ℕ) (p : Pair (InputValue S)) (a b : Bool) → k < length ps → p ≡ get_or ps k p → a ≡ have_constants (take k ps) → b ≡ is_constant p.1.item → (a && b) ≡ have_constants (take (k + 1) ps)
-  more_have_constants ps k p a b within is before here =
-      ap (λ c. c && b) before ∙ ap (λ c. have_constants (take k ps) && c) (here ∙ ap (λ (z : Pair (InputValue S)). is_constant z.1.item) is)
-      ∙ sym (list_all_more (λ (z : Pair (InputValue S)). is_constant z.1.item) ps k p within)
 
 -- ---- the names of enums' values
 
@@ -103,7 +109,7 @@ module _ {S C : Type 0} (answer : S → ScalarAnswer) (accepts : C → InputValu
   abbrev pub Fits : TypeOf → InputValue S → Type 0
   Fits = Conforms answer accepts types source
 
-  abbrev Named : Option (MetaType S C) → InputValue S → Type 0
+  abbrev pub Named : Option (MetaType S C) → InputValue S → Type 0
   Named = NamedFits answer accepts types source
 
   abbrev out : InputValue S → InputValue-F S (InputValue S)
@@ -132,8 +138,11 @@ module _ {S C : Type 0} (answer : S → ScalarAnswer) (accepts : C → InputValu
   pub list_of : (t : TypeOf) (v : InputValue S) (xs : List (Placed (InputValue S))) → v ≡ value.List xs → Fits t v → ListFits answer accepts types source t xs
   list_of t v xs is h = level_of t v (InputValue-F.List xs) (ap out is ∙ value.outs-List xs) h
 
-  named_at : (o : Option (MetaType S C)) (t : TypeOf) (v : InputValue S) → type_named types t.name ≡ o → may_stand_alone t ≡ true → Named o v → AloneFits answer accepts types source t v
+  pub named_at : (o : Option (MetaType S C)) (t : TypeOf) (v : InputValue S) → type_named types t.name ≡ o → may_stand_alone t ≡ true → Named o v → AloneFits answer accepts types source t v
   named_at o t v there alone fits = (alone, subst (λ p. Named p v) (sym there) fits)
+
+  pub at_named : (o : Option (MetaType S C)) (t : TypeOf) (v : InputValue S) → type_named types t.name ≡ o → AloneFits answer accepts types source t v → Named o v
+  at_named o t v there fits = subst (λ p. Named p v) there fits.1
 
   pub alone_of : (t : TypeOf) (v : InputValue S) → Fits t v → (v ≡ value.Null → ⊥) → ((name : Bytes) → v ≡ value.Variable name → ⊥) → ((xs : List (Placed (InputValue S))) → v ≡ value.List xs → ⊥)
       → AloneFits answer accepts types source t v
@@ -169,61 +178,59 @@ module _ {S C : Type 0} (answer : S → ScalarAnswer) (accepts : C → InputValu
   pub judged_variable : (t : TypeOf) (v : InputValue S) (name : Bytes) → v ≡ value.Variable name → Judged (Fits t v) (is_constant v) (Ok false)
   judged_variable t v name is = (subst (Fits t) (sym is) (variable t name), constant_variable S name ∙ ap is_constant (sym is))
 
-  pub judged_list : (t : TypeOf) (v : InputValue S) (xs ys : List (Placed (InputValue S))) (r : Result Bool Misfit) → v ≡ value.List xs → ys ≡ xs → Judged (ListFits answer accepts types source t ys) (are_constant ys) r → Judged (Fits t v) (is_constant v) r
-  judged_list t v xs ys r is same h =
-      judged_iff (ListFits answer accepts types source t xs) (Fits t v) r (are_constant xs) (is_constant v)
-      (λ fits. subst (Fits t) (sym is) (list t fits.0 fits.1 xs fits.2 fits.3 fits.4)) (list_of t v xs is) (constant_list xs ∙ ap is_constant (sym is))
-      (subst (λ zs. Judged (ListFits answer accepts types source t zs) (are_constant zs) r) same h)
+  pub list_fits : (t : TypeOf) (v : InputValue S) (xs ys : List (Placed (InputValue S))) → v ≡ value.List xs → ys ≡ xs → ListFits answer accepts types source t ys → Fits t v
+  list_fits t v xs ys is same fits =
+      subst (Fits t) (sym is) (subst (λ zs. Fits t (value.List zs)) same (list t fits.0 fits.1 ys fits.2 fits.3 fits.4))
 
-  pub judged_alone : (t : TypeOf) (v : InputValue S) (r : Result Bool Misfit) → (v ≡ value.Null → ⊥) → ((name : Bytes) → v ≡ value.Variable name → ⊥) → ((xs : List (Placed (InputValue S))) → v ≡ value.List xs → ⊥)
-      → Judged (AloneFits answer accepts types source t v) (is_constant v) r → Judged (Fits t v) (is_constant v) r
-  judged_alone t v r no_null no_variable no_list h =
-      judged_iff (AloneFits answer accepts types source t v) (Fits t v) r (is_constant v) (is_constant v)
-      (λ fits. from_named (type_named types t.name) t v refl fits.0 fits.1) (λ fits. alone_of t v fits no_null no_variable no_list) refl h
+  pub fits_list : (t : TypeOf) (v : InputValue S) (xs ys : List (Placed (InputValue S))) → v ≡ value.List xs → ys ≡ xs → Fits t v → ListFits answer accepts types source t ys
+  fits_list t v xs ys is same fits = subst (ListFits answer accepts types source t) (sym same) (list_of t v xs is fits)
+
+  pub alone_fits : (t : TypeOf) (v : InputValue S) → AloneFits answer accepts types source t v → Fits t v
+  alone_fits t v fits = from_named (type_named types t.name) t v refl fits.0 fits.1
 
   -- ---- items
 
-  abbrev Each : TypeOf → List (Placed (InputValue S)) → Type 0
+  abbrev pub Each : TypeOf → List (Placed (InputValue S)) → Type 0
   Each = EachConforms answer accepts types source
 
-  each_behind : (t : TypeOf) (xs : List (Placed (InputValue S))) (x : Placed (InputValue S)) → Each t xs → Fits t x.item → Each t (xs ++ x ∷ [])
-  each_behind _ _ x (no_items t) fits = more_items t x [] fits (no_items t)
-  each_behind _ _ x (more_items t y ys here rest) fits = more_items t y (ys ++ x ∷ []) here (each_behind t ys x rest fits)
+  pub list_with : (t asked : TypeOf) (size : Option ℕ) (within : List TypeModifier) (xs : List (Placed (InputValue S))) → IsListOf t.modifiers size within → allows size (length xs) ≡ true → asked ≡ record { name = t.name; modifiers = within } → Each asked xs → ListFits answer accepts types source t xs
+  list_with t asked size within xs is allowed same each = (size, within, is, allowed, subst (λ u. Each u xs) same each)
 
-  pub each_more : (t : TypeOf) (xs : List (Placed (InputValue S))) (k : ℕ) (x : Placed (InputValue S)) → k < length xs → x ≡ get_or xs k x → Each t (take k xs) → Fits t x.item → Each t (take (k + 1) xs)
-  each_more t xs k x within is each fits = subst (Each t) (sym (take_more xs k x within ∙ ap (λ z. take k xs ++ z ∷ []) (sym is))) (each_behind t (take k xs) x each fits)
+  pub within_list : (t asked : TypeOf) (size : Option ℕ) (within : List TypeModifier) (xs : List (Placed (InputValue S))) → IsListOf t.modifiers size within → asked ≡ record { name = t.name; modifiers = within } → ListFits answer accepts types source t xs → Each asked xs
+  within_list t asked size within xs is same fits =
+      let one : fits.1 ≡ within = (same_from_push fits.1 within (modifier.List fits.0) (modifier.List size) (sym fits.2 ∙ is)).0 in
+      subst (λ u. Each u xs) (ap (λ m. record { name = t.name; modifiers = m }) one ∙ sym same) fits.4
 
-  each_at : (t : TypeOf) (xs : List (Placed (InputValue S))) (k : ℕ) (d : Placed (InputValue S)) → k < length xs → Each t xs → Fits t (get_or xs k d).item
-  each_at _ _ k d within (no_items t) = absurd (omega arith)
-  each_at _ _ zero d within (more_items t x xs here rest) = here
-  each_at _ _ (suc k) d within (more_items t x xs here rest) = each_at t xs k d (omega arith) rest
+  pub no_item : (t : TypeOf) (xs : List (Placed (InputValue S))) → length xs ≡ 0 → Each t xs
+  no_item t xs none = subst (Each t) (sym (none_there xs none)) (no_items t)
 
-  pub each_here : (t : TypeOf) (xs : List (Placed (InputValue S))) (k : ℕ) (x : Placed (InputValue S)) → k < length xs → x ≡ get_or xs k x → Each t xs → Fits t x.item
-  each_here t xs k x within is each = subst (λ z. Fits t z.item) (sym is) (each_at t xs k x within each)
+  pub first_item : (t : TypeOf) (ys : List (Placed (InputValue S))) → Each t ys → (x : Placed (InputValue S)) (xs : List (Placed (InputValue S))) → ys ≡ x ∷ xs → Fits t x.item × Each t xs
+  first_item _ _ (no_items t) x xs is = absurd (nil-cons x xs is)
+  first_item _ _ (more_items t y ys here rest) x xs is =
+      (subst (λ z. Fits t z.item) (same_head y x ys xs is) here, subst (Each t) (same_tail y x ys xs is) rest)
+
+  pub with_item : (t : TypeOf) (ys : List (Placed (InputValue S))) (x : Placed (InputValue S)) (xs : List (Placed (InputValue S))) → ys ≡ x ∷ xs → Fits t x.item → Each t xs → Each t ys
+  with_item t ys x xs is here rest = subst (Each t) (sym is) (more_items t x xs here rest)
 
   -- ---- fields
 
-  abbrev Fields : List (Argument S) → List (Pair (InputValue S)) → Type 0
+  abbrev pub Fields : List (Argument S) → List (Pair (InputValue S)) → Type 0
   Fields = FieldsConform answer accepts types source
 
   -- the field is declared, and its value conforms
-  abbrev PairFits : List (Argument S) → Pair (InputValue S) → Type 0
+  abbrev pub PairFits : List (Argument S) → Pair (InputValue S) → Type 0
   PairFits declared p = FieldFits answer accepts types source declared p.0.item p.1.item
 
-  fields_behind : (declared : List (Argument S)) (ps : List (Pair (InputValue S))) (p : Pair (InputValue S)) → Fields declared ps → PairFits declared p → Fields declared (ps ++ p ∷ [])
-  fields_behind _ _ p (no_fields declared) fits = more_fields declared fits.0 p [] fits.1 fits.2 (no_fields declared)
-  fields_behind _ _ p (more_fields declared a q qs there here rest) fits = more_fields declared a q (qs ++ p ∷ []) there here (fields_behind declared qs p rest fits)
+  pub no_pair : (declared : List (Argument S)) (ps : List (Pair (InputValue S))) → length ps ≡ 0 → Fields declared ps
+  no_pair declared ps none = subst (Fields declared) (sym (none_there ps none)) (no_fields declared)
 
-  pub fields_more : (declared : List (Argument S)) (ps : List (Pair (InputValue S))) (k : ℕ) (p : Pair (InputValue S)) → k < length ps → p ≡ get_or ps k p → Fields declared (take k ps) → PairFits declared p → Fields declared (take (k + 1) ps)
-  fields_more declared ps k p within is fields fits = subst (Fields declared) (sym (take_more ps k p within ∙ ap (λ z. take k ps ++ z ∷ []) (sym is))) (fields_behind declared (take k ps) p fields fits)
+  pub first_field : (declared : List (Argument S)) (qs : List (Pair (InputValue S))) → Fields declared qs → (p : Pair (InputValue S)) (ps : List (Pair (InputValue S))) → qs ≡ p ∷ ps → PairFits declared p × Fields declared ps
+  first_field _ _ (no_fields declared) p ps is = absurd (nil-cons p ps is)
+  first_field _ _ (more_fields declared a q qs there here rest) p ps is =
+      (subst (PairFits declared) (same_head q p qs ps is) (a, there, here), subst (Fields declared) (same_tail q p qs ps is) rest)
 
-  fields_at : (declared : List (Argument S)) (ps : List (Pair (InputValue S))) (k : ℕ) (d : Pair (InputValue S)) → k < length ps → Fields declared ps → PairFits declared (get_or ps k d)
-  fields_at _ _ k d within (no_fields declared) = absurd (omega arith)
-  fields_at _ _ zero d within (more_fields declared a p ps there here rest) = (a, there, here)
-  fields_at _ _ (suc k) d within (more_fields declared a p ps there here rest) = fields_at declared ps k d (omega arith) rest
-
-  pub field_here : (declared : List (Argument S)) (ps : List (Pair (InputValue S))) (k : ℕ) (p : Pair (InputValue S)) → k < length ps → p ≡ get_or ps k p → Fields declared ps → PairFits declared p
-  field_here declared ps k p within is fields = subst (PairFits declared) (sym is) (fields_at declared ps k p within fields)
+  pub with_field : (declared : List (Argument S)) (qs : List (Pair (InputValue S))) (p : Pair (InputValue S)) (ps : List (Pair (InputValue S))) → qs ≡ p ∷ ps → PairFits declared p → Fields declared ps → Fields declared qs
+  with_field declared qs p ps is fits rest = subst (Fields declared) (sym is) (more_fields declared fits.0 p ps fits.1 fits.2 rest)
 
   pub no_field : (declared : List (Argument S)) (name : Bytes) (v : InputValue S) → argument_named declared name ≡ None → FieldFits answer accepts types source declared name v → ⊥
   no_field declared name v none fits = none-some fits.0 (sym none ∙ fits.1)
@@ -243,21 +250,15 @@ module _ {S C : Type 0} (answer : S → ScalarAnswer) (accepts : C → InputValu
   objects_same : (us ps : List (Pair (InputValue S))) → value.Object us ≡ value.Object ps → us ≡ ps
   objects_same us ps e = sym (ap pairs_within (value.outs-Object us)) ∙ ap (λ v. pairs_within (out v)) e ∙ ap pairs_within (value.outs-Object ps)
 
-  module _ (m : InputObjectMeta S C) (v : InputValue S) (ps : List (Pair (InputValue S))) (constant : Bool) (r : Result Bool Misfit) (is : v ≡ value.Object ps) (fields : Fields m.input_fields ps) (told : constant ≡ have_constants ps) where
-    abbrev Whole : Type 0
-    Whole = (none_missing m.input_fields (map (λ p. p.0.item) ps) ≡ true) × (constant ≡ true → accepts m.check v)
+  -- the fields conform, none is missing, and the type accepts the object where no variable stands in it
+  abbrev pub Whole : InputObjectMeta S C → InputValue S → List (Pair (InputValue S)) → Type 0
+  Whole m v ps = Fields m.input_fields ps × (none_missing m.input_fields (map (λ p. p.0.item) ps) ≡ true) × (have_constants ps ≡ true → accepts m.check v)
 
-    same_constant : constant ≡ is_constant v
-    same_constant = told ∙ constant_object ps ∙ ap is_constant (sym is)
+  pub object_fits : (m : InputObjectMeta S C) (v : InputValue S) (ps : List (Pair (InputValue S))) → v ≡ value.Object ps → Whole m v ps → IsObject (ObjectFits answer accepts types source m) v
+  object_fits m v ps is whole = (ps, is, (whole.0, whole.1, λ no_variable. subst (accepts m.check) is (whole.2 (constant_object ps ∙ constant_if (value.Object ps) no_variable))))
 
-    to_object : Whole → IsObject (ObjectFits answer accepts types source m) v
-    to_object whole =
-        (ps, is, (fields, whole.0, λ no_variable. subst (accepts m.check) is (whole.1 (same_constant ∙ constant_if v (subst IsConstant (sym is) no_variable)))))
+  fits_whole : (m : InputObjectMeta S C) (v : InputValue S) (ps : List (Pair (InputValue S))) → v ≡ value.Object ps → ObjectFits answer accepts types source m ps → Whole m v ps
+  fits_whole m v ps is fits = (fits.0, fits.1, λ h. subst (accepts m.check) (sym is) (fits.2 (is_constant_if (value.Object ps) (sym (constant_object ps) ∙ h))))
 
-    from_object : IsObject (ObjectFits answer accepts types source m) v → Whole
-    from_object fits =
-        let same : fits.0 ≡ ps = objects_same fits.0 ps (sym fits.1 ∙ is) in
-        (ap (λ (qs : List (Pair (InputValue S))). none_missing m.input_fields (map (λ p. p.0.item) qs)) (sym same) ∙ fits.2.1, λ h. subst (accepts m.check) (sym fits.1) (fits.2.2 (subst IsConstant fits.1 (is_constant_if v (sym same_constant ∙ h)))))
-
-    pub judged_object : Judged Whole constant r → Judged (IsObject (ObjectFits answer accepts types source m) v) (is_constant v) r
-    judged_object h = judged_iff Whole (IsObject (ObjectFits answer accepts types source m) v) r constant (is_constant v) to_object from_object same_constant h
+  pub fits_object : (m : InputObjectMeta S C) (v : InputValue S) (ps : List (Pair (InputValue S))) → v ≡ value.Object ps → IsObject (ObjectFits answer accepts types source m) v → Whole m v ps
+  fits_object m v ps is fits = fits_whole m v ps is (subst (ObjectFits answer accepts types source m) (objects_same fits.0 ps (sym fits.1 ∙ is)) fits.2)

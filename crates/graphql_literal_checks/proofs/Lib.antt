@@ -1,3 +1,5 @@
 pub mod InputFieldsLemmas
 pub mod ConformsLemmas
+pub mod OpenLemmas
+pub mod OpenParts
 pub mod Rows

@@ -2,3 +2,4 @@ pub mod InputTypes
 pub mod Conforms
 pub mod InputFields
 pub mod Judged
+pub mod OpenValues

@@ -1,69 +1,27 @@
 //! The declared fields of an input object, and those that are given (GraphQL October 2021, 3.10 Input
 //! Objects).
 
-ghost use Rattle.std.specs.Prelude.{◌≡◌, ◌||◌, ℕ, List, IfOk, OnOk, MatchOption, Some, None, map, true, false, if◌then◌else◌};
+ghost use Rattle.std.specs.Prelude.{◌≡◌, ◌||◌, ℕ, List, IfOk, MatchOption, map, true, false};
 ghost use Rattle.std.specs.List.{list_all};
-ghost use Rattle.std.specs.Option.{option_copied, option_or};
-ghost use Rattle.std.specs.Str.{bytes_eq};
+ghost use Rattle.std.specs.Option.{option_copied};
 ghost use Rattle.graphql_names.specs.Names.{is_one_of};
-ghost use Rattle.graphql_literal_checks.specs.InputFields.{found, has_name};
+ghost use Rattle.graphql_literal_checks.specs.InputFields.{has_name};
 ghost use Rattle.graphql_literal_checks.specs.InputTypes as spec;
 
-use graphql_meta::Argument;
+use graphql_meta::{Argument, InputObjectMeta};
 use graphql_text::{Spanning, Text};
 use graphql_values::InputValue;
 use std::alloc::{AllocError, Global};
-use std::collections::{HashMap, HashSet};
+use std::collections::HashSet;
 
-/// The declared fields of an input object, each found by its name.
-#[derive(Drop)]
-pub(crate) struct InputFields<'s, S> {
-    declared: &'s [Argument<S>],
-    by_name: HashMap<&'s str, &'s Argument<S>>,
-    ghost finds: { (name : List ℕ) → found by_name name ≡ spec.argument_named declared.now name },
-}
-
-impl<'s, S> InputFields<'s, S> {
-    /// The fields by their names, the first where several have one name. Takes time in proportion to
-    /// the fields. An error is want of memory.
-    pub(crate) fn new(
-        alloc: Global,
-        declared: &'s [Argument<S>],
-    ) -> Result<InputFields<'s, S>, AllocError>
-        ensures { IfOk result (λ fields. fields.declared.now ≡ declared.now) }
-    {
-        let mut by_name: HashMap<&str, &Argument<S>> = HashMap::new(alloc);
-        'fields: for field in declared {
-            put_first(&mut by_name, field)?;
-        }
-        Ok(InputFields { declared, by_name })
-    }
-
-    /// The field of this name.
-    pub(crate) fn get(&self, name: &str) -> Option<&'s Argument<S>>
-        ensures { option_copied result ≡ spec.argument_named self.now.declared.now name.now }
-    {
-        match self.by_name.get(name) {
-            Some(field) => Some(*field),
-            None => None,
-        }
-    }
-}
-
-/// Puts a field behind those that are there, unless one of them has its name. An error is want of
-/// memory.
-fn put_first<'s, S>(
-    by_name: &mut HashMap<&'s str, &'s Argument<S>>,
-    field: &'s Argument<S>,
-) -> Result<(), AllocError>
-    ensures { OnOk result ((name : List ℕ) → found by_name.new name ≡ option_or (found by_name.old name) (if bytes_eq field.now.name name then Some field.now else None)) }
+/// The declared field of this name, the first where several have it, by binary search.
+pub(crate) fn declared_field<'s, S, C>(
+    meta: &'s InputObjectMeta<S, C>,
+    name: &str,
+) -> Option<&'s Argument<S>>
+    ensures { option_copied result ≡ spec.argument_named meta.now.input_fields name.now }
 {
-    let name = field.name.as_str();
-    if by_name.contains_key(name) {
-        return Ok(());
-    }
-    by_name.insert(name, field)?;
-    Ok(())
+    meta.input_fields.get(name)
 }
 
 /// Whether the field need not be given: `null` is among its values, or it has a default.

@@ -2,9 +2,11 @@
 //! Values of Correct Type, 3 Type System: input coercion).
 #![tactic(auto)]
 
+mod conforming;
 mod input_fields;
 mod judging;
 mod misfit;
+mod open_values;
 mod reasons;
 mod source;
 mod validate;

@@ -8,54 +8,39 @@ use graphql_values::InputValue;
 use std::alloc::Global;
 
 /// `null` where the type has none.
-pub(crate) fn null_given<'a>(alloc: Global, asked: &BorrowedType<'_>) -> Misfit<'a> {
-    Misfit::told(alloc, format!(in alloc; "null given for type \"{asked}\""))
+pub(crate) fn null_given(alloc: Global, asked: &BorrowedType<'_>) -> Misfit {
+    Misfit::told(format!(in alloc; "null given for type \"{asked}\""))
 }
 
 /// Another number of items than the list is to have.
-pub(crate) fn wrong_size<'a>(alloc: Global, expected: usize, found: usize) -> Misfit<'a> {
-    Misfit::told(
-        alloc,
-        format!(in alloc; "expected {expected} items, found {found}"),
-    )
+pub(crate) fn wrong_size(alloc: Global, expected: usize, found: usize) -> Misfit {
+    Misfit::told(format!(in alloc; "expected {expected} items, found {found}"))
 }
 
 /// No value of the type of this name.
-pub(crate) fn invalid_value<'a, S: ScalarValue>(
+pub(crate) fn invalid_value<S: ScalarValue>(
     alloc: Global,
     type_name: &str,
     value: &InputValue<S>,
-) -> Misfit<'a> {
-    Misfit::told(
-        alloc,
-        format!(in alloc; "invalid value {value} for type \"{type_name}\""),
-    )
+) -> Misfit {
+    Misfit::told(format!(in alloc; "invalid value {value} for type \"{type_name}\""))
 }
 
 /// No value of the enum of this name.
-pub(crate) fn invalid_enum_value<'a, S: ScalarValue>(
+pub(crate) fn invalid_enum_value<S: ScalarValue>(
     alloc: Global,
     enum_name: &str,
     value: &InputValue<S>,
-) -> Misfit<'a> {
-    Misfit::told(
-        alloc,
-        format!(in alloc; "invalid value {value} for enum \"{enum_name}\""),
-    )
+) -> Misfit {
+    Misfit::told(format!(in alloc; "invalid value {value} for enum \"{enum_name}\""))
 }
 
 /// A field that the input object does not declare.
-pub(crate) fn unknown_field<'a>(alloc: Global, name: &str, type_name: &str) -> Misfit<'a> {
-    Misfit::told(
-        alloc,
-        format!(in alloc; "unknown field \"{name}\" on type \"{type_name}\""),
-    )
+pub(crate) fn unknown_field(alloc: Global, name: &str, type_name: &str) -> Misfit {
+    Misfit::told(format!(in alloc; "unknown field \"{name}\" on type \"{type_name}\""))
 }
 
 /// A field that has to be given, and is not.
-pub(crate) fn missing_field<'a>(alloc: Global, name: &str, field_type: &Type<Text>) -> Misfit<'a> {
-    Misfit::told(
-        alloc,
-        format!(in alloc; "missing field \"{name}\" of type \"{field_type}\""),
-    )
+pub(crate) fn missing_field(alloc: Global, name: &str, field_type: &Type<Text>) -> Misfit {
+    Misfit::told(format!(in alloc; "missing field \"{name}\" of type \"{field_type}\""))
 }

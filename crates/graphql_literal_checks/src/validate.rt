@@ -5,7 +5,8 @@ ghost use Rattle.graphql_literal_checks.specs.Conforms.{Conforms};
 ghost use Rattle.graphql_literal_checks.specs.Judged.{asked_for};
 ghost use Rattle.graphql_literal_checks.specs.declared.source.Source.TheVariants.{Literal};
 
-use crate::judging::judge;
+use crate::conforming::Judge;
+use crate::misfit::Misfit;
 use crate::source::Source;
 use graphql_meta::SchemaScalar;
 use graphql_schema::SchemaType;
@@ -16,10 +17,10 @@ use std::alloc::{AllocError, Global};
 use std::convert::{AsSlice, AsStr};
 
 /// Why a literal does not conform to a type of the schema (GraphQL October 2021, 5.6.1 Values of
-/// Correct Type), in words: the first fault. `None` where it conforms. Takes time in proportion to the
-/// value, the schema aside, and stack for each level that both the value and the type nest; where the
-/// reason shows a part of the value, its text takes stack for each level of that part. An error is want
-/// of memory.
+/// Correct Type), in words: the first fault in the order of the text. `None` where it conforms. What is
+/// yet to be judged stands on the heap, so a deep value takes no more stack. Takes time in proportion to
+/// the value, to the look-ups of types and fields by name, and for each object in it to the fields that
+/// its type declares. An error is want of memory.
 pub fn validate_literal_value<S: SchemaScalar, N: AsStr, M: AsSlice<TypeModifier>>(
     alloc: Global,
     schema: &SchemaType<S>,
@@ -41,11 +42,14 @@ pub fn validate_value<S: SchemaScalar, N: AsStr, M: AsSlice<TypeModifier>>(
 ) -> Result<Option<Text>, AllocError>
     ensures { IfOk result (λ reason. MatchOption reason (Conforms S.answer S.Check.accepts schema.now.types source (asked_for N.text M.items asked.now) value.now) (λ _. Conforms S.answer S.Check.accepts schema.now.types source (asked_for N.text M.items asked.now) value.now → ⊥)) }
 {
-    match judge(alloc, schema, source, &asked.borrowed(), value) {
-        Ok(_) => Ok(None),
-        Err(misfit) => match misfit.into_text(alloc) {
-            Ok(reason) => Ok(Some(reason)),
-            Err(error) => Err(error),
-        },
+    let judge = Judge {
+        alloc,
+        schema,
+        source,
+    };
+    match judge.judge(&asked.borrowed(), value) {
+        Ok(()) => Ok(None),
+        Err(Misfit::Reason(reason)) => Ok(Some(reason)),
+        Err(Misfit::Memory) => Err(AllocError),
     }
 }

@@ -5,6 +5,7 @@ ghost use Rattle.std.specs.List.{Contains};
 
 use crate::directive_location::DirectiveLocation;
 use crate::meta::Argument;
+use graphql_names::NamedItems;
 use graphql_text::{Items, Text};
 use graphql_values::ScalarValue;
 use std::alloc::AllocError;
@@ -21,8 +22,8 @@ pub struct DirectiveType<S> {
     /// The places at which it may stand, in order.
     pub locations: Items<DirectiveLocation>,
 
-    /// The arguments, in order.
-    pub arguments: Items<Argument<S>>,
+    /// The arguments, as they were declared, each found by its name.
+    pub arguments: NamedItems<Argument<S>>,
 
     /// Whether it may stand more than once at one place.
     pub is_repeatable: bool,
@@ -34,7 +35,7 @@ impl<S> DirectiveType<S> {
     pub fn new(
         name: Text,
         locations: Items<DirectiveLocation>,
-        arguments: Items<Argument<S>>,
+        arguments: NamedItems<Argument<S>>,
         is_repeatable: bool,
     ) -> DirectiveType<S>
         ensures { result ≡ record { name = name; description = None; locations = locations; arguments = arguments; is_repeatable = is_repeatable } }

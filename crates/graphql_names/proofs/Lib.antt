@@ -2,3 +2,5 @@ pub mod NameTokens
 pub mod NameLemmas
 pub mod Repeats
 pub mod NameMaps
+pub mod Indexes
+pub mod IndexInsertions

@@ -164,7 +164,7 @@ twice_at names name place d within first second =
     lt-ltb 1 (count_by (bytes_eq name) names) (omega arith)
 
 -- names that differ, of which the one is not above the other
-less_by : (a b : Bytes) → bytes_eq a b ≡ false → is_lt (slice_cmp nat_cmp b a) ≡ false → slice_cmp nat_cmp a b ≡ Less
+pub less_by : (a b : Bytes) → bytes_eq a b ≡ false → is_lt (slice_cmp nat_cmp b a) ≡ false → slice_cmp nat_cmp a b ≡ Less
 less_by a b differ not_below = either (slice_cmp nat_cmp a b) refl
   where
     either : (o : Ordering) → slice_cmp nat_cmp a b ≡ o → o ≡ Less

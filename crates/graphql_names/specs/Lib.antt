@@ -1,3 +1,4 @@
 pub mod Names
 pub mod NameMaps
+pub mod Indexes
 pub mod Laws

@@ -1,11 +1,14 @@
 -- What the nodes and the types that a walk lends stand for.
+use Rattle.std.specs.Prelude.{List, []}
 use Rattle.std.specs.Option.{option_copied, option_map, unwrap_or}
+use Rattle.graphql_meta.specs.declared.meta.argument.Argument.{Argument}
 use Rattle.graphql_meta.specs.declared.meta.field.Field as declared
 use Rattle.graphql_meta.specs.Types.{TypeOf}
 use Rattle.graphql_occurrences.specs.Lookups.{typename_field}
 use Rattle.graphql_occurrences.specs.Nodes.{OfField, OfDirective, AtVariableDefinition, AtDirective, AtArgument, AtSelectionSet, AtField, AtFragmentSpread, AtInlineFragment, AtValue, AtObjectField, AtDocument, AtOperation, AtFragment, Inner, Enter, Leave, placed_as, operation_head, fragment_head, spread_head, field_head, inline_head, value_head}
 use Rattle.graphql_occurrences.specs.Nodes as spec
 use Rattle.graphql_occurrences.specs.Parts as part
+use Rattle.graphql_occurrences.specs.declared.arguments.DeclaredArguments.{DeclaredArguments}
 use Rattle.graphql_occurrences.specs.declared.around.Around.{Around}
 use Rattle.graphql_occurrences.specs.declared.place.InputPlace.{InputPlace}
 use Rattle.graphql_occurrences.specs.declared.around.KnownField.{KnownField}
@@ -28,6 +31,10 @@ input_of i = record { asked = literal_of i.asked; has_default = i.has_default }
 abbrev pub field_of_known : {S : Type 0} → KnownField S → declared.Field S
 field_of_known k = unwrap_or (option_copied k.declared) typename_field
 
+-- the arguments that are declared, none where nothing is held
+abbrev pub arguments_lent : {S : Type 0} → DeclaredArguments S → List (Argument S)
+arguments_lent d = unwrap_or (option_copied d.held) []
+
 abbrev pub owner_of : Owner → spec.Owner
 owner_of (owner.Field name) = OfField name.now
 owner_of (owner.Directive name) = OfDirective name.now
@@ -39,7 +46,7 @@ module _ {S : Type 0} where
   node_of (node.Fragment f) = AtFragment (placed_as f.now (fragment_head f.now.item))
   node_of (node.VariableDefinition v) = Inner (AtVariableDefinition v.now)
   node_of (node.Directive place declared d) = Inner (AtDirective place (option_copied declared) d.now)
-  node_of (node.Argument owner declared a) = Inner (AtArgument (owner_of owner) (option_copied declared) a.now)
+  node_of (node.Argument owner declared a) = Inner (AtArgument (owner_of owner) (option_map arguments_lent declared) a.now)
   node_of (node.SelectionSet s) = Inner AtSelectionSet
   node_of (node.Field known f) = Inner (AtField (option_map field_of_known known) (placed_as f.now (field_head f.now.item)))
   node_of (node.FragmentSpread s) = Inner (AtFragmentSpread (placed_as s.now (spread_head s.now.item)))

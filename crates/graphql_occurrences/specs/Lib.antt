@@ -1,6 +1,7 @@
 pub mod Parts
 pub mod Lookups
 pub mod Documents
+pub mod Definitions
 pub mod Occurrences
 pub mod Nodes
 pub mod Events

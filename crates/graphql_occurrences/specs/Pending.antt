@@ -1,7 +1,7 @@
 -- What is ahead of a walk: the events of its tasks, the last task first.
 use Rattle.std.specs.Prelude.{◌≡◌, List, [], ◌∷◌, ◌++◌, Option, Result, IfOk, MatchOption}
 use Rattle.std.specs.List.{flat_map}
-use Rattle.std.specs.Option.{option_copied}
+use Rattle.std.specs.Option.{option_map}
 use Rattle.std.specs.declared.alloc.AllocError.{AllocError}
 use Rattle.graphql_schema.specs.Declarations.{Declarations, declarations_of}
 use Rattle.graphql_occurrences.specs.declared.event.Seen.{Seen}
@@ -10,7 +10,7 @@ use Rattle.graphql_occurrences.specs.declared.walk.tasks.Work.{Work}
 use Rattle.graphql_occurrences.specs.declared.walk.tasks.Work.TheVariants as work
 use Rattle.graphql_occurrences.specs.declared.walk.Walk.{Walk}
 use Rattle.graphql_occurrences.specs.Events.{seen, each, events, definition_events, variable_events, directives_events, arguments_events, set_events, selection_events, value_events, item_events, pair_events}
-use Rattle.graphql_occurrences.specs.Lent.{node_of, around_of, owner_of, seen_of}
+use Rattle.graphql_occurrences.specs.Lent.{arguments_lent, node_of, around_of, owner_of, seen_of}
 use Rattle.graphql_occurrences.specs.Nodes.{Leave}
 use Rattle.graphql_occurrences.specs.Nodes as spec
 
@@ -21,7 +21,7 @@ module _ {S C : Type 0} (schema : Declarations S C) where
   work_events (work.Definitions ds) around = flat_map (definition_events schema) ds.now
   work_events (work.Variables vs) around = each (variable_events schema) vs.now around
   work_events (work.Directives place ds) around = directives_events schema place ds.now around
-  work_events (work.Arguments owner declared xs) around = arguments_events schema (owner_of owner) (option_copied declared) xs.now around
+  work_events (work.Arguments owner declared xs) around = arguments_events schema (owner_of owner) (option_map arguments_lent declared) xs.now around
   work_events (work.Set xs) around = set_events schema xs.now around
   work_events (work.Selections xs) around = each (selection_events schema) xs.now around
   work_events (work.Value x) around = value_events schema x.now around

@@ -7,11 +7,12 @@ ghost use Rattle.graphql_schema.specs.Declarations.{declarations_of};
 ghost use Rattle.graphql_schema_faults.specs.Faults.{is_composite};
 ghost use Rattle.graphql_occurrences.specs.Lookups as spec;
 ghost use Rattle.graphql_occurrences.specs.Events.{asked, condition_around, selecting as around_selecting, set_around, top as around_top};
-ghost use Rattle.graphql_occurrences.specs.Lent.{around_of, field_of_known, input_of, literal_of};
+ghost use Rattle.graphql_occurrences.specs.Lent.{arguments_lent, around_of, field_of_known, input_of, literal_of};
 
+use crate::arguments::DeclaredArguments;
 use crate::literal::TypeLiteral;
 use crate::place::InputPlace;
-use graphql_meta::{Argument, Field, MetaType, SchemaScalar};
+use graphql_meta::{Field, MetaType, SchemaScalar};
 use graphql_schema::SchemaType;
 use graphql_text::{Spanning, TextRef};
 
@@ -34,17 +35,11 @@ impl<'a, S> KnownField<'a, S> {
         }
     }
 
-    /// The arguments that are declared for the field, in order.
-    pub fn arguments(self) -> &'a [Argument<S>]
-        ensures { result.now ≡ arguments_of (field_of_known self.entry) }
+    /// The arguments that are declared for the field.
+    pub fn arguments(self) -> DeclaredArguments<'a, S>
+        ensures { arguments_lent result ≡ arguments_of (field_of_known self.entry) }
     {
-        match self.declared {
-            Some(field) => match &field.arguments {
-                Some(arguments) => arguments.as_slice(),
-                None => &[],
-            },
-            None => &[],
-        }
+        DeclaredArguments::of(self.declared)
     }
 }
 
@@ -65,7 +60,7 @@ pub struct Around<'a, S, C = <S as SchemaScalar>::Check> {
 
 impl<'a, S, C> Around<'a, S, C> {
     /// No type is known.
-    pub(crate) fn nowhere() -> Around<'a, S, C>
+    pub fn nowhere() -> Around<'a, S, C>
         ensures { around_of result ≡ around_top None }
     {
         Around {
@@ -196,10 +191,10 @@ pub(crate) fn type_of<'a, S>(field: Option<KnownField<'a, S>>) -> Option<TypeLit
 }
 
 /// The arguments that are declared for a field, if the field is known.
-pub(crate) fn arguments_of_field<'a, S>(
+pub fn arguments_of_field<'a, S>(
     field: Option<KnownField<'a, S>>,
-) -> Option<&'a [Argument<S>]>
-    ensures { option_copied result ≡ spec.field_arguments (option_map field_of_known field.entry) }
+) -> Option<DeclaredArguments<'a, S>>
+    ensures { option_map arguments_lent result ≡ spec.field_arguments (option_map field_of_known field.entry) }
 {
     match field {
         Some(field) => Some(field.arguments()),

@@ -1,7 +1,8 @@
 //! What a walk over a document enters and leaves.
 
+use crate::arguments::DeclaredArguments;
 use crate::around::{Around, KnownField};
-use graphql_meta::{Argument, DirectiveLocation, DirectiveType, SchemaScalar};
+use graphql_meta::{DirectiveLocation, DirectiveType, SchemaScalar};
 use graphql_text::{Spanning, Text, TextRef};
 use graphql_tree::{
     Definition, Directive, Field, Fragment, FragmentSpread, InlineFragment, Operation, Selection,
@@ -41,7 +42,7 @@ pub enum Node<'a, S> {
     /// declared there, where the field or the directive is known.
     Argument(
         Owner<'a>,
-        Option<&'a [Argument<S>]>,
+        Option<DeclaredArguments<'a, S>>,
         &'a (Spanning<TextRef<'a>>, Spanning<InputValue<S>>),
     ),
 

@@ -3,6 +3,7 @@
 //! (GraphQL October 2021, 2 Language, 5 Validation).
 #![tactic(auto)]
 
+mod arguments;
 mod around;
 mod event;
 pub mod laws;
@@ -10,8 +11,9 @@ mod literal;
 mod place;
 mod walk;
 
-pub use around::{Around, KnownField};
+pub use arguments::{DeclaredArguments, declared_by_directive};
+pub use around::{Around, KnownField, arguments_of_field};
 pub use event::{Event, Node, Owner, Seen};
 pub use literal::TypeLiteral;
 pub use place::InputPlace;
-pub use walk::Walk;
+pub use walk::{Walk, arguments_in};

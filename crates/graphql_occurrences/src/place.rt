@@ -4,8 +4,9 @@ ghost use Rattle.std.specs.Prelude.{◌≡◌};
 ghost use Rattle.std.specs.Option.{option_copied, option_map};
 ghost use Rattle.graphql_schema.specs.Declarations.{declarations_of};
 ghost use Rattle.graphql_occurrences.specs.Lookups as spec;
-ghost use Rattle.graphql_occurrences.specs.Lent.{input_of, literal_of};
+ghost use Rattle.graphql_occurrences.specs.Lent.{arguments_lent, input_of, literal_of};
 
+use crate::arguments::DeclaredArguments;
 use crate::literal::TypeLiteral;
 use graphql_meta::Argument;
 use graphql_schema::SchemaType;
@@ -19,13 +20,6 @@ pub struct InputPlace<'a> {
 
     /// Whether the place has a default, which stands where no value is given.
     pub has_default: bool,
-}
-
-/// The first of the declared arguments that has this name.
-fn find_argument<'a, S>(declared: &'a [Argument<S>], name: &str) -> Option<&'a Argument<S>>
-    ensures { option_copied result ≡ spec.argument_named declared.now name.now }
-{
-    declared.iter().find(|argument| argument.name.is(name))
 }
 
 /// Where the value of an argument, or of a field of an input object, stands.
@@ -50,13 +44,13 @@ fn place_in_some<'a, S>(argument: Option<&'a Argument<S>>) -> Option<InputPlace<
 
 /// Where the value of the argument of this name stands, if the argument is declared.
 pub(crate) fn place_of_argument<'a, S>(
-    declared: Option<&'a [Argument<S>]>,
+    declared: Option<DeclaredArguments<'a, S>>,
     name: &str,
 ) -> Option<InputPlace<'a>>
-    ensures { option_map input_of result ≡ spec.argument_place (option_copied declared.entry) name.now }
+    ensures { option_map input_of result ≡ spec.argument_place (option_map arguments_lent declared.entry) name.now }
 {
     match declared {
-        Some(declared) => place_in_some(find_argument(declared, name)),
+        Some(declared) => place_in_some(declared.get(name)),
         None => None,
     }
 }

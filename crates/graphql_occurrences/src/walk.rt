@@ -18,6 +18,7 @@ use graphql_meta::SchemaScalar;
 use graphql_schema::SchemaType;
 use graphql_text::Items;
 use graphql_tree::Definition;
+pub use selections::arguments_in;
 use selections::{open_directives, open_selections, open_set};
 use std::alloc::{AllocError, Global};
 use tasks::{Task, Work, add};

@@ -14,7 +14,7 @@ use std::alloc::Global;
 
 /// The same value, parsed from the text that `value` displays as: what the tokens of that text spell,
 /// each part at its place there (GraphQL October 2021, 2.9 Input Values). `is_writable` tells whether
-/// it can be. A constant holds no variable. Takes stack for each level that the value nests. The only
+/// it can be. A constant holds no variable. It takes no more stack however deep the value is. The only
 /// error is want of memory.
 pub fn read_back(alloc: Global, value: &InputValue, is_const: bool) -> ParseResult<InputValue>
     requires { IsWritable is_const value.now }

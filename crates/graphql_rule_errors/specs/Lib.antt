@@ -1,1 +1,2 @@
 pub mod RuleErrorText
+pub mod Places

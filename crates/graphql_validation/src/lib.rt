@@ -4,7 +4,8 @@
 //! This crate gives the layer one name, and has no code of its own. It holds so far schemas, and what
 //! rules for documents will stand on:
 //!
-//! - the metadata of types, fields, arguments and directives, of which a schema is made;
+//! - the metadata of types, fields, arguments and directives, of which a schema is made, those that
+//!   are found by their names as [`NamedItems`];
 //! - the checks by which scalars, enums and input objects accept or refuse values, and in
 //!   [`scalar_checks`] those of the scalars that the standard has built in;
 //! - [`SchemaType`], the schema itself, refused with a [`SchemaError`] where its types are at fault;
@@ -12,12 +13,11 @@
 //!   over;
 //! - in [`laws`], what is proved of subtypes, possible types and types that overlap;
 //! - [`Walk`], a walk over a document, which tells each [`Event`] with the types around it;
+//! - [`visit`], which takes a [`Visitor`], or a list of them, over a document, and the
+//!   [`ValidatorContext`], which keeps what they report;
 //! - [`validate_literal_value`], which tells why a literal does not conform to a type;
 //! - [`RuleError`], what a rule has against a document.
 #![tactic(auto)]
-
-#[cfg(test)]
-mod tests;
 
 pub use graphql_literal_checks::{Source, validate_literal_value, validate_value};
 pub use graphql_meta::{
@@ -25,8 +25,13 @@ pub use graphql_meta::{
     Field, InputObjectMeta, InterfaceMeta, ListMeta, MetaType, NullableMeta, ObjectMeta,
     PlaceholderMeta, ScalarMeta, SchemaScalar, TypeCheck, TypeKind, UnionMeta, scalar_checks,
 };
+pub use graphql_names::NamedItems;
 pub use graphql_occurrences::{
-    Around, Event, InputPlace, KnownField, Node, Owner, Seen, TypeLiteral, Walk,
+    Around, DeclaredArguments, Event, InputPlace, KnownField, Node, Owner, Seen, TypeLiteral, Walk,
 };
 pub use graphql_rule_errors::RuleError;
 pub use graphql_schema::{RootNode, SchemaError, SchemaType, TypeType, laws};
+pub use graphql_visitors::{
+    Local, LocalRule, MultiVisitorCons, MultiVisitorNil, Relational, RelationalRule,
+    ValidatorContext, Visitor, visit,
+};

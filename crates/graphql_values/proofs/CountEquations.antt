@@ -11,7 +11,7 @@ use Rattle.graphql_values.specs.Counts.{value_count, count_layer}
 use Rattle.graphql_values.proofs.SameValueLemmas.{refuted}
 use Rattle.graphql_values.proofs.InputValueEquations.{on_item, on_value, fold_list, fold_object}
 
-sum_by-map : {X Y : Type 0} (f : Y → ℕ) (g : X → Y) (xs : List X) → sum_by f (map g xs) ≡ sum_by (λ x. f (g x)) xs
+pub sum_by-map : {X Y : Type 0} (f : Y → ℕ) (g : X → Y) (xs : List X) → sum_by f (map g xs) ≡ sum_by (λ x. f (g x)) xs
 sum_by-map f g xs = fold-map (λ sum y. sum + f y) g 0 xs
 
 -- a list that is told not to be empty has a first item

@@ -6,9 +6,13 @@ pub mod ConversionLemmas
 pub mod UnderLemmas
 pub mod SameValueLemmas
 pub mod OrderLemmas
+pub mod ComparingLemmas
+pub mod ByNameLemmas
 pub mod SameValueLaws
 pub mod SameObjectLaws
 pub mod InputValueTextLemmas
+pub mod PendingLemmas
+pub mod StepLemmas
 pub mod InputOfOutputLemmas
 pub mod PartsLemmas
 pub mod VariableLaws

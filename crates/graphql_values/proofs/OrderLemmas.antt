@@ -54,7 +54,7 @@ module _ {S : Type 0} (eq : S → S → Bool) where
   under_first p q ps qs name named other same =
       subst (λ xs. SameItems S eq xs (q.1 ∷ under name qs)) (under_named name p ps named) (subst (SameItems S eq (under name (p ∷ ps))) (under_named name q qs other) (same name))
 
-  both_less : (p q : Pair (InputValue S)) (ps qs : List (Pair (InputValue S))) → p.0.item ≡ q.0.item → SameFields S eq (p ∷ ps) (q ∷ qs) → SameFields S eq ps qs
+  pub both_less : (p q : Pair (InputValue S)) (ps qs : List (Pair (InputValue S))) → p.0.item ≡ q.0.item → SameFields S eq (p ∷ ps) (q ∷ qs) → SameFields S eq ps qs
   both_less p q ps qs alike same name = by_its_name p name
       (λ named. items_rest p.1 q.1 (under name ps) (under name qs) (under_first p q ps qs name named (sym alike ∙ named) same))
       (λ differs. subst (λ xs. SameItems S eq xs (under name qs)) (under_other name p ps differs) (subst (SameItems S eq (under name (p ∷ ps))) (under_other name q qs (λ named. differs (alike ∙ named))) (same name)))

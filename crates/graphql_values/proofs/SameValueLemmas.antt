@@ -1,5 +1,5 @@
 -- What it is for two values to be the same, by their forms.
-use Rattle.std.proofs.Common.{◌≡◌, ◌↔◌, ℕ, zero, suc, ◌+◌, ◌<◌, ◌≤◌, Bool, true, false, IsTrue, List, [], ◌∷◌, ◌++◌, length, take, drop, get_or, slice_get, Option, Some, MatchOption, ap, sym, subst, refl, ◌∙◌, arith}
+use Rattle.std.proofs.Common.{◌≡◌, ◌↔◌, ℕ, zero, suc, ◌+◌, ◌<◌, ◌≤◌, Bool, true, false, IsTrue, List, [], ◌∷◌, ◌++◌, length, take, drop, get_or, slice_get, Option, MatchOption, ap, sym, subst, refl, ◌∙◌, arith}
 use Rattle.std.proofs.lemmas.Bool.{false≢true}
 use Rattle.graphql_items.specs.declared.text.Text.{Text}
 use Rattle.graphql_values.specs.declared.input_value.InputValue.{InputValue, out-InputValue, roll-InputValue, roll-out-InputValue}
@@ -7,7 +7,7 @@ use Rattle.graphql_values.specs.declared.input_value.InputValue.TheOpen.{InputVa
 use Rattle.graphql_values.specs.declared.input_value.InputValue.TheVariants as value
 use Rattle.graphql_values.specs.InputValues.{Placed, Pair}
 use Rattle.graphql_values.specs.SameValue.{SameValue, SameItems, SameFields, under, same_null, same_scalar, same_enum, same_variable, same_list, same_object, no_items, more_items}
-use Rattle.graphql_values.proofs.UnderLemmas.{by_its_name, around, taken_named, taken_other, counted}
+use Rattle.graphql_values.proofs.UnderLemmas.{around, counted}
 
 -- ---- facts about lists
 
@@ -73,15 +73,6 @@ module _ {S : Type 0} (eq : S → S → Bool) where
   abbrev pub IsRanked : Option (Placed (InputValue S)) → InputValue S → Type 0
   IsRanked found a = MatchOption found ⊥ (λ y. Same a y.item)
 
-  pub ranked_when : (r : Bool) (a : InputValue S) (found : Option (Placed (InputValue S))) (y : Placed (InputValue S)) → found ≡ Some y → (IsTrue r ↔ Same a y.item) → (IsTrue r ↔ IsRanked found a)
-  ranked_when r a found y is = subst (λ f. IsTrue r ↔ IsRanked f a) (sym is)
-
-  leads_more : (xs ys : List (Placed (InputValue S))) (x : Placed (InputValue S)) → Leads xs ys → IsRanked (slice_get ys (length xs)) x.item → Leads (xs ++ x ∷ []) ys
-  leads_more [] [] x h ranked = absurd ranked
-  leads_more [] (y ∷ ys) x h ranked = (ranked, tt)
-  leads_more (w ∷ xs) [] x h ranked = absurd h
-  leads_more (w ∷ xs) (y ∷ ys) x h ranked = (h.0, leads_more xs ys x h.1 ranked)
-
   leads_at : (us vs ys : List (Placed (InputValue S))) (x : Placed (InputValue S)) → Leads (us ++ x ∷ vs) ys → IsRanked (slice_get ys (length us)) x.item
   leads_at [] vs [] x h = absurd h
   leads_at [] vs (y ∷ ys) x h = h.0
@@ -110,15 +101,6 @@ module _ {S : Type 0} (eq : S → S → Bool) where
     pub fields_at : SameFields S eq ps qs → HasLike rank
     fields_at same = subst HasLike (sym ranks) (leads_at (under p.0.item (take k fs)) (under p.0.item (drop (k + 1) fs)) (under p.0.item qs) p.1
         (subst (λ xs. Leads xs (under p.0.item qs)) (around fs k p within is) (items_lead _ _ (subst (λ zs. SameFields S eq zs qs) (sym fields) same p.0.item))))
-
-    one_field_more : HasLike (length (under p.0.item (take k fs))) → AllLead (take k fs) qs → AllLead (take (k + 1) fs) qs
-    one_field_more like before name = by_its_name p name
-        (λ named. subst (λ xs. Leads xs (under name qs)) (sym (taken_named fs k p within is name named))
-        (leads_more (under name (take k fs)) (under name qs) p.1 (before name) (subst (λ n. IsRanked (slice_get (under n qs) (length (under n (take k fs)))) p.1.item) named like)))
-        (λ differs. subst (λ xs. Leads xs (under name qs)) (sym (taken_other fs k p within is name differs)) (before name))
-
-    pub fields_more : HasLike rank → AllLead (take k ps) qs → AllLead (take (k + 1) ps) qs
-    fields_more like before = subst (λ zs. AllLead (take (k + 1) zs) qs) fields (one_field_more (subst HasLike ranks like) (subst (λ zs. AllLead (take k zs) qs) (sym fields) before))
 
   -- ---- the forms of the two values
 
@@ -172,8 +154,8 @@ module _ {S : Type 0} (eq : S → S → Bool) where
   pub variable_case : (r : Bool) (a b : InputValue S) (m n : Text) → a ≡ value.Variable m → b ≡ value.Variable n → (IsTrue r ↔ (m ≡ n)) → (IsTrue r ↔ Same a b)
   variable_case r a b m n p q h = (λ t. same_at a b _ _ p (q ∙ ap value.Variable (sym (h.0 t))) (same_variable m), λ s. h.1 (level_of a b _ _ (ap out p ∙ value.outs-Variable m) (ap out q ∙ value.outs-Variable n) s))
 
-  pub list_case : (r : Bool) (a b : InputValue S) (xs ys : List (Placed (InputValue S))) → a ≡ value.List xs → b ≡ value.List ys → (IsTrue r ↔ SameItems S eq xs ys) → (IsTrue r ↔ Same a b)
-  list_case r a b xs ys p q h = (λ t. same_at a b _ _ p q (same_list xs ys (h.0 t)), λ s. h.1 (level_of a b _ _ (ap out p ∙ value.outs-List xs) (ap out q ∙ value.outs-List ys) s))
+  pub list_case : (a b : InputValue S) (xs ys : List (Placed (InputValue S))) → a ≡ value.List xs → b ≡ value.List ys → (SameItems S eq xs ys ↔ Same a b)
+  list_case a b xs ys p q = (λ h. same_at a b _ _ p q (same_list xs ys h), level_of a b _ _ (ap out p ∙ value.outs-List xs) (ap out q ∙ value.outs-List ys))
 
-  pub object_case : (r : Bool) (a b : InputValue S) (ps qs : List (Pair (InputValue S))) → a ≡ value.Object ps → b ≡ value.Object qs → (IsTrue r ↔ SameFields S eq ps qs) → (IsTrue r ↔ Same a b)
-  object_case r a b ps qs p q h = (λ t. same_at a b _ _ p q (same_object ps qs (h.0 t)), λ s. h.1 (level_of a b _ _ (ap out p ∙ value.outs-Object ps) (ap out q ∙ value.outs-Object qs) s))
+  pub object_case : (a b : InputValue S) (ps qs : List (Pair (InputValue S))) → a ≡ value.Object ps → b ≡ value.Object qs → (SameFields S eq ps qs ↔ Same a b)
+  object_case a b ps qs p q = (λ h. same_at a b _ _ p q (same_object ps qs h), level_of a b _ _ (ap out p ∙ value.outs-Object ps) (ap out q ∙ value.outs-Object qs))

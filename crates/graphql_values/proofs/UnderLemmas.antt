@@ -1,9 +1,9 @@
 -- The values that stand under a name, and how many.
-use Rattle.std.proofs.Common.{◌≡◌, ◌≢◌, ℕ, suc, ◌+◌, ◌<◌, ◌≤◌, Bool, true, false, cond, Decides, List, [], ◌∷◌, ◌++◌, map, length, take, drop, get_or, ap, sym, subst, refl, ◌∙◌, append-nil, arith}
+use Rattle.std.proofs.Common.{◌≡◌, ◌≢◌, ℕ, suc, ◌+◌, ◌<◌, ◌≤◌, Bool, true, false, cond, Decides, List, [], ◌∷◌, ◌++◌, map, length, take, drop, get_or, ap, sym, subst, refl, ◌∙◌, arith}
 use Rattle.std.specs.List.{filter, All}
 use Rattle.std.specs.Str.{bytes_eq}
 use Rattle.std.proofs.lemmas.Bool.{false≢true}
-use Rattle.std.proofs.lemmas.List.{take_more, drop_more, map-append, length-map, length-append, take-append-drop}
+use Rattle.std.proofs.lemmas.List.{drop_more, map-append, length-map, length-append, take-append-drop}
 use Rattle.std.proofs.lemmas.List.Elements.{filter-append, All-filter, All-map}
 use Rattle.std.proofs.lemmas.List.Sums.{length-filter, count_by-le-length}
 use Rattle.std.proofs.lemmas.Slice.Eq.{bytes_eq-Decides}
@@ -49,19 +49,9 @@ module _ {A : Type 0} where
     abbrev drop_here : drop k ps ≡ p ∷ drop (k + 1) ps
     drop_here = drop_more ps k p within ∙ ap (λ q. q ∷ drop (k + 1) ps) (sym is)
 
-    -- with the field at a place
-    pub taken_named : (name : Text) → p.0.item ≡ name → under name (take (k + 1) ps) ≡ under name (take k ps) ++ p.1 ∷ []
-    taken_named name named = ap (under name) (take_more ps k p within ∙ ap (λ q. take k ps ++ q ∷ []) (sym is)) ∙ under_append name (take k ps) (p ∷ []) ∙ ap (λ xs. under name (take k ps) ++ xs) (under_named name p [] named)
-
-    pub taken_other : (name : Text) → p.0.item ≢ name → under name (take (k + 1) ps) ≡ under name (take k ps)
-    taken_other name differs = ap (under name) (take_more ps k p within ∙ ap (λ q. take k ps ++ q ∷ []) (sym is)) ∙ under_append name (take k ps) (p ∷ []) ∙ ap (λ xs. under name (take k ps) ++ xs) (under_other name p [] differs) ∙ append-nil (under name (take k ps))
-
     -- from the field at a place on
-    pub left_named : (name : Text) → p.0.item ≡ name → under name (drop k ps) ≡ p.1 ∷ under name (drop (k + 1) ps)
+    left_named : (name : Text) → p.0.item ≡ name → under name (drop k ps) ≡ p.1 ∷ under name (drop (k + 1) ps)
     left_named name named = ap (under name) drop_here ∙ under_named name p (drop (k + 1) ps) named
-
-    pub left_other : (name : Text) → p.0.item ≢ name → under name (drop k ps) ≡ under name (drop (k + 1) ps)
-    left_other name differs = ap (under name) drop_here ∙ under_other name p (drop (k + 1) ps) differs
 
     pub around : under p.0.item ps ≡ under p.0.item (take k ps) ++ p.1 ∷ under p.0.item (drop (k + 1) ps)
     around = ap (under p.0.item) (sym (take-append-drop k ps)) ∙ under_append p.0.item (take k ps) (drop k ps) ∙ ap (λ xs. under p.0.item (take k ps) ++ xs) (left_named p.0.item refl)
@@ -83,10 +73,10 @@ module _ {A : Type 0} where
       (λ differs. ap length (under_other name p [] differs) ∙ sym (ap length (under_other name q [] (λ named. differs (sym same ∙ named)))))
 
   -- a field of a name, and the fields before and after it
-  abbrev Standing : Text → List (Pair A) → Type 0
+  abbrev pub Standing : Text → List (Pair A) → Type 0
   Standing name qs = (before : List (Pair A)) × (q : Pair A) × (after : List (Pair A)) × (qs ≡ before ++ q ∷ after) × (q.0.item ≡ name)
 
-  standing : (name : Text) (qs : List (Pair A)) → 0 < count name qs → Standing name qs
+  pub standing : (name : Text) (qs : List (Pair A)) → 0 < count name qs → Standing name qs
   standing name [] some = absurd (omega (arith, some))
   standing name (q ∷ qs) some = by_its_name q name
       (λ named. ([], q, qs, refl, named))

@@ -1,6 +1,5 @@
 -- The input value that stands for a value of an answer (GraphQL October 2021, 2.9 Input Values, 7.1 Response Format).
 use Rattle.std.specs.Prelude.{List, map}
-use Rattle.graphql_items.specs.declared.text.Text.{Text}
 use Rattle.graphql_output_values.specs.declared.object.Object.{Object}
 use Rattle.graphql_output_values.specs.declared.value.Value.{Value, fold-Value}
 use Rattle.graphql_output_values.specs.declared.value.Value.TheFolds.{fold-Object}

@@ -6,6 +6,7 @@ use Rattle.graphql_scalars.specs.ScalarText.{scalar_text}
 use Rattle.graphql_values.specs.declared.input_value.InputValue.{InputValue, fold-InputValue}
 use Rattle.graphql_values.specs.declared.input_value.InputValue.TheOpen.{InputValue-F}
 use Rattle.graphql_values.specs.InputValues.{Placed, Pair}
+use Rattle.graphql_values.specs.Steps.{Step, Null, Scalar, Enum, Variable, ListOpens, ListCloses, ObjectOpens, ObjectCloses, Name, Gap}
 
 module _ {S : Type 0} (answer : S → ScalarAnswer) where
   -- the text of one layer of a value, by the texts of its parts
@@ -28,3 +29,16 @@ module _ {S : Type 0} (answer : S → ScalarAnswer) where
   -- the text of a field: its name, a colon and a space, and the text of its value
   abbrev pub field_text : Pair (InputValue S) → List ℕ
   field_text p = p.0.item ++ codes ": " ++ input_value_text p.1.item
+
+  -- the text of one step of a value: those of its steps, one after the other, are the text of the value
+  abbrev pub step_text : Step S → List ℕ
+  step_text Null = codes "null"
+  step_text (Scalar scalar) = scalar_text (answer scalar)
+  step_text (Enum name) = name
+  step_text (Variable name) = codes "$" ++ name
+  step_text ListOpens = codes "["
+  step_text ListCloses = codes "]"
+  step_text ObjectOpens = codes "{"
+  step_text ObjectCloses = codes "}"
+  step_text (Name name) = name ++ codes ": "
+  step_text Gap = codes ", "

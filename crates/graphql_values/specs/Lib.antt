@@ -1,5 +1,7 @@
 pub mod InputValues
 pub mod Variables
+pub mod Steps
+pub mod Pending
 pub mod InputValueText
 pub mod Conversions
 pub mod ConversionsOfLists
@@ -7,6 +9,7 @@ pub mod ConversionsOfArrays
 pub mod ConversionsOfScalars
 pub mod ConversionLaws
 pub mod SameValue
+pub mod Comparing
 pub mod Laws
 pub mod InputOfOutput
 pub mod Parts

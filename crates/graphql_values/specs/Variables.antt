@@ -1,5 +1,5 @@
 -- The variables in an input value, and what it is once they have their values (GraphQL October 2021, 2.10 Variables, 6.4.1 Coercing Field Arguments).
-use Rattle.std.specs.Prelude.{◌≡◌, ◌≢◌, ◌↔◌, List, [], ◌∷◌, Option, Some, None}
+use Rattle.std.specs.Prelude.{List, [], ◌∷◌, Option, Some}
 use Rattle.std.specs.List.{flat_map, Contains}
 use Rattle.std.specs.Option.{option_map, option_and_then}
 use Rattle.graphql_items.specs.declared.text.Text.{Text}

@@ -11,6 +11,7 @@ mod equality;
 mod let_go;
 mod parts;
 mod variables;
+mod walk;
 
 use graphql_scalars::DefaultScalarValue;
 use graphql_text::{Items, Spanning, Text};
@@ -20,9 +21,10 @@ pub use variables::Variables;
 /// A value that a document gives to an argument, a variable or an input field, before any type is
 /// known for it (GraphQL October 2021, 2.9 Input Values).
 ///
-/// A value nests as deep as its text is long. It is read and let go by loops; a call that goes down by
-/// calling itself says that it takes stack for each level. Such a call is for a value that the type
-/// asked for has been found to fit, which bounds its depth, but where input types hold themselves.
+/// A value nests as deep as its text is long. It is read, shown, compared and let go by loops; a call
+/// that goes down by calling itself says that it takes stack for each level. Such a call is for a value
+/// that the type asked for has been found to fit, which bounds its depth, but where input types hold
+/// themselves.
 #[derive(Debug)]
 pub enum InputValue<S = DefaultScalarValue> {
     /// `null`

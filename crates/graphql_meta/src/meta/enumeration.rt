@@ -4,7 +4,8 @@ ghost use Rattle.std.specs.Prelude.{◌≡◌, Some, None};
 ghost use Rattle.graphql_meta.specs.declared.meta.MetaType.TheVariants as meta;
 
 use super::{EnumValue, MetaType};
-use graphql_text::{Items, Text};
+use graphql_names::NamedItems;
+use graphql_text::Text;
 
 /// What a schema says of an enum (GraphQL October 2021, 3.9 Enums).
 #[derive(Drop)]
@@ -15,8 +16,8 @@ pub struct EnumMeta<C> {
     /// What it is for, in words.
     pub description: Option<Text>,
 
-    /// The values that it declares, in order.
-    pub values: Items<EnumValue>,
+    /// The values that it declares, in order, each found by its name.
+    pub values: NamedItems<EnumValue>,
 
     /// Which of the values that are given to it are taken.
     pub check: C,
@@ -24,7 +25,7 @@ pub struct EnumMeta<C> {
 
 impl<C> EnumMeta<C> {
     /// The enum of this name and these values that accepts what `check` accepts.
-    pub fn new(name: Text, values: Items<EnumValue>, check: C) -> EnumMeta<C>
+    pub fn new(name: Text, values: NamedItems<EnumValue>, check: C) -> EnumMeta<C>
         ensures { result ≡ record { name = name; description = None; values = values; check = check } }
     {
         EnumMeta {

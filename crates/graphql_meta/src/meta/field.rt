@@ -8,7 +8,8 @@ ghost use Rattle.graphql_meta.specs.declared.meta.deprecation.DeprecationStatus.
 
 use super::names::is_reserved;
 use super::{Argument, DeprecationStatus};
-use graphql_text::{Items, Text};
+use graphql_names::NamedItems;
+use graphql_text::Text;
 use graphql_type_references::Type;
 use graphql_values::ScalarValue;
 use std::alloc::{AllocError, Global};
@@ -22,8 +23,8 @@ pub struct Field<S> {
     /// What it is for, in words.
     pub description: Option<Text>,
 
-    /// The arguments, in order. `None` is the same as no argument.
-    pub arguments: Option<Items<Argument<S>>>,
+    /// The arguments, as they were declared, each found by its name. `None` is the same as no argument.
+    pub arguments: Option<NamedItems<Argument<S>>>,
 
     /// The type of its values.
     pub field_type: Type<Text>,
@@ -54,7 +55,7 @@ impl<S> Field<S> {
             field_type,
             deprecation_status,
         } = self;
-        let mut arguments = arguments.unwrap_or(Items::new(alloc));
+        let mut arguments = arguments.unwrap_or(NamedItems::new(alloc));
         arguments.push(argument)?;
         Ok(Field {
             name,
@@ -105,8 +106,8 @@ impl<S: ScalarValue + Drop> Clone for Field<S> {
 
 /// The same arguments once more.
 fn copy_of_arguments<S: ScalarValue + Drop>(
-    arguments: &Option<Items<Argument<S>>>,
-) -> Result<Option<Items<Argument<S>>>, AllocError>
+    arguments: &Option<NamedItems<Argument<S>>>,
+) -> Result<Option<NamedItems<Argument<S>>>, AllocError>
     ensures { Gives result arguments.now }
 {
     match arguments {

@@ -5,7 +5,8 @@ ghost use Rattle.graphql_meta.specs.declared.meta.MetaType.TheVariants as meta;
 
 use super::{Argument, MetaType};
 use crate::check::SchemaScalar;
-use graphql_text::{Items, Text};
+use graphql_names::NamedItems;
+use graphql_text::Text;
 
 /// What a schema says of an input object (GraphQL October 2021, 3.10 Input Objects).
 #[derive(Drop)]
@@ -16,8 +17,8 @@ pub struct InputObjectMeta<S, C = <S as SchemaScalar>::Check> {
     /// What it is for, in words.
     pub description: Option<Text>,
 
-    /// The fields, in order.
-    pub input_fields: Items<Argument<S>>,
+    /// The fields, as they were declared, each found by its name.
+    pub input_fields: NamedItems<Argument<S>>,
 
     /// Which values it accepts.
     pub check: C,
@@ -25,7 +26,7 @@ pub struct InputObjectMeta<S, C = <S as SchemaScalar>::Check> {
 
 impl<S, C> InputObjectMeta<S, C> {
     /// The input object of this name and these fields that accepts what `check` accepts.
-    pub fn new(name: Text, input_fields: Items<Argument<S>>, check: C) -> InputObjectMeta<S, C>
+    pub fn new(name: Text, input_fields: NamedItems<Argument<S>>, check: C) -> InputObjectMeta<S, C>
         ensures { result ≡ record { name = name; description = None; input_fields = input_fields; check = check } }
     {
         InputObjectMeta {

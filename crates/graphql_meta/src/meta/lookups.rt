@@ -54,13 +54,13 @@ impl<S, C> MetaType<S, C> {
 
     /// The field of this name of an object or an interface (GraphQL October 2021, 3.6 Objects, 3.7
     /// Interfaces), the first where there are several. `None` where there is none; other types have
-    /// no fields.
+    /// no fields. Finds it by binary search.
     pub fn field_by_name(&self, name: &str) -> Option<&Field<S>>
         ensures { option_copied result ≡ find (λ field. bytes_eq field.name name.now) (fields_of self.now) }
     {
         match self {
-            MetaType::Object(meta) => meta.fields.as_slice().iter().find(|f| f.name.is(name)),
-            MetaType::Interface(meta) => meta.fields.as_slice().iter().find(|f| f.name.is(name)),
+            MetaType::Object(meta) => meta.fields.get(name),
+            MetaType::Interface(meta) => meta.fields.get(name),
             _ => None,
         }
     }
@@ -71,12 +71,7 @@ impl<S, C> MetaType<S, C> {
         ensures { option_copied result ≡ find (λ field. bytes_eq field.name name.now) (input_fields_of self.now) }
     {
         match self {
-            MetaType::InputObject(meta) => {
-                meta.input_fields
-                    .as_slice()
-                    .iter()
-                    .find(|f| f.name.is(name))
-            }
+            MetaType::InputObject(meta) => meta.input_fields.get(name),
             _ => None,
         }
     }

@@ -4,6 +4,7 @@ ghost use Rattle.std.specs.Prelude.{◌≡◌, [], Some, None};
 ghost use Rattle.graphql_meta.specs.declared.meta.MetaType.TheVariants as meta;
 
 use super::{Field, MetaType};
+use graphql_names::NamedItems;
 use graphql_text::{Items, Text};
 use std::alloc::Global;
 
@@ -16,8 +17,8 @@ pub struct ObjectMeta<S> {
     /// What it is for, in words.
     pub description: Option<Text>,
 
-    /// The fields, in order.
-    pub fields: Items<Field<S>>,
+    /// The fields, as they were declared, each found by its name.
+    pub fields: NamedItems<Field<S>>,
 
     /// The names of the interfaces that it implements, in order.
     pub interface_names: Items<Text>,
@@ -25,7 +26,7 @@ pub struct ObjectMeta<S> {
 
 impl<S> ObjectMeta<S> {
     /// The object of this name and these fields, which implements no interface. Takes no memory.
-    pub fn new(alloc: Global, name: Text, fields: Items<Field<S>>) -> ObjectMeta<S>
+    pub fn new(alloc: Global, name: Text, fields: NamedItems<Field<S>>) -> ObjectMeta<S>
         ensures { result ≡ record { name = name; description = None; fields = fields; interface_names = [] } }
     {
         ObjectMeta {

@@ -1,18 +1,18 @@
 //! What a walk tells of selections and directives.
 
 ghost use Rattle.std.specs.Prelude.{◌≡◌, [], OnOk};
-ghost use Rattle.std.specs.Option.{option_copied, unwrap_or};
+ghost use Rattle.std.specs.Option.{unwrap_or};
 ghost use Rattle.graphql_schema.specs.Declarations.{declarations_of};
-ghost use Rattle.graphql_occurrences.specs.Lookups.{directive_arguments};
 ghost use Rattle.graphql_occurrences.specs.Documents.{arguments_in as arguments_given};
 ghost use Rattle.graphql_occurrences.specs.Events.{directive_events, directives_events, each, field_events, inline_events, optional_set, selection_events, set_events, spread_events};
 ghost use Rattle.graphql_occurrences.specs.Lent.{around_of};
 ghost use Rattle.graphql_occurrences.specs.Pending.{Adds, Opened, OpenedAny};
 
 use super::tasks::{Task, Work, add, enter};
+use crate::arguments::declared_by_directive;
 use crate::around::{Around, arguments_of_field, field_of, type_of};
 use crate::event::{Node, Owner, Seen};
-use graphql_meta::{Argument, DirectiveLocation, DirectiveType};
+use graphql_meta::DirectiveLocation;
 use graphql_schema::SchemaType;
 use graphql_text::{Items, Spanning, TextRef};
 use graphql_tree::{Arguments, Directive, Field, FragmentSpread, InlineFragment, Selection};
@@ -31,8 +31,8 @@ pub(crate) fn directives_in<'b, 'a, S>(
     }
 }
 
-/// The arguments, if there are any.
-pub(crate) fn arguments_in<'b, 'a, S>(
+/// The arguments between a field's or a directive's parentheses, in order; none where there are none.
+pub fn arguments_in<'b, 'a, S>(
     arguments: &'b Option<Spanning<Arguments<'a, S>>>,
 ) -> &'b [(Spanning<TextRef<'a>>, Spanning<InputValue<S>>)]
     ensures { result.now ≡ arguments_given arguments.now }
@@ -40,18 +40,6 @@ pub(crate) fn arguments_in<'b, 'a, S>(
     match arguments {
         Some(arguments) => arguments.item.items.as_slice(),
         None => &[],
-    }
-}
-
-/// The arguments that a known directive declares.
-pub(crate) fn declared_by_directive<'a, S>(
-    directive: Option<&'a DirectiveType<S>>,
-) -> Option<&'a [Argument<S>]>
-    ensures { option_copied result ≡ directive_arguments (option_copied directive.entry) }
-{
-    match directive {
-        Some(directive) => Some(directive.arguments.as_slice()),
-        None => None,
     }
 }
 

@@ -7,9 +7,10 @@ ghost use Rattle.graphql_occurrences.specs.Lent.{around_of, node_of, seen_of};
 ghost use Rattle.graphql_occurrences.specs.Nodes.{Enter};
 ghost use Rattle.graphql_occurrences.specs.Pending.{Adds, work_events};
 
+use crate::arguments::DeclaredArguments;
 use crate::around::Around;
 use crate::event::{Event, Node, Owner, Seen};
-use graphql_meta::{Argument, DirectiveLocation, SchemaScalar};
+use graphql_meta::{DirectiveLocation, SchemaScalar};
 use graphql_schema::SchemaType;
 use graphql_text::{Items, Spanning, Text, TextRef};
 use graphql_tree::{Definition, Directive, Selection, VariableDefinition};
@@ -38,7 +39,7 @@ pub(crate) enum Work<'a, S> {
     /// To go through arguments, by what they are given to and what is declared there.
     Arguments(
         Owner<'a>,
-        Option<&'a [Argument<S>]>,
+        Option<DeclaredArguments<'a, S>>,
         &'a [(Spanning<TextRef<'a>>, Spanning<InputValue<S>>)],
     ),
 

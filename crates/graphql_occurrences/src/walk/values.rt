@@ -1,17 +1,17 @@
 //! What a walk tells of values and arguments.
 
 ghost use Rattle.std.specs.Prelude.{◌≡◌, OnOk};
-ghost use Rattle.std.specs.Option.{option_copied};
+ghost use Rattle.std.specs.Option.{option_map};
 ghost use Rattle.graphql_schema.specs.Declarations.{declarations_of};
 ghost use Rattle.graphql_occurrences.specs.Events.{argument_events, arguments_events, content_events, each, item_events, pair_events, value_events};
-ghost use Rattle.graphql_occurrences.specs.Lent.{around_of, owner_of};
+ghost use Rattle.graphql_occurrences.specs.Lent.{arguments_lent, around_of, owner_of};
 ghost use Rattle.graphql_occurrences.specs.Pending.{Adds, Opened, OpenedAny};
 
 use super::tasks::{Task, Work, add, enter};
+use crate::arguments::DeclaredArguments;
 use crate::around::Around;
 use crate::event::{Node, Owner, Seen};
 use crate::place::{place_of_argument, place_of_field, place_of_items};
-use graphql_meta::Argument;
 use graphql_schema::SchemaType;
 use graphql_text::{Items, Spanning, Text, TextRef};
 use graphql_values::InputValue;
@@ -120,10 +120,10 @@ fn open_argument<'a, S, C>(
     tasks: &mut Items<Task<'a, S, C>>,
     around: Around<'a, S, C>,
     owner: Owner<'a>,
-    declared: Option<&'a [Argument<S>]>,
+    declared: Option<DeclaredArguments<'a, S>>,
     argument: &'a (Spanning<TextRef<'a>>, Spanning<InputValue<S>>),
 ) -> Result<Seen<'a, S, C>, AllocError>
-    ensures { Opened (declarations_of schema.now) (argument_events (declarations_of schema.now) (owner_of owner.entry) (option_copied declared.entry) argument.now (around_of around.entry)) result tasks.old tasks.new }
+    ensures { Opened (declarations_of schema.now) (argument_events (declarations_of schema.now) (owner_of owner.entry) (option_map arguments_lent declared.entry) argument.now (around_of around.entry)) result tasks.old tasks.new }
 {
     let inside = around.asking(place_of_argument(declared, argument.0.item.as_str()));
     add(
@@ -142,10 +142,10 @@ pub(crate) fn open_arguments<'a, S, C>(
     tasks: &mut Items<Task<'a, S, C>>,
     around: Around<'a, S, C>,
     owner: Owner<'a>,
-    declared: Option<&'a [Argument<S>]>,
+    declared: Option<DeclaredArguments<'a, S>>,
     arguments: &'a [(Spanning<TextRef<'a>>, Spanning<InputValue<S>>)],
 ) -> Result<Option<Seen<'a, S, C>>, AllocError>
-    ensures { OpenedAny (declarations_of schema.now) (arguments_events (declarations_of schema.now) (owner_of owner.entry) (option_copied declared.entry) arguments.now (around_of around.entry)) result tasks.old tasks.new }
+    ensures { OpenedAny (declarations_of schema.now) (arguments_events (declarations_of schema.now) (owner_of owner.entry) (option_map arguments_lent declared.entry) arguments.now (around_of around.entry)) result tasks.old tasks.new }
 {
     match arguments.split_first() {
         None => Ok(None),

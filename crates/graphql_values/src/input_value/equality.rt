@@ -1,99 +1,132 @@
 //! Whether input values are the same wherever they stand.
 
-ghost use Rattle.std.specs.Prelude.{◌≡◌, ◌↔◌, IsTrue, length, slice_get, MatchOption};
-ghost use Rattle.std.specs.Option.{option_copied};
-ghost use Rattle.graphql_values.specs.SameValue.{SameValue, SameItems, SameFields, names, under};
+ghost use Rattle.std.specs.Prelude.{◌≡◌, ◌↔◌, ◌+◌, ◌<◌, ◌≤◌, IsTrue, IfOk};
+ghost use Rattle.std.specs.List.{sum_by};
+ghost use Rattle.graphql_values.specs.Comparing.{IsByName, Leaves, left_count, lent};
+ghost use Rattle.graphql_values.specs.Counts.{value_count};
+ghost use Rattle.graphql_values.specs.SameValue.{SameValue, SameItems, SameFields, names};
 
 use super::InputValue;
 use graphql_text::{Items, Spanning, Text};
+use std::alloc::{AllocError, Global};
+
+/// Two values that have to be the same.
+type Both<'a, S> = (&'a InputValue<S>, &'a InputValue<S>);
+
+/// A field of an input object, lent.
+type Field<'a, S> = &'a (Spanning<Text>, Spanning<InputValue<S>>);
 
 impl<S: PartialEq> InputValue<S> {
     /// Whether the two are the same value, wherever they stand in a text: scalars by their own
     /// equality, enums and variables by name, lists item by item, input objects by their fields,
     /// whose order does not count (GraphQL October 2021, 2.9 Input Values): under each name the same
-    /// values, in order. Takes no memory, and stack for each level that both nest. Takes time for
-    /// each value once, and for each name once where the names of two objects come in the same
-    /// order; else for each of their names with each.
-    pub fn unlocated_eq(&self, other: &InputValue<S>) -> bool
-        ensures { IsTrue result ↔ SameValue S S.eq self.now other.now }
+    /// values, in order. Takes time for each value once, and for each name once where the names of
+    /// two objects come in the same order; else both are sorted. What is left to compare stands on
+    /// the heap, so deep values take no more stack. An error is want of memory.
+    pub fn unlocated_eq(&self, alloc: Global, other: &InputValue<S>) -> Result<bool, AllocError>
+        ensures { IfOk result (λ same. IsTrue same ↔ SameValue S S.eq self.now other.now) }
     {
-        same_value(self, other)
+        let mut waiting = Items::new(alloc);
+        waiting.push((self, other))?;
+        'values: while let Some((left, right)) = waiting.pop() {
+            if !same_form(left, right, &mut waiting)? {
+                return Ok(false);
+            }
+        }
+        Ok(true)
     }
 }
 
-/// Whether the two are the same value.
-#[cycle(same)]
-fn same_value<S: PartialEq>(left: &InputValue<S>, right: &InputValue<S>) -> bool
-    ensures { IsTrue result ↔ SameValue S S.eq left.now right.now }
+/// Whether the two have one form, and are the same in what is not a value within them; the values
+/// within them are left to compare.
+fn same_form<'a, S: PartialEq>(
+    left: &'a InputValue<S>,
+    right: &'a InputValue<S>,
+    waiting: &mut Items<Both<'a, S>>,
+) -> Result<bool, AllocError>
+    ensures leaves { IfOk result (λ stands. Leaves S.eq (SameValue S S.eq left.now right.now) waiting.old waiting.new stands) }
+    ensures fewer { IfOk result (λ _. left_count waiting.new < left_count waiting.old + value_count left.now) }
 {
     match left {
-        InputValue::Null => right.is_null(),
+        InputValue::Null => Ok(right.is_null()),
         InputValue::Scalar(scalar) => match right {
-            InputValue::Scalar(other) => scalar == other,
-            _ => false,
+            InputValue::Scalar(other) => Ok(scalar == other),
+            _ => Ok(false),
         },
         InputValue::Enum(name) => match right {
-            InputValue::Enum(other) => name.is(other.as_str()),
-            _ => false,
+            InputValue::Enum(other) => Ok(name.is(other.as_str())),
+            _ => Ok(false),
         },
         InputValue::Variable(name) => match right {
-            InputValue::Variable(other) => name.is(other.as_str()),
-            _ => false,
+            InputValue::Variable(other) => Ok(name.is(other.as_str())),
+            _ => Ok(false),
         },
         InputValue::List(items) => match right {
-            InputValue::List(others) => same_items(items, others),
-            _ => false,
+            InputValue::List(others) => leave_items(items, others, waiting),
+            _ => Ok(false),
         },
         InputValue::Object(pairs) => match right {
-            InputValue::Object(others) => same_fields(pairs, others),
-            _ => false,
+            InputValue::Object(others) => leave_fields(pairs, others, waiting),
+            _ => Ok(false),
         },
     }
 }
 
-/// Whether the lists have the same values, one by one.
-#[cycle(same)]
-fn same_items<S: PartialEq>(
-    left: &Items<Spanning<InputValue<S>>>,
-    right: &Items<Spanning<InputValue<S>>>,
-) -> bool
-    ensures { IsTrue result ↔ SameItems S S.eq left.now right.now }
+/// Whether there are equally many items, which are left to compare one by one.
+fn leave_items<'a, S: PartialEq>(
+    left: &'a Items<Spanning<InputValue<S>>>,
+    right: &'a Items<Spanning<InputValue<S>>>,
+    waiting: &mut Items<Both<'a, S>>,
+) -> Result<bool, AllocError>
+    ensures leaves { IfOk result (λ stands. Leaves S.eq (SameItems S S.eq left.now right.now) waiting.old waiting.new stands) }
+    ensures count { IfOk result (λ _. left_count waiting.new ≤ left_count waiting.old + sum_by (λ x. value_count x.item) left.now) }
 {
     if left.len() != right.len() {
-        return false;
+        return Ok(false);
     }
     let others = right.as_slice();
     for (index, part) in left.as_slice().iter().enumerate() {
-        if !same_value(&part.item, &others[index].item) {
-            return false;
-        }
+        waiting.push((&part.item, &others[index].item))?;
     }
-    true
+    Ok(true)
 }
 
-/// Whether the same values stand under each name, in order: where a name stands more than once, the
-/// k-th of its fields is compared with the k-th (GraphQL October 2021, 2.9.8 Input Object Values:
+/// Whether there is a value on the right for each on the left, the k-th of a name for the k-th of
+/// it, and no other; these are left to compare (GraphQL October 2021, 2.9.8 Input Object Values:
 /// fields are unordered).
-#[cycle(same)]
-fn same_fields<S: PartialEq>(
-    left: &Items<(Spanning<Text>, Spanning<InputValue<S>>)>,
-    right: &Items<(Spanning<Text>, Spanning<InputValue<S>>)>,
-) -> bool
-    ensures { IsTrue result ↔ SameFields S S.eq left.now right.now }
+fn leave_fields<'a, S: PartialEq>(
+    left: &'a Items<(Spanning<Text>, Spanning<InputValue<S>>)>,
+    right: &'a Items<(Spanning<Text>, Spanning<InputValue<S>>)>,
+    waiting: &mut Items<Both<'a, S>>,
+) -> Result<bool, AllocError>
+    ensures leaves { IfOk result (λ stands. Leaves S.eq (SameFields S S.eq left.now right.now) waiting.old waiting.new stands) }
+    ensures count { IfOk result (λ _. left_count waiting.new ≤ left_count waiting.old + sum_by (λ p. value_count p.1.item) left.now) }
 {
-    if have_same_names(left, right) {
-        same_in_order(left, right)
+    let left = lent_fields(left)?;
+    let right = lent_fields(right)?;
+    if have_same_names(&left, &right) {
+        leave_in_order(&left, &right, waiting)
     } else {
-        same_by_name(left, right)
+        leave_by_name(left, right, waiting)
     }
+}
+
+/// The fields, lent.
+fn lent_fields<S>(
+    fields: &Items<(Spanning<Text>, Spanning<InputValue<S>>)>,
+) -> Result<Items<Field<'_, S>>, AllocError>
+    ensures { IfOk result (λ all. lent all ≡ fields.now) }
+{
+    let mut all = Items::with_capacity(*fields.allocator(), fields.len())?;
+    for pair in fields.as_slice() {
+        all.push(pair)?;
+    }
+    Ok(all)
 }
 
 /// Whether the same names stand in the same order.
-fn have_same_names<S>(
-    left: &Items<(Spanning<Text>, Spanning<InputValue<S>>)>,
-    right: &Items<(Spanning<Text>, Spanning<InputValue<S>>)>,
-) -> bool
-    ensures { IsTrue result ↔ (names left.now ≡ names right.now) }
+fn have_same_names<S>(left: &Items<Field<'_, S>>, right: &Items<Field<'_, S>>) -> bool
+    ensures { IsTrue result ↔ (names (lent left.now) ≡ names (lent right.now)) }
 {
     let others = right.as_slice();
     if left.len() != others.len() {
@@ -107,92 +140,47 @@ fn have_same_names<S>(
     true
 }
 
-/// Whether the values of fields whose names stand in the same order are the same, place by place.
-#[cycle(same)]
-fn same_in_order<S: PartialEq>(
-    left: &Items<(Spanning<Text>, Spanning<InputValue<S>>)>,
-    right: &Items<(Spanning<Text>, Spanning<InputValue<S>>)>,
-) -> bool
-    requires { names left.now ≡ names right.now }
-    ensures { IsTrue result ↔ SameFields S S.eq left.now right.now }
+/// Leaves the values of fields whose names stand in the same order to be compared, place by place.
+fn leave_in_order<'a, S: PartialEq>(
+    left: &Items<Field<'a, S>>,
+    right: &Items<Field<'a, S>>,
+    waiting: &mut Items<Both<'a, S>>,
+) -> Result<bool, AllocError>
+    requires { names (lent left.now) ≡ names (lent right.now) }
+    ensures leaves { IfOk result (λ stands. Leaves S.eq (SameFields S S.eq (lent left.now) (lent right.now)) waiting.old waiting.new stands) }
+    ensures count { IfOk result (λ _. left_count waiting.new ≤ left_count waiting.old + sum_by (λ p. value_count p.1.item) (lent left.now)) }
 {
     let others = right.as_slice();
     for (index, pair) in left.as_slice().iter().enumerate() {
-        if !same_value(&pair.1.item, &others[index].1.item) {
-            return false;
-        }
+        waiting.push((&pair.1.item, &others[index].1.item))?;
     }
-    true
+    Ok(true)
 }
 
-/// Whether the fields, in any order, are as many and each on the left has its like on the right: of
-/// the same name, of the same rank among those of its name, and of the same value.
-#[cycle(same)]
-fn same_by_name<S: PartialEq>(
-    left: &Items<(Spanning<Text>, Spanning<InputValue<S>>)>,
-    right: &Items<(Spanning<Text>, Spanning<InputValue<S>>)>,
-) -> bool
-    ensures { IsTrue result ↔ SameFields S S.eq left.now right.now }
+/// Whether the fields have the same names, each as often, in any order: those of the same name and
+/// of the same rank among those of its name are left to compare.
+fn leave_by_name<'a, S: PartialEq>(
+    left: Items<Field<'a, S>>,
+    right: Items<Field<'a, S>>,
+    waiting: &mut Items<Both<'a, S>>,
+) -> Result<bool, AllocError>
+    ensures leaves { IfOk result (λ stands. Leaves S.eq (SameFields S S.eq (lent left.entry) (lent right.entry)) waiting.old waiting.new stands) }
+    ensures count { IfOk result (λ _. left_count waiting.new ≤ left_count waiting.old + sum_by (λ p. value_count p.1.item) (lent left.entry)) }
 {
-    let fields = left.as_slice();
-    if fields.len() != right.len() {
-        return false;
-    }
-    for (index, pair) in fields.iter().enumerate() {
-        let rank = count_under(&fields[..index], &pair.0.item);
-        if !is_ranked_under(&pair.1.item, right, &pair.0.item, rank) {
-            return false;
-        }
-    }
-    true
-}
-
-/// Whether a field of the name before which `rank` fields of this name stand has the same value.
-#[cycle(same)]
-fn is_ranked_under<S: PartialEq>(
-    value: &InputValue<S>,
-    fields: &Items<(Spanning<Text>, Spanning<InputValue<S>>)>,
-    name: &Text,
-    rank: usize,
-) -> bool
-    ensures { IsTrue result ↔ MatchOption (slice_get (under name.now fields.now) rank) ⊥ (λ other. SameValue S S.eq value.now other.item) }
-{
-    match ranked_under(fields, name, rank) {
-        Some(other) => same_value(value, &other.item),
-        None => false,
+    let left = by_name(left)?;
+    let right = by_name(right)?;
+    if have_same_names(&left, &right) {
+        leave_in_order(&left, &right, waiting)
+    } else {
+        Ok(false)
     }
 }
 
-/// How many of the fields have the name.
-fn count_under<S>(fields: &[(Spanning<Text>, Spanning<InputValue<S>>)], name: &Text) -> usize
-    ensures { result ≡ length (under name.now fields.now) }
+/// The fields in the order of their names by bytes, those of one name in the order that they had.
+fn by_name<'a, S>(fields: Items<Field<'a, S>>) -> Result<Items<Field<'a, S>>, AllocError>
+    ensures { IfOk result (λ sorted. IsByName (lent fields.entry) (lent sorted)) }
 {
-    let mut count = 0;
-    for pair in fields {
-        if pair.0.item.is(name.as_str()) {
-            count += 1;
-        }
-    }
-    count
-}
-
-/// The value of the field of the name before which `rank` fields of this name stand; `None` where
-/// there is none.
-fn ranked_under<'a, S>(
-    fields: &'a Items<(Spanning<Text>, Spanning<InputValue<S>>)>,
-    name: &Text,
-    rank: usize,
-) -> Option<&'a Spanning<InputValue<S>>>
-    ensures { option_copied result ≡ slice_get (under name.now fields.now) rank }
-{
-    let mut before = rank;
-    for pair in fields.as_slice() {
-        if pair.0.item.is(name.as_str()) {
-            if before == 0 {
-                return Some(&pair.1);
-            }
-            before -= 1;
-        }
-    }
-    None
+    let mut sorted = fields.into_vec();
+    sorted.sort_by(|one, other| one.0.item.as_str().cmp(other.0.item.as_str()))?;
+    Ok(Items::from_vec(sorted))
 }

@@ -1,5 +1,4 @@
 use Rattle.std.proofs.Common.{rules, arith, ◌≡◌, ◌++◌, [], ◌∷◌, map, get_or, ap, sym, ◌∙◌}
-use Rattle.graphql_values.specs.declared.input_value.InputValue.TheVariants as value
 use Rattle.graphql_items.specs.declared.text.Text.{Text}
 use Rattle.graphql_output_values.specs.declared.value.Value.{Value}
 use Rattle.graphql_values.specs.InputOfOutput.{input_of}

@@ -1,4 +1,4 @@
-use Rattle.std.proofs.Common.{◌≡◌, Some, None, Option, ap, sym, ◌∙◌}
+use Rattle.std.proofs.Common.{Some, None, ap, sym, ◌∙◌}
 use Rattle.std.specs.HashMap.{get_by_text}
 use Rattle.graphql_values.specs.Variables.{each_given, constant_item, constant_pair}
 use Rattle.graphql_values.proofs.VariableLemmas.{given_more, given_lacks, list_becomes, object_becomes, item_becomes, pair_becomes}

@@ -1,0 +1,23 @@
+use Rattle.std.proofs.Common.{◌≡◌, true, Ok, ap, sym, ◌∙◌}
+use Rattle.graphql_values.specs.declared.input_value.InputValue.TheVariants as value
+use Rattle.graphql_literal_checks.specs.Judged.{IsObject, ObjectFits, is_constant, have_constants}
+use Rattle.graphql_literal_checks.proofs.ConformsLemmas.{Whole, constant_object, fits_object, object_fits}
+use Rattle.graphql_literal_checks.proofs.OpenLemmas.{left_push, object_left, opens_one, opens_same}
+use Rattle.graphql_literal_checks.proofs.conforming.Judge+S.enter_object.Goals as goal
+
+pub returns-in_ok-add-in-Object-clause-fits : goal.returns-in_ok-add-in-Object-clause-fits
+returns-in_ok-add-in-Object-clause-fits g c =
+    let answer = g.S.ScalarValue.answer in
+    let accepts = g.S.Check.Check.accepts in
+    let types = c.args.self.now.schema.now.types in
+    let source = c.args.self.now.source in
+    let v = c.args.value.now in
+    let ps = c.as_slice-pairs.result.now in
+    let is : v ≡ value.Object ps = c.in-Object.is ∙ ap value.Object (sym c.as_slice-pairs.ensures) in
+    opens_same answer accepts types source (Whole answer accepts types source c.args.meta.now v ps) (IsObject (ObjectFits answer accepts types source c.args.meta.now) v) (have_constants ps) (is_constant v) (Ok true) c.args.opened.now c.add.new.opened
+    (object_fits answer accepts types source c.args.meta.now v ps is) (fits_object answer accepts types source c.args.meta.now v ps is) (constant_object ps ∙ ap is_constant (sym is))
+    (opens_one answer accepts types source _ _ _ c.in_ok-add-in-Object.ensures)
+
+pub returns-in_ok-add-in-Object-clause-ends : goal.returns-in_ok-add-in-Object-clause-ends
+returns-in_ok-add-in-Object-clause-ends g c =
+    object_left _ _ c.args.value.now c.in-Object.fields c.as_slice-pairs.result.now c.in-Object.is c.as_slice-pairs.ensures (left_push _ _ _ c.in_ok-add-in-Object.ensures)

@@ -1,0 +1,81 @@
+-- Small cases of the rules, each computed.
+use Rattle.std.proofs.Common.{◌≡◌, ℕ, List, [], ◌∷◌, None, refl}
+use Rattle.std.specs.Prelude.{codes}
+use Rattle.graphql_names.specs.Names.{Bytes}
+use Rattle.graphql_text.specs.declared.position.SourcePosition.{SourcePosition}
+use Rattle.graphql_values.specs.InputValues.{Placed}
+use Rattle.graphql_occurrences.specs.Parts.{Use}
+use Rattle.graphql_scopes.specs.Reached.{reached}
+use Rattle.graphql_scopes.specs.Scopes.{FragmentScope, OperationScope, Spread}
+use Rattle.graphql_rules_document.specs.LoneAnonymousOperation.{anonymous_beside_others}
+use Rattle.graphql_rules_document.specs.NoFragmentCycles.{fragment_cycles}
+use Rattle.graphql_rules_document.specs.NoUndefinedVariables.{undefined_variables}
+use Rattle.graphql_rules_document.specs.NoUnusedFragments.{never_reached}
+use Rattle.graphql_rules_document.specs.NoUnusedVariables.{unused_variables}
+use Rattle.graphql_rules_document.specs.Repeats.{Mention, repeats}
+
+abbrev pub at : ℕ → SourcePosition
+at n = record { index = n; line = 0; column = n }
+
+abbrev pub put : {A : Type 0} → ℕ → A → Placed A
+put n x = record { item = x; span = record { start = at n; end = at n } }
+
+abbrev pub mention : Bytes → ℕ → Mention
+mention name n = record { name = name; place = at n }
+
+-- each later one with the first, not with the one before it
+pub three_of_a_name : repeats (mention (codes "a") 0 ∷ mention (codes "b") 1 ∷ mention (codes "a") 2 ∷ mention (codes "a") 3 ∷ []) ≡ (at 0 ∷ at 2 ∷ []) ∷ (at 0 ∷ at 3 ∷ []) ∷ []
+three_of_a_name = refl
+
+abbrev pub spread : Bytes → ℕ → Spread
+spread name n = record { name = name; place = at n }
+
+abbrev pub use_of : Bytes → ℕ → Use
+use_of name n = record { name = name; place = at n; at = None }
+
+abbrev pub fragment : Bytes → ℕ → List Use → List Spread → FragmentScope
+fragment name n uses spreads = record { name = name; place = at n; condition = put n (codes "Human"); uses = uses; spreads = spreads }
+
+-- A spreads B, B spreads C and A, C spreads nothing and uses `$y`, and E spreads A
+abbrev pub some_fragments : List FragmentScope
+some_fragments =
+    fragment (codes "A") 100 [] (spread (codes "B") 10 ∷ []) ∷ fragment (codes "B") 200 [] (spread (codes "C") 20 ∷ spread (codes "A") 30 ∷ [])
+    ∷ fragment (codes "C") 300 (use_of (codes "y") 310 ∷ []) [] ∷ fragment (codes "E") 400 [] (spread (codes "A") 50 ∷ []) ∷ []
+
+-- `C` and `E` are in no cycle, though `E` leads to one
+pub cycles : fragment_cycles some_fragments ≡ (at 10 ∷ []) ∷ (at 30 ∷ []) ∷ []
+unfolding reached
+cycles = refl
+
+-- `query ($x) { .. $x .. ...B }`
+abbrev pub query : OperationScope ℕ
+query = record {
+  name = None;
+  place = at 1;
+  defined = record { name = put 7 (codes "x"); type_of = put 9 (record { name = codes "Int"; modifiers = [] }); default = None } ∷ [];
+  uses = use_of (codes "x") 15 ∷ [];
+  spreads = spread (codes "B") 17 ∷ [];
+}
+
+pub e_is_unused : never_reached (query ∷ []) some_fragments ≡ (at 400 ∷ []) ∷ []
+unfolding reached
+e_is_unused = refl
+
+-- `$y` is used in a fragment that a fragment spreads
+pub y_is_undefined : undefined_variables (query ∷ []) some_fragments ≡ (at 310 ∷ at 1 ∷ []) ∷ []
+unfolding reached
+y_is_undefined = refl
+
+pub x_is_used : unused_variables (query ∷ []) some_fragments ≡ []
+unfolding reached
+x_is_used = refl
+
+pub x_is_unused : unused_variables (record query { uses = [] } ∷ []) some_fragments ≡ (at 7 ∷ []) ∷ []
+unfolding reached
+x_is_unused = refl
+
+pub both_anonymous : anonymous_beside_others (query ∷ query ∷ []) ≡ (at 1 ∷ []) ∷ (at 1 ∷ []) ∷ []
+both_anonymous = refl
+
+pub one_anonymous : anonymous_beside_others (query ∷ []) ≡ []
+one_anonymous = refl

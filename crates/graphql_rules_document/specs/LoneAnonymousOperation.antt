@@ -1,0 +1,14 @@
+-- An anonymous operation beside others (GraphQL October 2021, 5.2.2.1 Lone Anonymous Operation).
+use Rattle.std.specs.Prelude.{ℕ, List, [], ◌∷◌, ◌&&◌, not, length, nat_lt}
+use Rattle.std.specs.List.{flat_map}
+use Rattle.std.specs.Option.{is_some}
+use Rattle.graphql_scopes.specs.Scopes.{OperationScope}
+use Rattle.graphql_rules_document.specs.Places.{Places, error_if}
+
+module _ {S : Type 0} where
+  -- of so many operations
+  abbrev pub anonymous_among : ℕ → OperationScope S → Places
+  anonymous_among count o = error_if (not (is_some o.name) && nat_lt 1 count) (o.place ∷ [])
+
+  abbrev pub anonymous_beside_others : List (OperationScope S) → Places
+  anonymous_beside_others operations = flat_map (anonymous_among (length operations)) operations

@@ -1,0 +1,47 @@
+//! Anonymous operations (GraphQL October 2021, 5.2.2.1 Lone Anonymous Operation).
+
+ghost use Rattle.std.specs.Prelude.{OnOk, map};
+ghost use Rattle.graphql_scopes.specs.Lent.{operation_of};
+ghost use Rattle.graphql_rules_document.specs.LoneAnonymousOperation.{anonymous_among, anonymous_beside_others};
+ghost use Rattle.graphql_rules_document.specs.Places.{Reports};
+
+use crate::report::report;
+use graphql_rule_errors::RuleError;
+use graphql_scopes::OperationScope;
+use graphql_text::Items;
+use std::alloc::{AllocError, Global};
+
+/// Adds an error for each anonymous operation of a document that has others, where it begins. An
+/// error of the call is want of memory.
+pub fn lone_anonymous_operation<S>(
+    alloc: Global,
+    operations: &[OperationScope<'_, S>],
+    errors: &mut Items<RuleError>,
+) -> Result<(), AllocError>
+    ensures { OnOk result (Reports (anonymous_beside_others (map operation_of operations.now)) errors.old errors.new) }
+{
+    let count = operations.len();
+    'operations: for operation in operations {
+        report_anonymous(alloc, count, operation, errors)?;
+    }
+    Ok(())
+}
+
+/// The error, if the operation is anonymous among so many.
+fn report_anonymous<S>(
+    alloc: Global,
+    count: usize,
+    operation: &OperationScope<'_, S>,
+    errors: &mut Items<RuleError>,
+) -> Result<(), AllocError>
+    ensures { OnOk result (Reports (anonymous_among count (operation_of operation.now)) errors.old errors.new) }
+{
+    if operation.name.is_some() || count <= 1 {
+        return Ok(());
+    }
+    let message = String::from_str(
+        alloc,
+        "This anonymous operation must be the only defined operation",
+    )?;
+    report(alloc, errors, message, &[operation.place])
+}

@@ -1,0 +1,73 @@
+//! Fragments that spread themselves (GraphQL October 2021, 5.5.2.2 Fragment Spreads Must Not Form
+//! Cycles).
+
+ghost use Rattle.std.specs.Prelude.{◌≡◌, OnOk, map, slice_get, Some};
+ghost use Rattle.graphql_scopes.specs.Lent.{fragment_of, spread_of};
+ghost use Rattle.graphql_rules_document.specs.NoFragmentCycles.{cycle_at, cycles_in, fragment_cycles};
+ghost use Rattle.graphql_rules_document.specs.Places.{Reports};
+
+use crate::report::report;
+use graphql_rule_errors::RuleError;
+use graphql_scopes::{FragmentIndex, FragmentScope, ReachedFragments, Spread};
+use graphql_text::Items;
+use std::alloc::{AllocError, Global};
+
+/// Adds an error for each spread in a fragment whose target is that fragment or reaches it, where the
+/// spread begins. Takes time in proportion to the fragments times what they reach. An error of the
+/// call is want of memory.
+pub fn no_fragment_cycles(
+    alloc: Global,
+    index: &FragmentIndex<'_, '_>,
+    errors: &mut Items<RuleError>,
+) -> Result<(), AllocError>
+    ensures { OnOk result (Reports (fragment_cycles (map fragment_of index.now.fragments.now)) errors.old errors.new) }
+{
+    let mut reached = ReachedFragments::new(alloc);
+    'fragments: for (place, fragment) in index.fragments().iter().enumerate() {
+        report_cycles(alloc, &mut reached, index, place, fragment, errors)?;
+    }
+    Ok(())
+}
+
+/// The errors for the spreads in the fragment at `place`. Where all its spreads together do not reach
+/// it, none does.
+fn report_cycles(
+    alloc: Global,
+    reached: &mut ReachedFragments,
+    index: &FragmentIndex<'_, '_>,
+    place: usize,
+    fragment: &FragmentScope<'_>,
+    errors: &mut Items<RuleError>,
+) -> Result<(), AllocError>
+    ensures { OnOk result (slice_get index.now.fragments.now place ≡ Some fragment.now → Reports (cycles_in (map fragment_of index.now.fragments.now) (fragment_of fragment.now)) errors.old errors.new) }
+{
+    reached.search(index, fragment.spreads.as_slice())?;
+    if !reached.is_reached(place) {
+        return Ok(());
+    }
+    'spreads: for spread in fragment.spreads.as_slice() {
+        report_cycle(alloc, reached, index, place, fragment, spread, errors)?;
+    }
+    Ok(())
+}
+
+/// The error, if the target of the spread reaches the fragment at `place`.
+fn report_cycle(
+    alloc: Global,
+    reached: &mut ReachedFragments,
+    index: &FragmentIndex<'_, '_>,
+    place: usize,
+    fragment: &FragmentScope<'_>,
+    spread: &Spread<'_>,
+    errors: &mut Items<RuleError>,
+) -> Result<(), AllocError>
+    ensures { OnOk result (slice_get index.now.fragments.now place ≡ Some fragment.now → Reports (cycle_at (map fragment_of index.now.fragments.now) (fragment_of fragment.now) (spread_of spread.now)) errors.old errors.new) }
+{
+    reached.search(index, &[*spread])?;
+    if !reached.is_reached(place) {
+        return Ok(());
+    }
+    let name = spread.name;
+    let message = format!(in alloc; "Cannot spread fragment \"{name}\"")?;
+    report(alloc, errors, message, &[spread.place])
+}

@@ -1,0 +1,16 @@
+pub mod Repeats
+pub mod Givens
+pub mod KnownDirectives
+pub mod KnownArgumentNames
+pub mod ProvidedNonNullArguments
+pub mod UniqueArgumentNames
+pub mod UniqueInputFieldNames
+pub mod Found
+pub mod DisableIntrospection
+pub mod FieldsOnCorrectType
+pub mod FragmentsOnCompositeTypes
+pub mod KnownFragmentNames
+pub mod KnownTypeNames
+pub mod PossibleFragmentSpreads
+pub mod ScalarLeafs
+pub mod VariablesAreInputTypes

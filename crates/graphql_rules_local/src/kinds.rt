@@ -1,0 +1,25 @@
+//! Which types selections stand behind.
+
+ghost use Rattle.std.specs.Prelude.{◌≡◌};
+ghost use Rattle.graphql_names.specs.Names.{passes};
+ghost use Rattle.graphql_occurrences.specs.Lookups.{known};
+ghost use Rattle.graphql_rules_local.specs.ScalarLeafs as spec;
+ghost use Rattle.graphql_schema.specs.Declarations.{declarations_of};
+ghost use Rattle.graphql_schema_faults.specs.Faults as faults;
+
+use graphql_meta::MetaType;
+use graphql_schema::SchemaType;
+
+/// Whether the type is an object, an interface or a union.
+pub(crate) fn is_composite<S, C>(meta: &MetaType<S, C>) -> bool
+    ensures { result ≡ faults.is_composite meta.now }
+{
+    meta.is_composite()
+}
+
+/// Whether the type is a scalar or an enum.
+pub(crate) fn is_leaf<S, C>(meta: &MetaType<S, C>) -> bool
+    ensures { result ≡ spec.is_leaf meta.now }
+{
+    meta.is_leaf()
+}

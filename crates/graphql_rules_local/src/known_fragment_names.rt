@@ -1,0 +1,57 @@
+//! Spreads of fragments that a document has not.
+
+ghost use Rattle.std.specs.Prelude.{◌∷◌, [], not};
+ghost use Rattle.std.specs.Option.{is_some};
+ghost use Rattle.graphql_occurrences.specs.Definitions.{fragment_named};
+ghost use Rattle.graphql_rule_errors.specs.Places.{error_if};
+ghost use Rattle.graphql_visitors.specs.Reports.{Reports};
+ghost use Rattle.graphql_visitors.specs.Subjects.{subject_of};
+
+use graphql_meta::SchemaScalar;
+use graphql_occurrences::{Event, Node};
+use graphql_text::{Spanning, Text, TextRef};
+use graphql_visitors::{Local, LocalRule, ValidatorContext};
+use std::alloc::{AllocError, Global};
+
+/// The document has each fragment that is spread (GraphQL October 2021, 5.5.2.1 Fragment Spread Target
+/// Defined).
+///
+/// An error names the start of the fragment's name in the spread.
+#[derive(Drop)]
+pub struct KnownFragmentNames;
+
+/// The rule, as a visitor.
+pub fn factory() -> Local<KnownFragmentNames> {
+    Local(KnownFragmentNames)
+}
+
+/// What is said of a spread. An error is want of memory.
+fn message(alloc: Global, fragment: &str) -> Result<Text, AllocError> {
+    let text = format!(in alloc; "Unknown fragment: \"{fragment}\"")?;
+    Ok(Text::from_string(text))
+}
+
+/// Reports the name of a fragment, if the document has none of this name.
+fn check<'a, S: SchemaScalar>(context: &mut ValidatorContext<'a, S>, name: &Spanning<TextRef<'a>>)
+    ensures { Reports (error_if (not (is_some (fragment_named (subject_of context.old).document name.now.item))) (name.now.span.start ∷ [])) context.old context.new }
+{
+    if !context.is_known_fragment(name.item.as_str()) {
+        let text = message(context.alloc(), name.item.as_str());
+        context.report_error(text, &[name.span.start]);
+    }
+}
+
+impl<'a, S: SchemaScalar> LocalRule<'a, S> for KnownFragmentNames {
+    ghost use Rattle.graphql_rules_local.specs.KnownFragmentNames.{unknown_fragment};
+
+    ghost says = { unknown_fragment };
+
+    fn tell(&self, context: &mut ValidatorContext<'a, S>, event: &Event<'a, S>) {
+        match event {
+            Event::Enter(Node::FragmentSpread(spread)) if context.parent_type().is_some() => {
+                check(context, &spread.item.name);
+            }
+            _ => {}
+        }
+    }
+}

@@ -1,0 +1,6 @@
+pub mod Scopes
+pub mod Lent
+pub mod Gathered
+pub mod Reached
+pub mod Named
+pub mod Searches

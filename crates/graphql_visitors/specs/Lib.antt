@@ -1,0 +1,4 @@
+pub mod Subjects
+pub mod Reports
+pub mod Runs
+pub mod Rules

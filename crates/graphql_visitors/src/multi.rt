@@ -1,0 +1,71 @@
+//! Lists of visitors, which step over a document together.
+
+ghost use Rattle.std.specs.Prelude.{◌≡◌};
+
+use crate::context::ValidatorContext;
+use crate::visitor::Visitor;
+use graphql_meta::SchemaScalar;
+use graphql_occurrences::Event;
+
+/// No visitor.
+#[derive(Drop)]
+pub struct MultiVisitorNil;
+
+/// A visitor, and after it others: at each event the first one's errors come before the others'.
+#[derive(Drop)]
+pub struct MultiVisitorCons<A, B> {
+    first: A,
+    second: B,
+}
+
+impl MultiVisitorNil {
+    /// This visitor alone.
+    pub fn with<V>(self, visitor: V) -> MultiVisitorCons<V, MultiVisitorNil>
+        ensures first { result.first ≡ visitor }
+        ensures second { result.second ≡ self }
+    {
+        MultiVisitorCons {
+            first: visitor,
+            second: self,
+        }
+    }
+}
+
+impl<A, B> MultiVisitorCons<A, B> {
+    /// This visitor, and after it those of the list.
+    pub fn with<V>(self, visitor: V) -> MultiVisitorCons<V, MultiVisitorCons<A, B>>
+        ensures first { result.first ≡ visitor }
+        ensures second { result.second ≡ self }
+    {
+        MultiVisitorCons {
+            first: visitor,
+            second: self,
+        }
+    }
+}
+
+impl<'a, S: SchemaScalar> Visitor<'a, S> for MultiVisitorNil {
+    ghost use Rattle.graphql_visitors.specs.Rules.{silent};
+    ghost use Rattle.graphql_visitors.specs.Runs.{Did};
+
+    ghost step = { silent };
+
+    fn on(&mut self, context: &mut ValidatorContext<'a, S>, event: &Event<'a, S>)
+        ensures { Did silent event.now self.old self.new context.old context.new }
+    {}
+}
+
+impl<'a, S: SchemaScalar, A: Visitor<'a, S>, B: Visitor<'a, S>> Visitor<'a, S>
+    for MultiVisitorCons<A, B> {
+    ghost use Rattle.graphql_visitors.specs.Rules.{both};
+    ghost use Rattle.graphql_visitors.specs.Runs.{Did};
+
+    ghost step = { both A.step B.step };
+
+    fn on(&mut self, context: &mut ValidatorContext<'a, S>, event: &Event<'a, S>)
+        ensures { Did (both A.step B.step) event.now self.old self.new context.old context.new }
+    {
+        self.first.on(context, event);
+        self.second.on(context, event);
+    }
+}
