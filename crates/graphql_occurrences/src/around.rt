@@ -110,7 +110,7 @@ impl<'a, S, C> Around<'a, S, C> {
     /// The types inside a fragment with this condition, or the same without one.
     pub(crate) fn inside_condition(
         self,
-        condition: &'a Option<Spanning<TextRef<'a>>>,
+        condition: &'a Option<Spanning<TextRef<'_>>>,
     ) -> Around<'a, S, C>
         ensures { around_of result ≡ condition_around (around_of self.entry) condition.now }
     {

@@ -22,41 +22,41 @@ pub enum Owner<'a> {
 
 /// A node of a document's tree, lent, with what the schema declares there.
 #[derive(Drop)]
-pub enum Node<'a, S> {
+pub enum Node<'a, 't, S> {
     /// The whole document.
-    Document(&'a [Definition<'a, S>]),
+    Document(&'a [Definition<'t, S>]),
 
     /// An operation.
-    Operation(&'a Spanning<Operation<'a, S>>),
+    Operation(&'a Spanning<Operation<'t, S>>),
 
     /// A fragment.
-    Fragment(&'a Spanning<Fragment<'a, S>>),
+    Fragment(&'a Spanning<Fragment<'t, S>>),
 
     /// The definition of a variable: its name, and what is said of it.
-    VariableDefinition(&'a (Spanning<TextRef<'a>>, VariableDefinition<'a, S>)),
+    VariableDefinition(&'a (Spanning<TextRef<'t>>, VariableDefinition<'t, S>)),
 
     /// A directive, with where it stands, and the directive of its name, where the schema has one.
-    Directive(DirectiveLocation, Option<&'a DirectiveType<S>>, &'a Spanning<Directive<'a, S>>),
+    Directive(DirectiveLocation, Option<&'a DirectiveType<S>>, &'a Spanning<Directive<'t, S>>),
 
     /// An argument, its name and its value, with what it is given to, and the arguments that are
     /// declared there, where the field or the directive is known.
     Argument(
         Owner<'a>,
         Option<DeclaredArguments<'a, S>>,
-        &'a (Spanning<TextRef<'a>>, Spanning<InputValue<S>>),
+        &'a (Spanning<TextRef<'t>>, Spanning<InputValue<S>>),
     ),
 
     /// A selection set of a known type.
-    SelectionSet(&'a [Selection<'a, S>]),
+    SelectionSet(&'a [Selection<'t, S>]),
 
     /// A field, with the field of its name that its parent has, if it has one.
-    Field(Option<KnownField<'a, S>>, &'a Spanning<Field<'a, S>>),
+    Field(Option<KnownField<'a, S>>, &'a Spanning<Field<'t, S>>),
 
     /// A spread of a fragment.
-    FragmentSpread(&'a Spanning<FragmentSpread<'a, S>>),
+    FragmentSpread(&'a Spanning<FragmentSpread<'t, S>>),
 
     /// An inline fragment.
-    InlineFragment(&'a Spanning<InlineFragment<'a, S>>),
+    InlineFragment(&'a Spanning<InlineFragment<'t, S>>),
 
     /// A value: `null`, a scalar, an enum value, a variable, a list or an object, as it tells itself.
     Value(&'a Spanning<InputValue<S>>),
@@ -90,21 +90,21 @@ pub enum Node<'a, S> {
 /// | `object_value` | `Node::Value` of an `InputValue::Object` |
 /// | `object_field` | `Node::ObjectField` |
 #[derive(Drop)]
-pub enum Event<'a, S> {
+pub enum Event<'a, 't, S> {
     /// The node is entered: what stands within it comes next, and then its `Leave`.
-    Enter(Node<'a, S>),
+    Enter(Node<'a, 't, S>),
 
     /// The node is left.
-    Leave(Node<'a, S>),
+    Leave(Node<'a, 't, S>),
 }
 
 /// An event, and the types around its node. They are the same where a node is entered and where it
 /// is left.
 #[derive(Drop)]
-pub struct Seen<'a, S, C = <S as SchemaScalar>::Check> {
+pub struct Seen<'a, 't, S, C = <S as SchemaScalar>::Check> {
     /// The types around the node.
     pub around: Around<'a, S, C>,
 
     /// The event.
-    pub event: Event<'a, S>,
+    pub event: Event<'a, 't, S>,
 }

@@ -34,7 +34,7 @@ impl<'a> TypeLiteral<'a> {
     }
 
     /// The reference that a document holds, lent.
-    pub fn of_document(reference: &'a Type<TextRef<'a>>) -> TypeLiteral<'a>
+    pub fn of_document(reference: &'a Type<TextRef<'_>>) -> TypeLiteral<'a>
         ensures { literal_of result ≡ reference.now }
     {
         TypeLiteral {

@@ -30,18 +30,18 @@ use values::{open_arguments, open_items, open_pairs, open_value};
 /// It lends parts of the document and of the schema, and copies none. What it has yet to do stands
 /// on the heap, so it takes no more stack however deep the document is.
 #[derive(Drop)]
-pub struct Walk<'a, S, C = <S as SchemaScalar>::Check> {
+pub struct Walk<'a, 't, S, C = <S as SchemaScalar>::Check> {
     schema: &'a SchemaType<S, C>,
-    tasks: Items<Task<'a, S, C>>,
+    tasks: Items<Task<'a, 't, S, C>>,
 }
 
-impl<'a, S, C> Walk<'a, S, C> {
+impl<'a, 't, S, C> Walk<'a, 't, S, C> {
     /// A walk from the start of `document`, with the types of `schema`. An error is want of memory.
     pub fn new(
         alloc: Global,
         schema: &'a SchemaType<S, C>,
-        document: &'a [Definition<'a, S>],
-    ) -> Result<Walk<'a, S, C>, AllocError>
+        document: &'a [Definition<'t, S>],
+    ) -> Result<Walk<'a, 't, S, C>, AllocError>
         ensures schema { IfOk result (λ walk. walk.schema ≡ schema.entry) }
         ensures events { IfOk result (λ walk. ahead walk ≡ events (declarations_of schema.now) document.now) }
     {
@@ -56,7 +56,7 @@ impl<'a, S, C> Walk<'a, S, C> {
     }
 
     /// The next event, or `None` at the end of the document. An error is want of memory.
-    pub fn next(&mut self) -> Result<Option<Seen<'a, S, C>>, AllocError>
+    pub fn next(&mut self) -> Result<Option<Seen<'a, 't, S, C>>, AllocError>
         ensures schema { IfOk result (λ _. self.new.schema ≡ self.old.schema) }
         ensures events { IfOk result (λ next. MatchOption next (ahead self.old ≡ []) (λ first. ahead self.old ≡ seen_of first ∷ ahead self.new)) }
     {
@@ -72,11 +72,11 @@ impl<'a, S, C> Walk<'a, S, C> {
 
 /// Tells the first event of a task, if there is one, and keeps the others for later. An error is want
 /// of memory.
-fn open<'a, S, C>(
+fn open<'a, 't, S, C>(
     schema: &'a SchemaType<S, C>,
-    tasks: &mut Items<Task<'a, S, C>>,
-    task: Task<'a, S, C>,
-) -> Result<Option<Seen<'a, S, C>>, AllocError>
+    tasks: &mut Items<Task<'a, 't, S, C>>,
+    task: Task<'a, 't, S, C>,
+) -> Result<Option<Seen<'a, 't, S, C>>, AllocError>
     ensures { OpenedAny (declarations_of schema.now) (task_events (declarations_of schema.now) task.entry) result tasks.old tasks.new }
 {
     let around = task.around;

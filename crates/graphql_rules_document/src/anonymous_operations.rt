@@ -15,7 +15,7 @@ use std::alloc::{AllocError, Global};
 /// error of the call is want of memory.
 pub fn lone_anonymous_operation<S>(
     alloc: Global,
-    operations: &[OperationScope<'_, S>],
+    operations: &[OperationScope<'_, '_, S>],
     errors: &mut Items<RuleError>,
 ) -> Result<(), AllocError>
     ensures { OnOk result (Reports (anonymous_beside_others (map operation_of operations.now)) errors.old errors.new) }
@@ -31,7 +31,7 @@ pub fn lone_anonymous_operation<S>(
 fn report_anonymous<S>(
     alloc: Global,
     count: usize,
-    operation: &OperationScope<'_, S>,
+    operation: &OperationScope<'_, '_, S>,
     errors: &mut Items<RuleError>,
 ) -> Result<(), AllocError>
     ensures { OnOk result (Reports (anonymous_among count (operation_of operation.now)) errors.old errors.new) }

@@ -17,7 +17,7 @@ use std::alloc::{AllocError, Global};
 /// call is want of memory.
 pub fn no_fragment_cycles(
     alloc: Global,
-    index: &FragmentIndex<'_, '_>,
+    index: &FragmentIndex<'_, '_, '_>,
     errors: &mut Items<RuleError>,
 ) -> Result<(), AllocError>
     ensures { OnOk result (Reports (fragment_cycles (map fragment_of index.now.fragments.now)) errors.old errors.new) }
@@ -34,9 +34,9 @@ pub fn no_fragment_cycles(
 fn report_cycles(
     alloc: Global,
     reached: &mut ReachedFragments,
-    index: &FragmentIndex<'_, '_>,
+    index: &FragmentIndex<'_, '_, '_>,
     place: usize,
-    fragment: &FragmentScope<'_>,
+    fragment: &FragmentScope<'_, '_>,
     errors: &mut Items<RuleError>,
 ) -> Result<(), AllocError>
     ensures { OnOk result (slice_get index.now.fragments.now place ≡ Some fragment.now → Reports (cycles_in (map fragment_of index.now.fragments.now) (fragment_of fragment.now)) errors.old errors.new) }
@@ -55,9 +55,9 @@ fn report_cycles(
 fn report_cycle(
     alloc: Global,
     reached: &mut ReachedFragments,
-    index: &FragmentIndex<'_, '_>,
+    index: &FragmentIndex<'_, '_, '_>,
     place: usize,
-    fragment: &FragmentScope<'_>,
+    fragment: &FragmentScope<'_, '_>,
     spread: &Spread<'_>,
     errors: &mut Items<RuleError>,
 ) -> Result<(), AllocError>

@@ -22,9 +22,9 @@ fn add<'a>(names: &mut HashSet<&'a str>, name: &'a str) -> Result<(), AllocError
 }
 
 /// The names of these variables. An error is want of memory.
-pub(crate) fn defined_names<'b, 'a, S>(
+pub(crate) fn defined_names<'b, 't, S>(
     alloc: Global,
-    defined: &'b [(Spanning<TextRef<'a>>, VariableDefinition<'a, S>)],
+    defined: &'b [(Spanning<TextRef<'t>>, VariableDefinition<'t, S>)],
 ) -> Result<HashSet<&'b str>, AllocError>
     ensures { IfOk result (λ names. (q : Bytes) → has_name names q ≡ is_one_of (map (λ v. v.name.item) (map variable_part defined.now)) q) }
 {

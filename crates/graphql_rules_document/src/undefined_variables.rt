@@ -22,10 +22,10 @@ use std::collections::HashSet;
 /// where the variable is used, and where the operation begins. Takes time in proportion to the
 /// operations times the fragments, and to what each operation reaches. An error of the call is want of
 /// memory.
-pub fn no_undefined_variables<'a, S>(
+pub fn no_undefined_variables<'a, 't, S>(
     alloc: Global,
-    operations: &[OperationScope<'a, S>],
-    index: &FragmentIndex<'_, 'a>,
+    operations: &[OperationScope<'a, 't, S>],
+    index: &FragmentIndex<'_, 'a, 't>,
     errors: &mut Items<RuleError>,
 ) -> Result<(), AllocError>
     ensures { OnOk result (Reports (spec.undefined_variables (map operation_of operations.now) (map fragment_of index.now.fragments.now)) errors.old errors.new) }
@@ -38,11 +38,11 @@ pub fn no_undefined_variables<'a, S>(
 }
 
 /// The errors of one operation.
-fn report_operation<'a, S>(
+fn report_operation<'a, 't, S>(
     alloc: Global,
     reached: &mut ReachedFragments,
-    index: &FragmentIndex<'_, 'a>,
-    operation: &OperationScope<'a, S>,
+    index: &FragmentIndex<'_, 'a, 't>,
+    operation: &OperationScope<'a, 't, S>,
     errors: &mut Items<RuleError>,
 ) -> Result<(), AllocError>
     ensures { OnOk result (Reports (spec.undefined_in (map fragment_of index.now.fragments.now) (operation_of operation.now)) errors.old errors.new) }
@@ -55,7 +55,7 @@ fn report_operation<'a, S>(
 /// The errors for these uses, by the names that the operation defines.
 fn report_uses<S>(
     alloc: Global,
-    operation: &OperationScope<'_, S>,
+    operation: &OperationScope<'_, '_, S>,
     defined: &HashSet<&str>,
     uses: &[Use<'_>],
     errors: &mut Items<RuleError>,
@@ -71,7 +71,7 @@ fn report_uses<S>(
 /// The error for a use, if the variable is not defined.
 fn report_use<S>(
     alloc: Global,
-    operation: &OperationScope<'_, S>,
+    operation: &OperationScope<'_, '_, S>,
     is_defined: bool,
     used: &Use<'_>,
     errors: &mut Items<RuleError>,

@@ -22,7 +22,7 @@ use std::alloc::{AllocError, Global};
 /// begins, and where it does. An error of the call is want of memory.
 pub fn unique_operation_names<S>(
     alloc: Global,
-    operations: &[OperationScope<'_, S>],
+    operations: &[OperationScope<'_, '_, S>],
     errors: &mut Items<RuleError>,
 ) -> Result<(), AllocError>
     ensures { OnOk result (Reports (repeated_operations (map operation_of operations.now)) errors.old errors.new) }
@@ -32,9 +32,9 @@ pub fn unique_operation_names<S>(
 }
 
 /// The names of operations that have one, where they begin.
-fn operation_names<'a, S>(
+fn operation_names<'a, 't, S>(
     alloc: Global,
-    operations: &[OperationScope<'a, S>],
+    operations: &[OperationScope<'a, 't, S>],
 ) -> Result<Items<Mention<'a>>, AllocError>
     ensures { GivesBy (map mention_of) result (flat_map operation_mention (map operation_of operations.now)) }
 {
@@ -46,9 +46,9 @@ fn operation_names<'a, S>(
 }
 
 /// Adds the name of an operation, if it has one.
-fn add_name<'a, S>(
+fn add_name<'a, 't, S>(
     mentions: &mut Items<Mention<'a>>,
-    operation: &OperationScope<'a, S>,
+    operation: &OperationScope<'a, 't, S>,
 ) -> Result<(), AllocError>
     ensures { OnOk result (map mention_of mentions.new ≡ map mention_of mentions.old ++ operation_mention (operation_of operation.now)) }
 {
@@ -66,7 +66,7 @@ fn add_name<'a, S>(
 /// begins, and where it does. An error of the call is want of memory.
 pub fn unique_fragment_names(
     alloc: Global,
-    fragments: &[FragmentScope<'_>],
+    fragments: &[FragmentScope<'_, '_>],
     errors: &mut Items<RuleError>,
 ) -> Result<(), AllocError>
     ensures { OnOk result (Reports (repeated_fragments (map fragment_of fragments.now)) errors.old errors.new) }
@@ -76,9 +76,9 @@ pub fn unique_fragment_names(
 }
 
 /// The names of fragments, where they begin.
-fn fragment_names<'a>(
+fn fragment_names<'a, 't>(
     alloc: Global,
-    fragments: &[FragmentScope<'a>],
+    fragments: &[FragmentScope<'a, 't>],
 ) -> Result<Items<Mention<'a>>, AllocError>
     ensures { GivesBy (map mention_of) result (map fragment_mention (map fragment_of fragments.now)) }
 {
@@ -96,7 +96,7 @@ fn fragment_names<'a>(
 /// where the first of that name begins, and where it does. An error of the call is want of memory.
 pub fn unique_variable_names<S>(
     alloc: Global,
-    operations: &[OperationScope<'_, S>],
+    operations: &[OperationScope<'_, '_, S>],
     errors: &mut Items<RuleError>,
 ) -> Result<(), AllocError>
     ensures { OnOk result (Reports (repeated_variables (map operation_of operations.now)) errors.old errors.new) }
@@ -108,9 +108,9 @@ pub fn unique_variable_names<S>(
 }
 
 /// The errors of one operation's variables.
-fn report_variables<'a, S>(
+fn report_variables<'t, S>(
     alloc: Global,
-    defined: &[(Spanning<TextRef<'a>>, VariableDefinition<'a, S>)],
+    defined: &[(Spanning<TextRef<'t>>, VariableDefinition<'t, S>)],
     errors: &mut Items<RuleError>,
 ) -> Result<(), AllocError>
     ensures { OnOk result (Reports (repeats (map variable_mention (map variable_part defined.now))) errors.old errors.new) }
@@ -120,9 +120,9 @@ fn report_variables<'a, S>(
 }
 
 /// The names of variables, where they are defined.
-fn variable_names<'b, 'a, S>(
+fn variable_names<'b, 't, S>(
     alloc: Global,
-    defined: &'b [(Spanning<TextRef<'a>>, VariableDefinition<'a, S>)],
+    defined: &'b [(Spanning<TextRef<'t>>, VariableDefinition<'t, S>)],
 ) -> Result<Items<Mention<'b>>, AllocError>
     ensures { GivesBy (map mention_of) result (map variable_mention (map variable_part defined.now)) }
 {

@@ -16,10 +16,10 @@ use std::alloc::{AllocError, Global};
 
 /// Adds an error for each fragment that no operation reaches, where it begins. Takes time in
 /// proportion to what the operations and the fragments hold. An error of the call is want of memory.
-pub fn no_unused_fragments<'a, S>(
+pub fn no_unused_fragments<'a, 't, S>(
     alloc: Global,
-    operations: &[OperationScope<'a, S>],
-    index: &FragmentIndex<'_, 'a>,
+    operations: &[OperationScope<'a, 't, S>],
+    index: &FragmentIndex<'_, 'a, 't>,
     errors: &mut Items<RuleError>,
 ) -> Result<(), AllocError>
     ensures { OnOk result (Reports (never_reached (map operation_of operations.now) (map fragment_of index.now.fragments.now)) errors.old errors.new) }
@@ -31,9 +31,9 @@ pub fn no_unused_fragments<'a, S>(
 }
 
 /// The spreads of all operations.
-fn all_spreads<'a, S>(
+fn all_spreads<'a, 't, S>(
     alloc: Global,
-    operations: &[OperationScope<'a, S>],
+    operations: &[OperationScope<'a, 't, S>],
 ) -> Result<Items<Spread<'a>>, AllocError>
     ensures { GivesBy (map spread_of) result (flat_map (λ o. o.spreads) (map operation_of operations.now)) }
 {
@@ -48,7 +48,7 @@ fn all_spreads<'a, S>(
 fn report_all(
     alloc: Global,
     reached: &ReachedFragments,
-    index: &FragmentIndex<'_, '_>,
+    index: &FragmentIndex<'_, '_, '_>,
     errors: &mut Items<RuleError>,
 ) -> Result<(), AllocError>
     ensures { OnOk result ((names : List Bytes) → reached.now.marks ≡ map (λ f. is_one_of names f.name) (map fragment_of index.now.fragments.now) → Reports (flat_map (unused_fragment names) (map fragment_of index.now.fragments.now)) errors.old errors.new) }
@@ -63,7 +63,7 @@ fn report_all(
 fn report_unused(
     alloc: Global,
     is_reached: bool,
-    fragment: &FragmentScope<'_>,
+    fragment: &FragmentScope<'_, '_>,
     errors: &mut Items<RuleError>,
 ) -> Result<(), AllocError>
     ensures { OnOk result (Reports (error_if (not is_reached) (fragment.now.place ∷ [])) errors.old errors.new) }

@@ -21,10 +21,10 @@ use std::collections::HashSet;
 /// Adds an error for each variable of an operation that neither the operation nor a fragment that it
 /// reaches uses, where the variable is defined. Takes time in proportion to the operations times the
 /// fragments, and to what each operation reaches. An error of the call is want of memory.
-pub fn no_unused_variables<'a, S>(
+pub fn no_unused_variables<'a, 't, S>(
     alloc: Global,
-    operations: &[OperationScope<'a, S>],
-    index: &FragmentIndex<'_, 'a>,
+    operations: &[OperationScope<'a, 't, S>],
+    index: &FragmentIndex<'_, 'a, 't>,
     errors: &mut Items<RuleError>,
 ) -> Result<(), AllocError>
     ensures { OnOk result (Reports (spec.unused_variables (map operation_of operations.now) (map fragment_of index.now.fragments.now)) errors.old errors.new) }
@@ -37,11 +37,11 @@ pub fn no_unused_variables<'a, S>(
 }
 
 /// The errors of one operation.
-fn report_operation<'a, S>(
+fn report_operation<'a, 't, S>(
     alloc: Global,
     reached: &mut ReachedFragments,
-    index: &FragmentIndex<'_, 'a>,
-    operation: &OperationScope<'a, S>,
+    index: &FragmentIndex<'_, 'a, 't>,
+    operation: &OperationScope<'a, 't, S>,
     errors: &mut Items<RuleError>,
 ) -> Result<(), AllocError>
     ensures { OnOk result (Reports (spec.unused_in (map fragment_of index.now.fragments.now) (operation_of operation.now)) errors.old errors.new) }
@@ -52,10 +52,10 @@ fn report_operation<'a, S>(
 }
 
 /// The errors for these variables, by the names that are used.
-fn report_variables<'a, S>(
+fn report_variables<'t, S>(
     alloc: Global,
     used: &HashSet<&str>,
-    defined: &[(Spanning<TextRef<'a>>, VariableDefinition<'a, S>)],
+    defined: &[(Spanning<TextRef<'t>>, VariableDefinition<'t, S>)],
     errors: &mut Items<RuleError>,
 ) -> Result<(), AllocError>
     ensures { OnOk result ((names : List Bytes) → ((q : Bytes) → has_name used.now q ≡ is_one_of names q) → Reports (flat_map (spec.unused_variable names) (map variable_part defined.now)) errors.old errors.new) }

@@ -43,9 +43,9 @@ fn is_no_composite<S, C>(schema: &SchemaType<S, C>, name: &str) -> bool
 }
 
 /// Reports a condition, if its type is known and is no object, interface or union.
-fn check<'a, S: SchemaScalar>(
-    context: &mut ValidatorContext<'a, S>,
-    condition: &Spanning<TextRef<'a>>,
+fn check<'a, 't, S: SchemaScalar>(
+    context: &mut ValidatorContext<'a, 't, S>,
+    condition: &Spanning<TextRef<'t>>,
 )
     ensures { Reports (error_if (spec.is_no_composite (declarations_of context.old.schema.now) condition.now.item) (condition.now.span.start ∷ [])) context.old context.new }
 {
@@ -56,12 +56,12 @@ fn check<'a, S: SchemaScalar>(
     }
 }
 
-impl<'a, S: SchemaScalar> LocalRule<'a, S> for FragmentsOnCompositeTypes {
+impl<'a, 't, S: SchemaScalar> LocalRule<'a, 't, S> for FragmentsOnCompositeTypes {
     ghost use Rattle.graphql_rules_local.specs.FragmentsOnCompositeTypes.{no_composite};
 
     ghost says = { no_composite };
 
-    fn tell(&self, context: &mut ValidatorContext<'a, S>, event: &Event<'a, S>) {
+    fn tell(&self, context: &mut ValidatorContext<'a, 't, S>, event: &Event<'a, 't, S>) {
         match event {
             Event::Enter(Node::Fragment(fragment)) => check(context, &fragment.item.type_condition),
             Event::Enter(Node::InlineFragment(inline)) if context.parent_type().is_some() => {

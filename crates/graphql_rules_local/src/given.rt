@@ -22,7 +22,7 @@ use graphql_visitors::ValidatorContext;
 
 /// What a field or a directive is given, lent (GraphQL October 2021, 2.6 Arguments).
 #[derive_where(Clone, Copy)]
-pub(crate) struct Given<'a, S> {
+pub(crate) struct Given<'a, 't, S> {
     /// What it is given to.
     pub(crate) owner: Owner<'a>,
 
@@ -30,7 +30,7 @@ pub(crate) struct Given<'a, S> {
     pub(crate) place: SourcePosition,
 
     /// The arguments, in the order of the text.
-    pub(crate) arguments: &'a [(Spanning<TextRef<'a>>, Spanning<InputValue<S>>)],
+    pub(crate) arguments: &'a [(Spanning<TextRef<'t>>, Spanning<InputValue<S>>)],
 
     /// The arguments that are declared, where the field or the directive is known.
     pub(crate) declared: Option<DeclaredArguments<'a, S>>,
@@ -38,10 +38,10 @@ pub(crate) struct Given<'a, S> {
 
 /// What the field or the directive is given that is entered. Nothing of a field of an unknown type,
 /// and nothing at any other event.
-pub(crate) fn given_at<'a, S: SchemaScalar>(
-    context: &ValidatorContext<'a, S>,
-    event: &Event<'a, S>,
-) -> Option<Given<'a, S>>
+pub(crate) fn given_at<'a, 't, S: SchemaScalar>(
+    context: &ValidatorContext<'a, 't, S>,
+    event: &Event<'a, 't, S>,
+) -> Option<Given<'a, 't, S>>
     ensures { flat_map given_in (parts_of (seen_in context.now event.now)) ≡ option_to_list (option_map given_of result) }
 {
     match event {
@@ -51,10 +51,10 @@ pub(crate) fn given_at<'a, S: SchemaScalar>(
 }
 
 /// What a node is given.
-fn given_to<'a, S: SchemaScalar>(
-    context: &ValidatorContext<'a, S>,
-    node: &Node<'a, S>,
-) -> Option<Given<'a, S>>
+fn given_to<'a, 't, S: SchemaScalar>(
+    context: &ValidatorContext<'a, 't, S>,
+    node: &Node<'a, 't, S>,
+) -> Option<Given<'a, 't, S>>
     ensures { flat_map given_in (parts_of (seen_in context.now (Event.Enter node.now))) ≡ option_to_list (option_map given_of result) }
 {
     match node {
@@ -68,10 +68,10 @@ fn given_to<'a, S: SchemaScalar>(
 }
 
 /// What a field is given.
-fn given_to_field<'a, S>(
+fn given_to_field<'a, 't, S>(
     known: Option<KnownField<'a, S>>,
-    field: &'a Spanning<Field<'a, S>>,
-) -> Given<'a, S>
+    field: &'a Spanning<Field<'t, S>>,
+) -> Given<'a, 't, S>
     ensures { given_of result ≡ record { place = field.now.span.start; given = arguments_given field.now.item.arguments; declared = field_arguments (option_map field_of_known known.entry) } }
 {
     Given {
@@ -83,10 +83,10 @@ fn given_to_field<'a, S>(
 }
 
 /// What a directive is given.
-fn given_to_directive<'a, S>(
+fn given_to_directive<'a, 't, S>(
     known: Option<&'a DirectiveType<S>>,
-    directive: &'a Spanning<Directive<'a, S>>,
-) -> Given<'a, S>
+    directive: &'a Spanning<Directive<'t, S>>,
+) -> Given<'a, 't, S>
     ensures { given_of result ≡ record { place = directive.now.span.start; given = arguments_given directive.now.item.arguments; declared = directive_arguments (option_copied known.entry) } }
 {
     Given {

@@ -1,14 +1,10 @@
-//! Which types selections stand behind.
+//! Which types selections are made of, and which stand without any.
 
 ghost use Rattle.std.specs.Prelude.{◌≡◌};
-ghost use Rattle.graphql_names.specs.Names.{passes};
-ghost use Rattle.graphql_occurrences.specs.Lookups.{known};
 ghost use Rattle.graphql_rules_local.specs.ScalarLeafs as spec;
-ghost use Rattle.graphql_schema.specs.Declarations.{declarations_of};
 ghost use Rattle.graphql_schema_faults.specs.Faults as faults;
 
 use graphql_meta::MetaType;
-use graphql_schema::SchemaType;
 
 /// Whether the type is an object, an interface or a union.
 pub(crate) fn is_composite<S, C>(meta: &MetaType<S, C>) -> bool

@@ -25,7 +25,7 @@ pub fn factory() -> Local<KnownArgumentNames> {
     Local(KnownArgumentNames)
 }
 
-impl<'a, S: SchemaScalar> LocalRule<'a, S> for KnownArgumentNames {
+impl<'a, 't, S: SchemaScalar> LocalRule<'a, 't, S> for KnownArgumentNames {
     ghost use Rattle.graphql_visitors.specs.Reports.{Reports};
     ghost use Rattle.graphql_visitors.specs.Rules.{told_at};
     ghost use Rattle.graphql_visitors.specs.Subjects.{seen_in, subject_of};
@@ -33,7 +33,7 @@ impl<'a, S: SchemaScalar> LocalRule<'a, S> for KnownArgumentNames {
 
     ghost says = { known_argument_names };
 
-    fn tell(&self, context: &mut ValidatorContext<'a, S>, event: &Event<'a, S>)
+    fn tell(&self, context: &mut ValidatorContext<'a, 't, S>, event: &Event<'a, 't, S>)
         ensures { Reports (told_at known_argument_names (subject_of context.old) (seen_in context.old event.now)) context.old context.new }
     {
         if let Some(given) = given_at(context, event) {
@@ -43,7 +43,10 @@ impl<'a, S: SchemaScalar> LocalRule<'a, S> for KnownArgumentNames {
 }
 
 /// Reports what is given and not declared.
-fn report_given<'a, S: SchemaScalar>(context: &mut ValidatorContext<'a, S>, given: Given<'a, S>)
+fn report_given<'a, 't, S: SchemaScalar>(
+    context: &mut ValidatorContext<'a, 't, S>,
+    given: Given<'a, 't, S>,
+)
     ensures { Reports (undeclared_in (given_of given.entry)) context.old context.new }
 {
     if let Some(declared) = given.declared {
@@ -52,11 +55,11 @@ fn report_given<'a, S: SchemaScalar>(context: &mut ValidatorContext<'a, S>, give
 }
 
 /// Reports those of the arguments that are not declared.
-fn report_arguments<'a, S: SchemaScalar>(
-    context: &mut ValidatorContext<'a, S>,
+fn report_arguments<'a, 't, S: SchemaScalar>(
+    context: &mut ValidatorContext<'a, 't, S>,
     owner: Owner<'a>,
     declared: DeclaredArguments<'a, S>,
-    arguments: &'a [(Spanning<TextRef<'a>>, Spanning<InputValue<S>>)],
+    arguments: &'a [(Spanning<TextRef<'t>>, Spanning<InputValue<S>>)],
 )
     ensures { Reports (flat_map (undeclared (arguments_lent declared.entry)) arguments.now) context.old context.new }
 {
@@ -66,11 +69,11 @@ fn report_arguments<'a, S: SchemaScalar>(
 }
 
 /// Reports an argument, unless it is declared.
-fn report_argument<'a, S: SchemaScalar>(
-    context: &mut ValidatorContext<'a, S>,
+fn report_argument<'a, 't, S: SchemaScalar>(
+    context: &mut ValidatorContext<'a, 't, S>,
     owner: Owner<'a>,
     declared: DeclaredArguments<'a, S>,
-    argument: &'a (Spanning<TextRef<'a>>, Spanning<InputValue<S>>),
+    argument: &'a (Spanning<TextRef<'t>>, Spanning<InputValue<S>>),
 )
     ensures { Reports (undeclared (arguments_lent declared.entry) argument.now) context.old context.new }
 {
@@ -82,8 +85,8 @@ fn report_argument<'a, S: SchemaScalar>(
 }
 
 /// What is said of an argument of this name.
-fn message<'a, S: SchemaScalar>(
-    context: &ValidatorContext<'a, S>,
+fn message<'a, 't, S: SchemaScalar>(
+    context: &ValidatorContext<'a, 't, S>,
     owner: Owner<'a>,
     name: &str,
 ) -> Result<Text, AllocError> {
@@ -103,7 +106,7 @@ fn message<'a, S: SchemaScalar>(
 }
 
 /// The name of the type that is selected of; empty where there is none.
-fn parent_name<'a, S: SchemaScalar>(context: &ValidatorContext<'a, S>) -> &'a str {
+fn parent_name<'a, 't, S: SchemaScalar>(context: &ValidatorContext<'a, 't, S>) -> &'a str {
     match context.parent_type() {
         Some(parent) => parent.name().unwrap_or(""),
         None => "",

@@ -25,7 +25,7 @@ pub fn factory() -> Local<KnownDirectives> {
     Local(KnownDirectives)
 }
 
-impl<'a, S: SchemaScalar> LocalRule<'a, S> for KnownDirectives {
+impl<'a, 't, S: SchemaScalar> LocalRule<'a, 't, S> for KnownDirectives {
     ghost use Rattle.graphql_visitors.specs.Reports.{Reports};
     ghost use Rattle.graphql_visitors.specs.Rules.{told_at};
     ghost use Rattle.graphql_visitors.specs.Subjects.{seen_in, subject_of};
@@ -33,7 +33,7 @@ impl<'a, S: SchemaScalar> LocalRule<'a, S> for KnownDirectives {
 
     ghost says = { known_directives };
 
-    fn tell(&self, context: &mut ValidatorContext<'a, S>, event: &Event<'a, S>)
+    fn tell(&self, context: &mut ValidatorContext<'a, 't, S>, event: &Event<'a, 't, S>)
         ensures { Reports (told_at known_directives (subject_of context.old) (seen_in context.old event.now)) context.old context.new }
     {
         match event {
@@ -44,7 +44,10 @@ impl<'a, S: SchemaScalar> LocalRule<'a, S> for KnownDirectives {
 }
 
 /// Reports a node, if it is a directive that is unknown or may not stand there.
-fn report_node<'a, S: SchemaScalar>(context: &mut ValidatorContext<'a, S>, node: &Node<'a, S>)
+fn report_node<'a, 't, S: SchemaScalar>(
+    context: &mut ValidatorContext<'a, 't, S>,
+    node: &Node<'a, 't, S>,
+)
     ensures { Reports (told_at known_directives (subject_of context.old) (seen_in context.old (Event.Enter node.now))) context.old context.new }
 {
     if let Node::Directive(location, known, directive) = node {
@@ -53,11 +56,11 @@ fn report_node<'a, S: SchemaScalar>(context: &mut ValidatorContext<'a, S>, node:
 }
 
 /// Reports a directive, unless it is known and may stand there.
-fn report_directive<'a, S: SchemaScalar>(
-    context: &mut ValidatorContext<'a, S>,
+fn report_directive<'a, 't, S: SchemaScalar>(
+    context: &mut ValidatorContext<'a, 't, S>,
     location: DirectiveLocation,
     known: Option<&'a DirectiveType<S>>,
-    directive: &'a Spanning<Directive<'a, S>>,
+    directive: &'a Spanning<Directive<'t, S>>,
 )
     ensures { Reports (misplaced (record { name = directive.now.item.name.item; place = directive.now.span.start; location = location; declared = option_copied known.entry })) context.old context.new }
 {

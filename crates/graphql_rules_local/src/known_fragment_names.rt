@@ -32,7 +32,10 @@ fn message(alloc: Global, fragment: &str) -> Result<Text, AllocError> {
 }
 
 /// Reports the name of a fragment, if the document has none of this name.
-fn check<'a, S: SchemaScalar>(context: &mut ValidatorContext<'a, S>, name: &Spanning<TextRef<'a>>)
+fn check<'a, 't, S: SchemaScalar>(
+    context: &mut ValidatorContext<'a, 't, S>,
+    name: &Spanning<TextRef<'t>>,
+)
     ensures { Reports (error_if (not (is_some (fragment_named (subject_of context.old).document name.now.item))) (name.now.span.start ∷ [])) context.old context.new }
 {
     if !context.is_known_fragment(name.item.as_str()) {
@@ -41,12 +44,12 @@ fn check<'a, S: SchemaScalar>(context: &mut ValidatorContext<'a, S>, name: &Span
     }
 }
 
-impl<'a, S: SchemaScalar> LocalRule<'a, S> for KnownFragmentNames {
+impl<'a, 't, S: SchemaScalar> LocalRule<'a, 't, S> for KnownFragmentNames {
     ghost use Rattle.graphql_rules_local.specs.KnownFragmentNames.{unknown_fragment};
 
     ghost says = { unknown_fragment };
 
-    fn tell(&self, context: &mut ValidatorContext<'a, S>, event: &Event<'a, S>) {
+    fn tell(&self, context: &mut ValidatorContext<'a, 't, S>, event: &Event<'a, 't, S>) {
         match event {
             Event::Enter(Node::FragmentSpread(spread)) if context.parent_type().is_some() => {
                 check(context, &spread.item.name);

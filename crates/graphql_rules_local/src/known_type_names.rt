@@ -34,8 +34,8 @@ fn message(alloc: Global, name: &str) -> Result<Text, AllocError> {
 }
 
 /// Reports a type that is named here, if the schema has not got it.
-fn check<'a, S: SchemaScalar>(
-    context: &mut ValidatorContext<'a, S>,
+fn check<'a, 't, S: SchemaScalar>(
+    context: &mut ValidatorContext<'a, 't, S>,
     name: &str,
     start: SourcePosition,
 )
@@ -47,12 +47,12 @@ fn check<'a, S: SchemaScalar>(
     }
 }
 
-impl<'a, S: SchemaScalar> LocalRule<'a, S> for KnownTypeNames {
+impl<'a, 't, S: SchemaScalar> LocalRule<'a, 't, S> for KnownTypeNames {
     ghost use Rattle.graphql_rules_local.specs.KnownTypeNames.{unknown_type};
 
     ghost says = { unknown_type };
 
-    fn tell(&self, context: &mut ValidatorContext<'a, S>, event: &Event<'a, S>) {
+    fn tell(&self, context: &mut ValidatorContext<'a, 't, S>, event: &Event<'a, 't, S>) {
         match event {
             Event::Enter(Node::VariableDefinition((_, definition))) => {
                 let of = &definition.var_type;

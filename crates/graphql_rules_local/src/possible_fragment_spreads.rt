@@ -53,8 +53,8 @@ fn is_apart<S, C>(schema: &SchemaType<S, C>, parent: &MetaType<S, C>, name: &str
 }
 
 /// Reports a fragment of the type of this name, if it applies to nothing of the other type.
-fn check<'a, S: SchemaScalar>(
-    context: &mut ValidatorContext<'a, S>,
+fn check<'a, 't, S: SchemaScalar>(
+    context: &mut ValidatorContext<'a, 't, S>,
     parent: &MetaType<S>,
     name: &str,
     start: SourcePosition,
@@ -68,10 +68,10 @@ fn check<'a, S: SchemaScalar>(
 }
 
 /// Reports a spread, if its fragment is known and applies to nothing of the type.
-fn check_spread<'a, S: SchemaScalar>(
-    context: &mut ValidatorContext<'a, S>,
+fn check_spread<'a, 't, S: SchemaScalar>(
+    context: &mut ValidatorContext<'a, 't, S>,
     parent: &MetaType<S>,
-    spread: &Spanning<FragmentSpread<'a, S>>,
+    spread: &Spanning<FragmentSpread<'t, S>>,
 )
     ensures { Reports (error_if (passes (λ name. spec.is_apart (declarations_of context.old.schema.now) parent.now name.item) (option_map (λ f. f.item.type_condition) (fragment_named (subject_of context.old).document spread.now.item.name.item))) (spread.now.span.start ∷ [])) context.old context.new }
 {
@@ -82,10 +82,10 @@ fn check_spread<'a, S: SchemaScalar>(
 }
 
 /// Reports an inline fragment, if it has a condition and applies to nothing of the type.
-fn check_inline<'a, S: SchemaScalar>(
-    context: &mut ValidatorContext<'a, S>,
+fn check_inline<'a, 't, S: SchemaScalar>(
+    context: &mut ValidatorContext<'a, 't, S>,
     parent: &MetaType<S>,
-    inline: &Spanning<InlineFragment<'a, S>>,
+    inline: &Spanning<InlineFragment<'t, S>>,
 )
     ensures { Reports (error_if (passes (λ name. spec.is_apart (declarations_of context.old.schema.now) parent.now name.item) inline.now.item.type_condition) (inline.now.span.start ∷ [])) context.old context.new }
 {
@@ -94,12 +94,12 @@ fn check_inline<'a, S: SchemaScalar>(
     }
 }
 
-impl<'a, S: SchemaScalar> LocalRule<'a, S> for PossibleFragmentSpreads {
+impl<'a, 't, S: SchemaScalar> LocalRule<'a, 't, S> for PossibleFragmentSpreads {
     ghost use Rattle.graphql_rules_local.specs.PossibleFragmentSpreads.{impossible_spread};
 
     ghost says = { impossible_spread };
 
-    fn tell(&self, context: &mut ValidatorContext<'a, S>, event: &Event<'a, S>) {
+    fn tell(&self, context: &mut ValidatorContext<'a, 't, S>, event: &Event<'a, 't, S>) {
         if let Some(parent) = context.parent_type() {
             match event {
                 Event::Enter(Node::FragmentSpread(spread)) => check_spread(context, parent, spread),

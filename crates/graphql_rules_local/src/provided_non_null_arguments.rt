@@ -29,7 +29,7 @@ pub fn factory() -> Local<ProvidedNonNullArguments> {
     Local(ProvidedNonNullArguments)
 }
 
-impl<'a, S: SchemaScalar> LocalRule<'a, S> for ProvidedNonNullArguments {
+impl<'a, 't, S: SchemaScalar> LocalRule<'a, 't, S> for ProvidedNonNullArguments {
     ghost use Rattle.graphql_visitors.specs.Reports.{Reports};
     ghost use Rattle.graphql_visitors.specs.Rules.{told_at};
     ghost use Rattle.graphql_visitors.specs.Subjects.{seen_in, subject_of};
@@ -37,7 +37,7 @@ impl<'a, S: SchemaScalar> LocalRule<'a, S> for ProvidedNonNullArguments {
 
     ghost says = { provided_non_null_arguments };
 
-    fn tell(&self, context: &mut ValidatorContext<'a, S>, event: &Event<'a, S>)
+    fn tell(&self, context: &mut ValidatorContext<'a, 't, S>, event: &Event<'a, 't, S>)
         ensures { Reports (told_at provided_non_null_arguments (subject_of context.old) (seen_in context.old event.now)) context.old context.new }
     {
         if let Some(given) = given_at(context, event) {
@@ -47,7 +47,10 @@ impl<'a, S: SchemaScalar> LocalRule<'a, S> for ProvidedNonNullArguments {
 }
 
 /// Reports what is declared, has to be given and is not.
-fn report_given<'a, S: SchemaScalar>(context: &mut ValidatorContext<'a, S>, given: Given<'a, S>)
+fn report_given<'a, 't, S: SchemaScalar>(
+    context: &mut ValidatorContext<'a, 't, S>,
+    given: Given<'a, 't, S>,
+)
     ensures { Reports (missing_in (given_of given.entry)) context.old context.new }
 {
     if let Some(declared) = given.declared {
@@ -57,11 +60,11 @@ fn report_given<'a, S: SchemaScalar>(context: &mut ValidatorContext<'a, S>, give
 
 /// Reports those of the declared arguments that have to be given and are not among these. Takes time
 /// in proportion to both, and memory for the names of those given, if one has to be given.
-fn report_declared<'a, S: SchemaScalar>(
-    context: &mut ValidatorContext<'a, S>,
+fn report_declared<'a, 't, S: SchemaScalar>(
+    context: &mut ValidatorContext<'a, 't, S>,
     place: SourcePosition,
     declared: &'a [Argument<S>],
-    arguments: &'a [(Spanning<TextRef<'a>>, Spanning<InputValue<S>>)],
+    arguments: &'a [(Spanning<TextRef<'t>>, Spanning<InputValue<S>>)],
 )
     ensures { Reports (flat_map (missing place (is_one_of (map (λ a. a.0.item) arguments.now))) declared.now) context.old context.new }
 {
@@ -75,8 +78,8 @@ fn report_declared<'a, S: SchemaScalar>(
 }
 
 /// Reports those of the declared arguments that have to be given and are not.
-fn report_missing<'a, S: SchemaScalar>(
-    context: &mut ValidatorContext<'a, S>,
+fn report_missing<'a, 't, S: SchemaScalar>(
+    context: &mut ValidatorContext<'a, 't, S>,
     place: SourcePosition,
     declared: &'a [Argument<S>],
     given: &HashSet<&'a str>,
@@ -89,8 +92,8 @@ fn report_missing<'a, S: SchemaScalar>(
 }
 
 /// Reports an argument, if it has to be given and is not.
-fn report_argument<'a, S: SchemaScalar>(
-    context: &mut ValidatorContext<'a, S>,
+fn report_argument<'a, 't, S: SchemaScalar>(
+    context: &mut ValidatorContext<'a, 't, S>,
     place: SourcePosition,
     argument: &'a Argument<S>,
     given: &HashSet<&'a str>,
@@ -118,9 +121,9 @@ fn are_optional<S>(declared: &[Argument<S>]) -> bool
 }
 
 /// The names of the arguments that are given. An error is want of memory.
-fn names_of<'a, S>(
+fn names_of<'a, 't, S>(
     alloc: Global,
-    arguments: &'a [(Spanning<TextRef<'a>>, Spanning<InputValue<S>>)],
+    arguments: &'a [(Spanning<TextRef<'t>>, Spanning<InputValue<S>>)],
 ) -> Result<HashSet<&'a str>, AllocError>
     ensures { IfOk result (λ names. (name : List ℕ) → has_name names name ≡ is_one_of (map (λ a. a.0.item) arguments.now) name) }
 {

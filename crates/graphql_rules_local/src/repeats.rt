@@ -30,7 +30,7 @@ pub trait Mentions {
 }
 
 /// An argument, or a variable of an operation, is mentioned where its name stands.
-impl<'a, T> Mentions for (Spanning<TextRef<'a>>, T) {
+impl<'t, T> Mentions for (Spanning<TextRef<'t>>, T) {
     ghost use Rattle.graphql_rules_local.specs.Repeats.{mention};
 
     ghost mention_of = { λ pair. mention pair.0 };
@@ -62,8 +62,8 @@ impl<T> Mentions for (Spanning<Text>, T) {
 /// Reports each later mention of a name, with the place of the first mention of that name and its own.
 /// `kind` says in words whose names they are. Takes time, and where there are two mentions or more
 /// memory, in proportion to the mentions.
-pub fn report_repeats<'a, S: SchemaScalar, M: Mentions>(
-    context: &mut ValidatorContext<'a, S>,
+pub fn report_repeats<'a, 't, S: SchemaScalar, M: Mentions>(
+    context: &mut ValidatorContext<'a, 't, S>,
     kind: &str,
     mentions: &[M],
 )
@@ -104,8 +104,8 @@ fn first_mention<'m, M: Mentions>(
 }
 
 /// Reports a mention behind the first of its name, where there is one.
-fn report_behind<'a, S: SchemaScalar, M: Mentions>(
-    context: &mut ValidatorContext<'a, S>,
+fn report_behind<'a, 't, S: SchemaScalar, M: Mentions>(
+    context: &mut ValidatorContext<'a, 't, S>,
     kind: &str,
     first: Option<&M>,
     mention: &M,

@@ -23,7 +23,7 @@ pub fn factory() -> Local<UniqueInputFieldNames> {
     Local(UniqueInputFieldNames)
 }
 
-impl<'a, S: SchemaScalar> LocalRule<'a, S> for UniqueInputFieldNames {
+impl<'a, 't, S: SchemaScalar> LocalRule<'a, 't, S> for UniqueInputFieldNames {
     ghost use Rattle.graphql_visitors.specs.Reports.{Reports};
     ghost use Rattle.graphql_visitors.specs.Rules.{told_at};
     ghost use Rattle.graphql_visitors.specs.Subjects.{seen_in, subject_of};
@@ -31,7 +31,7 @@ impl<'a, S: SchemaScalar> LocalRule<'a, S> for UniqueInputFieldNames {
 
     ghost says = { unique_input_field_names };
 
-    fn tell(&self, context: &mut ValidatorContext<'a, S>, event: &Event<'a, S>)
+    fn tell(&self, context: &mut ValidatorContext<'a, 't, S>, event: &Event<'a, 't, S>)
         ensures { Reports (told_at unique_input_field_names (subject_of context.old) (seen_in context.old event.now)) context.old context.new }
     {
         match event {
@@ -42,7 +42,10 @@ impl<'a, S: SchemaScalar> LocalRule<'a, S> for UniqueInputFieldNames {
 }
 
 /// Reports what the names of its fields repeat, if a node is an object.
-fn report_node<'a, S: SchemaScalar>(context: &mut ValidatorContext<'a, S>, node: &Node<'a, S>)
+fn report_node<'a, 't, S: SchemaScalar>(
+    context: &mut ValidatorContext<'a, 't, S>,
+    node: &Node<'a, 't, S>,
+)
     ensures { Reports (told_at unique_input_field_names (subject_of context.old) (seen_in context.old (Event.Enter node.now))) context.old context.new }
 {
     if let Node::Value(value) = node {
@@ -51,8 +54,8 @@ fn report_node<'a, S: SchemaScalar>(context: &mut ValidatorContext<'a, S>, node:
 }
 
 /// The same of a value.
-fn report_value<'a, S: SchemaScalar>(
-    context: &mut ValidatorContext<'a, S>,
+fn report_value<'a, 't, S: SchemaScalar>(
+    context: &mut ValidatorContext<'a, 't, S>,
     value: &'a Spanning<InputValue<S>>,
 )
     ensures { Reports (told_at unique_input_field_names (subject_of context.old) (seen_in context.old (Event.Enter (Node.Value value.entry)))) context.old context.new }

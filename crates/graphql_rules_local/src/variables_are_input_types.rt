@@ -43,12 +43,12 @@ fn is_known_composite<S, C>(schema: &SchemaType<S, C>, name: &str) -> bool
     }
 }
 
-impl<'a, S: SchemaScalar> LocalRule<'a, S> for VariablesAreInputTypes {
+impl<'a, 't, S: SchemaScalar> LocalRule<'a, 't, S> for VariablesAreInputTypes {
     ghost use Rattle.graphql_rules_local.specs.VariablesAreInputTypes.{no_input_type};
 
     ghost says = { no_input_type };
 
-    fn tell(&self, context: &mut ValidatorContext<'a, S>, event: &Event<'a, S>) {
+    fn tell(&self, context: &mut ValidatorContext<'a, 't, S>, event: &Event<'a, 't, S>) {
         if let Event::Enter(Node::VariableDefinition((variable, definition))) = event {
             let of = &definition.var_type;
             if is_known_composite(context.schema(), of.item.name.as_str()) {

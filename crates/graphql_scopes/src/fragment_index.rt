@@ -12,8 +12,8 @@ use std::collections::HashMap;
 
 /// The fragments of a document, found by their names, of which several may be the same.
 #[derive(Drop)]
-pub struct FragmentIndex<'b, 'a> {
-    fragments: &'b [FragmentScope<'a>],
+pub struct FragmentIndex<'b, 'a, 't> {
+    fragments: &'b [FragmentScope<'a, 't>],
 
     // The place of the last fragment of each name.
     last: HashMap<&'a str, usize>,
@@ -25,12 +25,12 @@ pub struct FragmentIndex<'b, 'a> {
     ghost earliers: { earlier ≡ earlier_places (fragment_names fragments.now) },
 }
 
-impl<'b, 'a> FragmentIndex<'b, 'a> {
+impl<'b, 'a, 't> FragmentIndex<'b, 'a, 't> {
     /// An index of these fragments. Takes time in proportion to them. An error is want of memory.
     pub fn new(
         alloc: Global,
-        fragments: &'b [FragmentScope<'a>],
-    ) -> Result<FragmentIndex<'b, 'a>, AllocError>
+        fragments: &'b [FragmentScope<'a, 't>],
+    ) -> Result<FragmentIndex<'b, 'a, 't>, AllocError>
         ensures { IfOk result (λ index. index.fragments.now ≡ fragments.now) }
     {
         let mut last: HashMap<&str, usize> = HashMap::new(alloc);
@@ -47,7 +47,7 @@ impl<'b, 'a> FragmentIndex<'b, 'a> {
     }
 
     /// The fragments, in the order of the document.
-    pub fn fragments(&self) -> &'b [FragmentScope<'a>]
+    pub fn fragments(&self) -> &'b [FragmentScope<'a, 't>]
         ensures { result.now ≡ self.now.fragments.now }
     {
         self.fragments

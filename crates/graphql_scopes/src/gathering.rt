@@ -22,10 +22,10 @@ use std::mem;
 
 /// What was gathered so far.
 #[derive(Drop)]
-struct Gathering<'a, S> {
+struct Gathering<'a, 't, S> {
     // The operations and the fragments that are over.
-    operations: Items<OperationScope<'a, S>>,
-    fragments: Items<FragmentScope<'a>>,
+    operations: Items<OperationScope<'a, 't, S>>,
+    fragments: Items<FragmentScope<'a, 't>>,
 
     // What the definition at hand uses and spreads.
     uses: Items<Use<'a>>,
@@ -33,9 +33,9 @@ struct Gathering<'a, S> {
 }
 
 /// The variables, if there are any.
-fn variables_in<'b, 'a, S>(
-    variables: &'b Option<Spanning<VariableDefinitions<'a, S>>>,
-) -> &'b [(Spanning<TextRef<'a>>, VariableDefinition<'a, S>)]
+fn variables_in<'b, 't, S>(
+    variables: &'b Option<Spanning<VariableDefinitions<'t, S>>>,
+) -> &'b [(Spanning<TextRef<'t>>, VariableDefinition<'t, S>)]
     ensures { result.now ≡ variables_given variables.now }
 {
     match variables {
@@ -45,7 +45,7 @@ fn variables_in<'b, 'a, S>(
 }
 
 /// The name, if there is one.
-fn name_in<'b, 'a>(name: &'b Option<Spanning<TextRef<'a>>>) -> Option<&'b str>
+fn name_in<'b, 't>(name: &'b Option<Spanning<TextRef<'t>>>) -> Option<&'b str>
     ensures { option_map (λ n. n.now) result ≡ option_map (λ n. n.item) name.now }
 {
     match name {
@@ -54,9 +54,9 @@ fn name_in<'b, 'a>(name: &'b Option<Spanning<TextRef<'a>>>) -> Option<&'b str>
     }
 }
 
-impl<'a, S> Gathering<'a, S> {
+impl<'a, 't, S> Gathering<'a, 't, S> {
     /// Nothing yet.
-    fn new(alloc: Global) -> Gathering<'a, S>
+    fn new(alloc: Global) -> Gathering<'a, 't, S>
         ensures { gathered result ≡ nothing }
     {
         Gathering {
@@ -71,7 +71,7 @@ impl<'a, S> Gathering<'a, S> {
     fn close_operation(
         &mut self,
         alloc: Global,
-        operation: &'a Spanning<Operation<'a, S>>,
+        operation: &'a Spanning<Operation<'t, S>>,
     ) -> Result<(), AllocError>
         ensures { OnOk result (gathered self.new ≡ closed (gathered self.old) (Leave (AtOperation (placed_as operation.now (operation_head operation.now.item))))) }
     {
@@ -91,7 +91,7 @@ impl<'a, S> Gathering<'a, S> {
     fn close_fragment(
         &mut self,
         alloc: Global,
-        fragment: &'a Spanning<Fragment<'a, S>>,
+        fragment: &'a Spanning<Fragment<'t, S>>,
     ) -> Result<(), AllocError>
         ensures { OnOk result (gathered self.new ≡ closed (gathered self.old) (Leave (AtFragment (placed_as fragment.now (fragment_head fragment.now.item))))) }
     {
@@ -137,7 +137,7 @@ impl<'a, S> Gathering<'a, S> {
     fn note_spread<C>(
         &mut self,
         around: &Around<'a, S, C>,
-        spread: &'a Spanning<FragmentSpread<'a, S>>,
+        spread: &'a Spanning<FragmentSpread<'t, S>>,
     ) -> Result<(), AllocError>
         ensures { OnOk result (gathered self.new ≡ fold noted (gathered self.old) (parts_at (around_of around.now) (AtFragmentSpread (placed_as spread.now (spread_head spread.now.item))))) }
     {
@@ -154,7 +154,11 @@ impl<'a, S> Gathering<'a, S> {
     }
 
     /// A node is entered.
-    fn enter<C>(&mut self, around: &Around<'a, S, C>, node: &Node<'a, S>) -> Result<(), AllocError>
+    fn enter<C>(
+        &mut self,
+        around: &Around<'a, S, C>,
+        node: &Node<'a, 't, S>,
+    ) -> Result<(), AllocError>
         ensures { OnOk result (gathered self.new ≡ fold noted (gathered self.old) (parts_of_event (around_of around.now) (Enter (node_of node.now)))) }
     {
         match node {
@@ -174,7 +178,7 @@ impl<'a, S> Gathering<'a, S> {
     }
 
     /// A node is left.
-    fn leave(&mut self, alloc: Global, node: &Node<'a, S>) -> Result<(), AllocError>
+    fn leave(&mut self, alloc: Global, node: &Node<'a, 't, S>) -> Result<(), AllocError>
         ensures { OnOk result (gathered self.new ≡ closed (gathered self.old) (Leave (node_of node.now))) }
     {
         match node {
@@ -198,7 +202,7 @@ impl<'a, S> Gathering<'a, S> {
         &mut self,
         alloc: Global,
         around: &Around<'a, S, C>,
-        event: &Event<'a, S>,
+        event: &Event<'a, 't, S>,
     ) -> Result<(), AllocError>
         ensures { OnOk result (gathered self.new ≡ with_event (gathered self.old) (seen (around_of around.now) (event_of event.now))) }
     {
@@ -209,7 +213,7 @@ impl<'a, S> Gathering<'a, S> {
     }
 
     /// With what is ahead of a walk.
-    fn take_all<C>(&mut self, alloc: Global, mut walk: Walk<'a, S, C>) -> Result<(), AllocError>
+    fn take_all<C>(&mut self, alloc: Global, mut walk: Walk<'a, 't, S, C>) -> Result<(), AllocError>
         ensures { OnOk result (gathered self.new ≡ fold with_event (gathered self.old) (ahead walk.entry)) }
     {
         'events: while let Some(next) = walk.next()? {
@@ -220,10 +224,10 @@ impl<'a, S> Gathering<'a, S> {
 }
 
 /// What the walk is to tell of operations and fragments. An error is want of memory.
-pub(crate) fn gather<'a, S, C>(
+pub(crate) fn gather<'a, 't, S, C>(
     alloc: Global,
-    walk: Walk<'a, S, C>,
-) -> Result<Scopes<'a, S>, AllocError>
+    walk: Walk<'a, 't, S, C>,
+) -> Result<Scopes<'a, 't, S>, AllocError>
     ensures { GivesBy scopes_told result (scopes_gathered (fold with_event nothing (ahead walk.entry))) }
 {
     let mut gathering = Gathering::new(alloc);

@@ -48,7 +48,7 @@ impl ReachedFragments {
     /// nothing.
     pub fn search(
         &mut self,
-        index: &FragmentIndex<'_, '_>,
+        index: &FragmentIndex<'_, '_, '_>,
         spreads: &[Spread<'_>],
     ) -> Result<(), AllocError>
         ensures { OnOk result (self.new.marks ≡ reached_marks (map fragment_of index.now.fragments.now) (map spread_of spreads.now)) }
@@ -62,7 +62,7 @@ impl ReachedFragments {
     }
 
     /// No fragment is marked.
-    fn begin(&mut self, index: &FragmentIndex<'_, '_>) -> Result<(), AllocError>
+    fn begin(&mut self, index: &FragmentIndex<'_, '_, '_>) -> Result<(), AllocError>
         ensures { OnOk result ((self.new.marks ≡ map (λ _. false) index.now.fragments.now) × (self.new.waiting ≡ [])) }
     {
         self.marks.clear();
@@ -74,7 +74,7 @@ impl ReachedFragments {
     }
 
     /// Goes on with what the fragment at `place` spreads.
-    fn follow(&mut self, index: &FragmentIndex<'_, '_>, place: usize) -> Result<(), AllocError>
+    fn follow(&mut self, index: &FragmentIndex<'_, '_, '_>, place: usize) -> Result<(), AllocError>
         ensures { OnOk result (Marks (fragment_names index.now.fragments.now) (spread_names_at index.now.fragments.now place) self.old.marks self.old.waiting self.new.marks self.new.waiting) }
     {
         match index.fragments().get(place) {
@@ -86,7 +86,7 @@ impl ReachedFragments {
     /// Marks the fragments that these spreads name.
     fn mark_all(
         &mut self,
-        index: &FragmentIndex<'_, '_>,
+        index: &FragmentIndex<'_, '_, '_>,
         spreads: &[Spread<'_>],
     ) -> Result<(), AllocError>
         ensures { OnOk result (Marks (fragment_names index.now.fragments.now) (spread_names spreads.now) self.old.marks self.old.waiting self.new.marks self.new.waiting) }
@@ -98,7 +98,11 @@ impl ReachedFragments {
     }
 
     /// Marks the fragments of this name, unless they are marked.
-    fn mark_named(&mut self, index: &FragmentIndex<'_, '_>, name: &str) -> Result<(), AllocError>
+    fn mark_named(
+        &mut self,
+        index: &FragmentIndex<'_, '_, '_>,
+        name: &str,
+    ) -> Result<(), AllocError>
         ensures { OnOk result (Marks (fragment_names index.now.fragments.now) (name.now ∷ []) self.old.marks self.old.waiting self.new.marks self.new.waiting) }
     {
         match index.last_named(name) {
@@ -124,7 +128,11 @@ impl ReachedFragments {
     }
 
     /// Marks the last fragment of a name, and those of this name before it.
-    fn mark_from(&mut self, index: &FragmentIndex<'_, '_>, last: usize) -> Result<(), AllocError>
+    fn mark_from(
+        &mut self,
+        index: &FragmentIndex<'_, '_, '_>,
+        last: usize,
+    ) -> Result<(), AllocError>
         ensures { OnOk result ((name : Bytes) (found : List Bytes) → last_place (fragment_names index.now.fragments.now) name ≡ Some last → is_one_of found name ≡ false → self.old.marks ≡ marks_of (fragment_names index.now.fragments.now) found → Marked (fragment_names index.now.fragments.now) found (name ∷ []) self.old.marks self.old.waiting self.new.marks self.new.waiting) }
     {
         let mut next = Some(last);

@@ -18,11 +18,11 @@ impl ReachedFragments {
     /// The uses of variables in an operation and in the fragments that it reaches (GraphQL October
     /// 2021, 5.8.3 All Variable Uses Defined): first those of the operation, then those of the
     /// fragments, each in the order of the document. Searches anew. An error is want of memory.
-    pub fn uses<'a, S>(
+    pub fn uses<'a, 't, S>(
         &mut self,
         alloc: Global,
-        index: &FragmentIndex<'_, 'a>,
-        operation: &OperationScope<'a, S>,
+        index: &FragmentIndex<'_, 'a, 't>,
+        operation: &OperationScope<'a, 't, S>,
     ) -> Result<Items<Use<'a>>, AllocError>
         ensures { GivesBy (map use_of) result (uses_from (map fragment_of index.now.fragments.now) (operation_of operation.now)) }
     {
@@ -34,10 +34,10 @@ impl ReachedFragments {
     }
 
     /// Adds the uses in the fragments that are marked.
-    fn add_uses<'a>(
+    fn add_uses<'a, 't>(
         &self,
         uses: &mut Items<Use<'a>>,
-        index: &FragmentIndex<'_, 'a>,
+        index: &FragmentIndex<'_, 'a, 't>,
     ) -> Result<(), AllocError>
         ensures { OnOk result ((test : FragmentScope → Bool) → self.now.marks ≡ map test (map fragment_of index.now.fragments.now) → map use_of uses.new ≡ map use_of uses.old ++ flat_map (λ f. f.uses) (filter test (map fragment_of index.now.fragments.now))) }
     {
@@ -49,10 +49,10 @@ impl ReachedFragments {
 }
 
 /// Adds the uses in a fragment, if it is marked.
-fn add_if<'a>(
+fn add_if<'a, 't>(
     uses: &mut Items<Use<'a>>,
     is_marked: bool,
-    fragment: &scopes::FragmentScope<'a>,
+    fragment: &scopes::FragmentScope<'a, 't>,
 ) -> Result<(), AllocError>
     ensures { OnOk result (map use_of uses.new ≡ map use_of uses.old ++ (if is_marked then map use_of fragment.now.uses else [])) }
 {

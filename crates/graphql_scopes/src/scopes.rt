@@ -38,7 +38,7 @@ pub struct Spread<'a> {
 
 /// What an operation defines, uses and spreads (GraphQL October 2021, 2.3 Operations).
 #[derive(Drop)]
-pub struct OperationScope<'a, S> {
+pub struct OperationScope<'a, 't, S> {
     /// The operation's name, if it has one.
     pub name: Option<&'a str>,
 
@@ -46,7 +46,7 @@ pub struct OperationScope<'a, S> {
     pub place: SourcePosition,
 
     /// The variables that it defines, in order.
-    pub defined: &'a [(Spanning<TextRef<'a>>, VariableDefinition<'a, S>)],
+    pub defined: &'a [(Spanning<TextRef<'t>>, VariableDefinition<'t, S>)],
 
     /// The variables within it where they are used, in order.
     pub uses: Items<Use<'a>>,
@@ -57,7 +57,7 @@ pub struct OperationScope<'a, S> {
 
 /// What a fragment uses and spreads (GraphQL October 2021, 2.8 Fragments).
 #[derive(Drop)]
-pub struct FragmentScope<'a> {
+pub struct FragmentScope<'a, 't> {
     /// The fragment's name.
     pub name: &'a str,
 
@@ -65,7 +65,7 @@ pub struct FragmentScope<'a> {
     pub place: SourcePosition,
 
     /// The type to which it applies.
-    pub condition: &'a Spanning<TextRef<'a>>,
+    pub condition: &'a Spanning<TextRef<'t>>,
 
     /// The variables within it where they are used, in order.
     pub uses: Items<Use<'a>>,
@@ -77,22 +77,22 @@ pub struct FragmentScope<'a> {
 /// What the operations and the fragments of a document hold, each in the order of the document.
 /// Below an unknown type there is nothing.
 #[derive(Drop)]
-pub struct Scopes<'a, S> {
+pub struct Scopes<'a, 't, S> {
     /// The operations.
-    pub operations: Items<OperationScope<'a, S>>,
+    pub operations: Items<OperationScope<'a, 't, S>>,
 
     /// The fragments.
-    pub fragments: Items<FragmentScope<'a>>,
+    pub fragments: Items<FragmentScope<'a, 't>>,
 }
 
 /// What the operations and the fragments of `document` hold, with the types of `schema`. It lends
 /// names and definitions of the document, and copies none. It walks over the document once. An error
 /// is want of memory.
-pub fn scopes_of<'a, S, C>(
+pub fn scopes_of<'a, 't, S, C>(
     alloc: Global,
     schema: &'a SchemaType<S, C>,
-    document: &'a [Definition<'a, S>],
-) -> Result<Scopes<'a, S>, AllocError>
+    document: &'a [Definition<'t, S>],
+) -> Result<Scopes<'a, 't, S>, AllocError>
     ensures { GivesBy scopes_told result (scopes_in (declarations_of schema.now) document.now) }
 {
     let walk = Walk::new(alloc, schema, document)?;

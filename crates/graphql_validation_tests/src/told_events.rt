@@ -72,7 +72,7 @@ fn argument_told(alloc: Global, owner: Owner<'_>, name: &str) -> Result<String, 
 }
 
 /// The kind of a node, and its name.
-fn node_told(alloc: Global, node: &Node<'_, DefaultScalarValue>) -> Result<String, AllocError> {
+fn node_told(alloc: Global, node: &Node<'_, '_, DefaultScalarValue>) -> Result<String, AllocError> {
     match node {
         Node::Document(_) => String::from_str(alloc, "document"),
         Node::Operation(operation) => operation_told(alloc, &operation.item),
@@ -149,7 +149,7 @@ fn around_told(
 /// An event, and the types around its node.
 fn event_told(
     alloc: Global,
-    seen: &Seen<'_, DefaultScalarValue, Verdict>,
+    seen: &Seen<'_, '_, DefaultScalarValue, Verdict>,
 ) -> Result<String, AllocError> {
     let (verb, node) = match &seen.event {
         Event::Enter(node) => ("enter", node),
@@ -165,7 +165,7 @@ pub fn told<'a>(
     rt: &impl Abort,
     alloc: Global,
     schema: &'a Schema,
-    document: &'a [Definition<'a>],
+    document: &'a [Definition<'_>],
 ) -> String {
     let mut walk = Walk::new(alloc, schema, document).expect(rt, "memory");
     let mut told = String::from_str(alloc, "\n").expect(rt, "memory");
@@ -181,7 +181,7 @@ pub fn count<'a>(
     rt: &impl Abort,
     alloc: Global,
     schema: &'a Schema,
-    document: &'a [Definition<'a>],
+    document: &'a [Definition<'_>],
 ) -> usize {
     let mut walk = Walk::new(alloc, schema, document).expect(rt, "memory");
     let mut count: usize = 0;

@@ -1,10 +1,11 @@
 //! What a visitor sees of a document, and the errors that it reports.
 
-ghost use Rattle.std.specs.Prelude.{◌≡◌, ◌∷◌, ◌++◌, [], false, true, Ok, IfOk, OnOk, OnErr, IsPermutation};
+ghost use Rattle.std.specs.Prelude.{◌≡◌, ◌∷◌, ◌++◌, [], false, true, Ok, None, IfOk, OnOk, OnErr, IsPermutation};
 ghost use Rattle.std.specs.List.Sorted.{IsSorted};
 ghost use Rattle.std.specs.Option.{is_some, option_copied, option_map};
 ghost use Rattle.graphql_schema.specs.Declarations.{declarations_of};
-ghost use Rattle.graphql_occurrences.specs.Lent.{input_of, literal_of};
+ghost use Rattle.graphql_occurrences.specs.Events.{top};
+ghost use Rattle.graphql_occurrences.specs.Lent.{around_of, literal_of};
 ghost use Rattle.graphql_occurrences.specs.Lookups.{referred};
 ghost use Rattle.graphql_rule_errors.specs.declared.rule_error.RuleError.{RuleError};
 ghost use Rattle.graphql_occurrences.specs.Definitions.{fragment_named};
@@ -22,25 +23,26 @@ use std::alloc::{AllocError, Global};
 /// What is validated, the types around the node that is visited, and the errors that have been
 /// reported so far (GraphQL October 2021, 5 Validation).
 #[derive(Drop)]
-pub struct ValidatorContext<'a, S, C = <S as SchemaScalar>::Check> {
+pub struct ValidatorContext<'a, 't, S, C = <S as SchemaScalar>::Check> {
     alloc: Global,
     schema: &'a SchemaType<S, C>,
-    fragments: Fragments<'a, S>,
+    fragments: Fragments<'a, 't, S>,
     pub(crate) around: Around<'a, S, C>,
     errors: Items<RuleError>,
     failed: bool,
 }
 
-impl<'a, S, C> ValidatorContext<'a, S, C> {
-    /// A context for a document by a schema, without errors. Errors will stand in memory of `alloc`. An
-    /// error is want of memory for the names of the fragments.
+impl<'a, 't, S, C> ValidatorContext<'a, 't, S, C> {
+    /// A context for a document by a schema, without errors, where no type is known yet. Errors will
+    /// stand in memory of `alloc`. An error is want of memory for the names of the fragments.
     pub fn new(
         alloc: Global,
         schema: &'a SchemaType<S, C>,
-        document: &'a [Definition<'a, S>],
-    ) -> Result<ValidatorContext<'a, S, C>, AllocError>
+        document: &'a [Definition<'t, S>],
+    ) -> Result<ValidatorContext<'a, 't, S, C>, AllocError>
         ensures schema { IfOk result (λ context. context.schema ≡ schema.entry) }
         ensures document { IfOk result (λ context. context.fragments.document ≡ document.entry) }
+        ensures around { IfOk result (λ context. around_of context.around ≡ top None) }
         ensures errors { IfOk result (λ context. context.errors ≡ []) }
         ensures failed { IfOk result (λ context. context.failed ≡ false) }
     {
@@ -68,7 +70,7 @@ impl<'a, S, C> ValidatorContext<'a, S, C> {
     }
 
     /// The document.
-    pub fn document(&self) -> &'a [Definition<'a, S>]
+    pub fn document(&self) -> &'a [Definition<'t, S>]
         ensures { result ≡ self.now.fragments.document }
     {
         self.fragments.document
@@ -172,7 +174,7 @@ impl<'a, S, C> ValidatorContext<'a, S, C> {
 
     /// The type condition of the fragment that a spread of this name means: the first fragment of the
     /// document that has the name. `None` where no fragment has it. Finds it by binary search.
-    pub fn fragment_condition(&self, name: &str) -> Option<&'a Spanning<TextRef<'a>>>
+    pub fn fragment_condition(&self, name: &str) -> Option<&'a Spanning<TextRef<'t>>>
         ensures { option_copied result ≡ option_map (λ f. f.item.type_condition) (fragment_named self.now.fragments.document.now name.now) }
     {
         self.fragments.condition(name)

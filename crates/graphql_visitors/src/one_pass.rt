@@ -14,9 +14,9 @@ use graphql_occurrences::Walk;
 /// The visitor steps over every event of the context's document, in order, and what it reports comes
 /// behind the errors that are there. Where memory runs out the context has failed. Takes no stack for
 /// the depth of the document, and one pass over it.
-pub fn visit<'a, S: SchemaScalar, V: Visitor<'a, S>>(
+pub fn visit<'a, 't, S: SchemaScalar, V: Visitor<'a, 't, S>>(
     visitor: &mut V,
-    context: &mut ValidatorContext<'a, S>,
+    context: &mut ValidatorContext<'a, 't, S>,
 )
     ensures visited { Visited V.step (events (subject_of context.old).schema (subject_of context.old).document) visitor.old visitor.new context.old context.new }
     ensures around { context.new.around ≡ context.old.around }
@@ -30,10 +30,10 @@ pub fn visit<'a, S: SchemaScalar, V: Visitor<'a, S>>(
 }
 
 /// The visitor steps over what is ahead of a walk.
-fn follow<'a, S: SchemaScalar, V: Visitor<'a, S>>(
+fn follow<'a, 't, S: SchemaScalar, V: Visitor<'a, 't, S>>(
     visitor: &mut V,
-    context: &mut ValidatorContext<'a, S>,
-    mut walk: Walk<'a, S>,
+    context: &mut ValidatorContext<'a, 't, S>,
+    mut walk: Walk<'a, 't, S>,
 )
     ensures { Visited V.step (ahead walk.entry) visitor.old visitor.new context.old context.new }
 {

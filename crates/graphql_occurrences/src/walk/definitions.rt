@@ -72,9 +72,9 @@ fn place_of(operation_type: OperationType) -> DirectiveLocation
 }
 
 /// The variables, if there are any.
-pub(crate) fn variables_in<'b, 'a, S>(
-    variables: &'b Option<Spanning<VariableDefinitions<'a, S>>>,
-) -> &'b [(Spanning<TextRef<'a>>, VariableDefinition<'a, S>)]
+pub(crate) fn variables_in<'b, 't, S>(
+    variables: &'b Option<Spanning<VariableDefinitions<'t, S>>>,
+) -> &'b [(Spanning<TextRef<'t>>, VariableDefinition<'t, S>)]
     ensures { result.now ≡ variables_given variables.now }
 {
     match variables {
@@ -84,9 +84,9 @@ pub(crate) fn variables_in<'b, 'a, S>(
 }
 
 /// A default, if there is one, is ahead.
-fn add_default<'a, S, C>(
+fn add_default<'a, 't, S, C>(
     schema: &'a SchemaType<S, C>,
-    tasks: &mut Items<Task<'a, S, C>>,
+    tasks: &mut Items<Task<'a, 't, S, C>>,
     around: Around<'a, S, C>,
     value: &'a Option<Spanning<InputValue<S>>>,
 ) -> Result<(), AllocError>
@@ -99,12 +99,12 @@ fn add_default<'a, S, C>(
 }
 
 /// The definition of a variable is entered.
-fn open_variable<'a, S, C>(
+fn open_variable<'a, 't, S, C>(
     schema: &'a SchemaType<S, C>,
-    tasks: &mut Items<Task<'a, S, C>>,
+    tasks: &mut Items<Task<'a, 't, S, C>>,
     around: Around<'a, S, C>,
-    variable: &'a (Spanning<TextRef<'a>>, VariableDefinition<'a, S>),
-) -> Result<Seen<'a, S, C>, AllocError>
+    variable: &'a (Spanning<TextRef<'t>>, VariableDefinition<'t, S>),
+) -> Result<Seen<'a, 't, S, C>, AllocError>
     ensures { Opened (declarations_of schema.now) (variable_events (declarations_of schema.now) variable.now (around_of around.entry)) result tasks.old tasks.new }
 {
     let place = InputPlace {
@@ -132,12 +132,12 @@ fn open_variable<'a, S, C>(
 }
 
 /// The next definition of a variable is entered, if there is one.
-pub(crate) fn open_variables<'a, S, C>(
+pub(crate) fn open_variables<'a, 't, S, C>(
     schema: &'a SchemaType<S, C>,
-    tasks: &mut Items<Task<'a, S, C>>,
+    tasks: &mut Items<Task<'a, 't, S, C>>,
     around: Around<'a, S, C>,
-    variables: &'a [(Spanning<TextRef<'a>>, VariableDefinition<'a, S>)],
-) -> Result<Option<Seen<'a, S, C>>, AllocError>
+    variables: &'a [(Spanning<TextRef<'t>>, VariableDefinition<'t, S>)],
+) -> Result<Option<Seen<'a, 't, S, C>>, AllocError>
     ensures { OpenedAny (declarations_of schema.now) (each (variable_events (declarations_of schema.now)) variables.now (around_of around.entry)) result tasks.old tasks.new }
 {
     match variables.split_first() {
@@ -151,11 +151,11 @@ pub(crate) fn open_variables<'a, S, C>(
 }
 
 /// An operation is entered.
-fn open_operation<'a, S, C>(
+fn open_operation<'a, 't, S, C>(
     schema: &'a SchemaType<S, C>,
-    tasks: &mut Items<Task<'a, S, C>>,
-    operation: &'a Spanning<Operation<'a, S>>,
-) -> Result<Seen<'a, S, C>, AllocError>
+    tasks: &mut Items<Task<'a, 't, S, C>>,
+    operation: &'a Spanning<Operation<'t, S>>,
+) -> Result<Seen<'a, 't, S, C>, AllocError>
     ensures { Opened (declarations_of schema.now) (operation_events (declarations_of schema.now) operation.now) result tasks.old tasks.new }
 {
     let inside = Around::top(name_of_operation_root(schema, operation.item.operation_type));
@@ -190,11 +190,11 @@ fn open_operation<'a, S, C>(
 }
 
 /// A fragment is entered.
-fn open_fragment<'a, S, C>(
+fn open_fragment<'a, 't, S, C>(
     schema: &'a SchemaType<S, C>,
-    tasks: &mut Items<Task<'a, S, C>>,
-    fragment: &'a Spanning<Fragment<'a, S>>,
-) -> Result<Seen<'a, S, C>, AllocError>
+    tasks: &mut Items<Task<'a, 't, S, C>>,
+    fragment: &'a Spanning<Fragment<'t, S>>,
+) -> Result<Seen<'a, 't, S, C>, AllocError>
     ensures { Opened (declarations_of schema.now) (fragment_events (declarations_of schema.now) fragment.now) result tasks.old tasks.new }
 {
     let inside = Around::top(Some(fragment.item.type_condition.item.as_str()));
@@ -218,11 +218,11 @@ fn open_fragment<'a, S, C>(
 }
 
 /// A definition is entered.
-fn open_definition<'a, S, C>(
+fn open_definition<'a, 't, S, C>(
     schema: &'a SchemaType<S, C>,
-    tasks: &mut Items<Task<'a, S, C>>,
-    definition: &'a Definition<'a, S>,
-) -> Result<Seen<'a, S, C>, AllocError>
+    tasks: &mut Items<Task<'a, 't, S, C>>,
+    definition: &'a Definition<'t, S>,
+) -> Result<Seen<'a, 't, S, C>, AllocError>
     ensures { Opened (declarations_of schema.now) (definition_events (declarations_of schema.now) definition.now) result tasks.old tasks.new }
 {
     match definition {
@@ -232,11 +232,11 @@ fn open_definition<'a, S, C>(
 }
 
 /// The next definition is entered, if there is one.
-pub(crate) fn open_definitions<'a, S, C>(
+pub(crate) fn open_definitions<'a, 't, S, C>(
     schema: &'a SchemaType<S, C>,
-    tasks: &mut Items<Task<'a, S, C>>,
-    definitions: &'a [Definition<'a, S>],
-) -> Result<Option<Seen<'a, S, C>>, AllocError>
+    tasks: &mut Items<Task<'a, 't, S, C>>,
+    definitions: &'a [Definition<'t, S>],
+) -> Result<Option<Seen<'a, 't, S, C>>, AllocError>
     ensures { OpenedAny (declarations_of schema.now) (flat_map (definition_events (declarations_of schema.now)) definitions.now) result tasks.old tasks.new }
 {
     match definitions.split_first() {
@@ -250,11 +250,11 @@ pub(crate) fn open_definitions<'a, S, C>(
 }
 
 /// A document is entered.
-pub(crate) fn open_document<'a, S, C>(
+pub(crate) fn open_document<'a, 't, S, C>(
     schema: &'a SchemaType<S, C>,
-    tasks: &mut Items<Task<'a, S, C>>,
-    document: &'a [Definition<'a, S>],
-) -> Result<Seen<'a, S, C>, AllocError>
+    tasks: &mut Items<Task<'a, 't, S, C>>,
+    document: &'a [Definition<'t, S>],
+) -> Result<Seen<'a, 't, S, C>, AllocError>
     ensures { Opened (declarations_of schema.now) (events (declarations_of schema.now) document.now) result tasks.old tasks.new }
 {
     let outside = Around::nowhere();

@@ -20,9 +20,9 @@ use graphql_values::InputValue;
 use std::alloc::AllocError;
 
 /// The directives, if there are any.
-pub(crate) fn directives_in<'b, 'a, S>(
-    directives: &'b Option<Items<Spanning<Directive<'a, S>>>>,
-) -> &'b [Spanning<Directive<'a, S>>]
+pub(crate) fn directives_in<'b, 't, S>(
+    directives: &'b Option<Items<Spanning<Directive<'t, S>>>>,
+) -> &'b [Spanning<Directive<'t, S>>]
     ensures { result.now ≡ unwrap_or directives.now [] }
 {
     match directives {
@@ -32,9 +32,9 @@ pub(crate) fn directives_in<'b, 'a, S>(
 }
 
 /// The arguments between a field's or a directive's parentheses, in order; none where there are none.
-pub fn arguments_in<'b, 'a, S>(
-    arguments: &'b Option<Spanning<Arguments<'a, S>>>,
-) -> &'b [(Spanning<TextRef<'a>>, Spanning<InputValue<S>>)]
+pub fn arguments_in<'b, 't, S>(
+    arguments: &'b Option<Spanning<Arguments<'t, S>>>,
+) -> &'b [(Spanning<TextRef<'t>>, Spanning<InputValue<S>>)]
     ensures { result.now ≡ arguments_given arguments.now }
 {
     match arguments {
@@ -44,13 +44,13 @@ pub fn arguments_in<'b, 'a, S>(
 }
 
 /// A directive is entered.
-fn open_directive<'a, S, C>(
+fn open_directive<'a, 't, S, C>(
     schema: &'a SchemaType<S, C>,
-    tasks: &mut Items<Task<'a, S, C>>,
+    tasks: &mut Items<Task<'a, 't, S, C>>,
     around: Around<'a, S, C>,
     place: DirectiveLocation,
-    directive: &'a Spanning<Directive<'a, S>>,
-) -> Result<Seen<'a, S, C>, AllocError>
+    directive: &'a Spanning<Directive<'t, S>>,
+) -> Result<Seen<'a, 't, S, C>, AllocError>
     ensures { Opened (declarations_of schema.now) (directive_events (declarations_of schema.now) place directive.now (around_of around.entry)) result tasks.old tasks.new }
 {
     let name = directive.item.name.item.as_str();
@@ -75,13 +75,13 @@ fn open_directive<'a, S, C>(
 }
 
 /// The next directive is entered, if there is one.
-pub(crate) fn open_directives<'a, S, C>(
+pub(crate) fn open_directives<'a, 't, S, C>(
     schema: &'a SchemaType<S, C>,
-    tasks: &mut Items<Task<'a, S, C>>,
+    tasks: &mut Items<Task<'a, 't, S, C>>,
     around: Around<'a, S, C>,
     place: DirectiveLocation,
-    directives: &'a [Spanning<Directive<'a, S>>],
-) -> Result<Option<Seen<'a, S, C>>, AllocError>
+    directives: &'a [Spanning<Directive<'t, S>>],
+) -> Result<Option<Seen<'a, 't, S, C>>, AllocError>
     ensures { OpenedAny (declarations_of schema.now) (directives_events (declarations_of schema.now) place directives.now (around_of around.entry)) result tasks.old tasks.new }
 {
     match directives.split_first() {
@@ -95,12 +95,12 @@ pub(crate) fn open_directives<'a, S, C>(
 }
 
 /// A selection set is entered, if its type is known.
-pub(crate) fn open_set<'a, S, C>(
+pub(crate) fn open_set<'a, 't, S, C>(
     schema: &'a SchemaType<S, C>,
-    tasks: &mut Items<Task<'a, S, C>>,
+    tasks: &mut Items<Task<'a, 't, S, C>>,
     around: Around<'a, S, C>,
-    selections: &'a [Selection<'a, S>],
-) -> Result<Option<Seen<'a, S, C>>, AllocError>
+    selections: &'a [Selection<'t, S>],
+) -> Result<Option<Seen<'a, 't, S, C>>, AllocError>
     ensures { OpenedAny (declarations_of schema.now) (set_events (declarations_of schema.now) selections.now (around_of around.entry)) result tasks.old tasks.new }
 {
     let inside = around.inside_set(schema);
@@ -120,11 +120,11 @@ pub(crate) fn open_set<'a, S, C>(
 }
 
 /// The set of a field, if there is one, is ahead.
-fn add_optional_set<'a, S, C>(
+fn add_optional_set<'a, 't, S, C>(
     schema: &'a SchemaType<S, C>,
-    tasks: &mut Items<Task<'a, S, C>>,
+    tasks: &mut Items<Task<'a, 't, S, C>>,
     around: Around<'a, S, C>,
-    set: &'a Option<Items<Selection<'a, S>>>,
+    set: &'a Option<Items<Selection<'t, S>>>,
 ) -> Result<(), AllocError>
     ensures { OnOk result (Adds (declarations_of schema.now) (optional_set (declarations_of schema.now) set.now (around_of around.entry)) tasks.old tasks.new) }
 {
@@ -135,12 +135,12 @@ fn add_optional_set<'a, S, C>(
 }
 
 /// A field is entered.
-fn open_field<'a, S, C>(
+fn open_field<'a, 't, S, C>(
     schema: &'a SchemaType<S, C>,
-    tasks: &mut Items<Task<'a, S, C>>,
+    tasks: &mut Items<Task<'a, 't, S, C>>,
     outer: Around<'a, S, C>,
-    field: &'a Spanning<Field<'a, S>>,
-) -> Result<Seen<'a, S, C>, AllocError>
+    field: &'a Spanning<Field<'t, S>>,
+) -> Result<Seen<'a, 't, S, C>, AllocError>
     ensures { Opened (declarations_of schema.now) (field_events (declarations_of schema.now) field.now (around_of outer.entry)) result tasks.old tasks.new }
 {
     let name = field.item.name.item.as_str();
@@ -176,12 +176,12 @@ fn open_field<'a, S, C>(
 }
 
 /// A spread of a fragment is entered.
-fn open_spread<'a, S, C>(
+fn open_spread<'a, 't, S, C>(
     schema: &'a SchemaType<S, C>,
-    tasks: &mut Items<Task<'a, S, C>>,
+    tasks: &mut Items<Task<'a, 't, S, C>>,
     around: Around<'a, S, C>,
-    spread: &'a Spanning<FragmentSpread<'a, S>>,
-) -> Result<Seen<'a, S, C>, AllocError>
+    spread: &'a Spanning<FragmentSpread<'t, S>>,
+) -> Result<Seen<'a, 't, S, C>, AllocError>
     ensures { Opened (declarations_of schema.now) (spread_events (declarations_of schema.now) spread.now (around_of around.entry)) result tasks.old tasks.new }
 {
     add(
@@ -203,12 +203,12 @@ fn open_spread<'a, S, C>(
 }
 
 /// An inline fragment is entered.
-fn open_inline<'a, S, C>(
+fn open_inline<'a, 't, S, C>(
     schema: &'a SchemaType<S, C>,
-    tasks: &mut Items<Task<'a, S, C>>,
+    tasks: &mut Items<Task<'a, 't, S, C>>,
     outer: Around<'a, S, C>,
-    inline: &'a Spanning<InlineFragment<'a, S>>,
-) -> Result<Seen<'a, S, C>, AllocError>
+    inline: &'a Spanning<InlineFragment<'t, S>>,
+) -> Result<Seen<'a, 't, S, C>, AllocError>
     ensures { Opened (declarations_of schema.now) (inline_events (declarations_of schema.now) inline.now (around_of outer.entry)) result tasks.old tasks.new }
 {
     let inside = outer.inside_condition(&inline.item.type_condition);
@@ -237,12 +237,12 @@ fn open_inline<'a, S, C>(
 }
 
 /// A selection is entered.
-fn open_selection<'a, S, C>(
+fn open_selection<'a, 't, S, C>(
     schema: &'a SchemaType<S, C>,
-    tasks: &mut Items<Task<'a, S, C>>,
+    tasks: &mut Items<Task<'a, 't, S, C>>,
     around: Around<'a, S, C>,
-    selection: &'a Selection<'a, S>,
-) -> Result<Seen<'a, S, C>, AllocError>
+    selection: &'a Selection<'t, S>,
+) -> Result<Seen<'a, 't, S, C>, AllocError>
     ensures { Opened (declarations_of schema.now) (selection_events (declarations_of schema.now) selection.now (around_of around.entry)) result tasks.old tasks.new }
 {
     match selection {
@@ -253,12 +253,12 @@ fn open_selection<'a, S, C>(
 }
 
 /// The next selection is entered, if there is one.
-pub(crate) fn open_selections<'a, S, C>(
+pub(crate) fn open_selections<'a, 't, S, C>(
     schema: &'a SchemaType<S, C>,
-    tasks: &mut Items<Task<'a, S, C>>,
+    tasks: &mut Items<Task<'a, 't, S, C>>,
     around: Around<'a, S, C>,
-    selections: &'a [Selection<'a, S>],
-) -> Result<Option<Seen<'a, S, C>>, AllocError>
+    selections: &'a [Selection<'t, S>],
+) -> Result<Option<Seen<'a, 't, S, C>>, AllocError>
     ensures { OpenedAny (declarations_of schema.now) (each (selection_events (declarations_of schema.now)) selections.now (around_of around.entry)) result tasks.old tasks.new }
 {
     match selections.split_first() {

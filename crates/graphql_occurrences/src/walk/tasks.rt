@@ -20,34 +20,34 @@ use std::alloc::AllocError;
 /// What a walk has yet to do. Siblings are one task, so that there are no more tasks than the tree is
 /// deep, but for a few at each level.
 #[derive(Drop)]
-pub(crate) enum Work<'a, S> {
+pub(crate) enum Work<'a, 't, S> {
     /// To leave a node.
-    Leave(Node<'a, S>),
+    Leave(Node<'a, 't, S>),
 
     /// To go through a document.
-    Document(&'a [Definition<'a, S>]),
+    Document(&'a [Definition<'t, S>]),
 
     /// To go through definitions.
-    Definitions(&'a [Definition<'a, S>]),
+    Definitions(&'a [Definition<'t, S>]),
 
     /// To go through the definitions of variables.
-    Variables(&'a [(Spanning<TextRef<'a>>, VariableDefinition<'a, S>)]),
+    Variables(&'a [(Spanning<TextRef<'t>>, VariableDefinition<'t, S>)]),
 
     /// To go through directives, which stand at this place.
-    Directives(DirectiveLocation, &'a [Spanning<Directive<'a, S>>]),
+    Directives(DirectiveLocation, &'a [Spanning<Directive<'t, S>>]),
 
     /// To go through arguments, by what they are given to and what is declared there.
     Arguments(
         Owner<'a>,
         Option<DeclaredArguments<'a, S>>,
-        &'a [(Spanning<TextRef<'a>>, Spanning<InputValue<S>>)],
+        &'a [(Spanning<TextRef<'t>>, Spanning<InputValue<S>>)],
     ),
 
     /// To go through a selection set.
-    Set(&'a [Selection<'a, S>]),
+    Set(&'a [Selection<'t, S>]),
 
     /// To go through selections.
-    Selections(&'a [Selection<'a, S>]),
+    Selections(&'a [Selection<'t, S>]),
 
     /// To go through a value.
     Value(&'a Spanning<InputValue<S>>),
@@ -61,18 +61,18 @@ pub(crate) enum Work<'a, S> {
 
 /// What a walk has yet to do, and the types around it.
 #[derive(Drop)]
-pub(crate) struct Task<'a, S, C = <S as SchemaScalar>::Check> {
+pub(crate) struct Task<'a, 't, S, C = <S as SchemaScalar>::Check> {
     pub(crate) around: Around<'a, S, C>,
-    pub(crate) work: Work<'a, S>,
+    pub(crate) work: Work<'a, 't, S>,
 }
 
 /// Puts a task on top. An error is want of memory.
 #[tactic(auto, using(crate::proofs::PendingLemmas::pending_push))]
-pub(crate) fn add<'a, S, C>(
+pub(crate) fn add<'a, 't, S, C>(
     schema: &'a SchemaType<S, C>,
-    tasks: &mut Items<Task<'a, S, C>>,
+    tasks: &mut Items<Task<'a, 't, S, C>>,
     around: Around<'a, S, C>,
-    work: Work<'a, S>,
+    work: Work<'a, 't, S>,
 ) -> Result<(), AllocError>
     ensures { OnOk result (Adds (declarations_of schema.now) (work_events (declarations_of schema.now) work.entry (around_of around.entry)) tasks.old tasks.new) }
 {
@@ -81,7 +81,10 @@ pub(crate) fn add<'a, S, C>(
 }
 
 /// The node is entered.
-pub(crate) fn enter<'a, S, C>(around: Around<'a, S, C>, node: Node<'a, S>) -> Seen<'a, S, C>
+pub(crate) fn enter<'a, 't, S, C>(
+    around: Around<'a, S, C>,
+    node: Node<'a, 't, S>,
+) -> Seen<'a, 't, S, C>
     ensures { seen_of result ≡ seen (around_of around.entry) (Enter (node_of node.entry)) }
 {
     Seen {

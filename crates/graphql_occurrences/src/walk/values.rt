@@ -19,9 +19,9 @@ use std::alloc::AllocError;
 
 /// What is within a value is ahead.
 #[tactic(auto, using(crate::proofs::ValueEvents::content_laws))]
-fn add_content<'a, S, C>(
+fn add_content<'a, 't, S, C>(
     schema: &'a SchemaType<S, C>,
-    tasks: &mut Items<Task<'a, S, C>>,
+    tasks: &mut Items<Task<'a, 't, S, C>>,
     around: Around<'a, S, C>,
     value: &'a InputValue<S>,
 ) -> Result<(), AllocError>
@@ -38,12 +38,12 @@ fn add_content<'a, S, C>(
 }
 
 /// A value is entered.
-pub(crate) fn open_value<'a, S, C>(
+pub(crate) fn open_value<'a, 't, S, C>(
     schema: &'a SchemaType<S, C>,
-    tasks: &mut Items<Task<'a, S, C>>,
+    tasks: &mut Items<Task<'a, 't, S, C>>,
     around: Around<'a, S, C>,
     value: &'a Spanning<InputValue<S>>,
-) -> Result<Seen<'a, S, C>, AllocError>
+) -> Result<Seen<'a, 't, S, C>, AllocError>
     ensures { Opened (declarations_of schema.now) (value_events (declarations_of schema.now) value.now (around_of around.entry)) result tasks.old tasks.new }
 {
     add(schema, tasks, around, Work::Leave(Node::Value(value)))?;
@@ -52,12 +52,12 @@ pub(crate) fn open_value<'a, S, C>(
 }
 
 /// The next item of a list is entered, if there is one.
-pub(crate) fn open_items<'a, S, C>(
+pub(crate) fn open_items<'a, 't, S, C>(
     schema: &'a SchemaType<S, C>,
-    tasks: &mut Items<Task<'a, S, C>>,
+    tasks: &mut Items<Task<'a, 't, S, C>>,
     around: Around<'a, S, C>,
     items: &'a [Spanning<InputValue<S>>],
-) -> Result<Option<Seen<'a, S, C>>, AllocError>
+) -> Result<Option<Seen<'a, 't, S, C>>, AllocError>
     ensures { OpenedAny (declarations_of schema.now) (each (item_events (declarations_of schema.now)) items.now (around_of around.entry)) result tasks.old tasks.new }
 {
     match items.split_first() {
@@ -76,12 +76,12 @@ pub(crate) fn open_items<'a, S, C>(
 }
 
 /// A field of an object is entered.
-fn open_pair<'a, S, C>(
+fn open_pair<'a, 't, S, C>(
     schema: &'a SchemaType<S, C>,
-    tasks: &mut Items<Task<'a, S, C>>,
+    tasks: &mut Items<Task<'a, 't, S, C>>,
     around: Around<'a, S, C>,
     pair: &'a (Spanning<Text>, Spanning<InputValue<S>>),
-) -> Result<Seen<'a, S, C>, AllocError>
+) -> Result<Seen<'a, 't, S, C>, AllocError>
     ensures { Opened (declarations_of schema.now) (pair_events (declarations_of schema.now) pair.now (around_of around.entry)) result tasks.old tasks.new }
 {
     let inside = around.asking(place_of_field(schema, around.input, pair.0.item.as_str()));
@@ -96,12 +96,12 @@ fn open_pair<'a, S, C>(
 }
 
 /// The next field of an object is entered, if there is one.
-pub(crate) fn open_pairs<'a, S, C>(
+pub(crate) fn open_pairs<'a, 't, S, C>(
     schema: &'a SchemaType<S, C>,
-    tasks: &mut Items<Task<'a, S, C>>,
+    tasks: &mut Items<Task<'a, 't, S, C>>,
     around: Around<'a, S, C>,
     pairs: &'a [(Spanning<Text>, Spanning<InputValue<S>>)],
-) -> Result<Option<Seen<'a, S, C>>, AllocError>
+) -> Result<Option<Seen<'a, 't, S, C>>, AllocError>
     ensures { OpenedAny (declarations_of schema.now) (each (pair_events (declarations_of schema.now)) pairs.now (around_of around.entry)) result tasks.old tasks.new }
 {
     match pairs.split_first() {
@@ -115,14 +115,14 @@ pub(crate) fn open_pairs<'a, S, C>(
 }
 
 /// An argument is entered.
-fn open_argument<'a, S, C>(
+fn open_argument<'a, 't, S, C>(
     schema: &'a SchemaType<S, C>,
-    tasks: &mut Items<Task<'a, S, C>>,
+    tasks: &mut Items<Task<'a, 't, S, C>>,
     around: Around<'a, S, C>,
     owner: Owner<'a>,
     declared: Option<DeclaredArguments<'a, S>>,
-    argument: &'a (Spanning<TextRef<'a>>, Spanning<InputValue<S>>),
-) -> Result<Seen<'a, S, C>, AllocError>
+    argument: &'a (Spanning<TextRef<'t>>, Spanning<InputValue<S>>),
+) -> Result<Seen<'a, 't, S, C>, AllocError>
     ensures { Opened (declarations_of schema.now) (argument_events (declarations_of schema.now) (owner_of owner.entry) (option_map arguments_lent declared.entry) argument.now (around_of around.entry)) result tasks.old tasks.new }
 {
     let inside = around.asking(place_of_argument(declared, argument.0.item.as_str()));
@@ -137,14 +137,14 @@ fn open_argument<'a, S, C>(
 }
 
 /// The next argument is entered, if there is one.
-pub(crate) fn open_arguments<'a, S, C>(
+pub(crate) fn open_arguments<'a, 't, S, C>(
     schema: &'a SchemaType<S, C>,
-    tasks: &mut Items<Task<'a, S, C>>,
+    tasks: &mut Items<Task<'a, 't, S, C>>,
     around: Around<'a, S, C>,
     owner: Owner<'a>,
     declared: Option<DeclaredArguments<'a, S>>,
-    arguments: &'a [(Spanning<TextRef<'a>>, Spanning<InputValue<S>>)],
-) -> Result<Option<Seen<'a, S, C>>, AllocError>
+    arguments: &'a [(Spanning<TextRef<'t>>, Spanning<InputValue<S>>)],
+) -> Result<Option<Seen<'a, 't, S, C>>, AllocError>
     ensures { OpenedAny (declarations_of schema.now) (arguments_events (declarations_of schema.now) (owner_of owner.entry) (option_map arguments_lent declared.entry) arguments.now (around_of around.entry)) result tasks.old tasks.new }
 {
     match arguments.split_first() {
