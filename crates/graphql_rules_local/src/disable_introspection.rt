@@ -36,12 +36,12 @@ fn introspects(name: &str) -> bool
     name == "__schema" || name == "__type"
 }
 
-impl<'a, 't, S: SchemaScalar> LocalRule<'a, 't, S> for DisableIntrospection {
+impl<S: SchemaScalar> LocalRule<S> for DisableIntrospection {
     ghost use Rattle.graphql_rules_local.specs.DisableIntrospection.{introspection_field};
 
     ghost says = { introspection_field };
 
-    fn tell(&self, context: &mut ValidatorContext<'a, 't, S>, event: &Event<'a, 't, S>) {
+    fn tell<'a, 't>(&self, context: &mut ValidatorContext<'a, 't, S>, event: &Event<'a, 't, S>) {
         if let Event::Enter(Node::Field(_, field)) = event {
             let name = field.item.name.item.as_str();
             if context.parent_type().is_some() && introspects(name) {

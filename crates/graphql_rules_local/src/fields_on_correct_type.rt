@@ -26,12 +26,12 @@ fn message(alloc: Global, field: &str, parent: &str) -> Result<Text, AllocError>
     Ok(Text::from_string(text))
 }
 
-impl<'a, 't, S: SchemaScalar> LocalRule<'a, 't, S> for FieldsOnCorrectType {
+impl<S: SchemaScalar> LocalRule<S> for FieldsOnCorrectType {
     ghost use Rattle.graphql_rules_local.specs.FieldsOnCorrectType.{unknown_field};
 
     ghost says = { unknown_field };
 
-    fn tell(&self, context: &mut ValidatorContext<'a, 't, S>, event: &Event<'a, 't, S>) {
+    fn tell<'a, 't>(&self, context: &mut ValidatorContext<'a, 't, S>, event: &Event<'a, 't, S>) {
         if let Event::Enter(Node::Field(None, field)) = event {
             if let Some(parent) = context.parent_type() {
                 let name = field.item.name.item.as_str();

@@ -56,12 +56,12 @@ fn check<'a, 't, S: SchemaScalar>(
     }
 }
 
-impl<'a, 't, S: SchemaScalar> LocalRule<'a, 't, S> for FragmentsOnCompositeTypes {
+impl<S: SchemaScalar> LocalRule<S> for FragmentsOnCompositeTypes {
     ghost use Rattle.graphql_rules_local.specs.FragmentsOnCompositeTypes.{no_composite};
 
     ghost says = { no_composite };
 
-    fn tell(&self, context: &mut ValidatorContext<'a, 't, S>, event: &Event<'a, 't, S>) {
+    fn tell<'a, 't>(&self, context: &mut ValidatorContext<'a, 't, S>, event: &Event<'a, 't, S>) {
         match event {
             Event::Enter(Node::Fragment(fragment)) => check(context, &fragment.item.type_condition),
             Event::Enter(Node::InlineFragment(inline)) if context.parent_type().is_some() => {

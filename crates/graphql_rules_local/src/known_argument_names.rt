@@ -25,7 +25,7 @@ pub fn factory() -> Local<KnownArgumentNames> {
     Local(KnownArgumentNames)
 }
 
-impl<'a, 't, S: SchemaScalar> LocalRule<'a, 't, S> for KnownArgumentNames {
+impl<S: SchemaScalar> LocalRule<S> for KnownArgumentNames {
     ghost use Rattle.graphql_visitors.specs.Reports.{Reports};
     ghost use Rattle.graphql_visitors.specs.Rules.{told_at};
     ghost use Rattle.graphql_visitors.specs.Subjects.{seen_in, subject_of};
@@ -33,7 +33,7 @@ impl<'a, 't, S: SchemaScalar> LocalRule<'a, 't, S> for KnownArgumentNames {
 
     ghost says = { known_argument_names };
 
-    fn tell(&self, context: &mut ValidatorContext<'a, 't, S>, event: &Event<'a, 't, S>)
+    fn tell<'a, 't>(&self, context: &mut ValidatorContext<'a, 't, S>, event: &Event<'a, 't, S>)
         ensures { Reports (told_at known_argument_names (subject_of context.old) (seen_in context.old event.now)) context.old context.new }
     {
         if let Some(given) = given_at(context, event) {

@@ -25,7 +25,7 @@ pub fn factory() -> Local<KnownDirectives> {
     Local(KnownDirectives)
 }
 
-impl<'a, 't, S: SchemaScalar> LocalRule<'a, 't, S> for KnownDirectives {
+impl<S: SchemaScalar> LocalRule<S> for KnownDirectives {
     ghost use Rattle.graphql_visitors.specs.Reports.{Reports};
     ghost use Rattle.graphql_visitors.specs.Rules.{told_at};
     ghost use Rattle.graphql_visitors.specs.Subjects.{seen_in, subject_of};
@@ -33,7 +33,7 @@ impl<'a, 't, S: SchemaScalar> LocalRule<'a, 't, S> for KnownDirectives {
 
     ghost says = { known_directives };
 
-    fn tell(&self, context: &mut ValidatorContext<'a, 't, S>, event: &Event<'a, 't, S>)
+    fn tell<'a, 't>(&self, context: &mut ValidatorContext<'a, 't, S>, event: &Event<'a, 't, S>)
         ensures { Reports (told_at known_directives (subject_of context.old) (seen_in context.old event.now)) context.old context.new }
     {
         match event {

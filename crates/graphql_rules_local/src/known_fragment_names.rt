@@ -44,12 +44,12 @@ fn check<'a, 't, S: SchemaScalar>(
     }
 }
 
-impl<'a, 't, S: SchemaScalar> LocalRule<'a, 't, S> for KnownFragmentNames {
+impl<S: SchemaScalar> LocalRule<S> for KnownFragmentNames {
     ghost use Rattle.graphql_rules_local.specs.KnownFragmentNames.{unknown_fragment};
 
     ghost says = { unknown_fragment };
 
-    fn tell(&self, context: &mut ValidatorContext<'a, 't, S>, event: &Event<'a, 't, S>) {
+    fn tell<'a, 't>(&self, context: &mut ValidatorContext<'a, 't, S>, event: &Event<'a, 't, S>) {
         match event {
             Event::Enter(Node::FragmentSpread(spread)) if context.parent_type().is_some() => {
                 check(context, &spread.item.name);

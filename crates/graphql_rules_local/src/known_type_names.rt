@@ -47,12 +47,12 @@ fn check<'a, 't, S: SchemaScalar>(
     }
 }
 
-impl<'a, 't, S: SchemaScalar> LocalRule<'a, 't, S> for KnownTypeNames {
+impl<S: SchemaScalar> LocalRule<S> for KnownTypeNames {
     ghost use Rattle.graphql_rules_local.specs.KnownTypeNames.{unknown_type};
 
     ghost says = { unknown_type };
 
-    fn tell(&self, context: &mut ValidatorContext<'a, 't, S>, event: &Event<'a, 't, S>) {
+    fn tell<'a, 't>(&self, context: &mut ValidatorContext<'a, 't, S>, event: &Event<'a, 't, S>) {
         match event {
             Event::Enter(Node::VariableDefinition((_, definition))) => {
                 let of = &definition.var_type;

@@ -94,12 +94,12 @@ fn check_inline<'a, 't, S: SchemaScalar>(
     }
 }
 
-impl<'a, 't, S: SchemaScalar> LocalRule<'a, 't, S> for PossibleFragmentSpreads {
+impl<S: SchemaScalar> LocalRule<S> for PossibleFragmentSpreads {
     ghost use Rattle.graphql_rules_local.specs.PossibleFragmentSpreads.{impossible_spread};
 
     ghost says = { impossible_spread };
 
-    fn tell(&self, context: &mut ValidatorContext<'a, 't, S>, event: &Event<'a, 't, S>) {
+    fn tell<'a, 't>(&self, context: &mut ValidatorContext<'a, 't, S>, event: &Event<'a, 't, S>) {
         if let Some(parent) = context.parent_type() {
             match event {
                 Event::Enter(Node::FragmentSpread(spread)) => check_spread(context, parent, spread),

@@ -29,7 +29,7 @@ pub fn factory() -> Local<ProvidedNonNullArguments> {
     Local(ProvidedNonNullArguments)
 }
 
-impl<'a, 't, S: SchemaScalar> LocalRule<'a, 't, S> for ProvidedNonNullArguments {
+impl<S: SchemaScalar> LocalRule<S> for ProvidedNonNullArguments {
     ghost use Rattle.graphql_visitors.specs.Reports.{Reports};
     ghost use Rattle.graphql_visitors.specs.Rules.{told_at};
     ghost use Rattle.graphql_visitors.specs.Subjects.{seen_in, subject_of};
@@ -37,7 +37,7 @@ impl<'a, 't, S: SchemaScalar> LocalRule<'a, 't, S> for ProvidedNonNullArguments 
 
     ghost says = { provided_non_null_arguments };
 
-    fn tell(&self, context: &mut ValidatorContext<'a, 't, S>, event: &Event<'a, 't, S>)
+    fn tell<'a, 't>(&self, context: &mut ValidatorContext<'a, 't, S>, event: &Event<'a, 't, S>)
         ensures { Reports (told_at provided_non_null_arguments (subject_of context.old) (seen_in context.old event.now)) context.old context.new }
     {
         if let Some(given) = given_at(context, event) {

@@ -66,12 +66,12 @@ fn is_wrong<S, C>(schema: &SchemaType<S, C>, name: &str, has_set: bool) -> bool
     }
 }
 
-impl<'a, 't, S: SchemaScalar> LocalRule<'a, 't, S> for ScalarLeafs {
+impl<S: SchemaScalar> LocalRule<S> for ScalarLeafs {
     ghost use Rattle.graphql_rules_local.specs.ScalarLeafs.{wrong_leaf};
 
     ghost says = { wrong_leaf };
 
-    fn tell(&self, context: &mut ValidatorContext<'a, 't, S>, event: &Event<'a, 't, S>) {
+    fn tell<'a, 't>(&self, context: &mut ValidatorContext<'a, 't, S>, event: &Event<'a, 't, S>) {
         if let Event::Enter(Node::Field(Some(known), field)) = event {
             let of = known.type_literal();
             let has_set = field.item.selection_set.is_some();

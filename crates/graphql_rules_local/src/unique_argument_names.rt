@@ -16,7 +16,7 @@ pub fn factory() -> Local<UniqueArgumentNames> {
     Local(UniqueArgumentNames)
 }
 
-impl<'a, 't, S: SchemaScalar> LocalRule<'a, 't, S> for UniqueArgumentNames {
+impl<S: SchemaScalar> LocalRule<S> for UniqueArgumentNames {
     ghost use Rattle.graphql_visitors.specs.Reports.{Reports};
     ghost use Rattle.graphql_visitors.specs.Rules.{told_at};
     ghost use Rattle.graphql_visitors.specs.Subjects.{seen_in, subject_of};
@@ -24,7 +24,7 @@ impl<'a, 't, S: SchemaScalar> LocalRule<'a, 't, S> for UniqueArgumentNames {
 
     ghost says = { unique_argument_names };
 
-    fn tell(&self, context: &mut ValidatorContext<'a, 't, S>, event: &Event<'a, 't, S>)
+    fn tell<'a, 't>(&self, context: &mut ValidatorContext<'a, 't, S>, event: &Event<'a, 't, S>)
         ensures { Reports (told_at unique_argument_names (subject_of context.old) (seen_in context.old event.now)) context.old context.new }
     {
         if let Some(given) = given_at(context, event) {

@@ -23,7 +23,7 @@ pub fn factory() -> Local<UniqueInputFieldNames> {
     Local(UniqueInputFieldNames)
 }
 
-impl<'a, 't, S: SchemaScalar> LocalRule<'a, 't, S> for UniqueInputFieldNames {
+impl<S: SchemaScalar> LocalRule<S> for UniqueInputFieldNames {
     ghost use Rattle.graphql_visitors.specs.Reports.{Reports};
     ghost use Rattle.graphql_visitors.specs.Rules.{told_at};
     ghost use Rattle.graphql_visitors.specs.Subjects.{seen_in, subject_of};
@@ -31,7 +31,7 @@ impl<'a, 't, S: SchemaScalar> LocalRule<'a, 't, S> for UniqueInputFieldNames {
 
     ghost says = { unique_input_field_names };
 
-    fn tell(&self, context: &mut ValidatorContext<'a, 't, S>, event: &Event<'a, 't, S>)
+    fn tell<'a, 't>(&self, context: &mut ValidatorContext<'a, 't, S>, event: &Event<'a, 't, S>)
         ensures { Reports (told_at unique_input_field_names (subject_of context.old) (seen_in context.old event.now)) context.old context.new }
     {
         match event {

@@ -43,12 +43,12 @@ fn is_known_composite<S, C>(schema: &SchemaType<S, C>, name: &str) -> bool
     }
 }
 
-impl<'a, 't, S: SchemaScalar> LocalRule<'a, 't, S> for VariablesAreInputTypes {
+impl<S: SchemaScalar> LocalRule<S> for VariablesAreInputTypes {
     ghost use Rattle.graphql_rules_local.specs.VariablesAreInputTypes.{no_input_type};
 
     ghost says = { no_input_type };
 
-    fn tell(&self, context: &mut ValidatorContext<'a, 't, S>, event: &Event<'a, 't, S>) {
+    fn tell<'a, 't>(&self, context: &mut ValidatorContext<'a, 't, S>, event: &Event<'a, 't, S>) {
         if let Event::Enter(Node::VariableDefinition((variable, definition))) = event {
             let of = &definition.var_type;
             if is_known_composite(context.schema(), of.item.name.as_str()) {

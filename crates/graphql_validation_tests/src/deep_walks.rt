@@ -1,7 +1,7 @@
 //! Walks over documents that nest as deep as their bytes allow.
 
 use crate::examples::{FieldRow, Of, Row, Schema, every_schema, nullable, schema_of};
-use crate::told_events::{count, kept, parsed};
+use crate::told_events::{count, parsed};
 use graphql_type_references::TypeModifier;
 use std::alloc::Global;
 use std::process::Abort;
@@ -107,7 +107,7 @@ fn text_of(rt: &impl Abort, alloc: Global, pieces: &[(&str, usize)]) -> String {
     text
 }
 
-/// Asserts how many events the document of these pieces has; and lets go of such a document.
+/// Asserts how many events the document of these pieces has, and lets go of it.
 fn has_events(
     rt: &impl Abort,
     alloc: Global,
@@ -117,9 +117,8 @@ fn has_events(
 ) {
     let text = text_of(rt, alloc, pieces);
     assert_eq!(rt; text.len(), BYTES);
-    let document = kept(rt, alloc, text.as_str());
-    assert_eq!(rt; count(rt, alloc, schema, document), events);
-    assert_eq!(rt; parsed(rt, alloc, text.as_str()).len(), 1);
+    let document = parsed(rt, alloc, text.as_str());
+    assert_eq!(rt; count(rt, alloc, schema, document.as_slice()), events);
 }
 
 /// Asserts of each document how many events it has.

@@ -4,7 +4,7 @@ use crate::examples::{
     FieldRow, Meta, Of, Row, Schema, any_value, argument, declared_alone, declared_with,
     every_schema, non_null, nullable, reference, text, with, with_all,
 };
-use crate::told_events::{kept, told};
+use crate::told_events::{parsed, told};
 use graphql_text::Items;
 use graphql_type_references::TypeModifier;
 use graphql_validation::{
@@ -211,7 +211,8 @@ fn heroes(rt: &impl Abort, alloc: Global) -> Schema {
 
 /// Asserts which events are told of a document.
 fn tells(rt: &impl Abort, alloc: Global, schema: &Schema, document: &str, wanted: &str) {
-    let told = told(rt, alloc, schema, kept(rt, alloc, document));
+    let document = parsed(rt, alloc, document);
+    let told = told(rt, alloc, schema, document.as_slice());
     assert_eq!(rt; told.as_str(), wanted);
 }
 

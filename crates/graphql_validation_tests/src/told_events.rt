@@ -17,12 +17,6 @@ pub fn parsed<'a>(rt: &impl Abort, alloc: Global, text: &'a str) -> OwnedDocumen
     parse_document_source::<DefaultScalarValue>(alloc, text).expect(rt, "a document")
 }
 
-/// The same, never to be let go of: the borrow checker covers no function that lends a document of its
-/// own to a walk, and lets it go behind that.
-pub fn kept<'a>(rt: &impl Abort, alloc: Global, text: &'a str) -> &'a [Definition<'a>] {
-    parsed(rt, alloc, text).into_vec().leak()
-}
-
 /// The kind of a value, and what it is where it has no parts.
 fn value_told(alloc: Global, value: &InputValue) -> Result<String, AllocError> {
     match value {
@@ -161,11 +155,11 @@ fn event_told(
 }
 
 /// The events of a document, a line each, below an empty line.
-pub fn told<'a>(
+pub fn told(
     rt: &impl Abort,
     alloc: Global,
-    schema: &'a Schema,
-    document: &'a [Definition<'_>],
+    schema: &Schema,
+    document: &[Definition<'_>],
 ) -> String {
     let mut walk = Walk::new(alloc, schema, document).expect(rt, "memory");
     let mut told = String::from_str(alloc, "\n").expect(rt, "memory");
@@ -177,11 +171,11 @@ pub fn told<'a>(
 }
 
 /// How many events a document has.
-pub fn count<'a>(
+pub fn count(
     rt: &impl Abort,
     alloc: Global,
-    schema: &'a Schema,
-    document: &'a [Definition<'_>],
+    schema: &Schema,
+    document: &[Definition<'_>],
 ) -> usize {
     let mut walk = Walk::new(alloc, schema, document).expect(rt, "memory");
     let mut count: usize = 0;
