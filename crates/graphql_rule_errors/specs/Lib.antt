@@ -1,2 +1,4 @@
 pub mod RuleErrorText
 pub mod Places
+pub mod Repeats
+pub mod Found

@@ -2,6 +2,10 @@
 #![tactic(auto)]
 
 pub mod laws;
+mod mentions;
+mod repeats;
 mod rule_error;
 
+pub use mentions::{LentMention, Mentions};
+pub use repeats::{report, report_repeats};
 pub use rule_error::RuleError;

@@ -1,11 +1,12 @@
 //! Errors of rules: what is said, and of which places.
 
-ghost use Rattle.std.specs.Prelude.{◌≡◌, ◌++◌, Some, codes};
+ghost use Rattle.std.specs.Prelude.{◌≡◌, ◌++◌, IfOk, Some, codes};
 ghost use Rattle.std.specs.Fmt.{WritesOnOk};
 ghost use Rattle.std.specs.List.{join_by};
 ghost use Rattle.graphql_rule_errors.specs.RuleErrorText.{place_text, rule_error_text};
 
 use graphql_text::{Items, SourcePosition, Text};
+use std::alloc::{AllocError, Global};
 use std::fmt;
 
 /// What a rule has against a document (GraphQL October 2021, 5 Validation), and the places in the
@@ -24,6 +25,21 @@ impl RuleError {
         ensures locations { result.locations ≡ locations }
     {
         RuleError { locations, message }
+    }
+
+    /// The error of this message at these places, which are copied. An error of the call is want of
+    /// memory.
+    pub fn at(
+        alloc: Global,
+        message: Text,
+        places: &[SourcePosition],
+    ) -> Result<RuleError, AllocError>
+        ensures message { IfOk result (λ error. error.message ≡ message) }
+        ensures locations { IfOk result (λ error. error.locations ≡ places.now) }
+    {
+        let mut locations = Items::new(alloc);
+        locations.extend_from_slice(places)?;
+        Ok(RuleError::new(message, locations))
     }
 
     /// What is said.

@@ -1,5 +1,5 @@
 pub mod LoopLemmas
 pub mod NameSetLemmas
-pub mod RepeatLemmas
 pub mod ReachedLemmas
 pub mod Rows
+pub mod NameLemmas

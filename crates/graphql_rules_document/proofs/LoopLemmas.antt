@@ -1,23 +1,15 @@
 -- Errors and names, one item after another.
-use Rattle.std.proofs.Common.{◌≡◌, ℕ, ◌+◌, ◌<◌, List, [], ◌∷◌, ◌++◌, Result, Ok, Err, OnOk, map, length, get_or, take, sym, ap, ◌∙◌, append-nil, append_assoc}
+use Rattle.std.proofs.Common.{◌≡◌, ℕ, ◌+◌, ◌<◌, List, [], ◌∷◌, ◌++◌, Result, Ok, Err, OnOk, map, length, get_or, take, sym, ap, ◌∙◌, append-nil}
 use Rattle.std.specs.List.{flat_map}
 use Rattle.std.proofs.lemmas.Grind.{flat_map-append}
 use Rattle.std.proofs.lemmas.List.{take_more, map-append}
 use Rattle.graphql_rule_errors.specs.declared.rule_error.RuleError.{RuleError}
-use Rattle.graphql_rules_document.specs.Places.{Places, Reports, places}
+use Rattle.graphql_rule_errors.specs.Places.{Places, Reports}
+use Rattle.graphql_rule_errors.proofs.ReportLemmas.{reports_as, reports_more}
 
 pub on_ok : {A E : Type 0} (r : Result A E) (P Q : Type 0) → (P → Q) → OnOk r P → OnOk r Q
 on_ok (Ok x) P Q f h = f h
 on_ok (Err e) P Q f h = tt
-
-pub reports_none : (old : List RuleError) → Reports [] old old
-reports_none old = sym (append-nil (places old))
-
-pub reports_more : (told more : Places) (old mid new : List RuleError) → Reports told old mid → Reports more mid new → Reports (told ++ more) old new
-reports_more told more old mid new h k = k ∙ ap (λ es. es ++ more) h ∙ append_assoc (places old) told more
-
-pub reports_as : (told told' : Places) (old new : List RuleError) → told ≡ told' → Reports told old new → Reports told' old new
-reports_as told told' old new e h = h ∙ ap (λ es. places old ++ es) e
 
 module _ {A B C : Type 0} (view : A → B) (tell : B → List C) (xs : List A) (i : ℕ) (d : A) (within : i < length xs) where
   -- what is told of one item more

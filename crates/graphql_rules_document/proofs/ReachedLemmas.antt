@@ -15,8 +15,8 @@ use Rattle.graphql_scopes.proofs.LeastLemmas.{each_from, each_at, reached_closed
 use Rattle.graphql_scopes.proofs.UsesLemmas.{mark_is}
 use Rattle.graphql_rule_errors.specs.declared.rule_error.RuleError.{RuleError}
 use Rattle.graphql_rules_document.specs.NoFragmentCycles.{cycle_at}
-use Rattle.graphql_rules_document.specs.Places.{Reports, error_if}
-use Rattle.graphql_rules_document.proofs.LoopLemmas.{reports_as}
+use Rattle.graphql_rule_errors.specs.Places.{Reports, error_if}
+use Rattle.graphql_rule_errors.proofs.ReportLemmas.{reports_as}
 
 -- the mark of a fragment
 pub mark_there : (test : spec.FragmentScope → Bool) (fragments : List FragmentScope) (place : ℕ) (f : FragmentScope) → slice_get fragments place ≡ Some f → (marks : List Bool) → marks ≡ map test (map fragment_of fragments)

@@ -12,7 +12,7 @@ use Rattle.graphql_rules_document.specs.NoFragmentCycles.{fragment_cycles}
 use Rattle.graphql_rules_document.specs.NoUndefinedVariables.{undefined_variables}
 use Rattle.graphql_rules_document.specs.NoUnusedFragments.{never_reached}
 use Rattle.graphql_rules_document.specs.NoUnusedVariables.{unused_variables}
-use Rattle.graphql_rules_document.specs.Repeats.{Mention, repeats}
+use Rattle.graphql_rule_errors.specs.Repeats.{Mention, repeats}
 
 abbrev pub at : ℕ → SourcePosition
 at n = record { index = n; line = 0; column = n }

@@ -1,5 +1,3 @@
-pub mod Places
-pub mod Repeats
 pub mod NameSets
 pub mod NoUnusedFragments
 pub mod NoUndefinedVariables

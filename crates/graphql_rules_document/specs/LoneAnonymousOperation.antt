@@ -3,7 +3,7 @@ use Rattle.std.specs.Prelude.{ℕ, List, [], ◌∷◌, ◌&&◌, not, length, n
 use Rattle.std.specs.List.{flat_map}
 use Rattle.std.specs.Option.{is_some}
 use Rattle.graphql_scopes.specs.Scopes.{OperationScope}
-use Rattle.graphql_rules_document.specs.Places.{Places, error_if}
+use Rattle.graphql_rule_errors.specs.Places.{Places, error_if}
 
 module _ {S : Type 0} where
   -- of so many operations

@@ -4,7 +4,7 @@ use Rattle.std.specs.List.{flat_map}
 use Rattle.graphql_names.specs.Names.{is_one_of}
 use Rattle.graphql_scopes.specs.Reached.{reached}
 use Rattle.graphql_scopes.specs.Scopes.{FragmentScope, Spread}
-use Rattle.graphql_rules_document.specs.Places.{Places, error_if}
+use Rattle.graphql_rule_errors.specs.Places.{Places, error_if}
 
 abbrev pub cycle_at : List FragmentScope → FragmentScope → Spread → Places
 cycle_at fragments f s = error_if (is_one_of (reached fragments (s ∷ [])) f.name) (s.place ∷ [])

@@ -4,7 +4,7 @@ use Rattle.std.specs.List.{flat_map}
 use Rattle.graphql_names.specs.Names.{Bytes, is_one_of}
 use Rattle.graphql_scopes.specs.Reached.{reached}
 use Rattle.graphql_scopes.specs.Scopes.{FragmentScope, OperationScope}
-use Rattle.graphql_rules_document.specs.Places.{Places, error_if}
+use Rattle.graphql_rule_errors.specs.Places.{Places, error_if}
 
 abbrev pub unused_fragment : List Bytes → FragmentScope → Places
 unused_fragment names f = error_if (not (is_one_of names f.name)) (f.place ∷ [])

@@ -5,7 +5,7 @@ use Rattle.graphql_names.specs.Names.{Bytes, is_one_of}
 use Rattle.graphql_occurrences.specs.Parts.{VariablePart}
 use Rattle.graphql_scopes.specs.Reached.{uses_from}
 use Rattle.graphql_scopes.specs.Scopes.{FragmentScope, OperationScope}
-use Rattle.graphql_rules_document.specs.Places.{Places, error_if}
+use Rattle.graphql_rule_errors.specs.Places.{Places, error_if}
 
 module _ {S : Type 0} where
   abbrev pub unused_variable : List Bytes → VariablePart S → Places

@@ -4,8 +4,8 @@ use Rattle.std.specs.List.{flat_map}
 use Rattle.std.specs.Option.{option_map, option_to_list}
 use Rattle.graphql_occurrences.specs.Parts.{VariablePart}
 use Rattle.graphql_scopes.specs.Scopes.{FragmentScope, OperationScope}
-use Rattle.graphql_rules_document.specs.Places.{Places}
-use Rattle.graphql_rules_document.specs.Repeats.{Mention, repeats}
+use Rattle.graphql_rule_errors.specs.Places.{Places}
+use Rattle.graphql_rule_errors.specs.Repeats.{Mention, mention, repeats}
 
 module _ {S : Type 0} where
   -- an operation's name, where it has one, at the operation's place
@@ -16,7 +16,7 @@ module _ {S : Type 0} where
   repeated_operations operations = repeats (flat_map operation_mention operations)
 
   abbrev pub variable_mention : VariablePart S → Mention
-  variable_mention v = record { name = v.name.item; place = v.name.span.start }
+  variable_mention v = mention v.name
 
   abbrev pub repeated_variables : List (OperationScope S) → Places
   repeated_variables operations = flat_map (λ o. repeats (map variable_mention o.defined)) operations

@@ -3,10 +3,9 @@
 ghost use Rattle.std.specs.Prelude.{OnOk, map};
 ghost use Rattle.graphql_scopes.specs.Lent.{operation_of};
 ghost use Rattle.graphql_rules_document.specs.LoneAnonymousOperation.{anonymous_among, anonymous_beside_others};
-ghost use Rattle.graphql_rules_document.specs.Places.{Reports};
+ghost use Rattle.graphql_rule_errors.specs.Places.{Reports};
 
-use crate::report::report;
-use graphql_rule_errors::RuleError;
+use graphql_rule_errors::{RuleError, report};
 use graphql_scopes::OperationScope;
 use graphql_text::Items;
 use std::alloc::{AllocError, Global};

@@ -4,10 +4,9 @@
 ghost use Rattle.std.specs.Prelude.{◌≡◌, OnOk, map, slice_get, Some};
 ghost use Rattle.graphql_scopes.specs.Lent.{fragment_of, spread_of};
 ghost use Rattle.graphql_rules_document.specs.NoFragmentCycles.{cycle_at, cycles_in, fragment_cycles};
-ghost use Rattle.graphql_rules_document.specs.Places.{Reports};
+ghost use Rattle.graphql_rule_errors.specs.Places.{Reports};
 
-use crate::report::report;
-use graphql_rule_errors::RuleError;
+use graphql_rule_errors::{RuleError, report};
 use graphql_scopes::{FragmentIndex, FragmentScope, ReachedFragments, Spread};
 use graphql_text::Items;
 use std::alloc::{AllocError, Global};

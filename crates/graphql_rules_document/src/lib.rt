@@ -5,8 +5,6 @@
 mod anonymous_operations;
 mod cycles;
 mod names;
-mod repeats;
-mod report;
 mod undefined_variables;
 mod unique_names;
 mod unused_fragments;

@@ -7,12 +7,11 @@ ghost use Rattle.std.specs.List.{flat_map};
 ghost use Rattle.graphql_items.specs.Memory.{GivesBy};
 ghost use Rattle.graphql_occurrences.specs.Occurrences.{variable_part};
 ghost use Rattle.graphql_scopes.specs.Lent.{fragment_of, operation_of};
-ghost use Rattle.graphql_rules_document.specs.Places.{Reports};
-ghost use Rattle.graphql_rules_document.specs.Repeats.{mention_of, repeats};
+ghost use Rattle.graphql_rule_errors.specs.Places.{Reports};
+ghost use Rattle.graphql_rule_errors.specs.Repeats.{mention_lent, repeats};
 ghost use Rattle.graphql_rules_document.specs.UniqueNames.{fragment_mention, operation_mention, repeated_fragments, repeated_operations, repeated_variables, variable_mention};
 
-use crate::repeats::{Mention, report_repeats};
-use graphql_rule_errors::RuleError;
+use graphql_rule_errors::{LentMention, RuleError, report_repeats};
 use graphql_scopes::{FragmentScope, OperationScope};
 use graphql_text::{Items, Spanning, TextRef};
 use graphql_tree::VariableDefinition;
@@ -35,8 +34,8 @@ pub fn unique_operation_names<S>(
 fn operation_names<'a, 't, S>(
     alloc: Global,
     operations: &[OperationScope<'a, 't, S>],
-) -> Result<Items<Mention<'a>>, AllocError>
-    ensures { GivesBy (map mention_of) result (flat_map operation_mention (map operation_of operations.now)) }
+) -> Result<Items<LentMention<'a>>, AllocError>
+    ensures { GivesBy (map mention_lent) result (flat_map operation_mention (map operation_of operations.now)) }
 {
     let mut mentions = Items::new(alloc);
     'operations: for operation in operations {
@@ -47,15 +46,15 @@ fn operation_names<'a, 't, S>(
 
 /// Adds the name of an operation, if it has one.
 fn add_name<'a, 't, S>(
-    mentions: &mut Items<Mention<'a>>,
+    mentions: &mut Items<LentMention<'a>>,
     operation: &OperationScope<'a, 't, S>,
 ) -> Result<(), AllocError>
-    ensures { OnOk result (map mention_of mentions.new ≡ map mention_of mentions.old ++ operation_mention (operation_of operation.now)) }
+    ensures { OnOk result (map mention_lent mentions.new ≡ map mention_lent mentions.old ++ operation_mention (operation_of operation.now)) }
 {
     match operation.name {
         Some(name) => {
             let place = operation.place;
-            mentions.push(Mention { name, place })?;
+            mentions.push(LentMention { name, place })?;
             Ok(())
         }
         None => Ok(()),
@@ -79,12 +78,12 @@ pub fn unique_fragment_names(
 fn fragment_names<'a, 't>(
     alloc: Global,
     fragments: &[FragmentScope<'a, 't>],
-) -> Result<Items<Mention<'a>>, AllocError>
-    ensures { GivesBy (map mention_of) result (map fragment_mention (map fragment_of fragments.now)) }
+) -> Result<Items<LentMention<'a>>, AllocError>
+    ensures { GivesBy (map mention_lent) result (map fragment_mention (map fragment_of fragments.now)) }
 {
     let mut mentions = Items::with_capacity(alloc, fragments.len())?;
     'fragments: for fragment in fragments {
-        mentions.push(Mention {
+        mentions.push(LentMention {
             name: fragment.name,
             place: fragment.place,
         })?;
@@ -108,6 +107,7 @@ pub fn unique_variable_names<S>(
 }
 
 /// The errors of one operation's variables.
+#[tactic(auto, using(crate::proofs::NameLemmas::variables_mentioned))]
 fn report_variables<'t, S>(
     alloc: Global,
     defined: &[(Spanning<TextRef<'t>>, VariableDefinition<'t, S>)],
@@ -115,23 +115,5 @@ fn report_variables<'t, S>(
 ) -> Result<(), AllocError>
     ensures { OnOk result (Reports (repeats (map variable_mention (map variable_part defined.now))) errors.old errors.new) }
 {
-    let mentions = variable_names(alloc, defined)?;
-    report_repeats(alloc, errors, "variable", mentions.as_slice())
-}
-
-/// The names of variables, where they are defined.
-fn variable_names<'b, 't, S>(
-    alloc: Global,
-    defined: &'b [(Spanning<TextRef<'t>>, VariableDefinition<'t, S>)],
-) -> Result<Items<Mention<'b>>, AllocError>
-    ensures { GivesBy (map mention_of) result (map variable_mention (map variable_part defined.now)) }
-{
-    let mut mentions = Items::with_capacity(alloc, defined.len())?;
-    'defined: for variable in defined {
-        mentions.push(Mention {
-            name: variable.0.item.as_str(),
-            place: variable.0.span.start,
-        })?;
-    }
-    Ok(mentions)
+    report_repeats(alloc, errors, "variable", defined)
 }

@@ -6,10 +6,9 @@ ghost use Rattle.graphql_items.specs.Memory.{GivesBy};
 ghost use Rattle.graphql_names.specs.Names.{Bytes, is_one_of};
 ghost use Rattle.graphql_scopes.specs.Lent.{fragment_of, operation_of, spread_of};
 ghost use Rattle.graphql_rules_document.specs.NoUnusedFragments.{never_reached, unused_fragment};
-ghost use Rattle.graphql_rules_document.specs.Places.{Reports, error_if};
+ghost use Rattle.graphql_rule_errors.specs.Places.{Reports, error_if};
 
-use crate::report::report;
-use graphql_rule_errors::RuleError;
+use graphql_rule_errors::{RuleError, report};
 use graphql_scopes::{FragmentIndex, FragmentScope, OperationScope, ReachedFragments, Spread};
 use graphql_text::Items;
 use std::alloc::{AllocError, Global};

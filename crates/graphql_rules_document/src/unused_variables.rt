@@ -7,11 +7,10 @@ ghost use Rattle.graphql_occurrences.specs.Occurrences.{variable_part};
 ghost use Rattle.graphql_scopes.specs.Lent.{fragment_of, operation_of};
 ghost use Rattle.graphql_rules_document.specs.NameSets.{has_name};
 ghost use Rattle.graphql_rules_document.specs.NoUnusedVariables as spec;
-ghost use Rattle.graphql_rules_document.specs.Places.{Reports, error_if};
+ghost use Rattle.graphql_rule_errors.specs.Places.{Reports, error_if};
 
 use crate::names::used_names;
-use crate::report::report;
-use graphql_rule_errors::RuleError;
+use graphql_rule_errors::{RuleError, report};
 use graphql_scopes::{FragmentIndex, OperationScope, ReachedFragments};
 use graphql_text::{Items, Spanning, TextRef};
 use graphql_tree::VariableDefinition;

@@ -11,7 +11,7 @@ use Rattle.graphql_occurrences.specs.Nodes.{Around, nulled, value_head, value_he
 use Rattle.graphql_occurrences.specs.PartsOf.{parts_of_value}
 use Rattle.graphql_rule_errors.specs.Places.{Places}
 use Rattle.graphql_visitors.specs.Subjects.{Subject}
-use Rattle.graphql_rules_local.specs.Repeats.{mention, repeats}
+use Rattle.graphql_rule_errors.specs.Repeats.{mention, repeats}
 use Rattle.graphql_rules_local.specs.UniqueInputFieldNames.{unique_input_field_names}
 
 module _ {S C : Type 0} (around : Around S C) (subject : Subject S C) where

@@ -1,11 +1,9 @@
-pub mod Repeats
 pub mod Givens
 pub mod KnownDirectives
 pub mod KnownArgumentNames
 pub mod ProvidedNonNullArguments
 pub mod UniqueArgumentNames
 pub mod UniqueInputFieldNames
-pub mod Found
 pub mod DisableIntrospection
 pub mod FieldsOnCorrectType
 pub mod FragmentsOnCompositeTypes

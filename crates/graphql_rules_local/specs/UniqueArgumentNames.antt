@@ -4,7 +4,7 @@ use Rattle.graphql_occurrences.specs.Parts.{GivenPart}
 use Rattle.graphql_rule_errors.specs.Places.{Places}
 use Rattle.graphql_visitors.specs.Rules.{Rule}
 use Rattle.graphql_rules_local.specs.Givens.{of_given}
-use Rattle.graphql_rules_local.specs.Repeats.{mention, repeats}
+use Rattle.graphql_rule_errors.specs.Repeats.{mention, repeats}
 
 abbrev pub repeated_in : {S : Type 0} → GivenPart S → Places
 repeated_in g = repeats (map (λ a. mention a.0) g.given)

@@ -2,7 +2,7 @@
 use Rattle.std.specs.Prelude.{[], map}
 use Rattle.graphql_occurrences.specs.Parts.{ObjectOf}
 use Rattle.graphql_visitors.specs.Rules.{Rule}
-use Rattle.graphql_rules_local.specs.Repeats.{mention, repeats}
+use Rattle.graphql_rule_errors.specs.Repeats.{mention, repeats}
 
 abbrev pub unique_input_field_names : {S C : Type 0} → Rule S C
 unique_input_field_names subject (ObjectOf names) = repeats (map mention names)

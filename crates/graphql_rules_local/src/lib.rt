@@ -13,7 +13,7 @@ pub mod known_fragment_names;
 pub mod known_type_names;
 pub mod possible_fragment_spreads;
 pub mod provided_non_null_arguments;
-pub mod repeats;
+mod repeats;
 pub mod scalar_leafs;
 pub mod unique_argument_names;
 pub mod unique_input_field_names;

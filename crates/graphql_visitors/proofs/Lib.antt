@@ -1,3 +1,4 @@
 pub mod RunLemmas
 pub mod RuleLemmas
 pub mod FragmentLemmas
+pub mod ReportLemmas

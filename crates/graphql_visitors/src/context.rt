@@ -196,8 +196,5 @@ fn error_of(
 ) -> Result<RuleError, AllocError>
     ensures { IfOk result (λ error. (error.locations ≡ locations.now) × (message ≡ Ok error.message)) }
 {
-    let message = message?;
-    let mut places = Items::new(alloc);
-    places.extend_from_slice(locations)?;
-    Ok(RuleError::new(message, places))
+    RuleError::at(alloc, message?, locations)
 }

@@ -2,7 +2,8 @@ use Rattle.std.proofs.Common.{[], ◌∷◌, true, map, sym, ◌∙◌}
 use Rattle.graphql_names.specs.Names.{is_one_of}
 use Rattle.graphql_scopes.specs.Lent.{fragment_of, spread_of}
 use Rattle.graphql_scopes.specs.Reached.{reached}
-use Rattle.graphql_rules_document.proofs.LoopLemmas.{on_ok, reports_none}
+use Rattle.graphql_rule_errors.proofs.ReportLemmas.{reports_none}
+use Rattle.graphql_rules_document.proofs.LoopLemmas.{on_ok}
 use Rattle.graphql_rules_document.proofs.ReachedLemmas.{mark_there, reports_if}
 use Rattle.graphql_rules_document.proofs.cycles.report_cycle.Goals as goal
 

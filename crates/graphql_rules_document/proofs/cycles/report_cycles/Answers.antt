@@ -4,7 +4,7 @@ use Rattle.graphql_names.specs.Names.{is_one_of}
 use Rattle.graphql_scopes.specs.Lent.{fragment_of, spread_of}
 use Rattle.graphql_scopes.specs.Reached.{reached}
 use Rattle.graphql_rules_document.specs.NoFragmentCycles.{cycle_at}
-use Rattle.graphql_rules_document.proofs.LoopLemmas.{reports_as, reports_none}
+use Rattle.graphql_rule_errors.proofs.ReportLemmas.{reports_as, reports_none}
 use Rattle.graphql_rules_document.proofs.ReachedLemmas.{mark_there, no_cycles}
 use Rattle.graphql_rules_document.proofs.cycles.report_cycles.Goals as goal
 

@@ -2,7 +2,7 @@ use Rattle.std.proofs.Common.{◌≡◌, Some, map, slice_get, take}
 use Rattle.std.specs.List.{flat_map}
 use Rattle.graphql_scopes.specs.Lent.{fragment_of, spread_of}
 use Rattle.graphql_rules_document.specs.NoFragmentCycles.{cycle_at}
-use Rattle.graphql_rules_document.specs.Places.{Reports}
+use Rattle.graphql_rule_errors.specs.Places.{Reports}
 use Rattle.graphql_rules_document.proofs.cycles.report_cycles.Given as goal
 
 abbrev pub invariant-spreads : goal.invariant-spreads

@@ -5,7 +5,7 @@ use Rattle.graphql_occurrences.specs.Occurrences.{variable_part}
 use Rattle.graphql_scopes.specs.Lent.{operation_of, use_of}
 use Rattle.graphql_rules_document.specs.NameSets.{has_name}
 use Rattle.graphql_rules_document.specs.NoUndefinedVariables.{undefined_use}
-use Rattle.graphql_rules_document.specs.Places.{Reports}
+use Rattle.graphql_rule_errors.specs.Places.{Reports}
 use Rattle.graphql_rules_document.proofs.undefined_variables.report_uses.Given as goal
 
 abbrev pub invariant-uses : goal.invariant-uses

@@ -3,7 +3,8 @@ use Rattle.std.specs.List.{flat_map}
 use Rattle.graphql_scopes.specs.Lent.{fragment_of, spread_of}
 use Rattle.graphql_scopes.specs.Reached.{reached}
 use Rattle.graphql_rules_document.specs.NoUnusedFragments.{unused_fragment}
-use Rattle.graphql_rules_document.proofs.LoopLemmas.{on_ok, reports_as}
+use Rattle.graphql_rule_errors.proofs.ReportLemmas.{reports_as}
+use Rattle.graphql_rules_document.proofs.LoopLemmas.{on_ok}
 use Rattle.graphql_rules_document.proofs.unused_fragments.no_unused_fragments.Goals as goal
 
 pub returns : goal.returns

@@ -3,8 +3,9 @@ use Rattle.graphql_names.specs.Names.{is_one_of}
 use Rattle.graphql_scopes.specs.Lent.{fragment_of}
 use Rattle.graphql_scopes.proofs.UsesLemmas.{mark_is}
 use Rattle.graphql_rules_document.specs.NoUnusedFragments.{unused_fragment}
-use Rattle.graphql_rules_document.specs.Places.{error_if}
-use Rattle.graphql_rules_document.proofs.LoopLemmas.{reports_as, reports_turn}
+use Rattle.graphql_rule_errors.specs.Places.{error_if}
+use Rattle.graphql_rule_errors.proofs.ReportLemmas.{reports_as}
+use Rattle.graphql_rules_document.proofs.LoopLemmas.{reports_turn}
 use Rattle.graphql_rules_document.proofs.unused_fragments.report_all.Goals as goal
 
 pub fragments-preserved : goal.fragments-preserved

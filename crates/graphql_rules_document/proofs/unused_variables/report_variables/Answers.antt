@@ -6,8 +6,9 @@ use Rattle.graphql_names.specs.Names.{is_one_of}
 use Rattle.graphql_tree.specs.Variables.{Variable}
 use Rattle.graphql_occurrences.specs.Occurrences.{variable_part}
 use Rattle.graphql_rules_document.specs.NoUnusedVariables.{unused_variable}
-use Rattle.graphql_rules_document.specs.Places.{error_if}
-use Rattle.graphql_rules_document.proofs.LoopLemmas.{reports_as, reports_turn}
+use Rattle.graphql_rule_errors.specs.Places.{error_if}
+use Rattle.graphql_rule_errors.proofs.ReportLemmas.{reports_as}
+use Rattle.graphql_rules_document.proofs.LoopLemmas.{reports_turn}
 use Rattle.graphql_rules_document.proofs.unused_variables.report_variables.Goals as goal
 
 pub defined-preserved : goal.defined-preserved

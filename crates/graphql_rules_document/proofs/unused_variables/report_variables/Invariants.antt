@@ -4,7 +4,7 @@ use Rattle.graphql_names.specs.Names.{Bytes, is_one_of}
 use Rattle.graphql_occurrences.specs.Occurrences.{variable_part}
 use Rattle.graphql_rules_document.specs.NameSets.{has_name}
 use Rattle.graphql_rules_document.specs.NoUnusedVariables.{unused_variable}
-use Rattle.graphql_rules_document.specs.Places.{Reports}
+use Rattle.graphql_rule_errors.specs.Places.{Reports}
 use Rattle.graphql_rules_document.proofs.unused_variables.report_variables.Given as goal
 
 abbrev pub invariant-defined : goal.invariant-defined

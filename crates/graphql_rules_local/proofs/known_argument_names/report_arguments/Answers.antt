@@ -4,7 +4,7 @@ use Rattle.std.proofs.lemmas.List.{take_all}
 use Rattle.graphql_occurrences.specs.Lent.{arguments_lent}
 use Rattle.graphql_visitors.specs.Reports.{Reports}
 use Rattle.graphql_rules_local.specs.KnownArgumentNames.{undeclared}
-use Rattle.graphql_rules_local.proofs.ReportLemmas.{reports_next}
+use Rattle.graphql_visitors.proofs.ReportLemmas.{reports_next}
 use Rattle.graphql_rules_local.proofs.known_argument_names.report_arguments.Goals as goal
 
 pub arguments-preserved : goal.arguments-preserved

@@ -5,7 +5,7 @@ use Rattle.graphql_tree.specs.Arguments.{Argument}
 use Rattle.graphql_visitors.specs.Reports.{Reports}
 use Rattle.graphql_rules_local.specs.ProvidedNonNullArguments.{missing}
 use Rattle.graphql_rules_local.proofs.GivenLemmas.{none_missing}
-use Rattle.graphql_rules_local.proofs.ReportLemmas.{reports_none, reports_failed}
+use Rattle.graphql_visitors.proofs.ReportLemmas.{reports_none, reports_failed}
 use Rattle.graphql_rules_local.proofs.provided_non_null_arguments.report_declared.Goals as goal
 
 pub returns-then-are_optional : goal.returns-then-are_optional

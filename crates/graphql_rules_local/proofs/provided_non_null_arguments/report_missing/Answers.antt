@@ -4,7 +4,7 @@ use Rattle.std.proofs.lemmas.List.{take_all}
 use Rattle.graphql_visitors.specs.Reports.{Reports}
 use Rattle.graphql_literal_checks.specs.InputFields.{has_name}
 use Rattle.graphql_rules_local.specs.ProvidedNonNullArguments.{missing}
-use Rattle.graphql_rules_local.proofs.ReportLemmas.{reports_next}
+use Rattle.graphql_visitors.proofs.ReportLemmas.{reports_next}
 use Rattle.graphql_rules_local.proofs.provided_non_null_arguments.report_missing.Goals as goal
 
 pub declared-preserved : goal.declared-preserved

@@ -4,7 +4,7 @@ use Rattle.graphql_values.specs.InputValues.{Pair}
 use Rattle.graphql_values.specs.declared.input_value.InputValue.{InputValue}
 use Rattle.graphql_visitors.specs.Reports.{Reports}
 use Rattle.graphql_visitors.specs.Subjects.{subject_of}
-use Rattle.graphql_rules_local.specs.Repeats.{mention, repeats}
+use Rattle.graphql_rule_errors.specs.Repeats.{mention, repeats}
 use Rattle.graphql_rules_local.proofs.ObjectLemmas.{object_told}
 use Rattle.graphql_rules_local.proofs.unique_input_field_names.report_value.Goals as goal
 

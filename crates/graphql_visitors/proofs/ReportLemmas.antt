@@ -2,9 +2,10 @@
 use Rattle.std.proofs.Common.{◌≡◌, ℕ, ◌+◌, ◌<◌, List, [], ◌∷◌, ◌++◌, true, false, length, get_or, take, refl, sym, ap, subst, ◌∙◌, append-nil}
 use Rattle.std.specs.List.{flat_map}
 use Rattle.std.proofs.lemmas.Grind.{flat_map-append}
-use Rattle.std.proofs.lemmas.List.{take_more}
-use Rattle.graphql_rule_errors.specs.Places.{Places}
-use Rattle.graphql_visitors.specs.Reports.{Reports}
+use Rattle.std.proofs.lemmas.List.{take_more, map-append}
+use Rattle.graphql_rule_errors.specs.Places.{Places, places}
+use Rattle.graphql_rule_errors.specs.declared.rule_error.RuleError.{RuleError}
+use Rattle.graphql_visitors.specs.Reports.{Adds, Reports}
 use Rattle.graphql_visitors.specs.declared.context.ValidatorContext.{ValidatorContext}
 use Rattle.graphql_visitors.proofs.RunLemmas.{as_before_after, reported_after, reported_none}
 
@@ -32,3 +33,10 @@ module _ {S C : Type 0} where
       let next : flat_map says (take (i + 1) xs) ≡ flat_map says (take i xs) ++ says x =
       ap (flat_map says) (take_more xs i x within ∙ ap (λ y. take i xs ++ y ∷ []) (sym is)) ∙ flat_map-append says (take i xs) (x ∷ []) ∙ ap (λ ps. flat_map says (take i xs) ++ ps) (append-nil (says x)) in
       subst (λ told. Reports told a c) (sym next) (reports_after (flat_map says (take i xs)) (says x) a b c before here)
+
+  -- errors that are added are reported, where they name these places
+  pub reports_added : (errors : List RuleError) (told : Places) (a b : ValidatorContext S C) → places errors ≡ told → Adds errors a b → Reports told a b
+  reports_added errors told a b is h = record {
+    as_before = h.as_before;
+    reported = λ m. record { memory = h.memory m; errors = ap places (h.added m) ∙ map-append (λ e. e.locations) a.errors errors ∙ ap (λ ts. places a.errors ++ ts) is };
+  }

@@ -4,7 +4,7 @@ use Rattle.std.specs.Option.{option_map}
 use Rattle.std.specs.Str.{bytes_eq}
 use Rattle.std.proofs.lemmas.List.{take_more, map-append}
 use Rattle.graphql_names.specs.Names.{Bytes, named}
-use Rattle.graphql_rules_local.specs.Repeats.{Mention, behind_first, repeats_behind, repeats}
+use Rattle.graphql_rule_errors.specs.Repeats.{Mention, behind_first, repeats_behind, repeats}
 
 abbrev first_of : List Mention → Bytes → Option Mention
 first_of = named (λ m. m.name)

@@ -1,7 +1,7 @@
 use Rattle.std.proofs.Common.{sym, ap}
 use Rattle.std.specs.Option.{is_some}
-use Rattle.graphql_rules_local.proofs.FoundLemmas.{put_one}
-use Rattle.graphql_rules_local.proofs.repeats.first_mention.Goals as goal
+use Rattle.graphql_rule_errors.proofs.FoundLemmas.{put_one}
+use Rattle.graphql_rule_errors.proofs.repeats.first_mention.Goals as goal
 
 pub returns-in_ok-insert-in-None-clause-seen : goal.returns-in_ok-insert-in-None-clause-seen
 returns-in_ok-insert-in-None-clause-seen g c =

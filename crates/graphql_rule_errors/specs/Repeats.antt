@@ -2,17 +2,22 @@
 use Rattle.std.specs.Prelude.{List, [], ◌∷◌, ◌++◌, Option}
 use Rattle.std.specs.Option.{option_map, option_to_list}
 use Rattle.graphql_names.specs.Names.{Bytes, named}
-use Rattle.graphql_rule_errors.specs.Places.{Places}
 use Rattle.graphql_text.specs.declared.position.SourcePosition.{SourcePosition}
-use Rattle.graphql_values.specs.InputValues.{Placed}
+use Rattle.graphql_text.specs.declared.position.Span.{Span}
+use Rattle.graphql_text.specs.declared.spanning.Spanning.{Spanning}
+use Rattle.graphql_rule_errors.specs.Places.{Places}
+use Rattle.graphql_rule_errors.specs.declared.mentions.LentMention.{LentMention}
 
 -- a name where it is written
 pub record Mention : Type 0 where
   pub name : Bytes
   pub place : SourcePosition
 
-abbrev pub mention : Placed Bytes → Mention
+abbrev pub mention : Spanning Bytes Span → Mention
 mention name = record { name = name.item; place = name.span.start }
+
+abbrev pub mention_lent : LentMention → Mention
+mention_lent m = record { name = m.name.now; place = m.place }
 
 -- a mention behind the first of its name, where there is one before it
 abbrev pub behind_first : Option Mention → Mention → Places

@@ -9,7 +9,7 @@ use Rattle.std.proofs.lemmas.List.Folds.{find-append}
 use Rattle.std.proofs.lemmas.Map.Text.{hash_map_updates_str}
 use Rattle.graphql_names.specs.Names.{Bytes, named}
 use Rattle.graphql_names.proofs.NameLemmas.{same_bytes}
-use Rattle.graphql_rules_local.specs.Found.{found}
+use Rattle.graphql_rule_errors.specs.Found.{found}
 
 none_if : {A : Type 0} (o : Option A) → is_some o ≡ false → o ≡ None
 none_if None absent = refl
