@@ -44,25 +44,24 @@ impl<A, B> MultiVisitorCons<A, B> {
     }
 }
 
-impl<'a, 't, S: SchemaScalar> Visitor<'a, 't, S> for MultiVisitorNil {
+impl<S: SchemaScalar> Visitor<S> for MultiVisitorNil {
     ghost use Rattle.graphql_visitors.specs.Rules.{silent};
     ghost use Rattle.graphql_visitors.specs.Runs.{Did};
 
     ghost step = { silent };
 
-    fn on(&mut self, context: &mut ValidatorContext<'a, 't, S>, event: &Event<'a, 't, S>)
+    fn on<'a, 't>(&mut self, context: &mut ValidatorContext<'a, 't, S>, event: &Event<'a, 't, S>)
         ensures { Did silent event.now self.old self.new context.old context.new }
     {}
 }
 
-impl<'a, 't, S: SchemaScalar, A: Visitor<'a, 't, S>, B: Visitor<'a, 't, S>> Visitor<'a, 't, S>
-    for MultiVisitorCons<A, B> {
+impl<S: SchemaScalar, A: Visitor<S>, B: Visitor<S>> Visitor<S> for MultiVisitorCons<A, B> {
     ghost use Rattle.graphql_visitors.specs.Rules.{both};
     ghost use Rattle.graphql_visitors.specs.Runs.{Did};
 
     ghost step = { both A.step B.step };
 
-    fn on(&mut self, context: &mut ValidatorContext<'a, 't, S>, event: &Event<'a, 't, S>)
+    fn on<'a, 't>(&mut self, context: &mut ValidatorContext<'a, 't, S>, event: &Event<'a, 't, S>)
         ensures { Did (both A.step B.step) event.now self.old self.new context.old context.new }
     {
         self.first.on(context, event);

@@ -14,7 +14,7 @@ use graphql_occurrences::Walk;
 /// The visitor steps over every event of the context's document, in order, and what it reports comes
 /// behind the errors that are there. Where memory runs out the context has failed. Takes no stack for
 /// the depth of the document, and one pass over it.
-pub fn visit<'a, 't, S: SchemaScalar, V: Visitor<'a, 't, S>>(
+pub fn visit<'a, 't, S: SchemaScalar, V: Visitor<S>>(
     visitor: &mut V,
     context: &mut ValidatorContext<'a, 't, S>,
 )
@@ -30,7 +30,7 @@ pub fn visit<'a, 't, S: SchemaScalar, V: Visitor<'a, 't, S>>(
 }
 
 /// The visitor steps over what is ahead of a walk.
-fn follow<'a, 't, S: SchemaScalar, V: Visitor<'a, 't, S>>(
+fn follow<'a, 't, S: SchemaScalar, V: Visitor<S>>(
     visitor: &mut V,
     context: &mut ValidatorContext<'a, 't, S>,
     mut walk: Walk<'a, 't, S>,

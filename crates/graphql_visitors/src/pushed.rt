@@ -13,7 +13,7 @@ use graphql_occurrences::{InputPlace, TypeLiteral};
 impl<'a, 't, S, C> ValidatorContext<'a, 't, S, C> {
     /// What a function answers where the type of what is selected is this one. The context stands
     /// afterwards where it stood.
-    pub fn with_pushed_type<R, F: FnOnce(&mut ValidatorContext<'a, 't, S, C>) -> R>(
+    pub fn with_pushed_type<R, F: FnOnce(&mut ValidatorContext<'_, '_, S, C>) -> R>(
         &mut self,
         current: Option<TypeLiteral<'a>>,
         inside: F,
@@ -30,7 +30,7 @@ impl<'a, 't, S, C> ValidatorContext<'a, 't, S, C> {
 
     /// What a function answers where what is selected is selected of this type: of the type that the
     /// schema has for what is selected here. The context stands afterwards where it stood.
-    pub fn with_pushed_parent_type<R, F: FnOnce(&mut ValidatorContext<'a, 't, S, C>) -> R>(
+    pub fn with_pushed_parent_type<R, F: FnOnce(&mut ValidatorContext<'_, '_, S, C>) -> R>(
         &mut self,
         inside: F,
     ) -> R
@@ -46,7 +46,7 @@ impl<'a, 't, S, C> ValidatorContext<'a, 't, S, C> {
 
     /// What a function answers where a value stands here. The context stands afterwards where it
     /// stood.
-    pub fn with_pushed_input_type<R, F: FnOnce(&mut ValidatorContext<'a, 't, S, C>) -> R>(
+    pub fn with_pushed_input_type<R, F: FnOnce(&mut ValidatorContext<'_, '_, S, C>) -> R>(
         &mut self,
         input: Option<InputPlace<'a>>,
         inside: F,

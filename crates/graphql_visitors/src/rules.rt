@@ -6,7 +6,7 @@ use graphql_meta::SchemaScalar;
 use graphql_occurrences::Event;
 
 /// A rule that looks at one part of a document at a time.
-pub trait LocalRule<'a, 't, S: SchemaScalar> {
+pub trait LocalRule<S: SchemaScalar> {
     ghost use Rattle.graphql_visitors.specs.Reports.{Reports};
     ghost use Rattle.graphql_visitors.specs.Rules.{Rule, told_at};
     ghost use Rattle.graphql_visitors.specs.Subjects.{seen_in, subject_of};
@@ -15,7 +15,7 @@ pub trait LocalRule<'a, 't, S: SchemaScalar> {
     ghost says: { Rule S S.Check };
 
     /// Reports the errors at the parts that an event tells.
-    fn tell(&self, context: &mut ValidatorContext<'a, 't, S>, event: &Event<'a, 't, S>)
+    fn tell<'a, 't>(&self, context: &mut ValidatorContext<'a, 't, S>, event: &Event<'a, 't, S>)
         ensures { Reports (told_at says (subject_of context.old) (seen_in context.old event.now)) context.old context.new };
 }
 
@@ -23,13 +23,13 @@ pub trait LocalRule<'a, 't, S: SchemaScalar> {
 #[derive(Drop)]
 pub struct Local<R>(pub R);
 
-impl<'a, 't, S: SchemaScalar, R: LocalRule<'a, 't, S>> Visitor<'a, 't, S> for Local<R> {
+impl<S: SchemaScalar, R: LocalRule<S>> Visitor<S> for Local<R> {
     ghost use Rattle.graphql_visitors.specs.Rules.{local};
     ghost use Rattle.graphql_visitors.specs.Runs.{Did};
 
     ghost step = { local R.says };
 
-    fn on(&mut self, context: &mut ValidatorContext<'a, 't, S>, event: &Event<'a, 't, S>)
+    fn on<'a, 't>(&mut self, context: &mut ValidatorContext<'a, 't, S>, event: &Event<'a, 't, S>)
         ensures { Did (local R.says) event.now self.old self.new context.old context.new }
     {
         self.0.tell(context, event);
@@ -38,7 +38,7 @@ impl<'a, 't, S: SchemaScalar, R: LocalRule<'a, 't, S>> Visitor<'a, 't, S> for Lo
 
 /// A rule that looks at one part of a document at a time and asks what may answer so or so, as the
 /// check of a scalar may: which errors it may report is a relation.
-pub trait RelationalRule<'a, 't, S: SchemaScalar> {
+pub trait RelationalRule<S: SchemaScalar> {
     ghost use Rattle.graphql_occurrences.specs.Parts.{Part};
     ghost use Rattle.graphql_rule_errors.specs.Places.{Places};
     ghost use Rattle.graphql_visitors.specs.Reports.{ReportsBy};
@@ -49,7 +49,7 @@ pub trait RelationalRule<'a, 't, S: SchemaScalar> {
     ghost says: { Subject S S.Check → Part S S.Check → Places → Type 0 };
 
     /// Reports the errors at the parts that an event tells.
-    fn tell(&self, context: &mut ValidatorContext<'a, 't, S>, event: &Event<'a, 't, S>)
+    fn tell<'a, 't>(&self, context: &mut ValidatorContext<'a, 't, S>, event: &Event<'a, 't, S>)
         ensures { ReportsBy (TellAt says (subject_of context.old) (seen_in context.old event.now)) context.old context.new };
 }
 
@@ -57,13 +57,13 @@ pub trait RelationalRule<'a, 't, S: SchemaScalar> {
 #[derive(Drop)]
 pub struct Relational<R>(pub R);
 
-impl<'a, 't, S: SchemaScalar, R: RelationalRule<'a, 't, S>> Visitor<'a, 't, S> for Relational<R> {
+impl<S: SchemaScalar, R: RelationalRule<S>> Visitor<S> for Relational<R> {
     ghost use Rattle.graphql_visitors.specs.Rules.{locally};
     ghost use Rattle.graphql_visitors.specs.Runs.{Did};
 
     ghost step = { locally R.says };
 
-    fn on(&mut self, context: &mut ValidatorContext<'a, 't, S>, event: &Event<'a, 't, S>)
+    fn on<'a, 't>(&mut self, context: &mut ValidatorContext<'a, 't, S>, event: &Event<'a, 't, S>)
         ensures { Did (locally R.says) event.now self.old self.new context.old context.new }
     {
         self.0.tell(context, event);

@@ -8,7 +8,7 @@ use graphql_occurrences::Event;
 ///
 /// A visitor has one method for all events: `Event` tells which of `juniper`'s methods is which of its
 /// cases. The types around an event's node stand in the context. A visitor owns what it keeps.
-pub trait Visitor<'a, 't, S: SchemaScalar> {
+pub trait Visitor<S: SchemaScalar> {
     ghost use Rattle.graphql_occurrences.specs.Nodes.{Seen};
     ghost use Rattle.graphql_rule_errors.specs.Places.{Places};
     ghost use Rattle.graphql_visitors.specs.Runs.{Did};
@@ -19,6 +19,6 @@ pub trait Visitor<'a, 't, S: SchemaScalar> {
     ghost step: { Subject S S.Check → Self → Seen S S.Check → Self → Places → Type 0 };
 
     /// Steps over an event. Where memory runs out, it tells the context so.
-    fn on(&mut self, context: &mut ValidatorContext<'a, 't, S>, event: &Event<'a, 't, S>)
+    fn on<'a, 't>(&mut self, context: &mut ValidatorContext<'a, 't, S>, event: &Event<'a, 't, S>)
         ensures { Did step event.now self.old self.new context.old context.new };
 }
