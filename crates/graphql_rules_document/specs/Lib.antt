@@ -7,3 +7,4 @@ pub mod NoUnusedVariables
 pub mod NoFragmentCycles
 pub mod LoneAnonymousOperation
 pub mod UniqueNames
+pub mod AllRules

@@ -2,6 +2,7 @@
 //! they use and spread (GraphQL October 2021, 5 Validation).
 #![tactic(auto)]
 
+mod all_rules;
 mod anonymous_operations;
 mod cycles;
 mod names;
@@ -12,6 +13,7 @@ mod unique_names;
 mod unused_fragments;
 mod unused_variables;
 
+pub use all_rules::document_errors;
 pub use anonymous_operations::lone_anonymous_operation;
 pub use cycles::no_fragment_cycles;
 pub use undefined_variables::no_undefined_variables;
