@@ -1,8 +1,9 @@
 -- Names that stand more than once, one after another.
 use Rattle.std.proofs.Common.{◌≡◌, ℕ, ◌+◌, ◌<◌, Bool, true, false, cond, List, [], ◌∷◌, ◌++◌, Option, Some, None, Bor, map, length, get_or, take, refl, sym, ap, subst, ◌∙◌, append-nil, append_assoc}
 use Rattle.std.specs.HashMap.{HashMap, UpdatesBy, get_by}
-use Rattle.std.specs.Option.{option_map, option_or, option_to_list}
+use Rattle.std.specs.Option.{is_some, option_map, option_or, option_to_list}
 use Rattle.std.specs.Str.{bytes_eq}
+use Rattle.std.proofs.lemmas.Bool.{false≢true}
 use Rattle.std.proofs.lemmas.List.{take_more, map-append}
 use Rattle.std.proofs.lemmas.List.Folds.{find-append}
 use Rattle.std.proofs.lemmas.Map.Text.{hash_map_updates_str}
@@ -23,7 +24,7 @@ repeats-push before (x ∷ ms) m =
     ap (λ es. repeat before x ++ es) (repeats-push (before ++ x ∷ []) ms m ∙ ap (λ b. repeats_behind (before ++ x ∷ []) ms ++ repeat b m) (append_assoc before (x ∷ []) ms))
     ∙ sym (append_assoc (repeat before x) (repeats_behind (before ++ x ∷ []) ms) (repeat (before ++ x ∷ ms) m))
 
-map_or : {A B : Type 0} (f : A → B) (o p : Option A) → option_map f (option_or o p) ≡ option_or (option_map f o) (option_map f p)
+pub map_or : {A B : Type 0} (f : A → B) (o p : Option A) → option_map f (option_or o p) ≡ option_or (option_map f o) (option_map f p)
 map_or f None p = refl
 map_or f (Some x) p = refl
 
@@ -40,30 +41,27 @@ first-push ms m name =
 -- ---- in a map of the first places
 
 -- a name that is there
-pub known_stays : {H : Type 0} (old : HashMap (Bor Bytes) SourcePosition H) (own : Bytes) (at place : SourcePosition) → get_by (λ k. bytes_eq own k.now) old ≡ Some at
-    → (name : Bytes) → get_by (λ k. bytes_eq name k.now) old ≡ option_or (get_by (λ k. bytes_eq name k.now) old) (cond (bytes_eq own name) (Some place) None)
-known_stays old own at place here name = either (bytes_eq own name) refl (get_by (λ k. bytes_eq name k.now) old) refl
+pub known_stays : {V H : Type 0} (old : HashMap (Bor Bytes) V H) (own : Bytes) (value : V) → is_some (get_by (λ k. bytes_eq own k.now) old) ≡ true
+    → (name : Bytes) → get_by (λ k. bytes_eq name k.now) old ≡ option_or (get_by (λ k. bytes_eq name k.now) old) (cond (bytes_eq own name) (Some value) None)
+known_stays {V} old own value here name = either (bytes_eq own name) refl (get_by (λ k. bytes_eq name k.now) old) refl
   where
-    either : (b : Bool) → bytes_eq own name ≡ b → (o : Option SourcePosition) → get_by (λ k. bytes_eq name k.now) old ≡ o → o ≡ option_or o (cond b (Some place) None)
+    either : (b : Bool) → bytes_eq own name ≡ b → (o : Option V) → get_by (λ k. bytes_eq name k.now) old ≡ o → o ≡ option_or o (cond b (Some value) None)
     either b is (Some p) e = refl
     either false is None e = refl
-    either true is None e = absurd (none-some (sym e ∙ ap (λ n. get_by (λ k. bytes_eq n k.now) old) (sym (same_bytes own name is)) ∙ here))
-      where
-        none-some : None ≡ Some at → ⊥
-        none-some h = cc
+    either true is None e = absurd (false≢true (sym (ap is_some e) ∙ ap (λ n. is_some (get_by (λ k. bytes_eq n k.now) old)) (sym (same_bytes own name is)) ∙ here))
 
 -- a name that is put
-pub known_put : {H : Type 0} (old new : HashMap (Bor Bytes) SourcePosition H) (own : Bytes) (place : SourcePosition) → get_by (λ k. bytes_eq own k.now) old ≡ None
-    → UpdatesBy (λ x y. bytes_eq x.now y.now) (λ k. bytes_eq own k.now) old new (Some place)
-    → (name : Bytes) → get_by (λ k. bytes_eq name k.now) new ≡ option_or (get_by (λ k. bytes_eq name k.now) old) (cond (bytes_eq own name) (Some place) None)
-known_put old new own place none updates name = hash_map_updates_str own old new (Some place) updates name ∙ either (bytes_eq own name) refl
+pub known_put : {V H : Type 0} (old new : HashMap (Bor Bytes) V H) (own : Bytes) (value : V) → get_by (λ k. bytes_eq own k.now) old ≡ None
+    → UpdatesBy (λ x y. bytes_eq x.now y.now) (λ k. bytes_eq own k.now) old new (Some value)
+    → (name : Bytes) → get_by (λ k. bytes_eq name k.now) new ≡ option_or (get_by (λ k. bytes_eq name k.now) old) (cond (bytes_eq own name) (Some value) None)
+known_put {V} old new own value none updates name = hash_map_updates_str own old new (Some value) updates name ∙ either (bytes_eq own name) refl
   where
-    or_none : (o : Option SourcePosition) → o ≡ option_or o None
+    or_none : (o : Option V) → o ≡ option_or o None
     or_none None = refl
     or_none (Some p) = refl
 
-    either : (b : Bool) → bytes_eq own name ≡ b → cond b (Some place) (get_by (λ k. bytes_eq name k.now) old) ≡ option_or (get_by (λ k. bytes_eq name k.now) old) (cond b (Some place) None)
-    either true is = sym (ap (λ o. option_or o (Some place)) (ap (λ n. get_by (λ k. bytes_eq n k.now) old) (sym (same_bytes own name is)) ∙ none))
+    either : (b : Bool) → bytes_eq own name ≡ b → cond b (Some value) (get_by (λ k. bytes_eq name k.now) old) ≡ option_or (get_by (λ k. bytes_eq name k.now) old) (cond b (Some value) None)
+    either true is = sym (ap (λ o. option_or o (Some value)) (ap (λ n. get_by (λ k. bytes_eq n k.now) old) (sym (same_bytes own name is)) ∙ none))
     either false is = or_none (get_by (λ k. bytes_eq name k.now) old)
 
 -- what is told of a name that is there, and of one that is not

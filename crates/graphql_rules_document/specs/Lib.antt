@@ -7,4 +7,6 @@ pub mod NoUnusedVariables
 pub mod NoFragmentCycles
 pub mod LoneAnonymousOperation
 pub mod UniqueNames
+pub mod FirstVariables
+pub mod VariablesInAllowedPosition
 pub mod AllRules

@@ -14,6 +14,7 @@ use crate::undefined_variables::no_undefined_variables;
 use crate::unique_names::{unique_fragment_names, unique_operation_names, unique_variable_names};
 use crate::unused_fragments::no_unused_fragments;
 use crate::unused_variables::no_unused_variables;
+use crate::variable_positions::variables_in_allowed_position;
 use graphql_rule_errors::RuleError;
 use graphql_schema::SchemaType;
 use graphql_scopes::{FragmentIndex, FragmentScope, OperationScope, scopes_of};
@@ -30,29 +31,31 @@ pub fn document_errors<'a, 't, S, C>(
     schema: &'a SchemaType<S, C>,
     document: &'a [Definition<'t, S>],
 ) -> Result<Items<RuleError>, AllocError>
-    ensures { GivesBy places result (spec.document_places (scopes_in (declarations_of schema.now) document.now)) }
+    ensures { GivesBy places result (spec.document_places schema.now.types (scopes_in (declarations_of schema.now) document.now)) }
 {
     let scopes = scopes_of(alloc, schema, document)?;
     scope_errors(
         alloc,
+        schema,
         scopes.operations.as_slice(),
         scopes.fragments.as_slice(),
     )
 }
 
 /// The errors for these operations and fragments.
-fn scope_errors<'a, 't, S>(
+fn scope_errors<'a, 't, S, C>(
     alloc: Global,
+    schema: &SchemaType<S, C>,
     operations: &[OperationScope<'a, 't, S>],
     fragments: &[FragmentScope<'a, 't>],
 ) -> Result<Items<RuleError>, AllocError>
-    ensures { GivesBy places result (spec.scope_places (map operation_of operations.now) (map fragment_of fragments.now)) }
+    ensures { GivesBy places result (spec.scope_places schema.now.types (map operation_of operations.now) (map fragment_of fragments.now)) }
 {
     let index = FragmentIndex::new(alloc, fragments)?;
     let mut errors = Items::new(alloc);
     operation_rules(alloc, operations, &mut errors)?;
     fragment_rules(alloc, operations, &index, &mut errors)?;
-    variable_rules(alloc, operations, &index, &mut errors)?;
+    variable_rules(alloc, schema, operations, &index, &mut errors)?;
     Ok(errors)
 }
 
@@ -86,15 +89,17 @@ fn fragment_rules<'a, 't, S>(
 
 /// The rules for variables.
 #[tactic(auto, using(crate::proofs::LoopLemmas::reports_more))]
-fn variable_rules<'a, 't, S>(
+fn variable_rules<'a, 't, S, C>(
     alloc: Global,
+    schema: &SchemaType<S, C>,
     operations: &[OperationScope<'a, 't, S>],
     index: &FragmentIndex<'_, 'a, 't>,
     errors: &mut Items<RuleError>,
 ) -> Result<(), AllocError>
-    ensures { OnOk result (Reports (spec.variable_places (map operation_of operations.now) (map fragment_of index.now.fragments.now)) errors.old errors.new) }
+    ensures { OnOk result (Reports (spec.variable_places schema.now.types (map operation_of operations.now) (map fragment_of index.now.fragments.now)) errors.old errors.new) }
 {
     unique_variable_names(alloc, operations, errors)?;
     no_undefined_variables(alloc, operations, index, errors)?;
-    no_unused_variables(alloc, operations, index, errors)
+    no_unused_variables(alloc, operations, index, errors)?;
+    variables_in_allowed_position(alloc, schema, operations, index, errors)
 }

@@ -5,6 +5,7 @@
 mod all_rules;
 mod anonymous_operations;
 mod cycles;
+mod first_variables;
 mod names;
 mod repeats;
 mod report;
@@ -12,6 +13,7 @@ mod undefined_variables;
 mod unique_names;
 mod unused_fragments;
 mod unused_variables;
+mod variable_positions;
 
 pub use all_rules::document_errors;
 pub use anonymous_operations::lone_anonymous_operation;
@@ -20,3 +22,4 @@ pub use undefined_variables::no_undefined_variables;
 pub use unique_names::{unique_fragment_names, unique_operation_names, unique_variable_names};
 pub use unused_fragments::no_unused_fragments;
 pub use unused_variables::no_unused_variables;
+pub use variable_positions::variables_in_allowed_position;

@@ -1,4 +1,5 @@
-use Rattle.std.proofs.Common.{Some, None, sym, ◌∙◌, append-nil}
+use Rattle.std.proofs.Common.{Some, None, sym, ap, ◌∙◌, append-nil}
+use Rattle.std.specs.Option.{is_some}
 use Rattle.graphql_rules_document.specs.Places.{places}
 use Rattle.graphql_rules_document.proofs.LoopLemmas.{on_ok}
 use Rattle.graphql_rules_document.proofs.RepeatLemmas.{known_put, known_stays, told_as}
@@ -9,7 +10,7 @@ returns-in-Some c =
     let mention = c.args.mention.now in
     let found = sym (c.copied.ensures ∙ c.get.ensures.value) ∙ c.in-Some.is in
     on_ok c.report_repeat.result _ _
-    (λ h. (told_as (Some c.in-Some.place) _ mention.place c.args.errors.now c.report_repeat.new.errors found h, known_stays c.args.first.now mention.name.now c.in-Some.place mention.place found))
+    (λ h. (told_as (Some c.in-Some.place) _ mention.place c.args.errors.now c.report_repeat.new.errors found h, known_stays c.args.first.now mention.name.now mention.place (ap is_some found)))
     c.report_repeat.ensures
 
 pub returns-in_ok-insert-in-None : goal.returns-in_ok-insert-in-None
