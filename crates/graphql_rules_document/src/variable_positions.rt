@@ -1,6 +1,6 @@
 //! Variables where they are not allowed (GraphQL October 2021, 5.8.5 All Variable Usages Are Allowed).
 
-ghost use Rattle.std.specs.Prelude.{◌≡◌, ◌∷◌, [], OnOk, Some, map, not};
+ghost use Rattle.std.specs.Prelude.{◌≡◌, ◌∷◌, [], OnOk, map, not};
 ghost use Rattle.std.specs.List.{flat_map};
 ghost use Rattle.std.specs.Option.{option_map};
 ghost use Rattle.graphql_schema.specs.Subtypes.{is_subtype};
