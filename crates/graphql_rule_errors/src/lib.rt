@@ -7,5 +7,5 @@ mod repeats;
 mod rule_error;
 
 pub use mentions::{LentMention, Mentions};
-pub use repeats::{report, report_repeats};
+pub use repeats::{first_mention, report, report_repeats};
 pub use rule_error::RuleError;

@@ -51,7 +51,7 @@ pub fn report_repeats<M: Mentions>(
 
 /// The first mention of a name among those that have been seen. One that is the first itself is seen
 /// from here on. An error is want of memory.
-fn first_mention<'m, M: Mentions>(
+pub fn first_mention<'m, M: Mentions>(
     seen: &mut HashMap<&'m str, &'m M>,
     mention: &'m M,
 ) -> Result<Option<&'m M>, AllocError>

@@ -1,5 +1,7 @@
 pub mod LoopLemmas
 pub mod NameSetLemmas
+pub mod FirstLemmas
+pub mod PositionLemmas
 pub mod ReachedLemmas
-pub mod Rows
 pub mod NameLemmas
+pub mod Rows

@@ -1,10 +1,14 @@
 -- Small cases of the rules, each computed.
-use Rattle.std.proofs.Common.{◌≡◌, ℕ, List, [], ◌∷◌, None, refl}
+use Rattle.std.proofs.Common.{◌≡◌, ℕ, Bool, true, false, List, [], ◌∷◌, Option, Some, None, refl}
 use Rattle.std.specs.Prelude.{codes}
 use Rattle.graphql_names.specs.Names.{Bytes}
 use Rattle.graphql_text.specs.declared.position.SourcePosition.{SourcePosition}
 use Rattle.graphql_values.specs.InputValues.{Placed}
-use Rattle.graphql_occurrences.specs.Parts.{Use}
+use Rattle.graphql_values.specs.declared.input_value.InputValue.{InputValue}
+use Rattle.graphql_values.specs.declared.input_value.InputValue.TheVariants as value
+use Rattle.graphql_type_references.specs.declared.type_modifier.TypeModifier.{TypeModifier}
+use Rattle.graphql_type_references.specs.declared.type_modifier.TypeModifier.TheVariants as modifier
+use Rattle.graphql_occurrences.specs.Parts.{Use, VariablePart}
 use Rattle.graphql_scopes.specs.Reached.{reached}
 use Rattle.graphql_scopes.specs.Scopes.{FragmentScope, OperationScope, Spread}
 use Rattle.graphql_rules_document.specs.LoneAnonymousOperation.{anonymous_beside_others}
@@ -13,6 +17,8 @@ use Rattle.graphql_rules_document.specs.NoUndefinedVariables.{undefined_variable
 use Rattle.graphql_rules_document.specs.NoUnusedFragments.{never_reached}
 use Rattle.graphql_rules_document.specs.NoUnusedVariables.{unused_variables}
 use Rattle.graphql_rule_errors.specs.Repeats.{Mention, repeats}
+use Rattle.graphql_rules_document.specs.VariablesInAllowedPosition.{disallowed_variables}
+use Rattle.graphql_rule_errors.specs.Places.{Places}
 
 abbrev pub at : ℕ → SourcePosition
 at n = record { index = n; line = 0; column = n }
@@ -79,3 +85,49 @@ both_anonymous = refl
 
 pub one_anonymous : anonymous_beside_others (query ∷ []) ≡ []
 one_anonymous = refl
+
+-- `$x` of `Int` in these wraps, with this default
+abbrev pub int_variable : ℕ → List TypeModifier → Option (InputValue ℕ) → VariablePart ℕ
+int_variable n wraps None = record { name = put n (codes "x"); type_of = put 9 (record { name = codes "Int"; modifiers = wraps }); default = None }
+int_variable n wraps (Some v) = record { name = put n (codes "x"); type_of = put 9 (record { name = codes "Int"; modifiers = wraps }); default = Some (put 11 v) }
+
+-- the errors where these variables are defined, and `$x` is used where `Int` in these wraps is asked for
+abbrev pub disallowed_among : List (VariablePart ℕ) → List TypeModifier → Bool → Places
+disallowed_among defined wraps has_default =
+    disallowed_variables {C = ℕ} []
+    (record query {
+      defined = defined;
+      uses = record { name = codes "x"; place = at 15; at = Some (record { asked = record { name = codes "Int"; modifiers = wraps }; has_default = has_default }) } ∷ [];
+      spreads = [];
+    } ∷ [])
+    []
+
+pub nullable_is_disallowed : disallowed_among (int_variable 7 [] None ∷ []) (modifier.NonNull ∷ []) false ≡ (at 7 ∷ at 15 ∷ []) ∷ []
+unfolding reached
+nullable_is_disallowed = refl
+
+pub null_default_helps_not : disallowed_among (int_variable 7 [] (Some value.Null) ∷ []) (modifier.NonNull ∷ []) false ≡ (at 7 ∷ at 15 ∷ []) ∷ []
+unfolding reached
+null_default_helps_not = refl
+
+pub default_helps : disallowed_among (int_variable 7 [] (Some (value.Scalar 1)) ∷ []) (modifier.NonNull ∷ []) false ≡ []
+unfolding reached
+default_helps = refl
+
+pub default_of_the_place_helps : disallowed_among (int_variable 7 [] None ∷ []) (modifier.NonNull ∷ []) true ≡ []
+unfolding reached
+default_of_the_place_helps = refl
+
+-- no default helps with what is within a list
+pub items_may_be_null : disallowed_among (int_variable 7 (modifier.List None ∷ []) (Some (value.Scalar 1)) ∷ []) (modifier.NonNull ∷ modifier.List None ∷ []) true ≡ (at 7 ∷ at 15 ∷ []) ∷ []
+unfolding reached
+items_may_be_null = refl
+
+pub non_null_is_allowed : disallowed_among (int_variable 7 (modifier.NonNull ∷ []) None ∷ []) [] false ≡ []
+unfolding reached
+non_null_is_allowed = refl
+
+-- of two definitions of one name the first
+pub first_counts : disallowed_among (int_variable 7 [] None ∷ int_variable 8 (modifier.NonNull ∷ []) None ∷ []) (modifier.NonNull ∷ []) false ≡ (at 7 ∷ at 15 ∷ []) ∷ []
+unfolding reached
+first_counts = refl

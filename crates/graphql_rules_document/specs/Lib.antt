@@ -5,3 +5,6 @@ pub mod NoUnusedVariables
 pub mod NoFragmentCycles
 pub mod LoneAnonymousOperation
 pub mod UniqueNames
+pub mod FirstVariables
+pub mod VariablesInAllowedPosition
+pub mod AllRules

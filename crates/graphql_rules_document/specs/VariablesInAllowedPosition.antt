@@ -1,0 +1,60 @@
+-- An operation, its variable, and a use that it reaches where the variable is not allowed (GraphQL October 2021, 5.8.5 All Variable Usages Are Allowed).
+use Rattle.std.specs.Prelude.{◌&&◌, ◌||◌, Bool, true, false, not, List, [], ◌∷◌, Option, Some, None, if◌then◌else◌}
+use Rattle.std.specs.List.{flat_map}
+use Rattle.graphql_names.specs.Names.{named}
+use Rattle.graphql_type_references.specs.TypeReference.{is_non_null, nullable, outermost}
+use Rattle.graphql_values.specs.InputValues.{Placed}
+use Rattle.graphql_values.specs.declared.input_value.InputValue.{InputValue}
+use Rattle.graphql_values.specs.declared.input_value.InputValue.TheVariants as value
+use Rattle.graphql_meta.specs.Types.{TypeOf}
+use Rattle.graphql_meta.specs.declared.meta.MetaType.{MetaType}
+use Rattle.graphql_schema.specs.Subtypes.{is_subtype}
+use Rattle.graphql_occurrences.specs.Parts.{InputPlace, Use, VariablePart}
+use Rattle.graphql_scopes.specs.Reached.{uses_from}
+use Rattle.graphql_scopes.specs.Scopes.{FragmentScope, OperationScope}
+use Rattle.graphql_rule_errors.specs.Places.{Places, error_if}
+
+-- no `null` is among its values
+abbrev pub refuses_null : TypeOf → Bool
+refuses_null t = is_non_null (outermost t.modifiers)
+
+-- the same type with `null`
+abbrev pub with_null : TypeOf → TypeOf
+with_null t = record { name = t.name; modifiers = nullable t.modifiers }
+
+module _ {S : Type 0} where
+  abbrev pub is_value : InputValue S → Bool
+  is_value value.Null = false
+  is_value _ = true
+
+  -- a default that is not `null`
+  abbrev pub has_value : Option (Placed (InputValue S)) → Bool
+  has_value None = false
+  has_value (Some default) = is_value default.item
+
+module _ {S C : Type 0} (types : List (MetaType S C)) where
+  -- where `null` is refused, a variable that may be `null` stands only if a default stands in for that
+  abbrev pub is_allowed : VariablePart S → InputPlace → Bool
+  is_allowed v p =
+      if refuses_null p.asked && not (refuses_null v.type_of.item)
+      then (has_value v.default || p.has_default) && is_subtype types v.type_of.item (with_null p.asked)
+      else is_subtype types v.type_of.item p.asked
+
+  abbrev pub disallowed_at : VariablePart S → Use → Option InputPlace → Places
+  disallowed_at v u None = []
+  disallowed_at v u (Some p) = error_if (not (is_allowed v p)) (v.name.span.start ∷ u.place ∷ [])
+
+  -- nothing is said of a use without a definition, or where no type is asked for
+  abbrev pub disallowed_by : Option (VariablePart S) → Use → Places
+  disallowed_by None u = []
+  disallowed_by (Some v) u = disallowed_at v u u.at
+
+  -- of several definitions of one name the first counts
+  abbrev pub disallowed_use : OperationScope S → Use → Places
+  disallowed_use o u = disallowed_by (named (λ v. v.name.item) o.defined u.name) u
+
+  abbrev pub disallowed_in : List FragmentScope → OperationScope S → Places
+  disallowed_in fragments o = flat_map (disallowed_use o) (uses_from fragments o)
+
+  abbrev pub disallowed_variables : List (OperationScope S) → List FragmentScope → Places
+  disallowed_variables operations fragments = flat_map (disallowed_in fragments) operations
