@@ -1,6 +1,9 @@
 //! Defaults of variables that are not of the variables' types.
 
+ghost use Rattle.std.specs.Prelude.{◌≡◌};
 ghost use Rattle.std.specs.List.{flat_map};
+ghost use Rattle.std.specs.Option.{is_some};
+ghost use Rattle.graphql_occurrences.specs.Lookups.{known};
 ghost use Rattle.graphql_occurrences.specs.Occurrences.{variable_part};
 ghost use Rattle.graphql_occurrences.specs.PartsOf.{parts_of};
 ghost use Rattle.graphql_schema.specs.Declarations.{declarations_of};
@@ -12,6 +15,7 @@ ghost use Rattle.graphql_rules_values.specs.Literals.{Misfits};
 use crate::literals::{Role, report_literal};
 use graphql_meta::SchemaScalar;
 use graphql_occurrences::{Event, Node};
+use graphql_schema::SchemaType;
 use graphql_text::{Spanning, TextRef};
 use graphql_tree::VariableDefinition;
 use graphql_visitors::{Relational, RelationalRule, ValidatorContext};
@@ -76,21 +80,20 @@ fn report_variable<'a, 't, S: SchemaScalar>(
 )
     ensures { ReportsBy (Misfits S.answer S.Check.accepts context.old.schema.now.types (default_of (declarations_of context.old.schema.now) (variable_part variable.now))) context.old context.new }
 {
-    let definition = &variable.1;
+    let (name, definition) = variable;
     let asked = &definition.var_type.item;
-    if context
-        .schema()
-        .concrete_type_by_name(asked.name.as_str())
-        .is_none()
-    {
+    if !is_known(context.schema(), asked.name.as_str()) {
         return;
     }
     if let Some(default) = &definition.default_value {
-        report_literal(
-            context,
-            Role::Default(variable.0.item.as_str()),
-            asked,
-            default,
-        );
+        let role = Role::Default(name.item.as_str());
+        report_literal(context, role, asked, default);
     }
+}
+
+/// Whether the schema has the type of this name.
+fn is_known<S, C>(schema: &SchemaType<S, C>, name: &str) -> bool
+    ensures { result ≡ is_some (known (declarations_of schema.now) name.now) }
+{
+    schema.concrete_type_by_name(name).is_some()
 }
