@@ -1,3 +1,4 @@
 pub mod ReportLemmas
 pub mod FoundLemmas
+pub mod NoFaultLemmas
 pub mod RepeatLemmas
