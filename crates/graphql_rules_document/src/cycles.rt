@@ -2,18 +2,19 @@
 //! Cycles).
 
 ghost use Rattle.std.specs.Prelude.{◌≡◌, OnOk, map, slice_get, Some};
+ghost use Rattle.graphql_scopes.specs.Components.{IsComponents};
 ghost use Rattle.graphql_scopes.specs.Lent.{fragment_of, spread_of};
 ghost use Rattle.graphql_rules_document.specs.NoFragmentCycles.{cycle_at, cycles_in, fragment_cycles};
 ghost use Rattle.graphql_rule_errors.specs.Places.{Reports};
 
 use graphql_rule_errors::{RuleError, report};
-use graphql_scopes::{FragmentIndex, FragmentScope, ReachedFragments, Spread};
+use graphql_scopes::{FragmentComponents, FragmentIndex, FragmentScope, ReachedFragments, Spread};
 use graphql_text::Items;
 use std::alloc::{AllocError, Global};
 
 /// Adds an error for each spread in a fragment whose target is that fragment or reaches it, where the
-/// spread begins. Takes time in proportion to the fragments times what they reach. An error of the
-/// call is want of memory.
+/// spread begins. Takes time in proportion to the fragments and their spreads. An error of the call
+/// is want of memory.
 pub fn no_fragment_cycles(
     alloc: Global,
     index: &FragmentIndex<'_, '_, '_>,
@@ -21,31 +22,38 @@ pub fn no_fragment_cycles(
 ) -> Result<(), AllocError>
     ensures { OnOk result (Reports (fragment_cycles (map fragment_of index.now.fragments.now)) errors.old errors.new) }
 {
-    let mut reached = ReachedFragments::new(alloc);
+    let components = FragmentComponents::new(alloc, index)?;
+    let mut search = ReachedFragments::new(alloc);
     'fragments: for (place, fragment) in index.fragments().iter().enumerate() {
-        report_cycles(alloc, &mut reached, index, place, fragment, errors)?;
+        report_cycles(
+            alloc,
+            &components,
+            &mut search,
+            index,
+            place,
+            fragment,
+            errors,
+        )?;
     }
     Ok(())
 }
 
-/// The errors for the spreads in the fragment at `place`. Where all its spreads together do not reach
-/// it, none does.
+/// The errors for the spreads in the fragment at `place`.
 fn report_cycles(
     alloc: Global,
-    reached: &mut ReachedFragments,
+    components: &FragmentComponents,
+    search: &mut ReachedFragments,
     index: &FragmentIndex<'_, '_, '_>,
     place: usize,
     fragment: &FragmentScope<'_, '_>,
     errors: &mut Items<RuleError>,
 ) -> Result<(), AllocError>
-    ensures { OnOk result (slice_get index.now.fragments.now place ≡ Some fragment.now → Reports (cycles_in (map fragment_of index.now.fragments.now) (fragment_of fragment.now)) errors.old errors.new) }
+    ensures { OnOk result (IsComponents index.now.fragments.now components.now → slice_get index.now.fragments.now place ≡ Some fragment.now → Reports (cycles_in (map fragment_of index.now.fragments.now) (fragment_of fragment.now)) errors.old errors.new) }
 {
-    reached.search(index, fragment.spreads.as_slice())?;
-    if !reached.is_reached(place) {
-        return Ok(());
-    }
     'spreads: for spread in fragment.spreads.as_slice() {
-        report_cycle(alloc, reached, index, place, fragment, spread, errors)?;
+        report_cycle(
+            alloc, components, search, index, place, fragment, spread, errors,
+        )?;
     }
     Ok(())
 }
@@ -53,17 +61,18 @@ fn report_cycles(
 /// The error, if the target of the spread reaches the fragment at `place`.
 fn report_cycle(
     alloc: Global,
-    reached: &mut ReachedFragments,
+    components: &FragmentComponents,
+    search: &mut ReachedFragments,
     index: &FragmentIndex<'_, '_, '_>,
     place: usize,
     fragment: &FragmentScope<'_, '_>,
     spread: &Spread<'_>,
     errors: &mut Items<RuleError>,
 ) -> Result<(), AllocError>
-    ensures { OnOk result (slice_get index.now.fragments.now place ≡ Some fragment.now → Reports (cycle_at (map fragment_of index.now.fragments.now) (fragment_of fragment.now) (spread_of spread.now)) errors.old errors.new) }
+    ensures { OnOk result (IsComponents index.now.fragments.now components.now → slice_get index.now.fragments.now place ≡ Some fragment.now → Reports (cycle_at (map fragment_of index.now.fragments.now) (fragment_of fragment.now) (spread_of spread.now)) errors.old errors.new) }
 {
-    reached.search(index, &[*spread])?;
-    if !reached.is_reached(place) {
+    let is_cycle = components.leads_back(index, search, place, spread)?;
+    if !is_cycle {
         return Ok(());
     }
     let name = spread.name;

@@ -5,3 +5,4 @@ pub mod MarkLemmas
 pub mod SearchLemmas
 pub mod UsesLemmas
 pub mod Rows
+pub mod ComponentLemmas

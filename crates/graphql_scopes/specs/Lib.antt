@@ -4,3 +4,5 @@ pub mod Gathered
 pub mod Reached
 pub mod Named
 pub mod Searches
+pub mod Components
+pub mod Walks

@@ -20,9 +20,10 @@ use graphql_values::InputValue;
 use std::alloc::{AllocError, Global};
 use std::mem;
 
-/// What was gathered so far.
+/// What was gathered so far of the operations and the fragments of a document, event by event: for
+/// those who walk over the document themselves. `scopes_of` gathers those of a whole document.
 #[derive(Drop)]
-struct Gathering<'a, 't, S> {
+pub struct Gathering<'a, 't, S> {
     // The operations and the fragments that are over.
     operations: Items<OperationScope<'a, 't, S>>,
     fragments: Items<FragmentScope<'a, 't>>,
@@ -55,8 +56,8 @@ fn name_in<'b, 't>(name: &'b Option<Spanning<TextRef<'t>>>) -> Option<&'b str>
 }
 
 impl<'a, 't, S> Gathering<'a, 't, S> {
-    /// Nothing yet.
-    fn new(alloc: Global) -> Gathering<'a, 't, S>
+    /// Nothing yet. Takes no memory.
+    pub fn new(alloc: Global) -> Gathering<'a, 't, S>
         ensures { gathered result ≡ nothing }
     {
         Gathering {
@@ -197,8 +198,8 @@ impl<'a, 't, S> Gathering<'a, 't, S> {
         }
     }
 
-    /// With what an event tells.
-    fn take_in<C>(
+    /// With what an event tells. An error is want of memory.
+    pub fn take_in<C>(
         &mut self,
         alloc: Global,
         around: &Around<'a, S, C>,
@@ -209,6 +210,22 @@ impl<'a, 't, S> Gathering<'a, 't, S> {
         match event {
             Event::Enter(node) => self.enter(around, node),
             Event::Leave(node) => self.leave(alloc, node),
+        }
+    }
+
+    /// The operations and the fragments that are over.
+    pub fn into_scopes(self) -> Scopes<'a, 't, S>
+        ensures { scopes_told result ≡ scopes_gathered (gathered self.entry) }
+    {
+        let Gathering {
+            operations,
+            fragments,
+            uses: _,
+            spreads: _,
+        } = self;
+        Scopes {
+            operations,
+            fragments,
         }
     }
 
@@ -232,14 +249,5 @@ pub(crate) fn gather<'a, 't, S, C>(
 {
     let mut gathering = Gathering::new(alloc);
     gathering.take_all(alloc, walk)?;
-    let Gathering {
-        operations,
-        fragments,
-        uses: _,
-        spreads: _,
-    } = gathering;
-    Ok(Scopes {
-        operations,
-        fragments,
-    })
+    Ok(gathering.into_scopes())
 }

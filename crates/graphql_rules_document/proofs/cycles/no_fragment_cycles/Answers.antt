@@ -16,4 +16,4 @@ fragments-preserved c =
     let within : place < length fragments = subst (λ xs. place < length xs) same c.fragments-test.true in
     let is = c.fragment-item.is ∙ ap (λ xs. get_or xs place item) same in
     reports_turn fragment_of (cycles_in fs) fragments place item within c.args.errors.now c.fragments.errors c.report_cycles.new.errors c.fragments.invariant
-    (subst (λ f. Reports (cycles_in fs (fragment_of f)) c.fragments.errors c.report_cycles.new.errors) is (c.in_ok-report_cycles.ensures (slice_get_read fragments (length fragments) place item refl within is)))
+    (subst (λ f. Reports (cycles_in fs (fragment_of f)) c.fragments.errors c.report_cycles.new.errors) is (c.in_ok-report_cycles.ensures c.in_ok-components.ensures (slice_get_read fragments (length fragments) place item refl within is)))

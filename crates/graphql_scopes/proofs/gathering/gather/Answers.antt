@@ -4,4 +4,4 @@ use Rattle.graphql_scopes.specs.Gathered.{scopes_gathered, with_event}
 use Rattle.graphql_scopes.proofs.gathering.gather.Goals as goal
 
 pub returns : goal.returns
-returns g c = ap scopes_gathered (c.in_ok-take_all.ensures ∙ ap (λ h. fold with_event h (ahead c.args.walk)) c.new-gathering.ensures)
+returns g c = c.into_scopes.ensures ∙ ap scopes_gathered (c.in_ok-take_all.ensures ∙ ap (λ h. fold with_event h (ahead c.args.walk)) c.new-gathering.ensures)
