@@ -4,4 +4,6 @@ pub mod FirstLemmas
 pub mod PositionLemmas
 pub mod ReachedLemmas
 pub mod NameLemmas
+pub mod CycleLaws
+pub mod RuleLaws
 pub mod Rows

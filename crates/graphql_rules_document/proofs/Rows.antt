@@ -1,6 +1,11 @@
 -- Small cases of the rules, each computed.
-use Rattle.std.proofs.Common.{◌≡◌, ℕ, Bool, true, false, List, [], ◌∷◌, Option, Some, None, refl}
+use Rattle.std.proofs.Common.{◌≡◌, ℕ, Bool, true, false, List, [], ◌∷◌, Option, Some, None, refl, sym, ◌∙◌, arith}
+use Rattle.std.specs.List.{All}
 use Rattle.std.specs.Prelude.{codes}
+use Rattle.std.specs.Str.{bytes_eq}
+use Rattle.std.proofs.lemmas.Bool.{false≢true}
+use Rattle.std.proofs.lemmas.List.Elements.{All-from_recursion}
+use Rattle.std.proofs.lemmas.Slice.Eq.{bytes_eq-Decides}
 use Rattle.graphql_names.specs.Names.{Bytes}
 use Rattle.graphql_text.specs.declared.position.SourcePosition.{SourcePosition}
 use Rattle.graphql_values.specs.InputValues.{Placed}
@@ -11,6 +16,7 @@ use Rattle.graphql_type_references.specs.declared.type_modifier.TypeModifier.The
 use Rattle.graphql_occurrences.specs.Parts.{Use, VariablePart}
 use Rattle.graphql_scopes.specs.Reached.{reached}
 use Rattle.graphql_scopes.specs.Scopes.{FragmentScope, OperationScope, Spread}
+use Rattle.graphql_rules_document.specs.Ends.{EndsWithin}
 use Rattle.graphql_rules_document.specs.LoneAnonymousOperation.{anonymous_beside_others}
 use Rattle.graphql_rules_document.specs.NoFragmentCycles.{fragment_cycles}
 use Rattle.graphql_rules_document.specs.NoUndefinedVariables.{undefined_variables}
@@ -131,3 +137,24 @@ non_null_is_allowed = refl
 pub first_counts : disallowed_among (int_variable 7 [] None ∷ int_variable 8 (modifier.NonNull ∷ []) None ∷ []) (modifier.NonNull ∷ []) false ≡ (at 7 ∷ at 15 ∷ []) ∷ []
 unfolding reached
 first_counts = refl
+
+-- A spreads B, and B nothing
+abbrev pub two_fragments : List FragmentScope
+two_fragments = fragment (codes "A") 100 [] (spread (codes "B") 10 ∷ []) ∷ fragment (codes "B") 200 [] [] ∷ []
+
+other_name : (a b : Bytes) → bytes_eq a b ≡ false → a ≡ b → ⊥
+other_name a b differ e = false≢true (sym differ ∙ (bytes_eq-Decides a b).1 e)
+
+b_ends : EndsWithin two_fragments 1 (codes "B")
+b_ends = All-from_recursion (λ f. f.name ≡ codes "B" → All (λ s. EndsWithin two_fragments 0 s.name) f.spreads) two_fragments
+    (λ e. absurd (other_name (codes "A") (codes "B") refl e), (λ _. All-from_recursion (λ s. EndsWithin two_fragments 0 s.name) [] tt, tt))
+
+-- a level for A, and one for B
+pub two_levels : EndsWithin two_fragments 2 (codes "A")
+two_levels = All-from_recursion (λ f. f.name ≡ codes "A" → All (λ s. EndsWithin two_fragments 1 s.name) f.spreads) two_fragments
+    (λ _. All-from_recursion (λ s. EndsWithin two_fragments 1 s.name) (spread (codes "B") 10 ∷ []) (b_ends, tt), (λ e. absurd (other_name (codes "B") (codes "A") refl e), tt))
+
+pub no_single_level : EndsWithin two_fragments 1 (codes "A") → ⊥
+no_single_level ends =
+    let b_is_none : EndsWithin two_fragments 0 (codes "B") = ends 0 (fragment (codes "A") 0 [] []) (omega arith) refl 0 (spread (codes "B") 0) (omega arith) in
+    b_is_none 1 (fragment (codes "B") 0 [] []) (omega arith) refl

@@ -8,3 +8,5 @@ pub mod UniqueNames
 pub mod FirstVariables
 pub mod VariablesInAllowedPosition
 pub mod AllRules
+pub mod Ends
+pub mod Laws

@@ -3,7 +3,7 @@
 ghost use Rattle.std.specs.Prelude.{◌≡◌, OnOk, map};
 ghost use Rattle.graphql_items.specs.Memory.{GivesBy};
 ghost use Rattle.graphql_schema.specs.Declarations.{declarations_of};
-ghost use Rattle.graphql_scopes.specs.Lent.{fragment_of, operation_of};
+ghost use Rattle.graphql_scopes.specs.Lent.{fragment_of, operation_of, scopes_told};
 ghost use Rattle.graphql_scopes.specs.Scopes.{scopes_in};
 ghost use Rattle.graphql_rules_document.specs.AllRules as spec;
 ghost use Rattle.graphql_rule_errors.specs.Places.{Reports, places};
@@ -17,7 +17,7 @@ use crate::unused_variables::no_unused_variables;
 use crate::variable_positions::variables_in_allowed_position;
 use graphql_rule_errors::RuleError;
 use graphql_schema::SchemaType;
-use graphql_scopes::{FragmentIndex, FragmentScope, OperationScope, scopes_of};
+use graphql_scopes::{FragmentIndex, OperationScope, Scopes, scopes_of};
 use graphql_text::Items;
 use graphql_tree::Definition;
 use std::alloc::{AllocError, Global};
@@ -34,24 +34,20 @@ pub fn document_errors<'a, 't, S, C>(
     ensures { GivesBy places result (spec.document_places schema.now.types (scopes_in (declarations_of schema.now) document.now)) }
 {
     let scopes = scopes_of(alloc, schema, document)?;
-    scope_errors(
-        alloc,
-        schema,
-        scopes.operations.as_slice(),
-        scopes.fragments.as_slice(),
-    )
+    scope_errors(alloc, schema, &scopes)
 }
 
-/// The errors for these operations and fragments.
-fn scope_errors<'a, 't, S, C>(
+/// The errors of all rules of this crate for what the operations and the fragments of a document hold,
+/// in the same order. An error of the call is want of memory.
+pub fn scope_errors<'a, 't, S, C>(
     alloc: Global,
     schema: &SchemaType<S, C>,
-    operations: &[OperationScope<'a, 't, S>],
-    fragments: &[FragmentScope<'a, 't>],
+    scopes: &Scopes<'a, 't, S>,
 ) -> Result<Items<RuleError>, AllocError>
-    ensures { GivesBy places result (spec.scope_places schema.now.types (map operation_of operations.now) (map fragment_of fragments.now)) }
+    ensures { GivesBy places result (spec.document_places schema.now.types (scopes_told scopes.now)) }
 {
-    let index = FragmentIndex::new(alloc, fragments)?;
+    let operations = scopes.operations.as_slice();
+    let index = FragmentIndex::new(alloc, scopes.fragments.as_slice())?;
     let mut errors = Items::new(alloc);
     operation_rules(alloc, operations, &mut errors)?;
     fragment_rules(alloc, operations, &index, &mut errors)?;

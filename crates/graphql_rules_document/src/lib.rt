@@ -6,6 +6,7 @@ mod all_rules;
 mod anonymous_operations;
 mod cycles;
 mod first_variables;
+pub mod laws;
 mod names;
 mod undefined_variables;
 mod unique_names;
@@ -13,7 +14,7 @@ mod unused_fragments;
 mod unused_variables;
 mod variable_positions;
 
-pub use all_rules::document_errors;
+pub use all_rules::{document_errors, scope_errors};
 pub use anonymous_operations::lone_anonymous_operation;
 pub use cycles::no_fragment_cycles;
 pub use undefined_variables::no_undefined_variables;
