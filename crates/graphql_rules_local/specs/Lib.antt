@@ -12,3 +12,4 @@ pub mod KnownTypeNames
 pub mod PossibleFragmentSpreads
 pub mod ScalarLeafs
 pub mod VariablesAreInputTypes
+pub mod Laws

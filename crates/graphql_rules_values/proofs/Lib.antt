@@ -1,2 +1,3 @@
 pub mod TellLemmas
 pub mod NodeLemmas
+pub mod LawLemmas

@@ -1,3 +1,4 @@
 pub mod Literals
 pub mod ArgumentsOfCorrectType
 pub mod DefaultValuesOfCorrectType
+pub mod Laws

@@ -5,6 +5,7 @@
 
 pub mod arguments_of_correct_type;
 pub mod default_values_of_correct_type;
+pub mod laws;
 mod literals;
 
 pub use arguments_of_correct_type::ArgumentsOfCorrectType;

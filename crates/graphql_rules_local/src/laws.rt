@@ -1,0 +1,119 @@
+//! Laws of what holds of a document in which rules find no fault: each function's contract is a law,
+//! and its body does nothing.
+
+ghost use Rattle.std.specs.Prelude.{◌≡◌, ◌↔◌, List, false, true, map, not};
+ghost use Rattle.std.specs.List.{IsDistinct};
+ghost use Rattle.std.specs.Option.{ForSome, IsSome};
+ghost use Rattle.std.specs.Str.{bytes_eq};
+ghost use Rattle.graphql_occurrences.specs.Definitions.{fragment_named};
+ghost use Rattle.graphql_occurrences.specs.Lookups.{known};
+ghost use Rattle.graphql_occurrences.specs.Parts.{Part, AField, ASpread, ADirective, AnInline, Condition, Given, ObjectOf, VariableDefined};
+ghost use Rattle.graphql_rules_local.specs.DisableIntrospection.{introspection_field, introspects};
+ghost use Rattle.graphql_rules_local.specs.FieldsOnCorrectType.{unknown_field};
+ghost use Rattle.graphql_rules_local.specs.FragmentsOnCompositeTypes.{no_composite};
+ghost use Rattle.graphql_rules_local.specs.KnownArgumentNames.{known_argument_names};
+ghost use Rattle.graphql_rules_local.specs.KnownDirectives.{known_directives};
+ghost use Rattle.graphql_rules_local.specs.KnownFragmentNames.{unknown_fragment};
+ghost use Rattle.graphql_rules_local.specs.KnownTypeNames.{unknown_type};
+ghost use Rattle.graphql_rules_local.specs.Laws.{AreDeclared, AreDistinct, AreProvided, EachOf, FindsNoFault, IsDeclaredField, IsKnownAs, IsPlaced, IsSelected, MayApply};
+ghost use Rattle.graphql_rules_local.specs.PossibleFragmentSpreads.{impossible_spread};
+ghost use Rattle.graphql_rules_local.specs.ProvidedNonNullArguments.{provided_non_null_arguments};
+ghost use Rattle.graphql_rules_local.specs.ScalarLeafs.{wrong_leaf};
+ghost use Rattle.graphql_rules_local.specs.UniqueArgumentNames.{unique_argument_names};
+ghost use Rattle.graphql_rules_local.specs.UniqueInputFieldNames.{unique_input_field_names};
+ghost use Rattle.graphql_rules_local.specs.VariablesAreInputTypes.{no_input_type};
+ghost use Rattle.graphql_schema_faults.specs.Faults.{is_composite};
+ghost use Rattle.graphql_visitors.specs.Subjects.{Subject};
+
+use graphql_meta::SchemaScalar;
+
+/// `KnownFragmentNames` finds no fault exactly where each spread's name is that of a fragment of the
+/// document (GraphQL October 2021, 5.5.2.1 Fragment Spread Target Defined).
+pub fn spread_fragments_are_known<S: SchemaScalar>()
+    ensures { (subject : Subject S S.Check) → (parts : List (Part S S.Check)) → FindsNoFault unknown_fragment subject parts ↔ EachOf ASpread (λ s. IsSome (fragment_named subject.document s.name.item)) parts }
+{}
+
+/// `FieldsOnCorrectType` finds no fault exactly where each field is declared for the type that it is
+/// selected of (5.3.1 Field Selections).
+pub fn fields_are_declared<S: SchemaScalar>()
+    ensures { (subject : Subject S S.Check) → (parts : List (Part S S.Check)) → FindsNoFault unknown_field subject parts ↔ EachOf AField (λ f. IsSome f.declared) parts }
+{}
+
+/// `ScalarLeafs` finds no fault exactly where each field whose type is known has a selection set where
+/// that type is composite, and none where it is a leaf (5.3.3 Leaf Field Selections).
+pub fn leaves_have_no_sets<S: SchemaScalar>()
+    ensures { (subject : Subject S S.Check) → (parts : List (Part S S.Check)) → FindsNoFault wrong_leaf subject parts ↔ EachOf AField (IsSelected subject.schema) parts }
+{}
+
+/// The two find no fault exactly where each field is declared, and has a selection set where it must and
+/// none where it may not.
+pub fn fields_are_declared_and_fit<S: SchemaScalar>()
+    ensures { (subject : Subject S S.Check) → (parts : List (Part S S.Check)) → (FindsNoFault unknown_field subject parts × FindsNoFault wrong_leaf subject parts) ↔ EachOf AField (IsDeclaredField subject.schema) parts }
+{}
+
+/// `KnownTypeNames` finds no fault exactly where the type of each variable and the type of each
+/// condition is known (5.5.1.2 Fragment Spread Type Existence, 5.8.2 Variables Are Input Types).
+pub fn named_types_are_known<S: SchemaScalar>()
+    ensures { (subject : Subject S S.Check) → (parts : List (Part S S.Check)) → FindsNoFault unknown_type subject parts ↔ (EachOf VariableDefined (λ v. IsSome (known subject.schema v.type_of.item.name)) parts × EachOf Condition (λ name. IsSome (known subject.schema name.item)) parts) }
+{}
+
+/// `VariablesAreInputTypes` finds no fault exactly where the type of each variable, where it is known, is
+/// no composite one (5.8.2 Variables Are Input Types).
+pub fn variables_are_of_input_types<S: SchemaScalar>()
+    ensures { (subject : Subject S S.Check) → (parts : List (Part S S.Check)) → FindsNoFault no_input_type subject parts ↔ EachOf VariableDefined (λ v. ForSome (known subject.schema v.type_of.item.name) (λ m. is_composite m ≡ false)) parts }
+{}
+
+/// `FragmentsOnCompositeTypes` finds no fault exactly where the type of each condition, where it is
+/// known, is composite (5.5.1.3 Fragments on Composite Types).
+pub fn conditions_are_composite<S: SchemaScalar>()
+    ensures { (subject : Subject S S.Check) → (parts : List (Part S S.Check)) → FindsNoFault no_composite subject parts ↔ EachOf Condition (λ name. ForSome (known subject.schema name.item) (λ m. is_composite m ≡ true)) parts }
+{}
+
+/// The three find no fault exactly where the type of each variable is known and no composite one, and
+/// the type of each condition is known and composite.
+pub fn named_types_are_of_their_kinds<S: SchemaScalar>()
+    ensures { (subject : Subject S S.Check) → (parts : List (Part S S.Check)) → (FindsNoFault unknown_type subject parts × FindsNoFault no_input_type subject parts × FindsNoFault no_composite subject parts) ↔ (EachOf VariableDefined (λ v. IsKnownAs subject.schema (λ m. not (is_composite m)) v.type_of.item.name) parts × EachOf Condition (λ name. IsKnownAs subject.schema is_composite name.item) parts) }
+{}
+
+/// `PossibleFragmentSpreads` finds no fault exactly where the type of each spread's fragment and of each
+/// inline fragment's condition, where it is known, has a possible type in common with the type of which
+/// it is selected (5.5.2.3 Fragment Spread Is Possible).
+pub fn spreads_are_possible<S: SchemaScalar>()
+    ensures { (subject : Subject S S.Check) → (parts : List (Part S S.Check)) → FindsNoFault impossible_spread subject parts ↔ (EachOf ASpread (λ s. ForSome (fragment_named subject.document s.name.item) (λ f. MayApply subject.schema s.parent f.item.type_condition.item)) parts × EachOf AnInline (λ i. ForSome i.condition (λ name. MayApply subject.schema i.parent name.item)) parts) }
+{}
+
+/// `KnownDirectives` finds no fault exactly where each directive is declared and may stand where it does
+/// (5.7.1 Directives Are Defined, 5.7.2 Directives Are In Valid Locations).
+pub fn directives_may_stand<S: SchemaScalar>()
+    ensures { (subject : Subject S S.Check) → (parts : List (Part S S.Check)) → FindsNoFault known_directives subject parts ↔ EachOf ADirective IsPlaced parts }
+{}
+
+/// `KnownArgumentNames` finds no fault exactly where each argument that a known field or directive is
+/// given is declared for it (5.4.1 Argument Names).
+pub fn arguments_are_declared<S: SchemaScalar>()
+    ensures { (subject : Subject S S.Check) → (parts : List (Part S S.Check)) → FindsNoFault known_argument_names subject parts ↔ EachOf Given AreDeclared parts }
+{}
+
+/// `ProvidedNonNullArguments` finds no fault exactly where each argument that a known field or directive
+/// has to be given is given (5.4.2.1 Required Arguments).
+pub fn arguments_are_provided<S: SchemaScalar>()
+    ensures { (subject : Subject S S.Check) → (parts : List (Part S S.Check)) → FindsNoFault provided_non_null_arguments subject parts ↔ EachOf Given AreProvided parts }
+{}
+
+/// `DisableIntrospection` finds no fault exactly where no field is `__schema` or `__type` (4.2 Schema
+/// Introspection).
+pub fn nothing_is_introspected<S: SchemaScalar>()
+    ensures { (subject : Subject S S.Check) → (parts : List (Part S S.Check)) → FindsNoFault introspection_field subject parts ↔ EachOf AField (λ f. introspects f.name ≡ false) parts }
+{}
+
+/// `UniqueArgumentNames` finds no fault exactly where no two arguments that a field or a directive is
+/// given have one name (5.4.2 Argument Uniqueness).
+pub fn arguments_are_distinct<S: SchemaScalar>()
+    ensures { (subject : Subject S S.Check) → (parts : List (Part S S.Check)) → FindsNoFault unique_argument_names subject parts ↔ EachOf Given AreDistinct parts }
+{}
+
+/// `UniqueInputFieldNames` finds no fault exactly where no two fields of an object have one name (5.6.3
+/// Input Object Field Uniqueness).
+pub fn input_fields_are_distinct<S: SchemaScalar>()
+    ensures { (subject : Subject S S.Check) → (parts : List (Part S S.Check)) → FindsNoFault unique_input_field_names subject parts ↔ EachOf ObjectOf (λ names. IsDistinct bytes_eq (map (λ n. n.item) names)) parts }
+{}
