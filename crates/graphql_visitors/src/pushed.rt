@@ -1,4 +1,4 @@
-//! What is asked of a context as if it stood elsewhere.
+//! Where a context stands, and what is asked of it as if it stood elsewhere.
 
 ghost use Rattle.std.specs.Prelude.{◌≡◌};
 ghost use Rattle.std.specs.Fn.{FnOnceReturnsAtMut};
@@ -8,9 +8,23 @@ ghost use Rattle.graphql_occurrences.specs.Lookups.{referred};
 ghost use Rattle.graphql_schema.specs.Declarations.{declarations_of};
 
 use crate::context::ValidatorContext;
-use graphql_occurrences::{InputPlace, TypeLiteral};
+use graphql_occurrences::{Around, InputPlace, TypeLiteral};
 
 impl<'a, 't, S, C> ValidatorContext<'a, 't, S, C> {
+    /// The types around the node where the context stands.
+    pub fn around(&self) -> Around<'a, S, C>
+        ensures { result ≡ self.now.around }
+    {
+        self.around
+    }
+
+    /// The context stands where these types are around the node at hand, as a walk tells them.
+    pub fn stand_at(&mut self, around: Around<'a, S, C>)
+        ensures { self.new ≡ record self.old { around = around.entry } }
+    {
+        self.around = around;
+    }
+
     /// What a function answers where the type of what is selected is this one. The context stands
     /// afterwards where it stood.
     pub fn with_pushed_type<R, F: FnOnce(&mut ValidatorContext<'_, '_, S, C>) -> R>(
