@@ -1,8 +1,7 @@
 //! The validation layer of GraphQL: what a schema says of its types, and whether requests can be
 //! executed against it (GraphQL October 2021, 3 Type System).
 //!
-//! This crate gives the layer one name, and has no code of its own. It holds so far schemas, and what
-//! rules for documents will stand on:
+//! This crate gives the layer one name, and asks all rules of a document in one call:
 //!
 //! - the metadata of types, fields, arguments and directives, of which a schema is made, those that
 //!   are found by their names as [`NamedItems`];
@@ -11,14 +10,24 @@
 //! - [`SchemaType`], the schema itself, refused with a [`SchemaError`] where its types are at fault;
 //!   the references to its types, each a [`TypeType`]; and [`RootNode`], what requests are executed
 //!   over;
-//! - in [`laws`], what is proved of subtypes, possible types and types that overlap;
+//! - [`first_stage_errors`] and [`root_node_errors`], what all [`rules`] but the one that fields merge
+//!   have against a document, and [`visit_all_rules`], the same over a context;
 //! - [`Walk`], a walk over a document, which tells each [`Event`] with the types around it;
 //! - [`visit`], which takes a [`Visitor`], or a list of them, over a document, and the
 //!   [`ValidatorContext`], which keeps what they report;
 //! - [`validate_literal_value`], which tells why a literal does not conform to a type;
-//! - [`RuleError`], what a rule has against a document.
+//! - [`RuleError`], what a rule has against a document;
+//! - in [`laws`], what is proved of schemas, of visitors and of documents without a fault.
 #![tactic(auto)]
 
+mod first_stage;
+pub mod laws;
+mod one_walk;
+pub mod rules;
+
+pub use first_stage::{
+    first_stage_errors, root_node_errors, visit_all_rules, visit_introspection_rule,
+};
 pub use graphql_literal_checks::{Source, validate_literal_value, validate_value};
 pub use graphql_meta::{
     Argument, Check, DeprecationStatus, DirectiveLocation, DirectiveType, EnumMeta, EnumValue,
@@ -30,7 +39,7 @@ pub use graphql_occurrences::{
     Around, DeclaredArguments, Event, InputPlace, KnownField, Node, Owner, Seen, TypeLiteral, Walk,
 };
 pub use graphql_rule_errors::RuleError;
-pub use graphql_schema::{RootNode, SchemaError, SchemaType, TypeType, laws};
+pub use graphql_schema::{RootNode, SchemaError, SchemaType, TypeType};
 pub use graphql_visitors::{
     Local, LocalRule, MultiVisitorCons, MultiVisitorNil, Relational, RelationalRule,
     ValidatorContext, Visitor, visit,

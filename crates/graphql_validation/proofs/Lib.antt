@@ -1,0 +1,5 @@
+pub mod WalkLemmas
+pub mod StageLemmas
+pub mod ReportedLemmas
+pub mod ValidLemmas
+pub mod WellFormedLemmas

@@ -1,0 +1,13 @@
+use Rattle.graphql_occurrences.specs.Events.{events}
+use Rattle.graphql_visitors.specs.Subjects.{subject_of}
+use Rattle.graphql_validation.proofs.StageLemmas.{parts_told}
+use Rattle.graphql_validation.proofs.WalkLemmas.{reports_visited}
+use Rattle.graphql_validation.specs.FirstStage.{PartsTold}
+use Rattle.graphql_validation.proofs.first_stage.visit_parts.Goals as goal
+
+pub returns-clause-reports : goal.returns-clause-reports
+returns-clause-reports g c =
+    let subject = subject_of c.args.context.now in
+    reports_visited _ (PartsTold g.S.ScalarValue.answer g.S.Check.Check.accepts subject) (events subject.schema subject.document) c.with-rules.result c.visit_and_gather.new.visitor c.args.context.now c.visit_and_gather.new.context
+    c.visit_and_gather.ensures.visited c.visit_and_gather.ensures.around
+    (λ ts runs. parts_told subject _ _ _ _ _ _ _ _ _ _ _ _ _ _ g.S.ScalarValue.answer g.S.Check.Check.accepts c.with-rules.result c.visit_and_gather.new.visitor ts runs)

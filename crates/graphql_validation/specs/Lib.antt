@@ -1,0 +1,3 @@
+pub mod FirstStage
+pub mod Valid
+pub mod WellFormed

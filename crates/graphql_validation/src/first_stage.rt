@@ -1,0 +1,124 @@
+//! The rules of the first stage: all rules for documents but the one that fields merge.
+
+ghost use Rattle.std.specs.Prelude.{◌≡◌, ◌↔◌, [], IfOk, false};
+ghost use Rattle.std.specs.List.Sorted.{IsSorted};
+ghost use Rattle.graphql_rule_errors.specs.Places.{places};
+ghost use Rattle.graphql_rule_errors.specs.declared.rule_error.RuleError.{RuleError};
+ghost use Rattle.graphql_rules_document.specs.AllRules.{document_places};
+ghost use Rattle.graphql_schema.specs.Declarations.{declarations_of};
+ghost use Rattle.graphql_scopes.specs.Lent.{scopes_told};
+ghost use Rattle.graphql_validation.specs.FirstStage.{FirstStage, PartsTold, RootNodeTold, introspection_places, scopes as scopes_held};
+ghost use Rattle.graphql_validation.specs.Valid.{HasNoFault, RootNodeHasNoFault};
+ghost use Rattle.graphql_visitors.specs.Reports.{Reports, ReportsBy};
+ghost use Rattle.graphql_visitors.specs.Subjects.{subject_of};
+
+use crate::one_walk::visit_and_gather;
+use graphql_meta::SchemaScalar;
+use graphql_rule_errors::RuleError;
+use graphql_rules_document::scope_errors;
+use graphql_rules_local::{
+    disable_introspection, fields_on_correct_type, fragments_on_composite_types,
+    known_argument_names, known_directives, known_fragment_names, known_type_names,
+    possible_fragment_spreads, provided_non_null_arguments, scalar_leafs, unique_argument_names,
+    unique_input_field_names, variables_are_input_types,
+};
+use graphql_rules_values::{arguments_of_correct_type, default_values_of_correct_type};
+use graphql_schema::{RootNode, SchemaType};
+use graphql_scopes::Scopes;
+use graphql_text::Items;
+use graphql_tree::Definition;
+use graphql_visitors::{MultiVisitorNil, ValidatorContext, visit};
+use std::alloc::{AllocError, Global};
+
+/// Asks all rules of the first stage over the context's document: each but the one that fields merge
+/// (GraphQL October 2021, 5 Validation). What they report comes behind the errors that are there. Walks
+/// over the document once. Where memory runs out the context has failed.
+pub fn visit_all_rules<'a, 't, S: SchemaScalar>(context: &mut ValidatorContext<'a, 't, S>)
+    ensures { ReportsBy (FirstStage S.answer S.Check.accepts (subject_of context.old)) context.old context.new }
+{
+    let scopes = visit_parts(context);
+    report_scopes(context, &scopes);
+}
+
+/// Asks the rules that look at one part at a time, and gathers what operations and fragments hold.
+fn visit_parts<'a, 't, S: SchemaScalar>(
+    context: &mut ValidatorContext<'a, 't, S>,
+) -> Scopes<'a, 't, S>
+    ensures reports { ReportsBy (PartsTold S.answer S.Check.accepts (subject_of context.old)) context.old context.new }
+    ensures gathered { context.new.failed ≡ false → scopes_told result ≡ scopes_held (subject_of context.old) }
+{
+    let mut rules = MultiVisitorNil
+        .with(unique_input_field_names::factory())
+        .with(unique_argument_names::factory())
+        .with(provided_non_null_arguments::factory())
+        .with(known_argument_names::factory())
+        .with(known_directives::factory())
+        .with(possible_fragment_spreads::factory())
+        .with(known_fragment_names::factory())
+        .with(variables_are_input_types::factory())
+        .with(known_type_names::factory())
+        .with(fragments_on_composite_types::factory())
+        .with(scalar_leafs::factory())
+        .with(fields_on_correct_type::factory())
+        .with(default_values_of_correct_type::factory())
+        .with(arguments_of_correct_type::factory());
+    visit_and_gather(&mut rules, context)
+}
+
+/// Reports what the rules for operations and fragments have against these.
+fn report_scopes<'a, 't, S: SchemaScalar>(
+    context: &mut ValidatorContext<'a, 't, S>,
+    scopes: &Scopes<'a, 't, S>,
+)
+    ensures { Reports (document_places context.old.schema.now.types (scopes_told scopes.now)) context.old context.new }
+{
+    match scope_errors(context.alloc(), context.schema(), scopes) {
+        Ok(errors) => context.append_errors(errors),
+        Err(_) => context.fail(),
+    }
+}
+
+/// Asks the rule against introspection over the context's document: no field is `__schema` or `__type`
+/// (GraphQL October 2021, 4 Introspection). What it reports comes behind the errors that are there.
+/// Where memory runs out the context has failed.
+pub fn visit_introspection_rule<'a, 't, S: SchemaScalar>(context: &mut ValidatorContext<'a, 't, S>)
+    ensures { Reports (introspection_places (subject_of context.old)) context.old context.new }
+{
+    let mut rule = disable_introspection::factory();
+    visit(&mut rule, context);
+}
+
+/// The errors of all rules of the first stage for a document, in order: by their places, then by their
+/// messages. There are none exactly where no rule finds a fault. An error of the call is want of memory.
+pub fn first_stage_errors<'a, 't, S: SchemaScalar>(
+    alloc: Global,
+    schema: &'a SchemaType<S>,
+    document: &'a [Definition<'t, S>],
+) -> Result<Items<RuleError>, AllocError>
+    ensures told { IfOk result (λ errors. FirstStage S.answer S.Check.accepts (record { schema = declarations_of schema.now; document = document.now }) (places errors)) }
+    ensures none { IfOk result (λ errors. (errors ≡ []) ↔ HasNoFault S.answer S.Check.accepts (record { schema = declarations_of schema.now; document = document.now })) }
+    ensures sorted { IfOk result (IsSorted ⟦<RuleError as Ord>⟧.cmp) }
+{
+    let mut context = ValidatorContext::new(alloc, schema, document)?;
+    visit_all_rules(&mut context);
+    context.into_errors()
+}
+
+/// The same for a document of a request to a root node: with the errors of the rule against
+/// introspection, where the root node has introspection disabled.
+pub fn root_node_errors<'a, 't, S: SchemaScalar>(
+    alloc: Global,
+    root: &'a RootNode<S>,
+    document: &'a [Definition<'t, S>],
+) -> Result<Items<RuleError>, AllocError>
+    ensures told { IfOk result (λ errors. RootNodeTold S.answer S.Check.accepts (record { schema = declarations_of root.now.schema; document = document.now }) root.now.introspection_disabled (places errors)) }
+    ensures none { IfOk result (λ errors. (errors ≡ []) ↔ RootNodeHasNoFault S.answer S.Check.accepts (record { schema = declarations_of root.now.schema; document = document.now }) root.now.introspection_disabled) }
+    ensures sorted { IfOk result (IsSorted ⟦<RuleError as Ord>⟧.cmp) }
+{
+    let mut context = ValidatorContext::new(alloc, root.schema(), document)?;
+    visit_all_rules(&mut context);
+    if root.introspection_disabled {
+        visit_introspection_rule(&mut context);
+    }
+    context.into_errors()
+}

@@ -1,0 +1,48 @@
+//! Laws of schemas, of visitors and of documents without a fault: each function's contract is a law, and
+//! its body does nothing.
+
+ghost use Rattle.graphql_validation.specs.Valid.{HasNoFault};
+ghost use Rattle.graphql_validation.specs.WellFormed.{IsWellFormed};
+ghost use Rattle.graphql_visitors.specs.Subjects.{Subject};
+
+use graphql_meta::SchemaScalar;
+pub use graphql_occurrences::laws::events_tell_occurrences;
+pub use graphql_rule_errors::laws::{
+    distinct_names_have_no_repeats, errors_stand_by_places_and_messages,
+};
+pub use graphql_rules_document::laws::{
+    defined_uses_have_definitions, ends_within_more_levels, fragments_without_cycles_are_ranked,
+    fragments_without_cycles_end, fragments_without_cycles_never_reach_themselves,
+    lone_anonymous_operation_stands_alone, reached_uses_stand_in_what_is_reached,
+    unique_fragments_have_distinct_names, unique_operations_have_distinct_names,
+    unique_variables_have_distinct_names, used_fragments_are_reached, used_variables_have_uses,
+    uses_in_allowed_position_are_allowed,
+};
+pub use graphql_rules_local::laws::{
+    arguments_are_declared, arguments_are_distinct, arguments_are_provided,
+    conditions_are_composite, directives_may_stand, fields_are_declared,
+    fields_are_declared_and_fit, input_fields_are_distinct, leaves_have_no_sets,
+    named_types_are_known, named_types_are_of_their_kinds, nothing_is_introspected,
+    spread_fragments_are_known, spreads_are_possible, variables_are_of_input_types,
+};
+pub use graphql_rules_values::laws::{
+    declared_arguments_conform, defaults_conform, literals_conform, misfits_are_determined,
+    told_of_arguments_is_determined, told_of_defaults_is_determined,
+};
+pub use graphql_schema::laws::{
+    overlap_is_symmetric, possible_is_below, subtype_is_reflexive, subtype_is_transitive,
+    wrapped_subtype_decides,
+};
+pub use graphql_scopes::laws::reached_is_least;
+pub use graphql_visitors::laws::{
+    local_rules_tell_of_occurrences, no_visitor_tells_nothing, one_pass_is_separate_passes,
+    relational_rules_tell_of_occurrences,
+};
+
+/// A document in which no rule of the first stage finds a fault is what the steps after validation ask
+/// for: names stand once, each spread means a fragment, fragments end when they are written out, each
+/// variable's type is a known input type, and each field is declared and has a selection set exactly
+/// where its type has fields.
+pub fn documents_without_a_fault_are_well_formed<S: SchemaScalar>()
+    ensures { (subject : Subject S S.Check) → HasNoFault S.answer S.Check.accepts subject → IsWellFormed subject }
+{}
