@@ -1,0 +1,168 @@
+//! Documents that are made to cost most.
+
+use crate::repeated::CostlyRow;
+use crate::repeated::Piece::{Next, Number, Words};
+use crate::schemas::over_kinds;
+use crate::told::Asked;
+
+/// A field of one name, in one set.
+const FIELDS: CostlyRow = (
+    &[
+        (1, &[Words("{hero{")]),
+        (10_000, &[Words("name ")]),
+        (1, &[Words("}}")]),
+    ],
+    0,
+);
+
+/// Unknown fields, each an error.
+const UNKNOWN: CostlyRow = (
+    &[
+        (1, &[Words("{")]),
+        (30_000, &[Words("a ")]),
+        (1, &[Words("}")]),
+    ],
+    30_000,
+);
+
+/// Fragments in a row, of which each spreads the next one.
+const ROW: CostlyRow = (
+    &[
+        (1, &[Words("{hero{...f0}}")]),
+        (
+            2_000,
+            &[
+                Words("fragment f"),
+                Number,
+                Words(" on Human{...f"),
+                Next,
+                Words("}"),
+            ],
+        ),
+        (1, &[Words("fragment f2000 on Human{name}")]),
+    ],
+    0,
+);
+
+/// The same, of which the last spreads the first: each spread in them is an error.
+const RING: CostlyRow = (
+    &[
+        (1, &[Words("{hero{...f0}}")]),
+        (
+            2_000,
+            &[
+                Words("fragment f"),
+                Number,
+                Words(" on Human{...f"),
+                Next,
+                Words("}"),
+            ],
+        ),
+        (1, &[Words("fragment f2000 on Human{...f0}")]),
+    ],
+    2_001,
+);
+
+/// Fragments of which each spreads the next one twice, so that an operation reaches the last one in
+/// more ways than can be counted.
+const TWICE: CostlyRow = (
+    &[
+        (1, &[Words("{hero{...f0}}")]),
+        (
+            1_600,
+            &[
+                Words("fragment f"),
+                Number,
+                Words(" on Human{...f"),
+                Next,
+                Words("...f"),
+                Next,
+                Words("}"),
+            ],
+        ),
+        (1, &[Words("fragment f1600 on Human{name}")]),
+    ],
+    0,
+);
+
+/// Variables, each used once.
+const VARIABLES: CostlyRow = (
+    &[
+        (1, &[Words("query(")]),
+        (3_000, &[Words("$v"), Number, Words(":Int!")]),
+        (1, &[Words("){count(of:[")]),
+        (3_000, &[Words("$v"), Number]),
+        (1, &[Words("])}")]),
+    ],
+    0,
+);
+
+/// Operations that all reach the same fragments.
+const OPERATIONS: CostlyRow = (
+    &[
+        (1_400, &[Words("query q"), Number, Words("{hero{...f0}}")]),
+        (
+            1_000,
+            &[
+                Words("fragment f"),
+                Number,
+                Words(" on Human{...f"),
+                Next,
+                Words("}"),
+            ],
+        ),
+        (1, &[Words("fragment f1000 on Human{name}")]),
+    ],
+    0,
+);
+
+/// Operations that all reach the same uses of a variable, which each of them defines.
+const USES: CostlyRow = (
+    &[
+        (500, &[Words("query q"), Number, Words("($a:Int!){...f}")]),
+        (1, &[Words("fragment f on Query{count(of:[")]),
+        (4_000, &[Words("$a")]),
+        (1, &[Words("])}")]),
+    ],
+    0,
+);
+
+#[test]
+fn a_field_many_times_ends(rt: HostRuntime) {
+    over_kinds(&rt, rt.alloc(), Asked::Counts(&[FIELDS]));
+}
+
+#[test]
+fn many_unknown_fields_end(rt: HostRuntime) {
+    over_kinds(&rt, rt.alloc(), Asked::Counts(&[UNKNOWN]));
+}
+
+#[test]
+fn fragments_in_a_row_end(rt: HostRuntime) {
+    over_kinds(&rt, rt.alloc(), Asked::Counts(&[ROW]));
+}
+
+#[test]
+fn fragments_in_a_ring_end(rt: HostRuntime) {
+    over_kinds(&rt, rt.alloc(), Asked::Counts(&[RING]));
+}
+
+#[test]
+fn fragments_spread_twice_end(rt: HostRuntime) {
+    over_kinds(&rt, rt.alloc(), Asked::Counts(&[TWICE]));
+}
+
+#[test]
+fn many_variables_end(rt: HostRuntime) {
+    over_kinds(&rt, rt.alloc(), Asked::Counts(&[VARIABLES]));
+}
+
+#[test]
+fn many_operations_over_fragments_end(rt: HostRuntime) {
+    over_kinds(&rt, rt.alloc(), Asked::Counts(&[OPERATIONS]));
+}
+
+#[test]
+fn many_operations_over_uses_end(rt: HostRuntime) {
+    over_kinds(&rt, rt.alloc(), Asked::Counts(&[USES]));
+}

@@ -1,0 +1,197 @@
+//! The schemas of these tests.
+
+ghost use Rattle.std.specs.Prelude.{◌≡◌, Ok};
+ghost use Rattle.graphql_items.specs.Memory.{Told};
+ghost use Rattle.graphql_scalars.specs.declared.check_error.CheckError.TheVariants.{Memory};
+ghost use Rattle.graphql_meta.specs.ScalarChecks.{IsInt, IsString, IsBoolean};
+
+use crate::examples::{
+    ArgumentRow, FieldRow, Meta, NON_NULL, NULLABLE, Of, Row, TOLD_OF_ITSELF, enumeration,
+    input_object, scalar, with, with_all,
+};
+use crate::told::{Asked, Root, ask};
+use graphql_text::Items;
+use graphql_type_references::TypeModifier;
+use graphql_validation::scalar_checks::{boolean_check, int_check, string_check};
+use graphql_validation::{RootNode, SchemaType, TypeCheck};
+use graphql_values::{DefaultScalarValue, InputValue};
+use std::alloc::Global;
+use std::process::Abort;
+
+type Value = InputValue<DefaultScalarValue>;
+
+/// Heroes with an identity, a name and a friend, who can be renamed.
+const HEROES: [Row; 3] = [
+    Row::Object("Query", &[FieldRow("hero", Of("Human", NULLABLE), &[])]),
+    Row::Object(
+        "Human",
+        &[
+            FieldRow("id", Of("String", NON_NULL), &[]),
+            FieldRow("name", Of("String", NON_NULL), &[]),
+            FieldRow("friend", Of("Human", NULLABLE), &[]),
+        ],
+    ),
+    Row::Object(
+        "Mutation",
+        &[FieldRow(
+            "rename",
+            Of("Human", NULLABLE),
+            &[
+                ArgumentRow("id", Of("String", NON_NULL), None),
+                ArgumentRow("name", Of("String", NON_NULL), None),
+            ],
+        )],
+    ),
+];
+
+/// Objects, an interface and a union, and fields with arguments of each kind.
+const KINDS: [Row; 6] = [
+    Row::Object(
+        "Query",
+        &[
+            FieldRow(
+                "hero",
+                Of("Human", NULLABLE),
+                &[
+                    ArgumentRow("near", Of("Point", NULLABLE), None),
+                    ArgumentRow("color", Of("Color", NULLABLE), None),
+                ],
+            ),
+            FieldRow(
+                "human",
+                Of("Human", NULLABLE),
+                &[ArgumentRow("id", Of("Int", NON_NULL), None)],
+            ),
+            FieldRow(
+                "count",
+                Of("Int", NULLABLE),
+                &[
+                    ArgumentRow(
+                        "of",
+                        Of("Int", &[TypeModifier::NonNull, TypeModifier::List(None)]),
+                        None,
+                    ),
+                    ArgumentRow("least", Of("Int", NON_NULL), Some(1)),
+                ],
+            ),
+            FieldRow("pet", Of("Pet", NULLABLE), &[]),
+            FieldRow("being", Of("Being", NULLABLE), &[]),
+        ],
+    ),
+    Row::Object(
+        "Mutation",
+        &[FieldRow(
+            "rename",
+            Of("Human", NULLABLE),
+            &[ArgumentRow("id", Of("Int", NON_NULL), None)],
+        )],
+    ),
+    Row::Interface("Pet", &[FieldRow("name", Of("String", NULLABLE), &[])]),
+    Row::Implementor(
+        "Dog",
+        &[
+            FieldRow("name", Of("String", NULLABLE), &[]),
+            FieldRow("barks", Of("Boolean", NULLABLE), &[]),
+        ],
+        "Pet",
+    ),
+    Row::Object(
+        "Human",
+        &[
+            FieldRow("name", Of("String", NON_NULL), &[]),
+            FieldRow("friend", Of("Human", NULLABLE), &[]),
+        ],
+    ),
+    Row::Union("Being", &["Human", "Dog"]),
+];
+
+/// The fields of the input object `Point`.
+const POINT: [ArgumentRow; 3] = [
+    ArgumentRow("x", Of("Int", NON_NULL), None),
+    ArgumentRow("y", Of("Int", NULLABLE), Some(0)),
+    ArgumentRow("next", Of("Point", NULLABLE), None),
+];
+
+/// The root node over these types, with the roots `Query` and `Mutation`, and without introspection.
+fn root_of(rt: &impl Abort, alloc: Global, types: Items<Meta>) -> Root {
+    let schema = SchemaType::new(alloc, types, "Query", Some("Mutation"), None);
+    RootNode::new(schema.expect(rt, "a schema")).disable_introspection()
+}
+
+/// Asserts of documents what is asked, over the schema of heroes.
+pub fn over_heroes(rt: &impl Abort, alloc: Global, asked: Asked<'_>) {
+    let string = TypeCheck::new(Box::new(
+        alloc,
+        move |value: &Value|
+            ensures { Told (λ e. e ≡ Memory) result (IsString value.now) }
+        { string_check(alloc, value) },
+    )
+    .expect(rt, "memory"));
+    let boolean = TypeCheck::new(Box::new(
+        alloc,
+        move |value: &Value|
+            ensures { Told (λ e. e ≡ Memory) result (IsBoolean value.now) }
+        { boolean_check(alloc, value) },
+    )
+    .expect(rt, "memory"));
+    let types = with(rt, Items::new(alloc), scalar(rt, alloc, "String", string));
+    let types = with(rt, types, scalar(rt, alloc, "Boolean", boolean));
+    let types = with_all(rt, alloc, types, &TOLD_OF_ITSELF);
+    ask(
+        rt,
+        alloc,
+        &root_of(rt, alloc, with_all(rt, alloc, types, &HEROES)),
+        asked,
+    );
+}
+
+/// The same over a schema with types of each kind.
+pub fn over_kinds(rt: &impl Abort, alloc: Global, asked: Asked<'_>) {
+    let string = TypeCheck::new(Box::new(
+        alloc,
+        move |value: &Value|
+            ensures { Told (λ e. e ≡ Memory) result (IsString value.now) }
+        { string_check(alloc, value) },
+    )
+    .expect(rt, "memory"));
+    let boolean = TypeCheck::new(Box::new(
+        alloc,
+        move |value: &Value|
+            ensures { Told (λ e. e ≡ Memory) result (IsBoolean value.now) }
+        { boolean_check(alloc, value) },
+    )
+    .expect(rt, "memory"));
+    let int = TypeCheck::new(Box::new(
+        alloc,
+        move |value: &Value|
+            ensures { Told (λ e. e ≡ Memory) result (IsInt value.now) }
+        { int_check(alloc, value) },
+    )
+    .expect(rt, "memory"));
+    let color = TypeCheck::new(Box::new(
+        alloc,
+        |_value: &Value|
+            ensures { result ≡ Ok tt }
+        { Ok(()) },
+    )
+    .expect(rt, "memory"));
+    let point = TypeCheck::new(Box::new(
+        alloc,
+        |_value: &Value|
+            ensures { result ≡ Ok tt }
+        { Ok(()) },
+    )
+    .expect(rt, "memory"));
+    let types = with(rt, Items::new(alloc), scalar(rt, alloc, "String", string));
+    let types = with(rt, types, scalar(rt, alloc, "Boolean", boolean));
+    let types = with(rt, types, scalar(rt, alloc, "Int", int));
+    let types = with(rt, types, enumeration(rt, alloc, "Color", "RED", color));
+    let types = with(rt, types, input_object(rt, alloc, "Point", &POINT, point));
+    let types = with_all(rt, alloc, types, &TOLD_OF_ITSELF);
+    ask(
+        rt,
+        alloc,
+        &root_of(rt, alloc, with_all(rt, alloc, types, &KINDS)),
+        asked,
+    );
+}

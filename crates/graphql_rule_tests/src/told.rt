@@ -1,0 +1,117 @@
+//! The errors of documents, as lines of text.
+
+use crate::repeated::{CostlyRow, text_of};
+use graphql_language::parse_document_source;
+use graphql_text::{Items, SourcePosition};
+use graphql_tree::OwnedDocument;
+use graphql_validation::{RootNode, RuleError, first_stage_errors, root_node_errors};
+use graphql_values::DefaultScalarValue;
+use std::alloc::{AllocError, Global};
+use std::process::Abort;
+
+/// How many bytes the text of a document has at most.
+const BYTES: usize = 65_536;
+
+pub type Root = RootNode<DefaultScalarValue>;
+
+/// The document that the text is.
+fn parsed<'a>(rt: &impl Abort, alloc: Global, text: &'a str) -> OwnedDocument<'a> {
+    parse_document_source::<DefaultScalarValue>(alloc, text).expect(rt, "a document")
+}
+
+/// A place: its index, its line and its column, each from zero.
+fn place_told(alloc: Global, place: &SourcePosition) -> Result<String, AllocError> {
+    let (index, line, column) = (place.index(), place.line(), place.column());
+    format!(in alloc; "({index},{line},{column})")
+}
+
+/// What is said, and the places that are named.
+fn error_told(alloc: Global, error: &RuleError) -> Result<String, AllocError> {
+    let mut told = format!(in alloc; "{} at", error.message())?;
+    for place in error.locations() {
+        let place = place_told(alloc, place)?;
+        told.push_str(" ")?;
+        told.push_str(place.as_str())?;
+    }
+    Ok(told)
+}
+
+/// The errors, a line each.
+fn told(alloc: Global, errors: &[RuleError]) -> Result<String, AllocError> {
+    let mut told = String::new(alloc);
+    let mut gap = "";
+    for error in errors {
+        let line = error_told(alloc, error)?;
+        told.push_str(gap)?;
+        told.push_str(line.as_str())?;
+        gap = "\n";
+    }
+    Ok(told)
+}
+
+/// Asserts how the errors are told.
+fn are_told(
+    rt: &impl Abort,
+    alloc: Global,
+    errors: Result<Items<RuleError>, AllocError>,
+    wanted: &str,
+) {
+    let errors = errors.expect(rt, "memory");
+    let told = told(alloc, errors.as_slice()).expect(rt, "memory");
+    assert_eq!(rt; told.as_str(), wanted);
+}
+
+/// What is asserted of documents.
+#[derive(Clone, Copy)]
+pub enum Asked<'a> {
+    /// Which errors of the first stage each text has, a line each.
+    Rules(&'a [(&'a str, &'a str)]),
+
+    /// Which errors each text has over the root node.
+    Requests(&'a [(&'a str, &'a str)]),
+
+    /// How many errors of the first stage each text has.
+    Counts(&'a [CostlyRow]),
+}
+
+/// Asserts of each text which errors of the first stage its document has.
+fn have_errors(rt: &impl Abort, alloc: Global, root: &Root, rows: &[(&str, &str)]) {
+    for row in rows {
+        let document = parsed(rt, alloc, row.0);
+        let errors = first_stage_errors(alloc, root.schema(), document.as_slice());
+        are_told(rt, alloc, errors, row.1);
+    }
+}
+
+/// Asserts of each text which errors its document has over the root node.
+fn are_refused(rt: &impl Abort, alloc: Global, root: &Root, rows: &[(&str, &str)]) {
+    for row in rows {
+        let document = parsed(rt, alloc, row.0);
+        let errors = root_node_errors(alloc, root, document.as_slice());
+        are_told(rt, alloc, errors, row.1);
+    }
+}
+
+/// Asserts of each text how many errors of the first stage its document has.
+fn are_counted(rt: &impl Abort, alloc: Global, root: &Root, rows: &[CostlyRow]) {
+    for row in rows {
+        let text = text_of(alloc, row.0).expect(rt, "memory");
+        let document = parsed(rt, alloc, text.as_str());
+        let errors = first_stage_errors(alloc, root.schema(), document.as_slice());
+        let count = errors.expect(rt, "memory").len();
+        assert!(rt;
+            text.len() <= BYTES && count == row.1,
+            "{} bytes, {count} errors",
+            text.len()
+        );
+    }
+}
+
+/// Asserts what is asked.
+pub fn ask(rt: &impl Abort, alloc: Global, root: &Root, asked: Asked<'_>) {
+    match asked {
+        Asked::Rules(rows) => have_errors(rt, alloc, root, rows),
+        Asked::Requests(rows) => are_refused(rt, alloc, root, rows),
+        Asked::Counts(rows) => are_counted(rt, alloc, root, rows),
+    }
+}
