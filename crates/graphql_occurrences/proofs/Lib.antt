@@ -2,7 +2,6 @@ pub mod OccurrenceEquations
 pub mod ValueEvents
 pub mod SelectionEvents
 pub mod PendingLemmas
-pub mod TypenameLemmas
 pub mod Tells
 pub mod TellsValues
 pub mod TellsSelections

@@ -18,7 +18,7 @@ use Rattle.graphql_occurrences.specs.Nodes.{field_head, inline_head}
 use Rattle.graphql_occurrences.specs.Lookups.{field_arguments, field_of}
 use Rattle.graphql_occurrences.specs.Events.{each, set_of, set_events, set_around, selection_layer, field_layer, inline_layer, selection_events, field_events, inline_events, spread_events, if_known, through, field_around, condition_around, arguments_events, directives_events}
 use Rattle.std.specs.Prelude.{unwrap_or}
-use Rattle.graphql_occurrences.specs.Documents.{arguments_in}
+use Rattle.graphql_tree.specs.Documents.{arguments_in}
 
 module _ {S C : Type 0} (schema : Declarations S C) where
   set_is : (xs : List (Selection S)) (around : Around S C) → set_of schema (each (λ s. s) (map (selection_events schema) xs)) around ≡ set_events schema xs around

@@ -20,7 +20,7 @@ use Rattle.graphql_tree.specs.declared.document.Fragment.{Fragment}
 use Rattle.graphql_tree.specs.declared.document.Definition.{Definition}
 use Rattle.graphql_tree.specs.declared.document.Definition.TheVariants as definition
 use Rattle.graphql_occurrences.specs.Lookups.{location_of, referred, root_of}
-use Rattle.graphql_occurrences.specs.Documents.{variables_in}
+use Rattle.graphql_tree.specs.Documents.{variables_in}
 use Rattle.graphql_occurrences.specs.Parts.{InputPlace, Part, Condition}
 use Rattle.graphql_occurrences.specs.Occurrences.{placed_parts, directives_parts, set_parts, variable_parts, operation_parts, definition_parts, occurrences}
 use Rattle.graphql_occurrences.specs.Nodes.{Around, Seen, Leave, AtDocument, AtOperation, AtFragment, AtVariableDefinition, placed_as, operation_head, fragment_head}

@@ -17,7 +17,7 @@ use Rattle.graphql_tree.specs.declared.selection.Selection.{Selection}
 use Rattle.graphql_tree.proofs.SelectionEquations.{field_layer as layer_of_field, inline_layer as layer_of_inline}
 use Rattle.graphql_tree.proofs.SelectionInduction.{selection_ind}
 use Rattle.graphql_occurrences.specs.Lookups.{field_arguments, field_in, field_type, referred}
-use Rattle.graphql_occurrences.specs.Documents.{arguments_in}
+use Rattle.graphql_tree.specs.Documents.{arguments_in}
 use Rattle.graphql_occurrences.specs.Parts.{InputPlace}
 use Rattle.graphql_occurrences.specs.Occurrences.{selection_parts, field_layer, inline_layer, under, set_parts}
 use Rattle.graphql_occurrences.specs.Nodes.{OfField, Around, AtSelectionSet, AtField, AtFragmentSpread, AtInlineFragment, placed_as, field_head, inline_head, spread_head}

@@ -17,7 +17,7 @@ use Rattle.graphql_schema.specs.StandardDirectives.{directive_named}
 use Rattle.graphql_tree.specs.Arguments.{Argument}
 use Rattle.graphql_tree.specs.declared.directive.Directive.{Directive}
 use Rattle.graphql_occurrences.specs.Lookups.{argument_place, directive_arguments, field_place, item_place}
-use Rattle.graphql_occurrences.specs.Documents.{arguments_in}
+use Rattle.graphql_tree.specs.Documents.{arguments_in}
 use Rattle.graphql_occurrences.specs.Parts.{InputPlace, Part, ObjectOf}
 use Rattle.graphql_occurrences.specs.Occurrences.{value_parts, placed_parts, directive_parts, directives_parts}
 use Rattle.graphql_occurrences.specs.Nodes.{Owner, OfDirective, Around, AtValue, AtObjectField, AtArgument, AtDirective, value_head, value_head_layer, nulled}

@@ -28,7 +28,7 @@ use Rattle.graphql_values.specs.declared.input_value.InputValue.{InputValue, fol
 use Rattle.graphql_values.specs.declared.input_value.InputValue.TheOpen.{InputValue-F}
 use Rattle.graphql_values.specs.InputValues.{Placed, Pair}
 use Rattle.graphql_occurrences.specs.Lookups.{argument_place, bare_place, directive_arguments, field_arguments, field_of, field_place, field_type, item_place, location_of, referred, root_of}
-use Rattle.graphql_occurrences.specs.Documents.{arguments_in, variables_in}
+use Rattle.graphql_tree.specs.Documents.{arguments_in, variables_in}
 use Rattle.graphql_occurrences.specs.Nodes.{Owner, OfField, OfDirective, AtVariableDefinition, AtDirective, AtArgument, AtSelectionSet, AtField, AtFragmentSpread, AtInlineFragment, AtValue, AtObjectField, Node, AtDocument, AtOperation, AtFragment, Inner, Event, Enter, Leave, Around, Seen, placed_as, value_head_layer, field_head, field_head_layer, inline_head, inline_head_layer, spread_head, operation_head, fragment_head}
 use Rattle.graphql_occurrences.specs.Parts.{InputPlace}
 

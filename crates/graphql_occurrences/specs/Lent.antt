@@ -1,17 +1,12 @@
 -- What the nodes and the types that a walk lends stand for.
 use Rattle.std.specs.Prelude.{List, []}
-use Rattle.std.specs.Option.{option_copied, option_map, unwrap_or}
-use Rattle.graphql_meta.specs.declared.meta.argument.Argument.{Argument}
-use Rattle.graphql_meta.specs.declared.meta.field.Field as declared
-use Rattle.graphql_meta.specs.Types.{TypeOf}
-use Rattle.graphql_occurrences.specs.Lookups.{typename_field}
+use Rattle.std.specs.Option.{option_copied, option_map}
+pub use Rattle.graphql_declarations.specs.Lent.{literal_of, field_of_known, arguments_lent}
 use Rattle.graphql_occurrences.specs.Nodes.{OfField, OfDirective, AtVariableDefinition, AtDirective, AtArgument, AtSelectionSet, AtField, AtFragmentSpread, AtInlineFragment, AtValue, AtObjectField, AtDocument, AtOperation, AtFragment, Inner, Enter, Leave, placed_as, operation_head, fragment_head, spread_head, field_head, inline_head, value_head}
 use Rattle.graphql_occurrences.specs.Nodes as spec
 use Rattle.graphql_occurrences.specs.Parts as part
-use Rattle.graphql_occurrences.specs.declared.arguments.DeclaredArguments.{DeclaredArguments}
 use Rattle.graphql_occurrences.specs.declared.around.Around.{Around}
 use Rattle.graphql_occurrences.specs.declared.place.InputPlace.{InputPlace}
-use Rattle.graphql_occurrences.specs.declared.around.KnownField.{KnownField}
 use Rattle.graphql_occurrences.specs.declared.event.Event.{Event}
 use Rattle.graphql_occurrences.specs.declared.event.Event.TheVariants as event
 use Rattle.graphql_occurrences.specs.declared.event.Node.{Node}
@@ -19,21 +14,9 @@ use Rattle.graphql_occurrences.specs.declared.event.Node.TheVariants as node
 use Rattle.graphql_occurrences.specs.declared.event.Owner.{Owner}
 use Rattle.graphql_occurrences.specs.declared.event.Owner.TheVariants as owner
 use Rattle.graphql_occurrences.specs.declared.event.Seen.{Seen}
-use Rattle.graphql_occurrences.specs.declared.literal.TypeLiteral.{TypeLiteral}
-
-abbrev pub literal_of : TypeLiteral → TypeOf
-literal_of t = record { name = t.name.now; modifiers = t.modifiers.now }
 
 abbrev pub input_of : InputPlace → part.InputPlace
 input_of i = record { asked = literal_of i.asked; has_default = i.has_default }
-
--- the field that is declared, else `__typename`
-abbrev pub field_of_known : {S : Type 0} → KnownField S → declared.Field S
-field_of_known k = unwrap_or (option_copied k.declared) typename_field
-
--- the arguments that are declared, none where nothing is held
-abbrev pub arguments_lent : {S : Type 0} → DeclaredArguments S → List (Argument S)
-arguments_lent d = unwrap_or (option_copied d.held) []
 
 abbrev pub owner_of : Owner → spec.Owner
 owner_of (owner.Field name) = OfField name.now

@@ -1,7 +1,5 @@
 pub mod Parts
 pub mod Lookups
-pub mod Documents
-pub mod Definitions
 pub mod Occurrences
 pub mod Nodes
 pub mod Events

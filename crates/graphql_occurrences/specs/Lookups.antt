@@ -1,28 +1,16 @@
--- What a schema declares of the parts of a document (GraphQL October 2021, 3.6 Objects, 3.10 Input Objects, 4.1 Type Name Introspection).
-use Rattle.std.specs.Prelude.{◌&&◌, false, List, [], Option, Some, None, codes, if◌then◌else◌}
+-- Where the values of a document stand, and its directives (GraphQL October 2021, 2.9 Input Values, 3.10 Input Objects, 3.13 Directives).
+use Rattle.std.specs.Prelude.{false, List, [], Option}
 use Rattle.std.specs.Option.{option_map, option_map_or, option_and_then, is_some}
-use Rattle.std.specs.Str.{bytes_eq}
-use Rattle.graphql_meta.specs.declared.directive.DirectiveType.{DirectiveType}
 use Rattle.graphql_meta.specs.declared.directive_location.DirectiveLocation.{DirectiveLocation}
 use Rattle.graphql_meta.specs.declared.directive_location.DirectiveLocation.TheVariants as location
 use Rattle.graphql_meta.specs.declared.meta.argument.Argument.{Argument}
-use Rattle.graphql_meta.specs.declared.meta.deprecation.DeprecationStatus.TheVariants as status
-use Rattle.graphql_meta.specs.declared.meta.field.Field.{Field}
-use Rattle.graphql_meta.specs.declared.meta.MetaType.{MetaType}
-use Rattle.graphql_meta.specs.Types.{TypeOf, arguments_of, fields_of, input_fields_of, reference_to}
-use Rattle.graphql_names.specs.Names.{Bytes, named}
+use Rattle.graphql_meta.specs.Types.{TypeOf, input_fields_of}
+use Rattle.graphql_names.specs.Names.{Bytes}
 use Rattle.graphql_schema.specs.Declarations.{Declarations}
-pub use Rattle.graphql_schema.specs.Declarations.{argument_named}
-use Rattle.graphql_schema.specs.TypeTypes.{within_list}
-use Rattle.graphql_schema_faults.specs.Faults.{is_composite}
-use Rattle.graphql_schema_faults.specs.Lookups.{type_named}
+pub use Rattle.graphql_declarations.specs.Lookups.{argument_named, item_type, typename_field, field_arguments, field_type, directive_arguments, field_in, field_of, known, referred, root_of}
 use Rattle.graphql_tree.specs.declared.document.OperationType.{OperationType}
 use Rattle.graphql_tree.specs.declared.document.OperationType.TheVariants as operation
 use Rattle.graphql_occurrences.specs.Parts.{InputPlace}
-
--- the type of a list's items (3.11 List)
-abbrev pub item_type : TypeOf → Option TypeOf
-item_type t = option_map (λ wraps. record { name = t.name; modifiers = wraps }) (within_list t.modifiers)
 
 -- a place for values of this type, without a default
 abbrev pub bare_place : TypeOf → InputPlace
@@ -39,22 +27,6 @@ location_of operation.Mutation = location.Mutation
 location_of operation.Subscription = location.Subscription
 
 module _ {S : Type 0} where
-  -- `__typename: String!` (4.1 Type Name Introspection)
-  abbrev pub typename_field : Field S
-  typename_field =
-      record { name = codes "__typename"; description = None; arguments = None; field_type = reference_to (codes "String"); deprecation_status = status.Current }
-
-  -- the arguments of a field, where the field is known
-  abbrev pub field_arguments : Option (Field S) → Option (List (Argument S))
-  field_arguments = option_map arguments_of
-
-  abbrev pub field_type : Option (Field S) → Option TypeOf
-  field_type = option_map (λ f. f.field_type)
-
-  -- the arguments of a directive, where the directive is known
-  abbrev pub directive_arguments : Option (DirectiveType S) → Option (List (Argument S))
-  directive_arguments = option_map (λ d. d.arguments)
-
   -- the place of the value of an argument, or of a field of an input object
   abbrev pub place_of : Argument S → InputPlace
   place_of a = record { asked = a.arg_type; has_default = is_some a.default_value }
@@ -63,34 +35,11 @@ module _ {S : Type 0} where
   abbrev pub argument_place : Option (List (Argument S)) → Bytes → Option InputPlace
   argument_place declared name = option_map place_of (option_and_then (λ ds. argument_named ds name) declared)
 
-module _ {S C : Type 0} where
-  -- the field of this name of an object, an interface or a union, among them `__typename` (5.3.1 Field Selections)
-  abbrev pub field_in : MetaType S C → Bytes → Option (Field S)
-  field_in m name = if bytes_eq name (codes "__typename") && is_composite m then Some typename_field else named (λ f. f.name) (fields_of m) name
-
-  -- the same, where the type is known
-  abbrev pub field_of : Option (MetaType S C) → Bytes → Option (Field S)
-  field_of parent name = option_and_then (λ m. field_in m name) parent
-
 module _ {S C : Type 0} (schema : Declarations S C) where
-  -- the type of a name
-  abbrev pub known : Bytes → Option (MetaType S C)
-  known = type_named schema.types
-
-  -- the type within every wrap of a reference (2.11 Type References)
-  abbrev pub referred : Option TypeOf → Option (MetaType S C)
-  referred = option_and_then (λ t. known t.name)
-
   -- the fields of the input object within every wrap of a reference, where there is one (3.10 Input Objects)
   abbrev pub input_fields_within : TypeOf → List (Argument S)
-  input_fields_within t = option_map_or input_fields_of (known t.name) []
+  input_fields_within t = option_map_or input_fields_of (known schema t.name) []
 
   -- the place of a field of the object that stands here, or that is the one item of the list here
   abbrev pub field_place : Option InputPlace → Bytes → Option InputPlace
   field_place here name = option_map place_of (option_and_then (λ p. argument_named (input_fields_within p.asked) name) here)
-
-  -- the root of an operation, where the schema has it (3.3.1 Root Operation Types)
-  abbrev pub root_of : OperationType → Option (MetaType S C)
-  root_of operation.Query = known schema.roots.query
-  root_of operation.Mutation = option_and_then known schema.roots.mutation
-  root_of operation.Subscription = option_and_then known schema.roots.subscription

@@ -11,7 +11,7 @@ use Rattle.graphql_tree.specs.declared.selection.Field.{Field}
 use Rattle.graphql_tree.specs.declared.selection.FragmentSpread.{FragmentSpread}
 use Rattle.graphql_tree.specs.declared.selection.InlineFragment.{InlineFragment}
 use Rattle.graphql_occurrences.specs.Lookups.{directive_arguments, field_arguments}
-use Rattle.graphql_occurrences.specs.Documents.{arguments_in}
+use Rattle.graphql_tree.specs.Documents.{arguments_in}
 use Rattle.graphql_occurrences.specs.Nodes.{Head, AtVariableDefinition, AtDirective, AtField, AtFragmentSpread, AtInlineFragment, AtValue, Event, Enter, Inner, AtFragment, Around, Seen}
 use Rattle.graphql_occurrences.specs.Occurrences.{variable_part}
 use Rattle.graphql_occurrences.specs.Parts.{InputPlace, Part, VariableDefined, Condition, AField, ASpread, AnInline, ADirective, Given, ObjectOf, VariableUsed}

@@ -1,7 +1,7 @@
 //! What a walk over a document enters and leaves.
 
-use crate::arguments::DeclaredArguments;
-use crate::around::{Around, KnownField};
+use crate::around::Around;
+use graphql_declarations::{DeclaredArguments, KnownField};
 use graphql_meta::{DirectiveLocation, DirectiveType, SchemaScalar};
 use graphql_text::{Spanning, Text, TextRef};
 use graphql_tree::{

@@ -3,17 +3,17 @@
 //! (GraphQL October 2021, 2 Language, 5 Validation).
 #![tactic(auto)]
 
-mod arguments;
 mod around;
 mod event;
 pub mod laws;
-mod literal;
 mod place;
 mod walk;
 
-pub use arguments::{DeclaredArguments, declared_by_directive};
-pub use around::{Around, KnownField, arguments_of_field};
+pub use around::Around;
 pub use event::{Event, Node, Owner, Seen};
-pub use literal::TypeLiteral;
+pub use graphql_declarations::{
+    DeclaredArguments, KnownField, TypeLiteral, arguments_of_field, declared_by_directive,
+    field_of, root_of, type_of_field,
+};
 pub use place::InputPlace;
 pub use walk::{Walk, arguments_in};

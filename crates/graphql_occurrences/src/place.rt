@@ -6,8 +6,7 @@ ghost use Rattle.graphql_schema.specs.Declarations.{declarations_of};
 ghost use Rattle.graphql_occurrences.specs.Lookups as spec;
 ghost use Rattle.graphql_occurrences.specs.Lent.{arguments_lent, input_of, literal_of};
 
-use crate::arguments::DeclaredArguments;
-use crate::literal::TypeLiteral;
+use graphql_declarations::{DeclaredArguments, TypeLiteral};
 use graphql_meta::Argument;
 use graphql_schema::SchemaType;
 

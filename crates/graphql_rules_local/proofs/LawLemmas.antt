@@ -10,7 +10,7 @@ use Rattle.graphql_meta.specs.declared.meta.field.Field.{Field as DeclaredField}
 use Rattle.graphql_meta.specs.declared.meta.MetaType.{MetaType}
 use Rattle.graphql_meta.specs.declared.meta.MetaType.TheVariants as meta
 use Rattle.graphql_names.specs.Names.{Bytes, is_one_of, passes}
-use Rattle.graphql_occurrences.specs.Definitions.{fragment_named}
+use Rattle.graphql_tree.specs.Definitions.{fragment_named}
 use Rattle.graphql_occurrences.specs.Lookups.{argument_named, field_type, known, referred}
 use Rattle.graphql_occurrences.specs.Parts.{GivenPart, Part, VariableDefined, Condition, AField, ASpread, AnInline, ADirective, Given, ObjectOf}
 use Rattle.graphql_rule_errors.specs.Places.{Places, error_if}

@@ -1,7 +1,7 @@
 -- A spread of a fragment that the document has not (GraphQL October 2021, 5.5.2.1 Fragment Spread Target Defined).
 use Rattle.std.specs.Prelude.{[], ◌∷◌, not}
 use Rattle.std.specs.Option.{is_some}
-use Rattle.graphql_occurrences.specs.Definitions.{fragment_named}
+use Rattle.graphql_tree.specs.Definitions.{fragment_named}
 use Rattle.graphql_occurrences.specs.Parts.{ASpread}
 use Rattle.graphql_rule_errors.specs.Places.{error_if}
 use Rattle.graphql_visitors.specs.Rules.{Rule}

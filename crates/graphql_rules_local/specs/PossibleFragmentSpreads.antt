@@ -3,7 +3,7 @@ use Rattle.std.specs.Prelude.{[], ◌∷◌, not, Bool}
 use Rattle.graphql_meta.specs.declared.meta.MetaType.{MetaType}
 use Rattle.graphql_names.specs.Names.{Bytes, passes}
 use Rattle.std.specs.Option.{option_map}
-use Rattle.graphql_occurrences.specs.Definitions.{fragment_named}
+use Rattle.graphql_tree.specs.Definitions.{fragment_named}
 use Rattle.graphql_occurrences.specs.Lookups.{known}
 use Rattle.graphql_occurrences.specs.Parts.{ASpread, AnInline}
 use Rattle.graphql_rule_errors.specs.Places.{error_if}

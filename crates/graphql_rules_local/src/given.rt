@@ -3,7 +3,7 @@
 ghost use Rattle.std.specs.Prelude.{◌≡◌};
 ghost use Rattle.std.specs.List.{flat_map};
 ghost use Rattle.std.specs.Option.{option_copied, option_map, option_to_list};
-ghost use Rattle.graphql_occurrences.specs.Documents.{arguments_in as arguments_given};
+ghost use Rattle.graphql_tree.specs.Documents.{arguments_in as arguments_given};
 ghost use Rattle.graphql_occurrences.specs.Lent.{field_of_known};
 ghost use Rattle.graphql_occurrences.specs.Lookups.{directive_arguments, field_arguments};
 ghost use Rattle.graphql_occurrences.specs.PartsOf.{parts_of};

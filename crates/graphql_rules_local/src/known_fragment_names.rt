@@ -2,7 +2,7 @@
 
 ghost use Rattle.std.specs.Prelude.{◌∷◌, [], not};
 ghost use Rattle.std.specs.Option.{is_some};
-ghost use Rattle.graphql_occurrences.specs.Definitions.{fragment_named};
+ghost use Rattle.graphql_tree.specs.Definitions.{fragment_named};
 ghost use Rattle.graphql_rule_errors.specs.Places.{error_if};
 ghost use Rattle.graphql_visitors.specs.Reports.{Reports};
 ghost use Rattle.graphql_visitors.specs.Subjects.{subject_of};

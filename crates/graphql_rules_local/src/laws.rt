@@ -5,7 +5,7 @@ ghost use Rattle.std.specs.Prelude.{◌≡◌, ◌↔◌, List, false, true, map
 ghost use Rattle.std.specs.List.{IsDistinct};
 ghost use Rattle.std.specs.Option.{ForSome, IsSome};
 ghost use Rattle.std.specs.Str.{bytes_eq};
-ghost use Rattle.graphql_occurrences.specs.Definitions.{fragment_named};
+ghost use Rattle.graphql_tree.specs.Definitions.{fragment_named};
 ghost use Rattle.graphql_occurrences.specs.Lookups.{known};
 ghost use Rattle.graphql_occurrences.specs.Parts.{Part, AField, ASpread, ADirective, AnInline, Condition, Given, ObjectOf, VariableDefined};
 ghost use Rattle.graphql_rules_local.specs.DisableIntrospection.{introspection_field, introspects};

@@ -3,7 +3,7 @@
 ghost use Rattle.std.specs.Prelude.{◌≡◌, ◌∷◌, []};
 ghost use Rattle.std.specs.Option.{option_map};
 ghost use Rattle.graphql_names.specs.Names.{passes};
-ghost use Rattle.graphql_occurrences.specs.Definitions.{fragment_named};
+ghost use Rattle.graphql_tree.specs.Definitions.{fragment_named};
 ghost use Rattle.graphql_rule_errors.specs.Places.{error_if};
 ghost use Rattle.graphql_rules_local.specs.PossibleFragmentSpreads as spec;
 ghost use Rattle.graphql_schema.specs.Declarations.{declarations_of};

@@ -8,13 +8,13 @@ use Rattle.graphql_meta.specs.declared.directive_location.DirectiveLocation.{Dir
 use Rattle.graphql_meta.specs.declared.meta.MetaType.{MetaType}
 use Rattle.graphql_meta.specs.declared.meta.field.Field as declared
 use Rattle.graphql_names.specs.Names.{Bytes}
-use Rattle.graphql_occurrences.specs.Documents.{arguments_in}
+use Rattle.graphql_tree.specs.Documents.{arguments_in}
 use Rattle.graphql_occurrences.specs.Lent.{field_of_known, node_of}
 use Rattle.graphql_occurrences.specs.Lookups.{field_arguments}
 use Rattle.graphql_occurrences.specs.Nodes.{Around, Enter, placed_as, field_head, inline_head, spread_head, value_head}
 use Rattle.graphql_occurrences.specs.Parts.{InputPlace, Part, Use, Condition, VariableUsed, ObjectOf}
 use Rattle.graphql_occurrences.specs.PartsOf.{parts_of_event, parts_of_field, parts_of_inline, parts_of_spread, parts_of_value, under_known}
-use Rattle.graphql_occurrences.specs.declared.around.KnownField.{KnownField}
+use Rattle.graphql_declarations.specs.declared.fields.KnownField.{KnownField}
 use Rattle.graphql_occurrences.specs.declared.event.Node.{Node}
 use Rattle.graphql_occurrences.specs.declared.event.Node.TheVariants as node
 use Rattle.graphql_schema.specs.Declarations.{Declarations}

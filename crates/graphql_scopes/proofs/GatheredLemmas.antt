@@ -21,7 +21,7 @@ use Rattle.graphql_occurrences.specs.Parts.{InputPlace, Part, Use, VariableDefin
 use Rattle.graphql_occurrences.specs.PartsOf.{parts_of, parts_of_value}
 use Rattle.graphql_occurrences.proofs.Tells.{is_inner, AllInner, Tells}
 use Rattle.graphql_occurrences.proofs.TellsDefinitions.{within_operation, within_fragment, operation_tells, fragment_tells}
-use Rattle.graphql_occurrences.specs.Definitions.{operation_in, fragment_in, operations_of, fragments_of}
+use Rattle.graphql_tree.specs.Definitions.{operation_in, fragment_in, operations_of, fragments_of}
 use Rattle.graphql_scopes.specs.Gathered.{Gathered, closed, noted, with_event, nothing, scopes_gathered}
 use Rattle.graphql_scopes.specs.Scopes.{FragmentScope, OperationScope, Spread, fragment_scope, fragment_scopes, operation_scope, operation_scopes, scopes_in, spread_at, use_at}
 

@@ -1,7 +1,7 @@
 -- What is gathered of operations and fragments, event by event.
 use Rattle.std.specs.Prelude.{List, [], ◌∷◌, ◌++◌, map, fold}
 use Rattle.std.specs.Option.{option_map}
-use Rattle.graphql_occurrences.specs.Documents.{variables_in}
+use Rattle.graphql_tree.specs.Documents.{variables_in}
 use Rattle.graphql_occurrences.specs.Nodes.{AtFragment, AtOperation, Event, Leave, Seen}
 use Rattle.graphql_occurrences.specs.Occurrences.{variable_part}
 use Rattle.graphql_occurrences.specs.Parts.{Part, ASpread, Use, VariableUsed}

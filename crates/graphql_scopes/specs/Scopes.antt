@@ -9,10 +9,10 @@ use Rattle.graphql_tree.specs.declared.document.Definition.{Definition}
 use Rattle.graphql_tree.specs.declared.document.Fragment.{Fragment}
 use Rattle.graphql_tree.specs.declared.document.Operation.{Operation}
 use Rattle.graphql_schema.specs.Declarations.{Declarations}
-use Rattle.graphql_occurrences.specs.Documents.{variables_in}
+use Rattle.graphql_tree.specs.Documents.{variables_in}
 use Rattle.graphql_occurrences.specs.Occurrences.{variable_part, operation_parts, fragment_parts}
 use Rattle.graphql_occurrences.specs.Parts.{Part, ASpread, Use, VariablePart, VariableUsed}
-use Rattle.graphql_occurrences.specs.Definitions.{operations_of, fragments_of}
+use Rattle.graphql_tree.specs.Definitions.{operations_of, fragments_of}
 
 -- a fragment where it is spread, from the dots on
 pub record Spread : Type 0 where

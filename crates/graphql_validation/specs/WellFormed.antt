@@ -4,7 +4,7 @@ use Rattle.std.specs.List.{All, IsDistinct, filter_map}
 use Rattle.std.specs.Option.{IsSome}
 use Rattle.std.specs.Str.{bytes_eq}
 use Rattle.graphql_names.specs.Names.{Bytes}
-use Rattle.graphql_occurrences.specs.Definitions.{fragment_named}
+use Rattle.graphql_tree.specs.Definitions.{fragment_named}
 use Rattle.graphql_occurrences.specs.Parts.{AField, ASpread, Condition, Given, VariableDefined}
 use Rattle.graphql_scopes.specs.Scopes.{FragmentScope, OperationScope}
 use Rattle.graphql_schema_faults.specs.Faults.{is_composite}

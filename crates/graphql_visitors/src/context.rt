@@ -8,7 +8,7 @@ ghost use Rattle.graphql_occurrences.specs.Events.{top};
 ghost use Rattle.graphql_occurrences.specs.Lent.{around_of, literal_of};
 ghost use Rattle.graphql_occurrences.specs.Lookups.{referred};
 ghost use Rattle.graphql_rule_errors.specs.declared.rule_error.RuleError.{RuleError};
-ghost use Rattle.graphql_occurrences.specs.Definitions.{fragment_named};
+ghost use Rattle.graphql_tree.specs.Definitions.{fragment_named};
 ghost use Rattle.graphql_visitors.specs.Reports.{Adds, Reports};
 
 use crate::fragments::Fragments;

@@ -3,7 +3,7 @@
 ghost use Rattle.std.specs.Prelude.{◌≡◌, ℕ, List, IfOk, map};
 ghost use Rattle.std.specs.Option.{is_some, option_copied, option_map};
 ghost use Rattle.graphql_names.specs.Names.{named};
-ghost use Rattle.graphql_occurrences.specs.Definitions.{fragment_named, fragments_of};
+ghost use Rattle.graphql_tree.specs.Definitions.{fragment_named, fragments_of};
 
 use graphql_names::{Named, NamedItems};
 use graphql_text::{Items, Spanning, TextRef};

@@ -5,8 +5,8 @@ ghost use Rattle.std.specs.List.{flat_map};
 ghost use Rattle.std.specs.Option.{option_copied, option_map};
 ghost use Rattle.graphql_schema.specs.Declarations.{declarations_of};
 ghost use Rattle.graphql_schema_faults.specs.Lookups.{own_name};
-ghost use Rattle.graphql_occurrences.specs.Lookups.{location_of, root_of};
-ghost use Rattle.graphql_occurrences.specs.Documents.{variables_in as variables_given};
+ghost use Rattle.graphql_occurrences.specs.Lookups.{location_of};
+ghost use Rattle.graphql_tree.specs.Documents.{variables_in as variables_given};
 ghost use Rattle.graphql_occurrences.specs.Events.{default_events, definition_events, each, events, fragment_events, operation_events, variable_events};
 ghost use Rattle.graphql_occurrences.specs.Lent.{around_of};
 ghost use Rattle.graphql_occurrences.specs.Pending.{Adds, Opened, OpenedAny};
@@ -15,8 +15,8 @@ use super::selections::directives_in;
 use super::tasks::{Task, Work, add, enter};
 use crate::around::Around;
 use crate::event::{Node, Seen};
-use crate::literal::TypeLiteral;
 use crate::place::InputPlace;
+use graphql_declarations::{TypeLiteral, root_of};
 use graphql_meta::{DirectiveLocation, MetaType};
 use graphql_schema::SchemaType;
 use graphql_text::{Items, Spanning, TextRef};
@@ -43,20 +43,6 @@ fn name_of_root<'a, S, C>(meta: Option<&'a MetaType<S, C>>) -> Option<&'a str>
     match meta {
         Some(meta) => Some(name_of_type(meta)),
         None => None,
-    }
-}
-
-/// The root of an operation.
-fn name_of_operation_root<'a, S, C>(
-    schema: &'a SchemaType<S, C>,
-    operation_type: OperationType,
-) -> Option<&'a str>
-    ensures { option_map (λ n. n.now) result ≡ option_map own_name (root_of (declarations_of schema.now) operation_type) }
-{
-    match operation_type {
-        OperationType::Query => name_of_root(Some(schema.concrete_query_type())),
-        OperationType::Mutation => name_of_root(schema.concrete_mutation_type()),
-        OperationType::Subscription => name_of_root(schema.concrete_subscription_type()),
     }
 }
 
@@ -158,7 +144,7 @@ fn open_operation<'a, 't, S, C>(
 ) -> Result<Seen<'a, 't, S, C>, AllocError>
     ensures { Opened (declarations_of schema.now) (operation_events (declarations_of schema.now) operation.now) result tasks.old tasks.new }
 {
-    let inside = Around::top(name_of_operation_root(schema, operation.item.operation_type));
+    let inside = Around::top(name_of_root(root_of(schema, operation.item.operation_type)));
     add(
         schema,
         tasks,

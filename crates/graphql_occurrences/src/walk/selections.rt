@@ -3,15 +3,15 @@
 ghost use Rattle.std.specs.Prelude.{◌≡◌, [], OnOk};
 ghost use Rattle.std.specs.Option.{unwrap_or};
 ghost use Rattle.graphql_schema.specs.Declarations.{declarations_of};
-ghost use Rattle.graphql_occurrences.specs.Documents.{arguments_in as arguments_given};
+ghost use Rattle.graphql_tree.specs.Documents.{arguments_in as arguments_given};
 ghost use Rattle.graphql_occurrences.specs.Events.{directive_events, directives_events, each, field_events, inline_events, optional_set, selection_events, set_events, spread_events};
 ghost use Rattle.graphql_occurrences.specs.Lent.{around_of};
 ghost use Rattle.graphql_occurrences.specs.Pending.{Adds, Opened, OpenedAny};
 
 use super::tasks::{Task, Work, add, enter};
-use crate::arguments::declared_by_directive;
-use crate::around::{Around, arguments_of_field, field_of, type_of};
+use crate::around::Around;
 use crate::event::{Node, Owner, Seen};
+use graphql_declarations::{arguments_of_field, declared_by_directive, field_of, type_of_field};
 use graphql_meta::DirectiveLocation;
 use graphql_schema::SchemaType;
 use graphql_text::{Items, Spanning, TextRef};
@@ -145,7 +145,7 @@ fn open_field<'a, 't, S, C>(
 {
     let name = field.item.name.item.as_str();
     let definition = field_of(outer.parent, name);
-    let inside = outer.selecting(type_of(definition));
+    let inside = outer.selecting(type_of_field(definition));
     add(
         schema,
         tasks,

@@ -7,9 +7,9 @@ ghost use Rattle.graphql_occurrences.specs.Lent.{around_of, node_of, seen_of};
 ghost use Rattle.graphql_occurrences.specs.Nodes.{Enter};
 ghost use Rattle.graphql_occurrences.specs.Pending.{Adds, work_events};
 
-use crate::arguments::DeclaredArguments;
 use crate::around::Around;
 use crate::event::{Event, Node, Owner, Seen};
+use graphql_declarations::DeclaredArguments;
 use graphql_meta::{DirectiveLocation, SchemaScalar};
 use graphql_schema::SchemaType;
 use graphql_text::{Items, Spanning, Text, TextRef};

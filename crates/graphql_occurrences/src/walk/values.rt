@@ -8,10 +8,10 @@ ghost use Rattle.graphql_occurrences.specs.Lent.{arguments_lent, around_of, owne
 ghost use Rattle.graphql_occurrences.specs.Pending.{Adds, Opened, OpenedAny};
 
 use super::tasks::{Task, Work, add, enter};
-use crate::arguments::DeclaredArguments;
 use crate::around::Around;
 use crate::event::{Node, Owner, Seen};
 use crate::place::{place_of_argument, place_of_field, place_of_items};
+use graphql_declarations::DeclaredArguments;
 use graphql_schema::SchemaType;
 use graphql_text::{Items, Spanning, Text, TextRef};
 use graphql_values::InputValue;

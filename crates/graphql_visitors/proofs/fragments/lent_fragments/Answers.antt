@@ -1,7 +1,7 @@
 use Rattle.std.proofs.Common.{◌∷◌, [], ◌++◌, map, take, ap, sym, ◌∙◌, append-nil}
 use Rattle.std.specs.List.{flat_map}
 use Rattle.std.proofs.lemmas.List.{map-append}
-use Rattle.graphql_occurrences.specs.Definitions.{fragment_in}
+use Rattle.graphql_tree.specs.Definitions.{fragment_in}
 use Rattle.graphql_tree.specs.declared.document.Fragment.{Fragment}
 use Rattle.graphql_values.specs.InputValues.{Placed}
 use Rattle.graphql_visitors.specs.declared.fragments.LentFragment.{LentFragment}

@@ -1,5 +1,5 @@
 use Rattle.std.proofs.Common.{◌≡◌, map, take}
-use Rattle.graphql_occurrences.specs.Definitions.{fragments_of}
+use Rattle.graphql_tree.specs.Definitions.{fragments_of}
 use Rattle.graphql_visitors.proofs.fragments.lent_fragments.Given as goal
 
 abbrev pub invariant-definitions : goal.invariant-definitions

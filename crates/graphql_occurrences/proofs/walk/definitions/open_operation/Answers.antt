@@ -1,8 +1,10 @@
 use Rattle.std.proofs.Common.{◌++◌, ap, ◌∙◌}
 use Rattle.std.specs.Prelude.{[], unwrap_or}
+use Rattle.std.specs.Option.{option_map}
+use Rattle.graphql_schema_faults.specs.Lookups.{own_name}
 use Rattle.graphql_schema.specs.Declarations.{declarations_of}
 use Rattle.graphql_occurrences.specs.Lookups.{location_of}
-use Rattle.graphql_occurrences.specs.Documents.{variables_in}
+use Rattle.graphql_tree.specs.Documents.{variables_in}
 use Rattle.graphql_occurrences.specs.Events.{top, each, directives_events, set_events, variable_events}
 use Rattle.graphql_occurrences.specs.Lent.{around_of, seen_of}
 use Rattle.graphql_occurrences.specs.Nodes.{AtOperation, placed_as, operation_head}
@@ -15,7 +17,7 @@ returns g c =
     let schema = declarations_of c.args.schema.now in
     let o = c.args.operation.now in
     let inside = around_of c.top-inside.result in
-    let inside_is = c.top-inside.ensures ∙ ap top c.name_of_operation_root.ensures in
+    let inside_is = c.top-inside.ensures ∙ ap top (c.name_of_root.ensures ∙ ap (option_map own_name) c.root_of.ensures) in
     let with_set = c.in_ok-add-2.ensures ∙ ap (λ xs. set_events schema xs inside ++ pending schema c.add.new.tasks) c.as_slice.ensures in
     let with_directives = c.in_ok-add-3.ensures ∙ (λ i. directives_events schema (c.place_of.ensures i) (c.directives_in.ensures i) inside ++ pending schema c.add-2.new.tasks) in
     let with_variables = c.in_ok-add-4.ensures ∙ ap (λ vs. each (variable_events schema) vs inside ++ pending schema c.add-3.new.tasks) c.variables_in.ensures in

@@ -3,7 +3,7 @@ use Rattle.std.specs.Prelude.{[]}
 use Rattle.graphql_schema.specs.Declarations.{declarations_of}
 use Rattle.graphql_schema.specs.StandardDirectives.{directive_named}
 use Rattle.graphql_occurrences.specs.Lookups.{directive_arguments}
-use Rattle.graphql_occurrences.specs.Documents.{arguments_in}
+use Rattle.graphql_tree.specs.Documents.{arguments_in}
 use Rattle.graphql_occurrences.specs.Events.{seen, arguments_events}
 use Rattle.graphql_occurrences.specs.Lent.{around_of, seen_of}
 use Rattle.graphql_occurrences.specs.Nodes.{Enter, Leave, Inner, AtDirective, OfDirective}

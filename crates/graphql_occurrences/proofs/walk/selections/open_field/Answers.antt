@@ -3,7 +3,7 @@ use Rattle.std.specs.Prelude.{[], unwrap_or}
 use Rattle.graphql_meta.specs.declared.directive_location.DirectiveLocation.TheVariants as location
 use Rattle.graphql_schema.specs.Declarations.{declarations_of}
 use Rattle.graphql_occurrences.specs.Lookups.{field_arguments, field_of, field_type}
-use Rattle.graphql_occurrences.specs.Documents.{arguments_in}
+use Rattle.graphql_tree.specs.Documents.{arguments_in}
 use Rattle.graphql_occurrences.specs.Events.{selecting, seen, arguments_events, directives_events, optional_set}
 use Rattle.graphql_occurrences.specs.Lent.{around_of, seen_of}
 use Rattle.graphql_occurrences.specs.Nodes.{Enter, Leave, Inner, AtField, OfField, placed_as, field_head}
@@ -19,7 +19,7 @@ returns g c =
     let inside = around_of c.selecting-inside.result in
     let name_is = c.as_str-name.ensures in
     let definition_is = c.field_of-definition.ensures ∙ ap (field_of outer.parent) name_is in
-    let inside_is = c.selecting-inside.ensures ∙ ap (selecting outer) (c.type_of.ensures ∙ ap field_type definition_is) in
+    let inside_is = c.selecting-inside.ensures ∙ ap (selecting outer) (c.type_of_field.ensures ∙ ap field_type definition_is) in
     let declared_is = c.arguments_of_field.ensures ∙ ap field_arguments definition_is in
     let with_directives = c.in_ok-add-2.ensures ∙ ap (λ ds. directives_events schema location.Field ds inside ++ pending schema c.add_optional_set.new.tasks) c.directives_in.ensures in
     let with_arguments = c.in_ok-add-3.ensures ∙ (λ i. arguments_events schema (OfField (name_is i)) (declared_is i) (c.arguments_in.ensures i) inside ++ pending schema c.add-2.new.tasks) in

@@ -3,8 +3,8 @@
 ghost use Rattle.std.specs.Prelude.{◌≡◌, []};
 ghost use Rattle.std.specs.Option.{option_and_then, option_copied, option_map, option_map_or};
 ghost use Rattle.graphql_meta.specs.Types.{arguments_of};
-ghost use Rattle.graphql_occurrences.specs.Lent.{arguments_lent};
-ghost use Rattle.graphql_occurrences.specs.Lookups as spec;
+ghost use Rattle.graphql_declarations.specs.Lent.{arguments_lent};
+ghost use Rattle.graphql_declarations.specs.Lookups as spec;
 
 use graphql_meta::{Argument, DirectiveType, Field};
 use graphql_names::NamedItems;

@@ -4,8 +4,8 @@ ghost use Rattle.std.specs.Prelude.{◌≡◌};
 ghost use Rattle.std.specs.Option.{option_map};
 ghost use Rattle.graphql_meta.specs.Types.{reference_to};
 ghost use Rattle.graphql_schema.specs.TypeTypes.{within_list};
-ghost use Rattle.graphql_occurrences.specs.Lookups.{item_type};
-ghost use Rattle.graphql_occurrences.specs.Lent.{literal_of};
+ghost use Rattle.graphql_declarations.specs.Lookups.{item_type};
+ghost use Rattle.graphql_declarations.specs.Lent.{literal_of};
 
 use graphql_text::{Text, TextRef};
 use graphql_type_references::{Type, TypeModifier};
