@@ -1,0 +1,4 @@
+pub mod Trees
+pub mod Written
+pub mod Conditions
+pub mod Fields
