@@ -1,0 +1,2 @@
+pub mod ChosenMembers
+pub mod OneObject

@@ -1,0 +1,21 @@
+//! Laws of the fields that are collected for an object type: each function's contract is a law, and its
+//! body does nothing.
+
+ghost use Rattle.graphql_merged_fields.specs.Laws.{ChosenAreCollected, OneField, OwnSetsMerge};
+
+/// Where the types of a selection set's fragments are known, the members of the set that apply to an
+/// object type are the fields that are collected for it, in order.
+pub fn chosen_members_are_collected<S, C>()
+    ensures { ChosenAreCollected S C }
+{}
+
+/// Of sets that merge together, the fields of one response key that apply to one object type have one
+/// name and the same arguments, so that the first of them stands for all.
+pub fn one_field_for_a_key<S: PartialEq, C>()
+    ensures { OneField S C S.eq }
+{}
+
+/// The own sets of all fields of a response key that apply to one object type merge together again.
+pub fn own_sets_merge<S: PartialEq, C>()
+    ensures { OwnSetsMerge S C S.eq }
+{}

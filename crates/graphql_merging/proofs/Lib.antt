@@ -1,0 +1,9 @@
+pub mod ItemLemmas
+pub mod SameWraps
+pub mod Reports
+pub mod Standing
+pub mod Nested
+pub mod Settled
+pub mod DirectFields
+pub mod Meeting
+pub mod Contracts

@@ -1,0 +1,68 @@
+-- Laws of merging.
+use Rattle.std.specs.Prelude.{◌≡◌, ◌↔◌, ℕ, Bool, true, false, ◌||◌, List, [], ◌∷◌}
+use Rattle.std.specs.List.{All, Any, Contains}
+use Rattle.graphql_meta.specs.declared.meta.MetaType.{MetaType}
+use Rattle.graphql_rule_errors.specs.Places.{Places}
+use Rattle.graphql_merging.specs.Members.{Member}
+use Rattle.graphql_merging.specs.Merging.{SameField, Agree, Merge, Merging, Together, apart}
+use Rattle.graphql_merging.specs.Sets.{Set, members_of, directs_of, sets_of}
+use Rattle.graphql_merging.specs.Pieces.{Pieces, PieceField, IsPieceOf, HasOwnPieces, IsSettled, Meets}
+use Rattle.graphql_merging.specs.Told.{Names, Tells, Fits, later_pairs}
+use Rattle.graphql_merging.specs.Contract.{IsSound}
+
+module _ (S C : Type 0) (eq : S → S → Bool) where
+  -- a set merges exactly where each two fields that stand together in it agree
+  abbrev pub MergingIsAgreement : Type 0
+  MergingIsAgreement = (types : List (MetaType S C)) (ms : List (Member S C))
+      → Merging eq types ms ↔ ((x : Bool) (a b : Member S C) → Together eq types ms x a b → Agree eq types x a b)
+
+  -- fields that stand together and do not agree do not merge
+  abbrev pub DisagreementIsConflict : Type 0
+  DisagreementIsConflict = (types : List (MetaType S C)) (x : Bool) (a b : Member S C) → (Agree eq types x a b → ⊥) → Merge eq types x a b → ⊥
+
+  -- two fields agree either way round
+  abbrev pub AgreementIsMutual : Type 0
+  AgreementIsMutual = (types : List (MetaType S C)) (x : Bool) (a b : Member S C) → Agree eq types x a b → Agree eq types x b a
+
+  -- they merge either way round
+  abbrev pub MergingIsMutual : Type 0
+  MergingIsMutual = (types : List (MetaType S C)) (x : Bool) (a b : Member S C) → Merge eq types x a b → Merge eq types x b a
+
+  -- a field agrees with itself
+  abbrev pub AgreesWithItself : Type 0
+  AgreesWithItself = (types : List (MetaType S C)) (x : Bool) (a : Member S C) → Agree eq types x a a
+
+  -- where a set merges, each set in it does
+  abbrev pub NestedSetsFollow : Type 0
+  NestedSetsFollow = (types : List (MetaType S C)) (set : Set S C) → Merging eq types (members_of types set)
+      → All (λ inner. Merging eq types (members_of types inner)) (sets_of types set)
+
+  -- where nothing is left to compare of the pairs that were begun, each set that is a piece begun with itself merges
+  abbrev pub SettledMerges : Type 0
+  SettledMerges = (types : List (MetaType S C)) (t : Pieces S C) (begun : ℕ → ℕ → Bool → Bool) → HasOwnPieces t eq types → IsSettled t eq types (λ p q x. begun p q x ≡ true)
+      → (p : ℕ) (ms : List (Member S C)) → begun p p false ≡ true → IsPieceOf t p ms → Merging eq types ms
+
+  -- what is told of the fields that stand directly in a set names each two of one response key that differ in names or arguments
+  abbrev pub DirectConflictsAreNamed : Type 0
+  DirectConflictsAreNamed = (types : List (MetaType S C)) (set : Set S C) (es : Places) → Tells (Fits eq types false) (later_pairs (directs_of types set)) es
+      → (a b : Member S C) → Contains (later_pairs (directs_of types set)) (a, b) → a.head.key ≡ b.head.key → (SameField eq types a b → ⊥) → Any (λ e. Names e a b) es
+
+  -- and nothing but conflicts
+  abbrev pub DirectConflictsAreConflicts : Type 0
+  DirectConflictsAreConflicts = (types : List (MetaType S C)) (set : Set S C) (es : Places) → Tells (Fits eq types false) (later_pairs (directs_of types set)) es
+      → IsSound eq types (set ∷ []) es
+
+  -- pairs of pieces whose fields stand together in a set lead to such pairs: a piece of the set with itself, the fragments in either, the own pieces of
+  -- two fields of one response key
+  abbrev pub PairsStayTogether : Type 0
+  PairsStayTogether = (types : List (MetaType S C)) (t : Pieces S C) (ms : List (Member S C)) → HasOwnPieces t eq types →
+      ((p : ℕ) → IsPieceOf t p ms → Meets t eq types ms p p false)
+      × ((p q r : ℕ) (x : Bool) → Meets t eq types ms p q x → Contains (t.inner p) r → Meets t eq types ms r q x)
+      × ((p q r : ℕ) (x : Bool) → Meets t eq types ms p q x → Contains (t.inner q) r → Meets t eq types ms p r x)
+      × ((p q : ℕ) (f g : PieceField S C) (x : Bool) → Meets t eq types ms p q x → Contains (t.direct p) f → Contains (t.direct q) g
+      → f.member.head.key ≡ g.member.head.key → Meets t eq types ms f.own g.own (x || apart f.member g.member))
+
+  -- where nothing is told, each pair fits
+  abbrev pub NothingToldFits : Type 0
+  NothingToldFits = (types : List (MetaType S C)) (x : Bool) (ps : List (Member S C × Member S C)) → Tells (Fits eq types x) ps []
+      → (a b : Member S C) → Contains ps (a, b) → Fits eq types x a b

@@ -1,0 +1,10 @@
+pub mod Members
+pub mod Merging
+pub mod Sets
+pub mod Selected
+pub mod Told
+pub mod Contract
+pub mod Pieces
+pub mod Done
+pub mod Tables
+pub mod Laws

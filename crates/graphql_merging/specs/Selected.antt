@@ -1,0 +1,10 @@
+-- Fields of a document as members of sets.
+use Rattle.std.specs.Prelude.{List}
+use Rattle.graphql_tree.specs.declared.document.Fragment.{Fragment}
+use Rattle.graphql_plain_tree.specs.Written.{listed, head_of, written}
+use Rattle.graphql_merging.specs.declared.selected.SelectedField.{SelectedField}
+use Rattle.graphql_merging.specs.Members.{Member}
+
+-- a field of a document, its fragments written out
+abbrev pub seen : {S C : Type 0} → List (Fragment S) → SelectedField S C → Member S C
+seen fragments f = record { parent = f.parent.now; head = head_of f.field.now; below = written fragments (listed f.field.now.item.selection_set) }
