@@ -1,0 +1,4 @@
+pub mod Accepted
+pub mod FinalValues
+pub mod FinalVariables
+pub mod Laws
