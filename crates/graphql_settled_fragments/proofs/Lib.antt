@@ -1,0 +1,5 @@
+pub mod ListItems
+pub mod WrittenLevels
+pub mod CountedSpreads
+pub mod KnownFieldTypes
+pub mod SettledFragments

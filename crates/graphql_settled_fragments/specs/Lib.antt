@@ -1,0 +1,3 @@
+pub mod SpreadNames
+pub mod Counted
+pub mod Laws
