@@ -1,0 +1,4 @@
+pub mod SetsAt
+pub mod Numbered
+pub mod FragmentNumbers
+pub mod Reading

@@ -1,0 +1,38 @@
+-- What reading a selection set adds to a table, and to the sets that have numbers.
+use Rattle.std.specs.Prelude.{◌≡◌, List, [], ◌∷◌, ◌++◌, map}
+use Rattle.std.specs.List.{AllZip}
+use Rattle.std.specs.Option.{option_copied}
+use Rattle.graphql_tree.specs.declared.document.Definition.{Definition}
+use Rattle.graphql_schema.specs.Declarations.{Declarations}
+use Rattle.graphql_merging.specs.declared.table.WrittenSet.{WrittenSet}
+use Rattle.graphql_set_table.specs.SetsAt.{SetAt, FieldAt}
+use Rattle.graphql_set_table.specs.Numbered.{IsNumberOf, IsFieldOf, IsSetOf}
+use Rattle.graphql_set_table.specs.declared.open_set.OpenSet.{OpenSet}
+
+module _ {S C : Type 0} where
+  abbrev pub set_at : OpenSet S C → SetAt S C
+  set_at set = record { scope = option_copied set.scope; selections = set.selections.now }
+
+  -- the sets that have numbers
+  abbrev pub sets_at : List (OpenSet S C) → List (SetAt S C)
+  sets_at = map set_at
+
+-- the one list begins with the other
+abbrev pub Extends : {A : Type 0} → List A → List A → Type 0
+Extends old new = (more : List _) × (new ≡ old ++ more)
+
+-- items are added that are, one by one, as these say
+abbrev pub Adds : {A B : Type 0} → (A → B → Type 0) → List A → List A → List B → Type 0
+Adds R old new said = (more : List _) × (new ≡ old ++ more) × AllZip R more said
+
+-- a set takes up these fields and these sets of fragments, for which more sets have numbers
+pub record Reads {S C : Type 0} (schema : Declarations S C) (all_old all_new : List (SetAt S C)) (old new : WrittenSet S C) (fields : List (FieldAt S C)) (inner : List (SetAt S C)) : Type 0 where
+  pub numbered : Extends all_old all_new
+  pub of_fields : Adds (IsFieldOf all_new schema) old.fields new.fields fields
+  pub of_inner : Adds (IsNumberOf all_new) old.inner new.inner inner
+
+-- a table takes up one more set
+pub record AddsSet {S C : Type 0} (schema : Declarations S C) (document : List (Definition S)) (all : List (SetAt S C)) (old new : List (WrittenSet S C)) (set : SetAt S C) : Type 0 where
+  pub written : WrittenSet S C
+  pub grown : new ≡ old ++ written ∷ []
+  pub read : IsSetOf all schema document written set

@@ -1,0 +1,140 @@
+//! Reading of selection sets.
+
+ghost use Rattle.std.specs.Prelude.{◌≡◌, [], ◌∷◌, ◌++◌, Some, IfOk, OnOk};
+ghost use Rattle.std.specs.List.{flat_map};
+ghost use Rattle.std.specs.Option.{option_to_list};
+ghost use Rattle.graphql_schema.specs.Declarations.{declarations_of};
+ghost use Rattle.graphql_plain_tree.specs.Written.{condition_of};
+ghost use Rattle.graphql_merging.specs.Members.{inside};
+ghost use Rattle.graphql_merging.specs.Sets.{fragments_in};
+ghost use Rattle.graphql_set_table.specs.FragmentNumbers.{fragment_number};
+ghost use Rattle.graphql_set_table.specs.Numbered.{DefinitionsFirst, IsSetOf};
+ghost use Rattle.graphql_set_table.specs.Reading.{Extends, Reads, set_at, sets_at};
+ghost use Rattle.graphql_set_table.specs.SetsAt.{fields_of, inner_of};
+
+use crate::fragment_numbers::FragmentNumbers;
+use crate::open_set::OpenSet;
+use crate::scopes::{set_of_field, set_of_inline};
+use graphql_merging::{SelectedField, WrittenField, WrittenSet};
+use graphql_meta::MetaType;
+use graphql_schema::SchemaType;
+use graphql_text::{Items, Spanning};
+use graphql_tree::{Field, FragmentSpread, InlineFragment, Selection};
+use std::alloc::{AllocError, Global};
+
+/// Reads a field: its own set has a number from then on. An error is want of memory.
+fn read_field<'d, 'a, S, C>(
+    schema: &'d SchemaType<S, C>,
+    parent: &'d MetaType<S, C>,
+    field: &'d Spanning<Field<'a, S>>,
+    ahead: &mut Items<OpenSet<'d, 'a, S, C>>,
+    written: &mut WrittenSet<'d, 'a, S, C>,
+) -> Result<(), AllocError>
+    ensures { OnOk result (Reads (declarations_of schema.now) (sets_at ahead.old) (sets_at ahead.new) written.old written.new (record { parent = parent.now; field = field.now } ∷ []) []) }
+{
+    let own = ahead.len();
+    ahead.push(set_of_field(schema, parent, field))?;
+    let selected = SelectedField { parent, field };
+    written.fields.push(WrittenField { selected, own })?;
+    Ok(())
+}
+
+/// Reads an inline fragment: its set has a number from then on. An error is want of memory.
+fn read_inline<'d, 'a, S, C>(
+    schema: &'d SchemaType<S, C>,
+    parent: &'d MetaType<S, C>,
+    fragment: &'d InlineFragment<'a, S>,
+    ahead: &mut Items<OpenSet<'d, 'a, S, C>>,
+    written: &mut WrittenSet<'d, 'a, S, C>,
+) -> Result<(), AllocError>
+    ensures { OnOk result (Reads (declarations_of schema.now) (sets_at ahead.old) (sets_at ahead.new) written.old written.new [] (record { scope = inside schema.now.types (Some parent.now) (condition_of fragment.now); selections = fragment.now.selection_set } ∷ [])) }
+{
+    let number = ahead.len();
+    ahead.push(set_of_inline(schema, parent, fragment))?;
+    written.inner.push(number)?;
+    Ok(())
+}
+
+/// Reads a spread: the fragment that it means has a number, if there is one. An error is want of memory.
+fn read_spread<'d, 'a, S, C>(
+    fragments: &FragmentNumbers<'d, 'a, S>,
+    spread: &FragmentSpread<'a, S>,
+    written: &mut WrittenSet<'d, 'a, S, C>,
+) -> Result<(), AllocError>
+    ensures fields { OnOk result (written.new.fields ≡ written.old.fields) }
+    ensures inner { OnOk result (written.new.inner ≡ written.old.inner ++ option_to_list (fragment_number fragments.now.document.now spread.now.name.item)) }
+{
+    if let Some(number) = fragments.get(spread.name.item.as_str()) {
+        written.inner.push(number)?;
+    }
+    Ok(())
+}
+
+/// Reads a selection. An error is want of memory.
+fn read_selection<'d, 'a, S, C>(
+    schema: &'d SchemaType<S, C>,
+    fragments: &FragmentNumbers<'d, 'a, S>,
+    parent: &'d MetaType<S, C>,
+    selection: &'d Selection<'a, S>,
+    ahead: &mut Items<OpenSet<'d, 'a, S, C>>,
+    written: &mut WrittenSet<'d, 'a, S, C>,
+) -> Result<(), AllocError>
+    requires { DefinitionsFirst (declarations_of schema.now) fragments.now.document.now (sets_at ahead.old) }
+    ensures { OnOk result (Reads (declarations_of schema.now) (sets_at ahead.old) (sets_at ahead.new) written.old written.new (fields_of parent.now selection.now) (inner_of (declarations_of schema.now) (fragments_in fragments.now.document.now) parent.now selection.now)) }
+{
+    match selection {
+        Selection::Field(field) => read_field(schema, parent, field, ahead, written),
+        Selection::FragmentSpread(spread) => read_spread(fragments, &spread.item, written),
+        Selection::InlineFragment(fragment) => {
+            read_inline(schema, parent, &fragment.item, ahead, written)
+        }
+    }
+}
+
+/// Reads the selections of a set, in order. An error is want of memory.
+fn read_selections<'d, 'a, S, C>(
+    schema: &'d SchemaType<S, C>,
+    fragments: &FragmentNumbers<'d, 'a, S>,
+    parent: &'d MetaType<S, C>,
+    selections: &'d [Selection<'a, S>],
+    ahead: &mut Items<OpenSet<'d, 'a, S, C>>,
+    written: &mut WrittenSet<'d, 'a, S, C>,
+) -> Result<(), AllocError>
+    requires { DefinitionsFirst (declarations_of schema.now) fragments.now.document.now (sets_at ahead.old) }
+    ensures { OnOk result (Reads (declarations_of schema.now) (sets_at ahead.old) (sets_at ahead.new) written.old written.new (flat_map (fields_of parent.now) selections.now) (flat_map (inner_of (declarations_of schema.now) (fragments_in fragments.now.document.now) parent.now) selections.now)) }
+{
+    'selections: for selection in selections {
+        read_selection(schema, fragments, parent, selection, ahead, written)?;
+    }
+    Ok(())
+}
+
+/// Reads a set. The sets that stand directly in it have numbers from then on. A set that selects from an
+/// unknown type is not read. An error is want of memory.
+pub(crate) fn read_set<'d, 'a, S, C>(
+    alloc: Global,
+    schema: &'d SchemaType<S, C>,
+    fragments: &FragmentNumbers<'d, 'a, S>,
+    set: OpenSet<'d, 'a, S, C>,
+    ahead: &mut Items<OpenSet<'d, 'a, S, C>>,
+) -> Result<WrittenSet<'d, 'a, S, C>, AllocError>
+    requires { DefinitionsFirst (declarations_of schema.now) fragments.now.document.now (sets_at ahead.old) }
+    ensures numbered { OnOk result (Extends (sets_at ahead.old) (sets_at ahead.new)) }
+    ensures written { IfOk result (λ written. IsSetOf (sets_at ahead.new) (declarations_of schema.now) fragments.now.document.now written (set_at set.entry)) }
+{
+    let mut written = WrittenSet {
+        fields: Items::new(alloc),
+        inner: Items::new(alloc),
+    };
+    if let Some(parent) = set.scope {
+        read_selections(
+            schema,
+            fragments,
+            parent,
+            set.selections,
+            ahead,
+            &mut written,
+        )?;
+    }
+    Ok(written)
+}
