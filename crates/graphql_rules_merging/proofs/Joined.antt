@@ -1,0 +1,50 @@
+-- The table of a document's sets, all pairs of them compared.
+use Rattle.std.proofs.Common.{subst, arith, ℕ, ◌<◌, Bool, List, length, get_or, None}
+use Rattle.std.specs.List.{Contains}
+use Rattle.std.proofs.lemmas.List.{length-map}
+use Rattle.std.proofs.lemmas.List.Elements.{Contains-get_or}
+use Rattle.graphql_values.specs.Laws.{SameAsItself}
+use Rattle.graphql_tree.specs.declared.document.Definition.{Definition}
+use Rattle.graphql_schema.specs.Declarations.{Declarations}
+use Rattle.graphql_plain_tree.specs.Trees.{none}
+use Rattle.graphql_plain_tree.specs.Written.{Settled}
+use Rattle.graphql_merging.specs.declared.table.SetTable.{SetTable}
+use Rattle.graphql_merging.specs.Sets.{Set, members_of, fragments_in, set_of, definition_sets, document_sets}
+use Rattle.graphql_merging.specs.Pieces.{IsPieceOf}
+use Rattle.graphql_merging.specs.Tables.{pieces_of}
+use Rattle.graphql_set_table.specs.SetsAt.{SetAt}
+use Rattle.graphql_set_table.specs.Numbered.{IsTable}
+use Rattle.graphql_set_table.proofs.Meaning.{owns, root-piece, root-number, each-set}
+use Rattle.graphql_rules_merging.specs.Comparing.{Stage}
+use Rattle.graphql_rules_merging.specs.Finished.{IsFinished}
+use Rattle.graphql_rules_merging.proofs.Merged.{IsOpened, opened_inner, opened_own, opened_definition, finished_meets}
+use Rattle.graphql_rules_merging.proofs.Reordered.{Promised}
+
+module _ {S C : Type 0} (eq : S → S → Bool) (schema : Declarations S C) (document : List (Definition S)) (all : List (SetAt S C)) (table : SetTable S C)
+    (is : IsTable schema document all table.sets) (settled : Settled (fragments_in document)) (stage : Stage)
+    (finished : IsFinished eq schema.types (pieces_of (fragments_in document) table) (length document) stage) (itself : SameAsItself eq) where
+  no-set : Set S C
+  no-set = record { scope = None; tree = none }
+
+  root : (k : ℕ) → k < length document
+      → (set : Set S C) × Contains (definition_sets schema document) set × IsPieceOf (pieces_of (fragments_in document) table) k (members_of schema.types set)
+  root k small =
+      let lengths = length-map document (set_of schema (fragments_in document)) in (
+        get_or (definition_sets schema document) k no-set,
+        Contains-get_or (definition_sets schema document) k no-set (omega (arith, lengths, small)),
+        root-piece schema document all table is settled k no-set small,
+      )
+
+  number : (set : Set S C) → Contains (definition_sets schema document) set
+      → (k : ℕ) × (k < length document) × IsPieceOf (pieces_of (fragments_in document) table) k (members_of schema.types set)
+  number set i =
+      let n = root-number schema document all table is settled set i in
+      (n.0, n.1, subst (λ (s : Set S C). IsPieceOf (pieces_of (fragments_in document) table) n.0 (members_of schema.types s)) n.2 (root-piece schema document all table is settled n.0 set n.1))
+
+  pub promised : Promised eq schema.types (document_sets schema document) stage.told
+  promised =
+      let t = pieces_of (fragments_in document) table in
+      finished_meets eq schema.types t (length document) stage finished itself (definition_sets schema document) (owns schema document all table is settled eq) root number
+      (each-set schema document all table is settled (IsOpened eq schema.types t (length document) stage finished itself)
+      (opened_inner eq schema.types t (length document) stage finished itself) (opened_own eq schema.types t (length document) stage finished itself)
+      (opened_definition eq schema.types t (length document) stage finished itself))

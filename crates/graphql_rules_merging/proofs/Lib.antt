@@ -1,0 +1,13 @@
+pub mod Pairs
+pub mod Lists
+pub mod Numbered
+pub mod Texts
+pub mod Begun
+pub mod Comparisons
+pub mod WholeSets
+pub mod Underway
+pub mod Meeting
+pub mod Settled
+pub mod Merged
+pub mod Reordered
+pub mod Joined

@@ -1,0 +1,25 @@
+use Rattle.std.proofs.Common.{take_all, subst, get_or}
+use Rattle.graphql_merging.specs.Tables.{pieces_of}
+use Rattle.graphql_values.proofs.SameValueLemmas.{get_or_any}
+use Rattle.graphql_rules_merging.specs.Agenda.{pair_of, PairOf, Begins}
+use Rattle.graphql_rules_merging.proofs.Begun.{begins_of_none, begins_of_more}
+use Rattle.graphql_rules_merging.proofs.begin.begin_with.Goals as goal
+
+pub loop-number-init : goal.loop-number-init
+loop-number-init g c = λ fragments.
+    begins_of_none (pieces_of fragments c.args.table.now) (λ number. pair_of number c.args.other c.args.around) (λ number. Unit {0}) (λ number. Unit {0}) c.args.agenda.now.pairs.keys
+
+pub loop-number-preserved : goal.loop-number-preserved
+loop-number-preserved g c = λ fragments.
+    let number = get_or c.args.numbers.now c.loop-number.number-index 0 in
+    begins_of_more (pieces_of fragments c.args.table.now) (λ number. pair_of number c.args.other c.args.around) (λ number. Unit {0}) (λ number. Unit {0}) c.args.numbers.now
+    c.loop-number.number-index number c.args.agenda.now.pairs.keys c.loop-number.agenda.pairs.keys c.begin_sets.new.agenda.pairs.keys
+    c.loop-number-test.true (get_or_any c.args.numbers.now c.loop-number.number-index 0 number c.loop-number-test.true) tt (c.loop-number.invariant fragments)
+    (c.in_ok-begin_sets.ensures fragments)
+
+pub returns : goal.returns
+returns g c = λ fragments.
+    subst
+    (λ numbers. Begins (pieces_of fragments c.args.table.now) (PairOf (λ number. pair_of number c.args.other c.args.around) (λ number. Unit {0}) numbers)
+    (PairOf (λ number. pair_of number c.args.other c.args.around) (λ number. Unit {0}) numbers) c.args.agenda.now.pairs.keys c.loop-number.agenda.pairs.keys)
+    (take_all c.loop-number.number-index c.args.numbers.now c.loop-number-test.false) (c.loop-number.invariant fragments)

@@ -1,0 +1,48 @@
+use Rattle.std.proofs.Common.{◌≡◌, refl, ap, sym, subst, ◌∙◌}
+use Rattle.std.proofs.lemmas.Result.{on_ok_weaker}
+use Rattle.graphql_merging.specs.Selected.{seen}
+use Rattle.graphql_merging.specs.Tables.{pieces_of, piece_field}
+use Rattle.graphql_merging.specs.Told.{Differs, in_order}
+use Rattle.graphql_merging.proofs.SameWraps.{same-text}
+use Rattle.graphql_merging.proofs.Reports.{differing}
+use Rattle.graphql_rules_merging.specs.Agenda.{pair_of, Begins}
+use Rattle.graphql_rules_merging.specs.Comparing.{stage_of}
+use Rattle.graphql_rules_merging.proofs.Texts.{unlike_text}
+use Rattle.graphql_rules_merging.proofs.Comparisons.{compares_unlike, compares_differ, compares_agree}
+use Rattle.graphql_rules_merging.proofs.fields.compare.Goals as goal
+
+pub returns-then-ne : goal.returns-then-ne
+returns-then-ne g c = λ fragments.
+    compares_unlike g.S.PartialEq.eq c.args.schema.now.types (pieces_of fragments c.args.table.now) c.args.around
+    (piece_field fragments c.args.left.now, piece_field fragments c.args.right.now) (stage_of c.args.progress.now)
+    (λ key. unlike_text c.response_key.result.now c.response_key-2.result.now c.ne.result c.ne.ensures c.if-ne.true (c.response_key.ensures ∙ key ∙ sym c.response_key-2.ensures))
+
+pub returns-in-Some : goal.returns-in-Some
+returns-in-Some g c =
+    let key = sym c.response_key.ensures ∙ same-text c.response_key.result.now c.response_key-2.result.now c.ne.result c.ne.ensures c.if-ne.false ∙ c.response_key-2.ensures in
+    on_ok_weaker c.tell.result
+    (λ told fragments.
+    compares_differ g.S.PartialEq.eq c.args.schema.now.types (pieces_of fragments c.args.table.now) c.args.around
+    (piece_field fragments c.args.left.now, piece_field fragments c.args.right.now) (stage_of c.args.progress.now)
+    (stage_of (record { told = c.tell.new.told; agenda = c.args.progress.now.agenda }))
+    (in_order c.args.left.now.selected.field.now.span.start c.args.right.now.selected.field.now.span.start) key
+    (differing g.S.PartialEq.eq c.args.schema.now.types c.args.around (seen fragments c.args.left.now.selected) (seen fragments c.args.right.now.selected) c.in-Some.difference
+    (subst (Differs g.S.PartialEq.eq c.args.schema.now.types c.args.around (seen fragments c.args.left.now.selected) (seen fragments c.args.right.now.selected)) c.in-Some.is
+    (c.in_ok-difference.ensures fragments)))
+    refl told refl)
+    c.tell.ensures
+
+pub returns-in-None : goal.returns-in-None
+returns-in-None g c =
+    let key = sym c.response_key.ensures ∙ same-text c.response_key.result.now c.response_key-2.result.now c.ne.result c.ne.ensures c.if-ne.false ∙ c.response_key-2.ensures in
+    on_ok_weaker c.begin_sets.result
+    (λ begun fragments.
+    compares_agree g.S.PartialEq.eq c.args.schema.now.types (pieces_of fragments c.args.table.now) c.args.around
+    (piece_field fragments c.args.left.now, piece_field fragments c.args.right.now) (stage_of c.args.progress.now)
+    (stage_of (record { told = c.args.progress.now.told; agenda = c.begin_sets.new.agenda })) key
+    (subst (Differs g.S.PartialEq.eq c.args.schema.now.types c.args.around (seen fragments c.args.left.now.selected) (seen fragments c.args.right.now.selected)) c.in-None.is
+    (c.in_ok-difference.ensures fragments))
+    refl
+    (subst (λ k. Begins (pieces_of fragments c.args.table.now) (λ pair. pair ≡ k) (λ pair. pair ≡ k) c.args.progress.now.agenda.pairs.keys c.begin_sets.new.agenda.pairs.keys)
+    (ap (pair_of c.args.left.now.own c.args.right.now.own) (c.is_excused-excused.ensures fragments)) (begun fragments)))
+    c.begin_sets.ensures

@@ -1,0 +1,54 @@
+use Rattle.std.proofs.Common.{ap, sym, ◌∙◌, map, inl, inr}
+use Rattle.std.proofs.lemmas.Result.{on_ok_weaker}
+use Rattle.graphql_merging.specs.Tables.{pieces_of, piece_field}
+use Rattle.graphql_rules_merging.specs.Comparing.{stage_of}
+use Rattle.graphql_rules_merging.proofs.Numbered.{direct_at, inner_at, empty_at}
+use Rattle.graphql_rules_merging.proofs.WholeSets.{compares_empty, compares_itself, compares_other}
+use Rattle.graphql_rules_merging.proofs.sets.compare_sets.Goals as goal
+
+pub returns-in_default : goal.returns-in_default
+returns-in_default g c = λ fragments.
+    compares_empty g.S.PartialEq.eq c.args.schema.now.types (pieces_of fragments c.args.table.now) c.args.pair (stage_of c.args.progress.now)
+    (inl (empty_at fragments c.args.table.now c.args.pair.left c.in_default.ensures))
+
+pub returns-in_default-get : goal.returns-in_default-get
+returns-in_default-get g c = λ fragments.
+    compares_empty g.S.PartialEq.eq c.args.schema.now.types (pieces_of fragments c.args.table.now) c.args.pair (stage_of c.args.progress.now)
+    (inr (empty_at fragments c.args.table.now c.args.pair.right c.in_default-get.ensures))
+
+pub returns-then-pair : goal.returns-then-pair
+returns-then-pair g c =
+    on_ok_weaker c.compare_itself.result
+    (λ both fragments.
+    let table = c.args.table.now in
+    let left = c.args.pair.left in
+    let one = c.in-Some.one.now in
+    compares_itself g.S.PartialEq.eq c.args.schema.now.types (pieces_of fragments table) c.args.pair c.as_slice.result.now c.as_slice-2.result.now
+    (map (piece_field fragments) c.as_slice-fields.result.now) (stage_of c.args.progress.now) (stage_of c.compare_itself.new.progress)
+    c.begin_with.new.agenda.pairs.keys c.begin_with-2.new.agenda.pairs.keys
+    (c.as_slice.ensures ∙ sym (inner_at fragments table left one c.in-Some.ensures))
+    (c.as_slice-2.ensures ∙ sym (inner_at fragments table c.args.pair.right c.in-Some-get.other.now c.in-Some-get.ensures))
+    (ap (map (piece_field fragments)) c.as_slice-fields.ensures ∙ sym (direct_at fragments table left one c.in-Some.ensures))
+    (c.in_ok-begin_with.ensures fragments) (c.in_ok-begin_with-2.ensures fragments) c.if-pair.true (both fragments).0 (both fragments).1)
+    c.compare_itself.ensures
+
+pub returns-else-pair : goal.returns-else-pair
+returns-else-pair g c =
+    on_ok_weaker c.compare_between.result
+    (λ compares fragments.
+    let table = c.args.table.now in
+    let left = c.args.pair.left in
+    let right = c.args.pair.right in
+    let one = c.in-Some.one.now in
+    let other = c.in-Some-get.other.now in
+    compares_other g.S.PartialEq.eq c.args.schema.now.types (pieces_of fragments table) c.args.pair c.as_slice.result.now c.as_slice-2.result.now
+    (map (piece_field fragments) c.as_slice-fields.result.now) (stage_of c.args.progress.now) (stage_of c.compare_between.new.progress)
+    c.begin_with.new.agenda.pairs.keys c.begin_with-2.new.agenda.pairs.keys
+    (c.as_slice.ensures ∙ sym (inner_at fragments table left one c.in-Some.ensures))
+    (c.as_slice-2.ensures ∙ sym (inner_at fragments table right other c.in-Some-get.ensures))
+    (ap (map (piece_field fragments)) c.as_slice-fields.ensures ∙ sym (direct_at fragments table left one c.in-Some.ensures))
+    (c.in_ok-begin_with.ensures fragments) (c.in_ok-begin_with-2.ensures fragments)
+    (map (piece_field fragments) c.as_slice-else-pair.result.now)
+    (ap (map (piece_field fragments)) c.as_slice-else-pair.ensures ∙ sym (direct_at fragments table right other c.in-Some-get.ensures))
+    c.if-pair.false (compares fragments).told (compares fragments).begun)
+    c.compare_between.ensures

@@ -1,0 +1,148 @@
+//! Fields are compared, two by two.
+
+ghost use Rattle.std.specs.Prelude.{◌≡◌, ◌+◌, ◌<◌, [], ◌∷◌, List, map, length, drop, OnOk};
+ghost use Rattle.graphql_rule_errors.specs.Places.{Reports};
+ghost use Rattle.graphql_tree.specs.declared.document.Fragment.{Fragment};
+ghost use Rattle.graphql_merging.specs.Told.{in_order};
+ghost use Rattle.graphql_merging.specs.Tables.{pieces_of, piece_field};
+ghost use Rattle.graphql_rules_merging.specs.Comparing.{Compares, stage_of, with_each, between, later};
+
+use crate::begin::begin_sets;
+use crate::messages::message_of;
+use crate::progress::Progress;
+use graphql_merging::{
+    Difference, SelectedField, SetTable, WrittenField, first_difference, is_excused,
+};
+use graphql_plain_tree::response_key;
+use graphql_rule_errors::{RuleError, report};
+use graphql_schema::SchemaType;
+use graphql_text::{Items, SourcePosition};
+use std::alloc::{AllocError, Global};
+
+/// Two places, in the order of the text.
+fn in_order(one: SourcePosition, other: SourcePosition) -> [SourcePosition; 2]
+    ensures { result ≡ in_order one other }
+{
+    if other.index() < one.index() {
+        return [other, one];
+    }
+    [one, other]
+}
+
+/// Tells that two fields of one response key do not agree. An error of the call is want of memory.
+fn tell<S, C>(
+    alloc: Global,
+    difference: Difference,
+    left: &SelectedField<'_, '_, S, C>,
+    right: &SelectedField<'_, '_, S, C>,
+    told: &mut Items<RuleError>,
+) -> Result<(), AllocError>
+    ensures { OnOk result (Reports (in_order left.now.field.now.span.start right.now.field.now.span.start ∷ []) told.old told.new) }
+{
+    let message = message_of(alloc, difference, left, right)?;
+    let places = in_order(left.field.span.start, right.field.span.start);
+    report(alloc, told, message, &places)
+}
+
+/// Compares two fields: where they have one response key, an error is told of them, or their own sets
+/// are begun. `around`: whether fields around them have parents that are different objects. An error
+/// of the call is want of memory.
+fn compare<S: PartialEq, C>(
+    alloc: Global,
+    schema: &SchemaType<S, C>,
+    table: &SetTable<'_, '_, S, C>,
+    around: bool,
+    left: &WrittenField<'_, '_, S, C>,
+    right: &WrittenField<'_, '_, S, C>,
+    progress: &mut Progress,
+) -> Result<(), AllocError>
+    ensures { OnOk result ((fragments : List (Fragment S)) → Compares S.eq schema.now.types (pieces_of fragments table.now) around ((piece_field fragments left.now, piece_field fragments right.now) ∷ []) (stage_of progress.old) (stage_of progress.new)) }
+{
+    let one = &left.selected;
+    let other = &right.selected;
+    if response_key(&one.field.item) != response_key(&other.field.item) {
+        return Ok(());
+    }
+    let difference = first_difference(alloc, schema, around, one, other)?;
+    match difference {
+        Some(difference) => tell(alloc, difference, one, other, &mut progress.told),
+        None => {
+            let excused = is_excused(around, one, other);
+            begin_sets(table, &mut progress.agenda, left.own, right.own, excused)
+        }
+    }
+}
+
+/// Compares a field with others, in order. An error of the call is want of memory.
+fn compare_with<S: PartialEq, C>(
+    alloc: Global,
+    schema: &SchemaType<S, C>,
+    table: &SetTable<'_, '_, S, C>,
+    around: bool,
+    left: &WrittenField<'_, '_, S, C>,
+    others: &[WrittenField<'_, '_, S, C>],
+    progress: &mut Progress,
+) -> Result<(), AllocError>
+    ensures { OnOk result ((fragments : List (Fragment S)) → Compares S.eq schema.now.types (pieces_of fragments table.now) around (with_each (piece_field fragments left.now) (map (piece_field fragments) others.now)) (stage_of progress.old) (stage_of progress.new)) }
+{
+    for right in others {
+        compare(alloc, schema, table, around, left, right, progress)?;
+    }
+    Ok(())
+}
+
+/// The fields that follow one of them.
+fn after<'n, 'd, 'a, S, C>(
+    fields: &'n [WrittenField<'d, 'a, S, C>],
+    index: usize,
+) -> &'n [WrittenField<'d, 'a, S, C>]
+    requires { index < length fields.now }
+    ensures { result.now ≡ drop (index + 1) fields.now }
+{
+    &fields[index + 1..]
+}
+
+/// Compares each two fields of one set, each once and in order. An error of the call is want of
+/// memory.
+pub(crate) fn compare_within<S: PartialEq, C>(
+    alloc: Global,
+    schema: &SchemaType<S, C>,
+    table: &SetTable<'_, '_, S, C>,
+    around: bool,
+    fields: &[WrittenField<'_, '_, S, C>],
+    progress: &mut Progress,
+) -> Result<(), AllocError>
+    ensures { OnOk result ((fragments : List (Fragment S)) → Compares S.eq schema.now.types (pieces_of fragments table.now) around (later (map (piece_field fragments) fields.now)) (stage_of progress.old) (stage_of progress.new)) }
+{
+    for (index, first) in fields.iter().enumerate() {
+        compare_with(
+            alloc,
+            schema,
+            table,
+            around,
+            first,
+            after(fields, index),
+            progress,
+        )?;
+    }
+    Ok(())
+}
+
+/// Compares each field of one set with each of another, each once and in order. An error of the call
+/// is want of memory.
+pub(crate) fn compare_between<S: PartialEq, C>(
+    alloc: Global,
+    schema: &SchemaType<S, C>,
+    table: &SetTable<'_, '_, S, C>,
+    around: bool,
+    lefts: &[WrittenField<'_, '_, S, C>],
+    rights: &[WrittenField<'_, '_, S, C>],
+    progress: &mut Progress,
+) -> Result<(), AllocError>
+    ensures { OnOk result ((fragments : List (Fragment S)) → Compares S.eq schema.now.types (pieces_of fragments table.now) around (between (map (piece_field fragments) lefts.now) (map (piece_field fragments) rights.now)) (stage_of progress.old) (stage_of progress.new)) }
+{
+    for left in lefts {
+        compare_with(alloc, schema, table, around, left, rights, progress)?;
+    }
+    Ok(())
+}

@@ -1,0 +1,57 @@
+//! All pairs of selection sets are compared.
+
+ghost use Rattle.std.specs.Prelude.{◌≡◌, ℕ, ◌<◌, List, IfOk, OnOk, false};
+ghost use Rattle.graphql_rule_errors.specs.Places.{places};
+ghost use Rattle.graphql_tree.specs.declared.document.Fragment.{Fragment};
+ghost use Rattle.graphql_merging.specs.Tables.{pieces_of};
+ghost use Rattle.graphql_rules_merging.specs.Agenda.{pair_of, Begins};
+ghost use Rattle.graphql_rules_merging.specs.Comparing.{Stage};
+ghost use Rattle.graphql_rules_merging.specs.Finished.{IsFinished};
+
+use crate::agenda::Agenda;
+use crate::begin::begin_sets;
+use crate::progress::Progress;
+use crate::sets::compare_sets;
+use graphql_merging::SetTable;
+use graphql_rule_errors::RuleError;
+use graphql_schema::SchemaType;
+use graphql_text::Items;
+use std::alloc::{AllocError, Global};
+
+/// Begins the set of each definition with itself. An error is want of memory.
+fn begin_definitions<S, C>(
+    table: &SetTable<'_, '_, S, C>,
+    agenda: &mut Agenda,
+    definitions: usize,
+) -> Result<(), AllocError>
+    ensures { OnOk result ((fragments : List (Fragment S)) → Begins (pieces_of fragments table.now) (λ pair. (k : ℕ) × (k < definitions) × (pair ≡ pair_of k k false)) (λ pair. (k : ℕ) × (k < definitions) × (pair ≡ pair_of k k false)) agenda.old.pairs.keys agenda.new.pairs.keys) }
+{
+    for definition in 0..definitions {
+        begin_sets(table, agenda, definition, definition, false)?;
+    }
+    Ok(())
+}
+
+/// The errors of the fields that do not merge, in the order in which they are found. The sets below
+/// `definitions` are those of the document's definitions. An error of the call is want of memory.
+pub fn merge_errors<S: PartialEq, C>(
+    alloc: Global,
+    schema: &SchemaType<S, C>,
+    table: &SetTable<'_, '_, S, C>,
+    definitions: usize,
+) -> Result<Items<RuleError>, AllocError>
+    ensures { IfOk result (λ errors. (fragments : List (Fragment S)) → (stage : Stage) × (stage.told ≡ places errors) × IsFinished S.eq schema.now.types (pieces_of fragments table.now) definitions stage) }
+{
+    let mut progress = Progress {
+        told: Items::new(alloc),
+        agenda: Agenda::new(alloc),
+    };
+    begin_definitions(table, &mut progress.agenda, definitions)?;
+    let mut place = 0;
+    while place < progress.agenda.len() {
+        let pair = progress.agenda.pair(place);
+        compare_sets(alloc, schema, table, pair, &mut progress)?;
+        place += 1;
+    }
+    Ok(progress.told)
+}

@@ -1,0 +1,15 @@
+//! The rule that fields merge (GraphQL October 2021, 5.3.2 Field Selection Merging): which pairs of selection
+//! sets are compared, and what is told of their fields.
+#![tactic(auto)]
+
+mod agenda;
+mod begin;
+mod fields;
+mod finish;
+mod messages;
+mod overlapping_fields;
+mod progress;
+mod sets;
+
+pub use finish::merge_errors;
+pub use overlapping_fields::overlapping_fields_can_be_merged;

@@ -1,0 +1,55 @@
+//! The rule OverlappingFieldsCanBeMerged (GraphQL October 2021, 5.3.2 Field Selection Merging).
+
+ghost use Rattle.std.specs.Prelude.{◌≡◌, List, IfOk, IsSorted};
+ghost use Rattle.graphql_merging.specs.Contract.{IsSound, IsDirect, IsComplete};
+ghost use Rattle.graphql_merging.specs.Sets.{document_sets, fragments_in};
+ghost use Rattle.graphql_plain_tree.specs.Written.{Settled};
+ghost use Rattle.graphql_rule_errors.specs.Places.{places};
+ghost use Rattle.graphql_schema.specs.Declarations.{declarations_of};
+ghost use Rattle.graphql_tree.specs.declared.document.Fragment.{Fragment};
+ghost use Rattle.graphql_merging.specs.Tables.{pieces_of};
+ghost use Rattle.graphql_rules_merging.specs.Comparing.{Stage};
+ghost use Rattle.graphql_rules_merging.specs.Finished.{IsFinished};
+
+use crate::finish::merge_errors;
+use graphql_merging::SetTable;
+use graphql_rule_errors::RuleError;
+use graphql_schema::SchemaType;
+use graphql_set_table::{let_go, numbered_sets};
+use graphql_text::Items;
+use graphql_tree::Definition;
+use std::alloc::{AllocError, Global};
+
+/// The errors of the fields of these sets that do not merge, in the order in which they are found. An
+/// error of the call is want of memory.
+fn errors_of_table<'d, 'a, S: PartialEq, C>(
+    alloc: Global,
+    schema: &SchemaType<S, C>,
+    table: SetTable<'d, 'a, S, C>,
+    definitions: usize,
+) -> Result<Items<RuleError>, AllocError>
+    ensures { IfOk result (λ errors. (fragments : List (Fragment S)) → (stage : Stage) × (stage.told ≡ places errors) × IsFinished S.eq schema.now.types (pieces_of fragments table.entry) definitions stage) }
+{
+    let outcome = merge_errors(alloc, schema, &table, definitions);
+    let_go(table);
+    outcome
+}
+
+/// The errors of the fields of a document that do not merge, in order: by their places, and those of
+/// the same places by their messages. Each names where two fields begin that stand together in a
+/// selection set and do not merge there; without errors each set merges. Ends on every document, also on
+/// one whose fragments lead to themselves. An error of the call is want of memory.
+pub fn overlapping_fields_can_be_merged<S: Eq, C>(
+    alloc: Global,
+    schema: &SchemaType<S, C>,
+    document: &[Definition<'_, S>],
+) -> Result<Items<RuleError>, AllocError>
+    ensures merging { IfOk result (λ errors. Settled (fragments_in document.now) → IsSound S.eq schema.now.types (document_sets (declarations_of schema.now) document.now) (places errors) × IsDirect S.eq schema.now.types (document_sets (declarations_of schema.now) document.now) (places errors) × IsComplete S.eq schema.now.types (document_sets (declarations_of schema.now) document.now) (places errors)) }
+    ensures sorted { IfOk result (IsSorted ⟦<RuleError as Ord>⟧.cmp) }
+{
+    let table = numbered_sets(alloc, schema, document)?;
+    let found = errors_of_table(alloc, schema, table, document.len())?;
+    let mut errors = found.into_vec();
+    errors.sort_unstable();
+    Ok(Items::from_vec(errors))
+}
