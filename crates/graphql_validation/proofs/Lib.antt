@@ -3,3 +3,4 @@ pub mod StageLemmas
 pub mod ReportedLemmas
 pub mod ValidLemmas
 pub mod WellFormedLemmas
+pub mod AllRulesLemmas

@@ -1,15 +1,12 @@
 -- No error exactly where no rule finds a fault.
-use Rattle.std.proofs.Common.{◌≡◌, ◌↔◌, Bool, true, false, List, [], ◌∷◌, ◌++◌, length, refl, sym, ap, subst, ◌∙◌}
+use Rattle.std.proofs.Common.{◌≡◌, ◌↔◌, Bool, true, false, List, [], ◌++◌, length, sym, ap, subst, ◌∙◌}
 use Rattle.std.specs.Prelude.{IsPermutation}
-use Rattle.std.specs.List.{flat_map}
 use Rattle.std.proofs.lemmas.List.{nil_from_length}
-use Rattle.std.proofs.lemmas.List.Sorted.{IsPermutation-refl, IsPermutation-trans, length_permutation}
+use Rattle.std.proofs.lemmas.List.Sorted.{IsPermutation-trans, length_permutation}
 use Rattle.graphql_values.specs.declared.input_value.InputValue.{InputValue}
 use Rattle.graphql_scalars.specs.ScalarAnswers.{ScalarAnswer}
-use Rattle.graphql_occurrences.specs.Parts.{Part}
 use Rattle.graphql_rule_errors.proofs.NoFaultLemmas.{append_none}
 use Rattle.graphql_rule_errors.specs.Places.{Places}
-use Rattle.graphql_visitors.specs.Rules.{Rule, Tell}
 use Rattle.graphql_visitors.specs.Subjects.{Subject}
 use Rattle.graphql_rules_document.specs.AllRules.{document_places, fragment_places, operation_places, variable_places}
 use Rattle.graphql_rules_values.proofs.LawLemmas.{arguments_one, defaults_one}

@@ -1,5 +1,5 @@
 -- What a visitor tells over a document, and what is gathered beside it.
-use Rattle.std.proofs.Common.{◌≡◌, List, Result, Ok, Err, OnOk, true, false, refl, sym, ap, ◌∙◌}
+use Rattle.std.proofs.Common.{◌≡◌, List, Result, Ok, Err, OnOk, true, false, sym, ap, ◌∙◌}
 use Rattle.std.specs.Result.{is_err}
 use Rattle.std.proofs.lemmas.Bool.{false≢true}
 use Rattle.graphql_occurrences.specs.Nodes.{Seen}

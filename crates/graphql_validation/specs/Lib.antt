@@ -1,3 +1,4 @@
 pub mod FirstStage
 pub mod Valid
 pub mod WellFormed
+pub mod AllRules

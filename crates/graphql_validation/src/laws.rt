@@ -1,10 +1,23 @@
 //! Laws of schemas, of visitors and of documents without a fault: each function's contract is a law, and
 //! its body does nothing.
 
+ghost use Rattle.std.specs.Prelude.{List};
+ghost use Rattle.graphql_merging.specs.Sets.{fragments_in};
+ghost use Rattle.graphql_plain_tree.specs.Written.{Settled};
+ghost use Rattle.graphql_schema.specs.Declarations.{declarations_of};
+ghost use Rattle.graphql_tree.specs.declared.document.Definition.{Definition};
 ghost use Rattle.graphql_validation.specs.Valid.{HasNoFault};
 ghost use Rattle.graphql_validation.specs.WellFormed.{IsWellFormed};
 ghost use Rattle.graphql_visitors.specs.Subjects.{Subject};
 
+pub use graphql_merged_fields::laws::{
+    chosen_members_are_collected, one_field_for_a_key, own_sets_merge,
+};
+pub use graphql_merging::laws::{
+    direct_conflicts_are_right, done_meets_contract, fields_agree_with_themselves,
+    merging_is_agreement, merging_is_mutual, nested_sets_follow, nothing_told_fits,
+    pairs_stay_together, settled_merges,
+};
 use graphql_meta::SchemaScalar;
 pub use graphql_occurrences::laws::events_tell_occurrences;
 pub use graphql_rule_errors::laws::{
@@ -29,11 +42,18 @@ pub use graphql_rules_values::laws::{
     declared_arguments_conform, defaults_conform, literals_conform, misfits_are_determined,
     told_of_arguments_is_determined, told_of_defaults_is_determined,
 };
+use graphql_schema::SchemaType;
 pub use graphql_schema::laws::{
     overlap_is_symmetric, possible_is_below, subtype_is_reflexive, subtype_is_transitive,
     wrapped_subtype_decides,
 };
 pub use graphql_scopes::laws::reached_is_least;
+pub use graphql_settled_fragments::laws::{ending_fragments_are_settled, field_types_are_known};
+pub use graphql_variable_values::laws::{
+    accepted_variables_are_not_told, definitions_of_distinct_names_are_found,
+    final_values_are_given_or_defaults, given_values_conform, non_null_variables_have_values,
+    told_of_variables_is_determined,
+};
 pub use graphql_visitors::laws::{
     local_rules_tell_of_occurrences, no_visitor_tells_nothing, one_pass_is_separate_passes,
     relational_rules_tell_of_occurrences,
@@ -45,4 +65,11 @@ pub use graphql_visitors::laws::{
 /// where its type has fields.
 pub fn documents_without_a_fault_are_well_formed<S: SchemaScalar>()
     ensures { (subject : Subject S S.Check) → HasNoFault S.answer S.Check.accepts subject → IsWellFormed subject }
+{}
+
+/// The fragments of a document in which no rule of the first stage finds a fault are written out by as
+/// many levels as there are of them, so that merging, execution and plain texts, which are defined over
+/// what is written out, speak of all of it.
+pub fn documents_without_a_fault_are_settled<S: SchemaScalar>(schema: &SchemaType<S>)
+    ensures { (document : List (Definition S)) → HasNoFault S.answer S.Check.accepts (record { schema = declarations_of schema.now; document = document }) → Settled (fragments_in document) }
 {}

@@ -10,21 +10,26 @@
 //! - [`SchemaType`], the schema itself, refused with a [`SchemaError`] where its types are at fault;
 //!   the references to its types, each a [`TypeType`]; and [`RootNode`], what requests are executed
 //!   over;
-//! - [`first_stage_errors`] and [`root_node_errors`], what all [`rules`] but the one that fields merge
-//!   have against a document, and [`visit_all_rules`], the same over a context;
+//! - [`validation_errors`], what all [`rules`] have against a document: none exactly where it is valid;
+//! - [`first_stage_errors`] and [`root_node_errors`], what all but the one that fields merge have against
+//!   it, and [`visit_all_rules`], the same over a context;
 //! - [`Walk`], a walk over a document, which tells each [`Event`] with the types around it;
 //! - [`visit`], which takes a [`Visitor`], or a list of them, over a document, and the
 //!   [`ValidatorContext`], which keeps what they report;
 //! - [`validate_literal_value`], which tells why a literal does not conform to a type;
+//! - [`validate_input_values`], which tells which values of a request's variables an operation does not
+//!   accept, and [`FinalVariables`], the values that they have in the end;
 //! - [`RuleError`], what a rule has against a document;
 //! - in [`laws`], what is proved of schemas, of visitors and of documents without a fault.
 #![tactic(auto)]
 
+mod all_rules;
 mod first_stage;
 pub mod laws;
 mod one_walk;
 pub mod rules;
 
+pub use all_rules::validation_errors;
 pub use first_stage::{
     first_stage_errors, root_node_errors, visit_all_rules, visit_introspection_rule,
 };
@@ -40,6 +45,7 @@ pub use graphql_occurrences::{
 };
 pub use graphql_rule_errors::RuleError;
 pub use graphql_schema::{RootNode, SchemaError, SchemaType, TypeType};
+pub use graphql_variable_values::{FinalVariables, validate_input_values};
 pub use graphql_visitors::{
     Local, LocalRule, MultiVisitorCons, MultiVisitorNil, Relational, RelationalRule,
     ValidatorContext, Visitor, visit,

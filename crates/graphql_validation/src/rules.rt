@@ -18,6 +18,7 @@ pub use graphql_rules_local::{
     known_type_names, possible_fragment_spreads, provided_non_null_arguments, scalar_leafs,
     unique_argument_names, unique_input_field_names, variables_are_input_types,
 };
+pub use graphql_rules_merging::overlapping_fields_can_be_merged;
 pub use graphql_rules_values::{
     ArgumentsOfCorrectType, DefaultValuesOfCorrectType, arguments_of_correct_type,
     default_values_of_correct_type,

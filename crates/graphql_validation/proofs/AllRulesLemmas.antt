@@ -1,0 +1,59 @@
+-- What all rules tell, and of which documents nothing.
+use Rattle.std.proofs.Common.{◌≡◌, ◌↔◌, refl, sym, subst, Bool, List, [], ◌∷◌, Option, Some, arith, Result, Ok, Err, IfOk}
+use Rattle.std.specs.List.{All, Contains}
+use Rattle.std.specs.Option.{IsSome}
+use Rattle.graphql_values.specs.declared.input_value.InputValue.{InputValue}
+use Rattle.graphql_scalars.specs.ScalarAnswers.{ScalarAnswer}
+use Rattle.graphql_rule_errors.specs.Places.{Places, places}
+use Rattle.graphql_rule_errors.specs.declared.rule_error.RuleError.{RuleError}
+use Rattle.graphql_visitors.specs.Subjects.{Subject}
+use Rattle.graphql_plain_tree.specs.Written.{Settled}
+use Rattle.graphql_merging.proofs.Standing.{together-merge}
+use Rattle.graphql_merging.specs.Contract.{IsComplete, IsDirect, IsSound}
+use Rattle.graphql_merging.specs.Merging.{Merging}
+use Rattle.graphql_merging.specs.Sets.{Set, document_sets, fragments_in, members_of}
+use Rattle.graphql_settled_fragments.specs.Laws.{EndingFragmentsAreSettled}
+use Rattle.graphql_validation.proofs.ValidLemmas.{first_none, first_then}
+use Rattle.graphql_validation.specs.AllRules.{AllRules, of_first_stage, of_merging, FieldsMerge, IsValid}
+use Rattle.graphql_validation.specs.FirstStage.{FirstStage}
+use Rattle.graphql_validation.specs.WellFormed.{IsWellFormed}
+
+all-at : {X : Type 0} (P : X → Type 0) (xs : List X) → All P xs → (x : X) → Contains xs x → P x
+all-at P xs h x i = subst P i.2 (h i.0 x i.1)
+
+some-of : {A : Type 0} (o : Option A) (a : A) → o ≡ Some a → IsSome o
+some-of o a e = subst IsSome (sym e) refl
+
+module _ {S C : Type 0} (eq : S → S → Bool) (subject : Subject S C) where
+  -- where all sets merge, no error is sound
+  none-sound : (told : Places) → IsSound eq subject.schema.types (document_sets subject.schema subject.document) told → FieldsMerge eq subject → told ≡ []
+  none-sound [] sound merge = refl
+  none-sound (e ∷ told) sound merge =
+      let c = (sound 0 e (omega arith)).2 in
+      let whole = all-at (λ (set : Set S C). Merging eq subject.schema.types (members_of subject.schema.types set)) (document_sets subject.schema subject.document) merge c.0 c.1 in
+      absurd (c.2.2 (together-merge eq subject.schema.types (members_of subject.schema.types c.0) whole c.2.0 _ _ c.2.1))
+
+module _ {S C : Type 0} (subject : Subject S C) where
+  -- a document of which the rules find no fault is settled
+  pub settled-where-well-formed : EndingFragmentsAreSettled subject.schema → IsWellFormed subject → Settled (fragments_in subject.document)
+  settled-where-well-formed ends well = ends subject.document (record {
+    fields = λ f i. some-of f.declared (well.fields f i).0 (well.fields f i).1;
+    conditions = λ n i. some-of _ (well.conditions n i).0 (well.conditions n i).1;
+  }) well.fragments_end
+
+module _ {S C : Type 0} (eq : S → S → Bool) (answer : S → ScalarAnswer) (accepts : C → InputValue S → Type 0) (subject : Subject S C) where
+  -- nothing is told exactly of valid documents
+  pub all-exactly : (told : Places) → AllRules eq answer accepts subject told → (told ≡ []) ↔ IsValid eq answer accepts subject
+  all-exactly told (of_first_stage first some) = ((λ e. absurd (some e)), λ v. first_then answer accepts subject told first v.no_fault)
+  all-exactly told (of_merging first merging) = (
+    (λ e. record { no_fault = first_none answer accepts subject [] first refl; fields_merge = merging.complete e }),
+    λ v. none-sound eq subject told merging.sound v.fields_merge,
+  )
+
+  -- errors of the rule that fields merge, where the first stage told nothing
+  pub merged : {E : Type 0} (r : Result (List RuleError) E) → FirstStage answer accepts subject [] → Settled (fragments_in subject.document)
+      → IfOk r (λ es. Settled (fragments_in subject.document) → IsSound eq subject.schema.types (document_sets subject.schema subject.document) (places es)
+      × IsDirect eq subject.schema.types (document_sets subject.schema subject.document) (places es) × IsComplete eq subject.schema.types (document_sets subject.schema subject.document) (places es))
+      → IfOk r (λ es. AllRules eq answer accepts subject (places es))
+  merged (Ok es) first settled h = let p = h settled in of_merging first (record { sound = p.0; direct = p.1; complete = p.2 })
+  merged (Err e) first settled h = tt
