@@ -1,6 +1,7 @@
 //! All rules for documents, in two stages.
 
 ghost use Rattle.std.specs.Prelude.{◌≡◌, ◌↔◌, [], IfOk};
+ghost use Rattle.std.specs.List.Sorted.{IsSorted};
 ghost use Rattle.graphql_rule_errors.specs.Places.{places};
 ghost use Rattle.graphql_schema.specs.Declarations.{declarations_of};
 ghost use Rattle.graphql_validation.specs.AllRules.{AllRules, IsValid};
@@ -14,10 +15,10 @@ use graphql_text::Items;
 use graphql_tree::Definition;
 use std::alloc::{AllocError, Global};
 
-/// The errors of all rules for a document (GraphQL October 2021, 5 Validation): of the first stage, in
-/// their order; where it finds no fault, of the rule that fields merge (5.3.2 Field Selection Merging),
-/// in the order in which they are found. There are none exactly where the document is valid. An error of
-/// the call is want of memory.
+/// The errors of all rules for a document (GraphQL October 2021, 5 Validation), in order: by their places,
+/// then by their messages. They are those of the first stage; where it finds no fault, those of the rule
+/// that fields merge (5.3.2 Field Selection Merging). There are none exactly where the document is valid.
+/// An error of the call is want of memory.
 pub fn validation_errors<'t, S: SchemaScalar>(
     alloc: Global,
     schema: &SchemaType<S>,
@@ -25,6 +26,7 @@ pub fn validation_errors<'t, S: SchemaScalar>(
 ) -> Result<Items<RuleError>, AllocError>
     ensures told { IfOk result (λ errors. AllRules S.eq S.answer S.Check.accepts (record { schema = declarations_of schema.now; document = document.now }) (places errors)) }
     ensures none { IfOk result (λ errors. (errors ≡ []) ↔ IsValid S.eq S.answer S.Check.accepts (record { schema = declarations_of schema.now; document = document.now })) }
+    ensures sorted { IfOk result (IsSorted ⟦<RuleError as Ord>⟧.cmp) }
 {
     let errors = first_stage_errors(alloc, schema, document)?;
     if errors.is_empty() {
