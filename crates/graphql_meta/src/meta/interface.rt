@@ -5,8 +5,9 @@ ghost use Rattle.graphql_meta.specs.declared.meta.MetaType.TheVariants as meta;
 
 use super::{Field, MetaType};
 use graphql_names::NamedItems;
+use graphql_scalars::ScalarValue;
 use graphql_text::{Items, Text};
-use std::alloc::Global;
+use std::alloc::{AllocError, Global};
 
 /// What a schema says of an interface (GraphQL October 2021, 3.7 Interfaces).
 #[derive(Drop)]
@@ -58,5 +59,24 @@ impl<S> InterfaceMeta<S> {
         ensures { result ≡ meta.Interface self }
     {
         MetaType::Interface(self)
+    }
+}
+
+impl<S: ScalarValue + Drop> Clone for InterfaceMeta<S> {
+    ghost is_clone = { λ interface copy. copy ≡ interface };
+
+    /// The same interface once more. Takes stack for each level that a default value of its fields'
+    /// arguments nests. An error is want of memory.
+    fn clone(&self) -> Result<InterfaceMeta<S>, AllocError> {
+        let name = self.name.clone()?;
+        let description = self.description.clone()?;
+        let fields = self.fields.clone()?;
+        let interface_names = self.interface_names.clone()?;
+        Ok(InterfaceMeta {
+            name,
+            description,
+            fields,
+            interface_names,
+        })
     }
 }

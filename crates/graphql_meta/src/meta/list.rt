@@ -6,6 +6,7 @@ ghost use Rattle.graphql_meta.specs.declared.meta.MetaType.TheVariants as meta;
 use super::MetaType;
 use graphql_text::Text;
 use graphql_type_references::Type;
+use std::alloc::AllocError;
 
 /// Lists of a type (GraphQL October 2021, 3.11 List).
 #[derive(Drop)]
@@ -33,5 +34,19 @@ impl ListMeta {
         ensures { result ≡ meta.List self }
     {
         MetaType::List(self)
+    }
+}
+
+impl Clone for ListMeta {
+    ghost is_clone = { λ list copy. copy ≡ list };
+
+    /// The same once more. An error is want of memory.
+    fn clone(&self) -> Result<ListMeta, AllocError> {
+        let of_type = self.of_type.clone()?;
+        let expected_size = self.expected_size;
+        Ok(ListMeta {
+            of_type,
+            expected_size,
+        })
     }
 }

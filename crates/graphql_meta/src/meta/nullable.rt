@@ -6,6 +6,7 @@ ghost use Rattle.graphql_meta.specs.declared.meta.MetaType.TheVariants as meta;
 use super::MetaType;
 use graphql_text::Text;
 use graphql_type_references::Type;
+use std::alloc::AllocError;
 
 /// A type with `null` among its values (GraphQL October 2021, 3.12 Non-Null, Nullable vs. Optional).
 #[derive(Drop)]
@@ -27,5 +28,15 @@ impl NullableMeta {
         ensures { result ≡ meta.Nullable self }
     {
         MetaType::Nullable(self)
+    }
+}
+
+impl Clone for NullableMeta {
+    ghost is_clone = { λ nullable copy. copy ≡ nullable };
+
+    /// The same once more. An error is want of memory.
+    fn clone(&self) -> Result<NullableMeta, AllocError> {
+        let of_type = self.of_type.clone()?;
+        Ok(NullableMeta { of_type })
     }
 }

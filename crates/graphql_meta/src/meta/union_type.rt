@@ -5,6 +5,7 @@ ghost use Rattle.graphql_meta.specs.declared.meta.MetaType.TheVariants as meta;
 
 use super::MetaType;
 use graphql_text::{Items, Text};
+use std::alloc::AllocError;
 
 /// What a schema says of a union (GraphQL October 2021, 3.8 Unions).
 #[derive(Drop)]
@@ -44,5 +45,21 @@ impl UnionMeta {
         ensures { result ≡ meta.Union self }
     {
         MetaType::Union(self)
+    }
+}
+
+impl Clone for UnionMeta {
+    ghost is_clone = { λ meta_of_union copy. copy ≡ meta_of_union };
+
+    /// The same union once more. An error is want of memory.
+    fn clone(&self) -> Result<UnionMeta, AllocError> {
+        let name = self.name.clone()?;
+        let description = self.description.clone()?;
+        let of_type_names = self.of_type_names.clone()?;
+        Ok(UnionMeta {
+            name,
+            description,
+            of_type_names,
+        })
     }
 }
