@@ -1,6 +1,5 @@
 -- The input value that an argument's value is.
 use Rattle.std.specs.Prelude.{List, map, Option, Some, None}
-use Rattle.std.specs.HashMap.{get_by_text}
 use Rattle.std.specs.List.{filter_map}
 use Rattle.std.specs.Option.{option_map}
 use Rattle.graphql_items.specs.declared.text.Text.{Text}
@@ -9,6 +8,7 @@ use Rattle.graphql_values.specs.Variables.{given_pair}
 use Rattle.graphql_values.specs.declared.input_value.InputValue.{InputValue}
 use Rattle.graphql_values.specs.declared.input_value.InputValue.TheVariants as value
 use Rattle.graphql_argument_values.specs.Filled.{filled, item_or_null}
+use Rattle.graphql_argument_values.specs.FinalVariables.{value_in}
 use Rattle.graphql_argument_values.specs.declared.argument_value.ArgumentFields.{ArgumentFields}
 use Rattle.graphql_argument_values.specs.declared.argument_value.ArgumentItems.{ArgumentItems}
 use Rattle.graphql_argument_values.specs.declared.argument_value.ArgumentValue.{ArgumentValue}
@@ -28,10 +28,10 @@ module _ {S : Type 0} where
 
   -- what is yet to be read
   abbrev pub items_told : ArgumentItems S → List (Placed (InputValue S))
-  items_told list = map (item_told (option_map (λ v. get_by_text v.now) list.variables)) list.items.now
+  items_told list = map (item_told (option_map (λ v. value_in v.now) list.variables)) list.items.now
 
   abbrev pub fields_told : ArgumentFields S → List (Pair (InputValue S))
-  fields_told object = filter_map (field_told (option_map (λ v. get_by_text v.now) object.variables)) object.fields.now
+  fields_told object = filter_map (field_told (option_map (λ v. value_in v.now) object.variables)) object.fields.now
 
   abbrev pub told : ArgumentValue S → InputValue S
   told argument.Null = value.Null

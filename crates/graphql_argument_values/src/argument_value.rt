@@ -1,13 +1,14 @@
 //! Literals with the values of variables in their stead, read layer by layer and not copied.
 
 ghost use Rattle.std.specs.Prelude.{◌≡◌, ◌∷◌, [], MatchOption, length};
-ghost use Rattle.std.specs.HashMap.{get_by_text};
 ghost use Rattle.std.specs.Option.{option_map};
 ghost use Rattle.graphql_argument_values.specs.Filled.{filled};
+ghost use Rattle.graphql_argument_values.specs.FinalVariables.{value_in};
 ghost use Rattle.graphql_argument_values.specs.Told.{fields_told, items_told, part_told, placed, told};
 
+use crate::final_variables::FinalVariables;
 use graphql_text::{Spanning, Text};
-use graphql_values::{InputValue, Variables};
+use graphql_values::InputValue;
 
 /// The value of an argument (GraphQL October 2021, 6.4.1 Coercing Field Arguments): a literal of a
 /// document with the values of variables in their stead. It is read layer by layer, and lends what the
@@ -42,7 +43,7 @@ pub enum ArgumentValue<'a, S> {
 pub struct ArgumentItems<'a, S> {
     items: &'a [Spanning<InputValue<S>>],
     /// What variables among them stand for, where they stand in a literal.
-    variables: Option<&'a Variables<S>>,
+    variables: Option<&'a FinalVariables<'a, S>>,
 }
 
 /// The fields of an input object that have yet to be read.
@@ -50,7 +51,7 @@ pub struct ArgumentItems<'a, S> {
 pub struct ArgumentFields<'a, S> {
     fields: &'a [(Spanning<Text>, Spanning<InputValue<S>>)],
     /// What variables among their values stand for, where they stand in a literal.
-    variables: Option<&'a Variables<S>>,
+    variables: Option<&'a FinalVariables<'a, S>>,
 }
 
 impl<'a, S> ArgumentValue<'a, S> {
@@ -58,9 +59,9 @@ impl<'a, S> ArgumentValue<'a, S> {
     /// a value. Takes no memory, and no more time than it takes to find one variable by its name.
     pub fn new(
         literal: &'a InputValue<S>,
-        variables: &'a Variables<S>,
+        variables: &'a FinalVariables<'a, S>,
     ) -> Option<ArgumentValue<'a, S>>
-        ensures { option_map told result ≡ filled (get_by_text variables.now) literal.now }
+        ensures { option_map told result ≡ filled (value_in variables.now) literal.now }
     {
         match literal {
             InputValue::Variable(name) => match variables.get(name.as_str()) {
@@ -106,9 +107,9 @@ fn final_value<S>(value: &InputValue<S>) -> ArgumentValue<'_, S>
 /// variable without a value.
 fn part<'a, S>(
     value: &'a InputValue<S>,
-    variables: Option<&'a Variables<S>>,
+    variables: Option<&'a FinalVariables<'a, S>>,
 ) -> Option<ArgumentValue<'a, S>>
-    ensures { option_map told result ≡ part_told (option_map (λ v. get_by_text v.now) variables.entry) value.now }
+    ensures { option_map told result ≡ part_told (option_map (λ v. value_in v.now) variables.entry) value.now }
 {
     match variables {
         Some(given) => ArgumentValue::new(value, given),

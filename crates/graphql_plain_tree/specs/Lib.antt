@@ -2,3 +2,5 @@ pub mod Trees
 pub mod Written
 pub mod Conditions
 pub mod Fields
+pub mod Groups
+pub mod Repeats

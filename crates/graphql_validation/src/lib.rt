@@ -33,6 +33,7 @@ pub use all_rules::validation_errors;
 pub use first_stage::{
     first_stage_errors, root_node_errors, visit_all_rules, visit_introspection_rule,
 };
+pub use graphql_argument_values::FinalVariables;
 pub use graphql_literal_checks::{Source, validate_literal_value, validate_value};
 pub use graphql_meta::{
     Argument, Check, DeprecationStatus, DirectiveLocation, DirectiveType, EnumMeta, EnumValue,
@@ -45,7 +46,7 @@ pub use graphql_occurrences::{
 };
 pub use graphql_rule_errors::RuleError;
 pub use graphql_schema::{RootNode, SchemaError, SchemaType, TypeType};
-pub use graphql_variable_values::{FinalVariables, validate_input_values};
+pub use graphql_variable_values::validate_input_values;
 pub use graphql_visitors::{
     Local, LocalRule, MultiVisitorCons, MultiVisitorNil, Relational, RelationalRule,
     ValidatorContext, Visitor, visit,

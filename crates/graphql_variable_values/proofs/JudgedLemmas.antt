@@ -7,7 +7,8 @@ use Rattle.graphql_scalars.specs.ScalarAnswers.{ScalarAnswer}
 use Rattle.graphql_schema_faults.specs.Lookups.{type_named}
 use Rattle.graphql_tree.specs.Variables.{Variable}
 use Rattle.graphql_values.specs.declared.input_value.InputValue.{InputValue}
-use Rattle.graphql_variable_values.specs.Accepted.{FitsVariable, IsAccepted, IsKnown, variable_name, variable_type}
+use Rattle.graphql_argument_values.specs.FinalValues.{variable_name}
+use Rattle.graphql_variable_values.specs.Accepted.{FitsVariable, IsAccepted, IsKnown, variable_type}
 
 copied_is_some : {A : Type 0} (o : Option (Bor A)) → is_some (option_copied o) ≡ is_some o
 copied_is_some None = refl

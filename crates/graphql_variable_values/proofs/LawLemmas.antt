@@ -14,8 +14,8 @@ use Rattle.graphql_names.proofs.NameMaps.{found_is_in}
 use Rattle.graphql_scalars.specs.ScalarAnswers.{ScalarAnswer}
 use Rattle.graphql_values.specs.InputValues.{Placed}
 use Rattle.graphql_values.specs.declared.input_value.InputValue.{InputValue}
-use Rattle.graphql_variable_values.specs.Accepted.{FitsVariable, may_be_absent, variable_name, variable_type}
-use Rattle.graphql_variable_values.specs.FinalValues.{default_named, default_of}
+use Rattle.graphql_argument_values.specs.FinalValues.{default_named, default_of, variable_name}
+use Rattle.graphql_variable_values.specs.Accepted.{FitsVariable, may_be_absent, variable_type}
 use Rattle.graphql_variable_values.specs.Laws.{DistinctNamesAreFound, GivenValuesConform, NonNullHaveValues, ValuesAreGivenOrDefaults}
 use Rattle.graphql_variable_values.proofs.RefusalLemmas.{told_none}
 

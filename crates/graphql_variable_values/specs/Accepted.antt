@@ -2,6 +2,7 @@
 use Rattle.std.specs.Prelude.{◌≡◌, ◌⊎◌, ◌||◌, not, true, Bool, List, [], ◌∷◌, Option, Some, None}
 use Rattle.std.specs.List.{Contains}
 use Rattle.std.specs.Option.{IsSome, is_some}
+use Rattle.graphql_argument_values.specs.FinalValues.{variable_name}
 use Rattle.graphql_literal_checks.specs.Conforms.{Conforms}
 use Rattle.graphql_literal_checks.specs.InputTypes.{refuses_null}
 use Rattle.graphql_literal_checks.specs.declared.source.Source.TheVariants.{Sent}
@@ -16,10 +17,6 @@ use Rattle.graphql_tree.specs.Variables.{Variable}
 use Rattle.graphql_values.specs.declared.input_value.InputValue.{InputValue}
 
 module _ {S : Type 0} where
-  -- without the `$`
-  abbrev pub variable_name : Variable S → Bytes
-  variable_name v = v.0.item
-
   -- where the definition starts, at the `$`
   abbrev pub variable_place : Variable S → SourcePosition
   variable_place v = v.0.span.start

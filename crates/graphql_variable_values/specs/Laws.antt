@@ -3,6 +3,7 @@ use Rattle.std.specs.Prelude.{◌≡◌, ◌↔◌, true, List, [], map, Option,
 use Rattle.std.specs.List.{Contains, IsDistinct}
 use Rattle.std.specs.Option.{ForSome, IsSome}
 use Rattle.std.specs.Str.{bytes_eq}
+use Rattle.graphql_argument_values.specs.FinalValues.{default_of, definition_named, final_value, variable_name}
 use Rattle.graphql_literal_checks.specs.Conforms.{Conforms}
 use Rattle.graphql_literal_checks.specs.InputTypes.{refuses_null}
 use Rattle.graphql_literal_checks.specs.declared.source.Source.TheVariants.{Sent}
@@ -12,8 +13,7 @@ use Rattle.graphql_rule_errors.specs.Places.{Places}
 use Rattle.graphql_scalars.specs.ScalarAnswers.{ScalarAnswer}
 use Rattle.graphql_tree.specs.Variables.{Variable}
 use Rattle.graphql_values.specs.declared.input_value.InputValue.{InputValue}
-use Rattle.graphql_variable_values.specs.Accepted.{AreAccepted, IsKnown, Refusals, variable_name, variable_type}
-use Rattle.graphql_variable_values.specs.FinalValues.{default_of, definition_named, final_value}
+use Rattle.graphql_variable_values.specs.Accepted.{AreAccepted, IsKnown, Refusals, variable_type}
 
 module _ {S C : Type 0} (answer : S → ScalarAnswer) (accepts : C → InputValue S → Type 0) where
   -- what is told is determined, whatever the checks of types answer

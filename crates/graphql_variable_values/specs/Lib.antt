@@ -1,4 +1,2 @@
 pub mod Accepted
-pub mod FinalValues
-pub mod FinalVariables
 pub mod Laws

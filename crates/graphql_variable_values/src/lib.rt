@@ -1,11 +1,8 @@
-//! The values of a request's variables: whether an operation accepts them, and what they are in the end
-//! (GraphQL October 2021, 6.1.2 Coercing Variable Values).
+//! The values of a request's variables: whether an operation accepts them (GraphQL October 2021, 6.1.2
+//! Coercing Variable Values). What they are in the end is `FinalVariables` of `graphql_argument_values`.
 #![tactic(auto)]
 
-mod definitions;
-mod final_variables;
 pub mod laws;
 mod validate;
 
-pub use final_variables::FinalVariables;
 pub use validate::validate_input_values;

@@ -8,7 +8,7 @@ ghost use Rattle.graphql_rule_errors.specs.Places.{places};
 ghost use Rattle.graphql_tree.specs.Documents.{variables_in};
 ghost use Rattle.graphql_variable_values.specs.Accepted as spec;
 
-use crate::definitions::{Variable, definitions_of};
+use graphql_argument_values::{Variable, definitions_of};
 use graphql_literal_checks::{Source, validate_value};
 use graphql_meta::SchemaScalar;
 use graphql_rule_errors::{RuleError, report};

@@ -4,9 +4,12 @@ use Rattle.std.specs.Option.{option_and_then, option_map, option_or}
 use Rattle.graphql_names.specs.Names.{Bytes, named}
 use Rattle.graphql_tree.specs.Variables.{Variable}
 use Rattle.graphql_values.specs.declared.input_value.InputValue.{InputValue}
-use Rattle.graphql_variable_values.specs.Accepted.{variable_name}
 
 module _ {S : Type 0} where
+  -- without the `$`
+  abbrev pub variable_name : Variable S → Bytes
+  variable_name v = v.0.item
+
   -- the definition of a name: of several of one name the first
   abbrev pub definition_named : List (Variable S) → Bytes → Option (Variable S)
   definition_named = named variable_name

@@ -7,10 +7,10 @@ use graphql_text::{Spanning, TextRef};
 use graphql_tree::{Operation, VariableDefinition};
 
 /// A variable's name, and what is said of it.
-pub(crate) type Variable<'t, S> = (Spanning<TextRef<'t>>, VariableDefinition<'t, S>);
+pub type Variable<'t, S> = (Spanning<TextRef<'t>>, VariableDefinition<'t, S>);
 
 /// The variables that the operation defines, in the order of the text.
-pub(crate) fn definitions_of<'a, 't, S>(operation: &'a Operation<'t, S>) -> &'a [Variable<'t, S>]
+pub fn definitions_of<'a, 't, S>(operation: &'a Operation<'t, S>) -> &'a [Variable<'t, S>]
     ensures { result.now ≡ variables_in operation.now.variable_definitions }
 {
     match &operation.variable_definitions {

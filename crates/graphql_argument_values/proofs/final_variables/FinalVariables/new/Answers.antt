@@ -3,9 +3,8 @@ use Rattle.std.proofs.lemmas.List.{take_all}
 use Rattle.std.specs.Option.{option_or}
 use Rattle.std.specs.Str.{bytes_eq}
 use Rattle.graphql_rule_errors.proofs.FoundLemmas.{one_more_named}
-use Rattle.graphql_variable_values.specs.Accepted.{variable_name}
-use Rattle.graphql_variable_values.specs.FinalValues.{definition_named}
-use Rattle.graphql_variable_values.proofs.final_variables.FinalVariables.new.Goals as goal
+use Rattle.graphql_argument_values.specs.FinalValues.{definition_named, variable_name}
+use Rattle.graphql_argument_values.proofs.final_variables.FinalVariables.new.Goals as goal
 
 pub definitions-preserved : goal.definitions-preserved
 definitions-preserved g c name =

@@ -2,7 +2,7 @@
 
 ghost use Rattle.std.specs.Prelude.{◌≡◌, ℕ, List};
 ghost use Rattle.graphql_rule_errors.specs.Found.{found};
-ghost use Rattle.graphql_variable_values.specs.FinalValues.{definition_named};
+ghost use Rattle.graphql_argument_values.specs.FinalValues.{definition_named};
 
 mod lookups;
 

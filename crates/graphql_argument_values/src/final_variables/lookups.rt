@@ -4,8 +4,8 @@ ghost use Rattle.std.specs.Prelude.{◌≡◌, IfOk};
 ghost use Rattle.std.specs.HashMap.{get_by_text};
 ghost use Rattle.std.specs.Option.{option_copied};
 ghost use Rattle.graphql_tree.specs.Documents.{variables_in};
-ghost use Rattle.graphql_variable_values.specs.FinalValues.{default_named, final_value};
-ghost use Rattle.graphql_variable_values.specs.FinalVariables.{value_in};
+ghost use Rattle.graphql_argument_values.specs.FinalValues.{default_named, final_value};
+ghost use Rattle.graphql_argument_values.specs.FinalVariables.{value_in};
 
 use super::FinalVariables;
 use crate::definitions::{Variable, definitions_of};

@@ -3,8 +3,8 @@ use Rattle.std.specs.Prelude.{Option}
 use Rattle.std.specs.HashMap.{get_by_text}
 use Rattle.graphql_names.specs.Names.{Bytes}
 use Rattle.graphql_values.specs.declared.input_value.InputValue.{InputValue}
-use Rattle.graphql_variable_values.specs.FinalValues.{final_value}
-use Rattle.graphql_variable_values.specs.declared.final_variables.FinalVariables.{FinalVariables}
+use Rattle.graphql_argument_values.specs.FinalValues.{final_value}
+use Rattle.graphql_argument_values.specs.declared.final_variables.FinalVariables.{FinalVariables}
 
 -- the final value of a name
 abbrev pub value_in : {S : Type 0} → FinalVariables S → Bytes → Option (InputValue S)
