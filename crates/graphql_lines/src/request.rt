@@ -8,8 +8,8 @@ ghost use Rattle.graphql_lines.specs.declared.refusal.LineRefusal.TheVariants.{N
 ghost use Rattle.graphql_lines.specs.Variables.{AnswersVariables};
 ghost use Rattle.graphql_lines.specs.Request as spec;
 
+use crate::moved_variables::variables_of_json;
 use crate::refusal::LineRefusal;
-use crate::variables::variables_from_json;
 use graphql_values::{DefaultScalarValue, ScalarValue, Variables};
 use serde_json::{Map, Value};
 use std::alloc::Global;
@@ -86,7 +86,7 @@ fn name_in(value: Option<Value>) -> Result<Option<String>, LineRefusal>
     }
 }
 
-/// The values of variables, which may be missing or null.
+/// The values of variables, which may be missing or null. They take over the texts of the JSON value.
 fn variables_in<S: ScalarValue>(
     alloc: Global,
     value: Option<Value>,
@@ -95,12 +95,12 @@ fn variables_in<S: ScalarValue>(
 {
     match value {
         None => Ok(HashMap::new(alloc)),
-        Some(value) => variables_from_json(alloc, &value),
+        Some(value) => variables_of_json(alloc, value),
     }
 }
 
-/// The request that a JSON value describes, of which it takes the texts of the query and of the
-/// operation's name. Members of other names are passed over.
+/// The request that a JSON value describes, of which it takes the texts over: the query, the
+/// operation's name, what stands in the variables. Members of other names are passed over.
 ///
 /// `NotARequest` where the value is no object, its `query` is missing or no text, its
 /// `operationName` neither text nor null, or its `variables` neither object nor null; else

@@ -18,7 +18,7 @@ use std::alloc::{AllocError, Global};
 use std::collections::HashMap;
 
 /// The integer of 32 bits that a number is, if it is held as a whole one.
-fn whole(number: &Number) -> Option<i32>
+pub(crate) fn whole(number: &Number) -> Option<i32>
     ensures { result ≡ spec.whole_of (number_view number.now) }
 {
     match number.as_i64() {
@@ -97,7 +97,7 @@ fn object<S: ScalarValue>(
 }
 
 /// Gives a variable a value, and lets its old one go.
-fn set<S: Drop>(
+pub(crate) fn set<S: Drop>(
     variables: &mut Variables<S>,
     name: String,
     value: InputValue<S>,
