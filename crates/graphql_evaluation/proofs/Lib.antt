@@ -1,0 +1,12 @@
+mod Elements
+mod Heights
+mod Depths
+mod GroupKeys
+mod FittingData
+mod DistinctMembers
+mod Failures
+mod ExactFailures
+mod RepeatLemmas
+mod GroupRepeats
+mod RepeatHeights
+mod RunRepeats
