@@ -2,7 +2,7 @@
 
 use crate::repeated::CostlyRow;
 use crate::repeated::Piece::{Next, Number, Words};
-use crate::schemas::over_kinds;
+use crate::schemas::{OF_KINDS, over};
 use crate::told::Asked;
 
 /// A field of one name, in one set.
@@ -10,6 +10,16 @@ const FIELDS: CostlyRow = (
     &[
         (1, &[Words("{hero{")]),
         (10_000, &[Words("name ")]),
+        (1, &[Words("}}")]),
+    ],
+    0,
+);
+
+/// Fewer of them: each two are compared where fields are to merge.
+const FEWER_FIELDS: CostlyRow = (
+    &[
+        (1, &[Words("{hero{")]),
+        (3_000, &[Words("name ")]),
         (1, &[Words("}}")]),
     ],
     0,
@@ -127,42 +137,100 @@ const USES: CostlyRow = (
     0,
 );
 
+/// Sets within one another, each of two fields.
+const NESTED: CostlyRow = (
+    &[
+        (1, &[Words("{hero{")]),
+        (3_000, &[Words("name friend{")]),
+        (1, &[Words("name")]),
+        (3_000, &[Words("}")]),
+        (1, &[Words("}}")]),
+    ],
+    0,
+);
+
+/// Fragments in a row, of which each spreads the next one twice.
+const SHORT_TWICE: CostlyRow = (
+    &[
+        (1, &[Words("{hero{...f0}}")]),
+        (
+            1_000,
+            &[
+                Words("fragment f"),
+                Number,
+                Words(" on Human{...f"),
+                Next,
+                Words("...f"),
+                Next,
+                Words("}"),
+            ],
+        ),
+        (1, &[Words("fragment f1000 on Human{name}")]),
+    ],
+    0,
+);
+
+#[test]
+fn a_field_many_times_merges(rt: HostRuntime) {
+    over(
+        &rt,
+        rt.alloc(),
+        OF_KINDS,
+        Asked::MergingCounts(&[FEWER_FIELDS]),
+    );
+}
+
+#[test]
+fn fragments_spread_twice_merge(rt: HostRuntime) {
+    over(
+        &rt,
+        rt.alloc(),
+        OF_KINDS,
+        Asked::MergingCounts(&[SHORT_TWICE]),
+    );
+}
+
+#[test]
+fn nested_sets_merge(rt: HostRuntime) {
+    over(&rt, rt.alloc(), OF_KINDS, Asked::MergingCounts(&[NESTED]));
+}
+
 #[test]
 fn a_field_many_times_ends(rt: HostRuntime) {
-    over_kinds(&rt, rt.alloc(), Asked::Counts(&[FIELDS]));
+    over(&rt, rt.alloc(), OF_KINDS, Asked::Counts(&[FIELDS]));
 }
 
 #[test]
 fn many_unknown_fields_end(rt: HostRuntime) {
-    over_kinds(&rt, rt.alloc(), Asked::Counts(&[UNKNOWN]));
+    over(&rt, rt.alloc(), OF_KINDS, Asked::Counts(&[UNKNOWN]));
 }
 
 #[test]
 fn fragments_in_a_row_end(rt: HostRuntime) {
-    over_kinds(&rt, rt.alloc(), Asked::Counts(&[ROW]));
+    over(&rt, rt.alloc(), OF_KINDS, Asked::Counts(&[ROW]));
 }
 
 #[test]
 fn fragments_in_a_ring_end(rt: HostRuntime) {
-    over_kinds(&rt, rt.alloc(), Asked::Counts(&[RING]));
+    over(&rt, rt.alloc(), OF_KINDS, Asked::Counts(&[RING]));
 }
 
 #[test]
 fn fragments_spread_twice_end(rt: HostRuntime) {
-    over_kinds(&rt, rt.alloc(), Asked::Counts(&[TWICE]));
+    over(&rt, rt.alloc(), OF_KINDS, Asked::Counts(&[TWICE]));
 }
 
 #[test]
 fn many_variables_end(rt: HostRuntime) {
-    over_kinds(&rt, rt.alloc(), Asked::Counts(&[VARIABLES]));
+    over(&rt, rt.alloc(), OF_KINDS, Asked::Counts(&[VARIABLES]));
 }
 
 #[test]
 fn many_operations_over_fragments_end(rt: HostRuntime) {
-    over_kinds(&rt, rt.alloc(), Asked::Counts(&[OPERATIONS]));
+    over(&rt, rt.alloc(), OF_KINDS, Asked::Counts(&[OPERATIONS]));
 }
 
 #[test]
 fn many_operations_over_uses_end(rt: HostRuntime) {
-    over_kinds(&rt, rt.alloc(), Asked::Counts(&[USES]));
+    over(&rt, rt.alloc(), OF_KINDS, Asked::Counts(&[USES]));
 }

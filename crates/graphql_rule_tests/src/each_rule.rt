@@ -1,6 +1,6 @@
 //! Each rule, by documents at fault and by one that is not.
 
-use crate::schemas::over_kinds;
+use crate::schemas::{OF_KINDS, over};
 use crate::told::Asked;
 
 /// Documents at fault in their fields, arguments, values and directives, each with its errors.
@@ -258,11 +258,11 @@ const RIGHT: &[(&str, &str)] = &[(FAULTLESS, ""), ("subscription { x }", "")];
 #[test]
 fn each_rule_has_its_errors(rt: HostRuntime) {
     for rows in [FIELDS, FRAGMENTS, OPERATIONS, TOGETHER, RIGHT] {
-        over_kinds(&rt, rt.alloc(), Asked::Rules(rows));
+        over(&rt, rt.alloc(), OF_KINDS, Asked::Rules(rows));
     }
 }
 
 #[test]
 fn introspection_is_refused_where_it_is_disabled(rt: HostRuntime) {
-    over_kinds(&rt, rt.alloc(), Asked::Requests(INTROSPECTION));
+    over(&rt, rt.alloc(), OF_KINDS, Asked::Requests(INTROSPECTION));
 }

@@ -180,29 +180,22 @@ pub fn scalar(rt: &impl Abort, alloc: Global, name: &str, check: TypeCheck) -> M
     ScalarMeta::new(text(rt, alloc, name), check).into_meta()
 }
 
-/// An enum of one value.
-pub fn enumeration(
-    rt: &impl Abort,
-    alloc: Global,
-    name: &str,
-    value: &str,
-    check: TypeCheck,
-) -> Meta {
+/// An enum of this name and one value.
+pub fn enumeration(rt: &impl Abort, alloc: Global, row: (&str, &str), check: TypeCheck) -> Meta {
     let values = with(
         rt,
         Items::new(alloc),
-        EnumValue::new(text(rt, alloc, value)),
+        EnumValue::new(text(rt, alloc, row.1)),
     );
-    EnumMeta::new(text(rt, alloc, name), declared(rt, values), check).into_meta()
+    EnumMeta::new(text(rt, alloc, row.0), declared(rt, values), check).into_meta()
 }
 
-/// An input object of these fields.
+/// An input object of this name and these fields.
 pub fn input_object(
     rt: &impl Abort,
     alloc: Global,
-    name: &str,
-    rows: &[ArgumentRow],
+    row: (&str, &[ArgumentRow]),
     check: TypeCheck,
 ) -> Meta {
-    InputObjectMeta::new(text(rt, alloc, name), arguments(rt, alloc, rows), check).into_meta()
+    InputObjectMeta::new(text(rt, alloc, row.0), arguments(rt, alloc, row.1), check).into_meta()
 }

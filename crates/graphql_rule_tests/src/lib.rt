@@ -12,10 +12,16 @@ mod each_rule;
 #[cfg(test)]
 mod examples;
 #[cfg(test)]
+mod merging;
+#[cfg(test)]
 mod repeated;
 #[cfg(test)]
 mod schemas;
 #[cfg(test)]
 mod told;
+#[cfg(test)]
+mod values;
+#[cfg(test)]
+mod variables;
 #[cfg(test)]
 mod worked;

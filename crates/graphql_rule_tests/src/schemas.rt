@@ -20,6 +20,46 @@ use std::process::Abort;
 
 type Value = InputValue<DefaultScalarValue>;
 
+/// A schema in short, over the scalars `String`, `Boolean` and `Int`. Its query root is `Query`.
+#[derive(Clone, Copy)]
+pub struct Table {
+    /// The objects, interfaces and unions.
+    rows: &'static [Row],
+
+    /// The name of the mutation root.
+    mutation: Option<&'static str>,
+
+    /// An enum's name, and its value.
+    enumeration: (&'static str, &'static str),
+
+    /// An input object's name, and its fields.
+    input: (&'static str, &'static [ArgumentRow]),
+}
+
+/// The schema of heroes.
+pub const OF_HEROES: Table = Table {
+    rows: &HEROES,
+    mutation: Some("Mutation"),
+    enumeration: ("Color", "RED"),
+    input: ("Point", &POINT),
+};
+
+/// The schema with types of each kind.
+pub const OF_KINDS: Table = Table {
+    rows: &KINDS,
+    mutation: Some("Mutation"),
+    enumeration: ("Color", "RED"),
+    input: ("Point", &POINT),
+};
+
+/// The schema of pets.
+pub const OF_PETS: Table = Table {
+    rows: &PETS,
+    mutation: None,
+    enumeration: ("DogCommand", "HEEL"),
+    input: ("Point", &POINT),
+};
+
 /// Heroes with an identity, a name and a friend, who can be renamed.
 const HEROES: [Row; 3] = [
     Row::Object("Query", &[FieldRow("hero", Of("Human", NULLABLE), &[])]),
@@ -105,6 +145,37 @@ const KINDS: [Row; 6] = [
     Row::Union("Being", &["Human", "Dog"]),
 ];
 
+/// Dogs, cats, and pets, which are both.
+const PETS: [Row; 4] = [
+    Row::Object(
+        "Query",
+        &[
+            FieldRow("dog", Of("Dog", NULLABLE), &[]),
+            FieldRow("pet", Of("Pet", NULLABLE), &[]),
+        ],
+    ),
+    Row::Object(
+        "Dog",
+        &[
+            FieldRow("name", Of("String", NULLABLE), &[]),
+            FieldRow("barks", Of("Boolean", NULLABLE), &[]),
+            FieldRow(
+                "doesKnowCommand",
+                Of("Boolean", NULLABLE),
+                &[ArgumentRow("dogCommand", Of("DogCommand", NULLABLE), None)],
+            ),
+        ],
+    ),
+    Row::Object(
+        "Cat",
+        &[
+            FieldRow("nickname", Of("String", NULLABLE), &[]),
+            FieldRow("lives", Of("Int", NULLABLE), &[]),
+        ],
+    ),
+    Row::Union("Pet", &["Dog", "Cat"]),
+];
+
 /// The fields of the input object `Point`.
 const POINT: [ArgumentRow; 3] = [
     ArgumentRow("x", Of("Int", NON_NULL), None),
@@ -112,41 +183,14 @@ const POINT: [ArgumentRow; 3] = [
     ArgumentRow("next", Of("Point", NULLABLE), None),
 ];
 
-/// The root node over these types, with the roots `Query` and `Mutation`, and without introspection.
-fn root_of(rt: &impl Abort, alloc: Global, types: Items<Meta>) -> Root {
-    let schema = SchemaType::new(alloc, types, "Query", Some("Mutation"), None);
+/// The root node over these types, without introspection.
+fn root_of(rt: &impl Abort, alloc: Global, types: Items<Meta>, mutation: Option<&str>) -> Root {
+    let schema = SchemaType::new(alloc, types, "Query", mutation, None);
     RootNode::new(schema.expect(rt, "a schema")).disable_introspection()
 }
 
-/// Asserts of documents what is asked, over the schema of heroes.
-pub fn over_heroes(rt: &impl Abort, alloc: Global, asked: Asked<'_>) {
-    let string = TypeCheck::new(Box::new(
-        alloc,
-        move |value: &Value|
-            ensures { Told (λ e. e ≡ Memory) result (IsString value.now) }
-        { string_check(alloc, value) },
-    )
-    .expect(rt, "memory"));
-    let boolean = TypeCheck::new(Box::new(
-        alloc,
-        move |value: &Value|
-            ensures { Told (λ e. e ≡ Memory) result (IsBoolean value.now) }
-        { boolean_check(alloc, value) },
-    )
-    .expect(rt, "memory"));
-    let types = with(rt, Items::new(alloc), scalar(rt, alloc, "String", string));
-    let types = with(rt, types, scalar(rt, alloc, "Boolean", boolean));
-    let types = with_all(rt, alloc, types, &TOLD_OF_ITSELF);
-    ask(
-        rt,
-        alloc,
-        &root_of(rt, alloc, with_all(rt, alloc, types, &HEROES)),
-        asked,
-    );
-}
-
-/// The same over a schema with types of each kind.
-pub fn over_kinds(rt: &impl Abort, alloc: Global, asked: Asked<'_>) {
+/// Asserts of documents what is asked, over the schema of a table.
+pub fn over(rt: &impl Abort, alloc: Global, table: Table, asked: Asked<'_>) {
     let string = TypeCheck::new(Box::new(
         alloc,
         move |value: &Value|
@@ -168,14 +212,14 @@ pub fn over_kinds(rt: &impl Abort, alloc: Global, asked: Asked<'_>) {
         { int_check(alloc, value) },
     )
     .expect(rt, "memory"));
-    let color = TypeCheck::new(Box::new(
+    let values = TypeCheck::new(Box::new(
         alloc,
         |_value: &Value|
             ensures { result ≡ Ok tt }
         { Ok(()) },
     )
     .expect(rt, "memory"));
-    let point = TypeCheck::new(Box::new(
+    let fields = TypeCheck::new(Box::new(
         alloc,
         |_value: &Value|
             ensures { result ≡ Ok tt }
@@ -185,13 +229,9 @@ pub fn over_kinds(rt: &impl Abort, alloc: Global, asked: Asked<'_>) {
     let types = with(rt, Items::new(alloc), scalar(rt, alloc, "String", string));
     let types = with(rt, types, scalar(rt, alloc, "Boolean", boolean));
     let types = with(rt, types, scalar(rt, alloc, "Int", int));
-    let types = with(rt, types, enumeration(rt, alloc, "Color", "RED", color));
-    let types = with(rt, types, input_object(rt, alloc, "Point", &POINT, point));
+    let types = with(rt, types, enumeration(rt, alloc, table.enumeration, values));
+    let types = with(rt, types, input_object(rt, alloc, table.input, fields));
     let types = with_all(rt, alloc, types, &TOLD_OF_ITSELF);
-    ask(
-        rt,
-        alloc,
-        &root_of(rt, alloc, with_all(rt, alloc, types, &KINDS)),
-        asked,
-    );
+    let types = with_all(rt, alloc, types, table.rows);
+    ask(rt, alloc, &root_of(rt, alloc, types, table.mutation), asked);
 }

@@ -1,6 +1,6 @@
 //! Worked examples over the schema of heroes.
 
-use crate::schemas::over_heroes;
+use crate::schemas::{OF_HEROES, over};
 use crate::told::Asked;
 
 /// Documents, each with its only error.
@@ -29,5 +29,5 @@ const WORKED: [(&str, &str); 5] = [
 
 #[test]
 fn worked_examples_have_their_errors(rt: HostRuntime) {
-    over_heroes(&rt, rt.alloc(), Asked::Rules(&WORKED));
+    over(&rt, rt.alloc(), OF_HEROES, Asked::Rules(&WORKED));
 }

@@ -11,3 +11,4 @@ pub mod Settled
 pub mod Merged
 pub mod Reordered
 pub mod Joined
+pub mod Visits

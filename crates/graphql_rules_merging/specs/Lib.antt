@@ -1,3 +1,4 @@
 pub mod Agenda
 pub mod Comparing
 pub mod Finished
+pub mod Visitor

@@ -6,10 +6,13 @@ mod agenda;
 mod begin;
 mod fields;
 mod finish;
+pub mod laws;
 mod messages;
 mod overlapping_fields;
 mod progress;
 mod sets;
+pub mod visitor;
 
 pub use finish::merge_errors;
 pub use overlapping_fields::overlapping_fields_can_be_merged;
+pub use visitor::{OverlappingFieldsCanBeMerged, report_overlapping_fields};

@@ -1,25 +1,40 @@
 -- What all rules tell, and of which documents nothing.
-use Rattle.std.proofs.Common.{◌≡◌, ◌↔◌, refl, sym, subst, Bool, List, [], ◌∷◌, Option, Some, arith, Result, Ok, Err, IfOk}
+use Rattle.std.proofs.Common.{◌≡◌, ◌↔◌, refl, sym, ap, subst, ◌∙◌, Bool, true, false, List, [], ◌∷◌, ◌++◌, length, Option, Some, arith, Result, Ok, Err, IfOk}
+use Rattle.std.specs.Prelude.{IsPermutation}
 use Rattle.std.specs.List.{All, Contains}
 use Rattle.std.specs.Option.{IsSome}
+use Rattle.std.proofs.lemmas.Bool.{false≢true}
+use Rattle.std.proofs.lemmas.List.{nil_from_length}
+use Rattle.std.proofs.lemmas.List.Sorted.{All-permutation, Contains-permutation, IsPermutation-trans, length_permutation}
 use Rattle.graphql_values.specs.declared.input_value.InputValue.{InputValue}
 use Rattle.graphql_scalars.specs.ScalarAnswers.{ScalarAnswer}
+use Rattle.graphql_rule_errors.proofs.NoFaultLemmas.{append_none}
 use Rattle.graphql_rule_errors.specs.Places.{Places, places}
 use Rattle.graphql_rule_errors.specs.declared.rule_error.RuleError.{RuleError}
 use Rattle.graphql_visitors.specs.Subjects.{Subject}
 use Rattle.graphql_plain_tree.specs.Written.{Settled}
 use Rattle.graphql_merging.proofs.Standing.{together-merge}
-use Rattle.graphql_merging.specs.Contract.{IsComplete, IsDirect, IsSound}
+use Rattle.graphql_merging.specs.Contract.{IsComplete, IsConflict, IsDirect, IsSound}
+use Rattle.graphql_merging.specs.Members.{Member}
 use Rattle.graphql_merging.specs.Merging.{Merging}
 use Rattle.graphql_merging.specs.Sets.{Set, document_sets, fragments_in, members_of}
+use Rattle.graphql_merging.specs.Told.{Names}
+use Rattle.graphql_rules_local.proofs.LawLemmas.{no_introspection}
+use Rattle.graphql_rules_merging.specs.Visitor.{MergingTold}
 use Rattle.graphql_settled_fragments.specs.Laws.{EndingFragmentsAreSettled}
-use Rattle.graphql_validation.proofs.ValidLemmas.{first_none, first_then}
-use Rattle.graphql_validation.specs.AllRules.{AllRules, of_first_stage, of_merging, FieldsMerge, IsValid}
-use Rattle.graphql_validation.specs.FirstStage.{FirstStage}
+use Rattle.graphql_validation.proofs.ValidLemmas.{first_none, first_permuted, first_then}
+use Rattle.graphql_validation.specs.AllRules.{AllRules, of_first_stage, of_merging, FieldsMerge, IsValid, IsValidAt, RootNodeTold}
+use Rattle.graphql_validation.specs.FirstStage.{FirstStage, introspection_places, parts}
 use Rattle.graphql_validation.specs.WellFormed.{IsWellFormed}
 
 all-at : {X : Type 0} (P : X → Type 0) (xs : List X) → All P xs → (x : X) → Contains xs x → P x
 all-at P xs h x i = subst P i.2 (h i.0 x i.1)
+
+none-before : {A : Type 0} (xs ys : List A) → IsPermutation xs ys → ys ≡ [] → xs ≡ []
+none-before xs ys p h = nil_from_length xs (sym (length_permutation xs ys p) ∙ ap length h)
+
+none-after : {A : Type 0} (xs ys : List A) → IsPermutation xs ys → xs ≡ [] → ys ≡ []
+none-after xs ys p h = nil_from_length ys (length_permutation xs ys p ∙ ap length h)
 
 some-of : {A : Type 0} (o : Option A) (a : A) → o ≡ Some a → IsSome o
 some-of o a e = subst IsSome (sym e) refl
@@ -32,6 +47,14 @@ module _ {S C : Type 0} (eq : S → S → Bool) (subject : Subject S C) where
       let c = (sound 0 e (omega arith)).2 in
       let whole = all-at (λ (set : Set S C). Merging eq subject.schema.types (members_of subject.schema.types set)) (document_sets subject.schema subject.document) merge c.0 c.1 in
       absurd (c.2.2 (together-merge eq subject.schema.types (members_of subject.schema.types c.0) whole c.2.0 _ _ c.2.1))
+
+  -- of errors in some other order the same holds
+  merging_permuted : (told other : Places) → IsPermutation told other → MergingTold eq subject told → MergingTold eq subject other
+  merging_permuted told other p h = record {
+    sound = All-permutation (λ e. (a : Member S C) × (b : Member S C) × IsConflict eq subject.schema.types (document_sets subject.schema subject.document) a b × Names e a b) told other p h.sound;
+    direct = λ set a b i pair key differ. let e = h.direct set a b i pair key differ in let j = Contains-permutation told other e.1 p (e.0, e.2, e.3) in (j.0, e.1, j.1, j.2, e.4);
+    complete = λ none. h.complete (none-before told other p none);
+  }
 
 module _ {S C : Type 0} (subject : Subject S C) where
   -- a document of which the rules find no fault is settled
@@ -49,6 +72,25 @@ module _ {S C : Type 0} (eq : S → S → Bool) (answer : S → ScalarAnswer) (a
     (λ e. record { no_fault = first_none answer accepts subject [] first refl; fields_merge = merging.complete e }),
     λ v. none-sound eq subject told merging.sound v.fields_merge,
   )
+
+  -- of errors in some other order the same holds
+  pub all_permuted : (told other : Places) → IsPermutation told other → AllRules eq answer accepts subject told → AllRules eq answer accepts subject other
+  all_permuted told other p (of_first_stage first some) = of_first_stage (first_permuted answer accepts subject told other p first) (λ e. some (none-before told other p e))
+  all_permuted told other p (of_merging first merging) = of_merging first (merging_permuted eq subject told other p merging)
+
+  -- the same of a request to a root node
+  pub root_permuted : (is_disabled : Bool) (told other : Places) → IsPermutation told other → RootNodeTold eq answer accepts subject is_disabled told → RootNodeTold eq answer accepts subject is_disabled other
+  root_permuted true told other p h = record { of_rules = h.of_rules; rules_told = h.rules_told; all = IsPermutation-trans (h.of_rules ++ introspection_places subject) told other h.all p }
+  root_permuted false told other p h = all_permuted told other p h
+
+  pub root_exactly : (is_disabled : Bool) (told : Places) → RootNodeTold eq answer accepts subject is_disabled told → (told ≡ []) ↔ IsValidAt eq answer accepts subject is_disabled
+  root_exactly false told h = let all = all-exactly told h in (λ e. record { valid = all.0 e; introspects_nothing = λ t. absurd (false≢true t) }, λ v. all.1 v.valid)
+  root_exactly true told h =
+      let all = all-exactly h.of_rules h.rules_told in
+      let nothing = no_introspection subject (parts subject) in (
+        λ e. let both = append_none h.of_rules (introspection_places subject) (none-before (h.of_rules ++ introspection_places subject) told h.all e) in record { valid = all.0 both.0; introspects_nothing = λ t. nothing.0 both.1 },
+        λ v. none-after (h.of_rules ++ introspection_places subject) told h.all (λ i. all.1 v.valid i ++ nothing.1 (v.introspects_nothing refl) i),
+      )
 
   -- errors of the rule that fields merge, where the first stage told nothing
   pub merged : {E : Type 0} (r : Result (List RuleError) E) → FirstStage answer accepts subject [] → Settled (fragments_in subject.document)

@@ -1,5 +1,5 @@
 -- What the rules of the first stage report.
-use Rattle.std.proofs.Common.{◌≡◌, ◌↔◌, true, false, List, [], ◌++◌, Result, Ok, Err, OnOk, IfOk, length, sym, ap, subst, ◌∙◌}
+use Rattle.std.proofs.Common.{◌≡◌, ◌↔◌, false, List, [], ◌++◌, Result, Ok, Err, OnOk, IfOk, length, sym, ap, subst, ◌∙◌}
 use Rattle.std.specs.Prelude.{IsPermutation}
 use Rattle.std.proofs.lemmas.List.{length-map, nil_from_length}
 use Rattle.std.proofs.lemmas.List.Sorted.{IsPermutation-map, IsPermutation-refl}
@@ -13,7 +13,7 @@ use Rattle.graphql_visitors.specs.Reports.{Reported, Reports, ReportsBy}
 use Rattle.graphql_visitors.specs.Subjects.{subject_of}
 use Rattle.graphql_visitors.specs.declared.context.ValidatorContext.{ValidatorContext}
 use Rattle.graphql_rules_document.specs.AllRules.{document_places}
-use Rattle.graphql_validation.specs.FirstStage.{FirstStage, PartsTold, RootNodeTold, introspection_places, scopes}
+use Rattle.graphql_validation.specs.FirstStage.{FirstStage, PartsTold, scopes}
 
 module _ {S C : Type 0} where
   -- a report of these places and no others
@@ -48,26 +48,6 @@ module _ {S C : Type 0} where
             record {
               of_parts = first.0;
               parts_told = first.1;
-              all = subst (λ x. IsPermutation (first.0 ++ x) (first.0 ++ here)) same (IsPermutation-refl (first.0 ++ here));
-            },
-            reported_after first.0 here a b d first.2 second,
-          );
-    }
-
-    -- and then the rule against introspection
-    pub introspection_reported : (a b d : ValidatorContext S C) → ReportsBy (FirstStage answer accepts (subject_of a)) a b → Reports (introspection_places (subject_of b)) b d
-        → ReportsBy (RootNodeTold answer accepts (subject_of a) true) a d
-    introspection_reported a b d h k = record {
-      as_before = as_before_after a b d h.as_before k.as_before;
-      reported = λ m.
-          let second = k.reported m in
-          let first = h.reported second.memory in
-          let here : Places = introspection_places (subject_of b) in
-          let same : here ≡ introspection_places (subject_of a) = ap {A = ValidatorContext S C} (λ x. introspection_places (subject_of x)) h.as_before in (
-            first.0 ++ here,
-            record {
-              first = first.0;
-              first_told = first.1;
               all = subst (λ x. IsPermutation (first.0 ++ x) (first.0 ++ here)) same (IsPermutation-refl (first.0 ++ here));
             },
             reported_after first.0 here a b d first.2 second,

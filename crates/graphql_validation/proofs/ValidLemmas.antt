@@ -1,5 +1,5 @@
 -- No error exactly where no rule finds a fault.
-use Rattle.std.proofs.Common.{◌≡◌, ◌↔◌, Bool, true, false, List, [], ◌++◌, length, sym, ap, subst, ◌∙◌}
+use Rattle.std.proofs.Common.{◌≡◌, ◌↔◌, List, [], ◌++◌, length, sym, ap, subst, ◌∙◌}
 use Rattle.std.specs.Prelude.{IsPermutation}
 use Rattle.std.proofs.lemmas.List.{nil_from_length}
 use Rattle.std.proofs.lemmas.List.Sorted.{IsPermutation-trans, length_permutation}
@@ -10,8 +10,8 @@ use Rattle.graphql_rule_errors.specs.Places.{Places}
 use Rattle.graphql_visitors.specs.Subjects.{Subject}
 use Rattle.graphql_rules_document.specs.AllRules.{document_places, fragment_places, operation_places, variable_places}
 use Rattle.graphql_rules_values.proofs.LawLemmas.{arguments_one, defaults_one}
-use Rattle.graphql_validation.specs.FirstStage.{ArgumentsTold, DefaultsTold, FirstStage, PartsTold, RootNodeTold, introspection_places, local_places, parts, scopes}
-use Rattle.graphql_validation.specs.Valid.{HasNoFault, HasNoFaultInScopes, RootNodeHasNoFault}
+use Rattle.graphql_validation.specs.FirstStage.{ArgumentsTold, DefaultsTold, FirstStage, PartsTold, local_places, parts, scopes}
+use Rattle.graphql_validation.specs.Valid.{HasNoFault, HasNoFaultInScopes}
 
 module _ {A : Type 0} where
   none_both : (xs ys : List A) → xs ≡ [] → ys ≡ [] → xs ++ ys ≡ []
@@ -136,15 +136,3 @@ module _ {S C : Type 0} (answer : S → ScalarAnswer) (accepts : C → InputValu
 
   pub first_exactly : (told : Places) → FirstStage answer accepts subject told → (told ≡ []) ↔ HasNoFault answer accepts subject
   first_exactly told h = (first_none told h, first_then told h)
-
-  -- the same of a request to a root node
-  pub root_permuted : (is_disabled : Bool) (told other : Places) → IsPermutation told other → RootNodeTold answer accepts subject is_disabled told → RootNodeTold answer accepts subject is_disabled other
-  root_permuted true told other p h = record { first = h.first; first_told = h.first_told; all = IsPermutation-trans (h.first ++ introspection_places subject) told other h.all p }
-  root_permuted false told other p h = first_permuted told other p h
-
-  pub root_exactly : (is_disabled : Bool) (told : Places) → RootNodeTold answer accepts subject is_disabled told → (told ≡ []) ↔ RootNodeHasNoFault answer accepts subject is_disabled
-  root_exactly false told h = first_exactly told h
-  root_exactly true told h = (
-    λ none. let both = append_none h.first (introspection_places subject) (none_before _ told h.all none) in (first_none h.first h.first_told both.0, both.1),
-    λ k. none_after (h.first ++ introspection_places subject) told h.all (none_both h.first (introspection_places subject) (first_then h.first h.first_told k.0) k.1),
-  )

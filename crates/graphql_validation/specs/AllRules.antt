@@ -1,26 +1,23 @@
--- The errors of all rules for documents: of the first stage, and where that finds no fault of the rule that fields merge (GraphQL October 2021, 5 Validation, 5.3.2 Field Selection Merging).
-use Rattle.std.specs.Prelude.{◌≡◌, Bool, []}
+-- What all rules tell, and valid documents (GraphQL October 2021, 5 Validation).
+use Rattle.std.specs.Prelude.{◌≡◌, Bool, true, false, [], ◌++◌, IsPermutation}
 use Rattle.std.specs.List.{All}
 use Rattle.graphql_values.specs.declared.input_value.InputValue.{InputValue}
 use Rattle.graphql_scalars.specs.ScalarAnswers.{ScalarAnswer}
+use Rattle.graphql_occurrences.specs.Parts.{AField}
 use Rattle.graphql_rule_errors.specs.Places.{Places}
 use Rattle.graphql_visitors.specs.Subjects.{Subject}
-use Rattle.graphql_merging.specs.Contract.{IsComplete, IsDirect, IsSound}
 use Rattle.graphql_merging.specs.Merging.{Merging}
 use Rattle.graphql_merging.specs.Sets.{document_sets, members_of}
-use Rattle.graphql_validation.specs.FirstStage.{FirstStage}
+use Rattle.graphql_rules_local.specs.DisableIntrospection.{introspects}
+use Rattle.graphql_rules_local.specs.Laws.{EachOf}
+use Rattle.graphql_rules_merging.specs.Visitor.{MergingTold}
+use Rattle.graphql_validation.specs.FirstStage.{FirstStage, introspection_places, parts}
 use Rattle.graphql_validation.specs.Valid.{HasNoFault}
 
 module _ {S C : Type 0} (eq : S → S → Bool) (subject : Subject S C) where
   -- in each selection set, fragments written out, each two fields of one response key merge
   abbrev pub FieldsMerge : Type 0
   FieldsMerge = All (λ set. Merging eq subject.schema.types (members_of subject.schema.types set)) (document_sets subject.schema subject.document)
-
-  -- errors at these places: each names two fields that do not merge, among them are all that differ directly in one set, and there is one where a set does not merge
-  pub record MergingTold (told : Places) : Type 0 where
-    pub sound : IsSound eq subject.schema.types (document_sets subject.schema subject.document) told
-    pub direct : IsDirect eq subject.schema.types (document_sets subject.schema subject.document) told
-    pub complete : IsComplete eq subject.schema.types (document_sets subject.schema subject.document) told
 
 module _ {S C : Type 0} (eq : S → S → Bool) (answer : S → ScalarAnswer) (accepts : C → InputValue S → Type 0) (subject : Subject S C) where
   -- what all rules tell: the first stage, if it tells anything, else the rule that fields merge
@@ -32,3 +29,19 @@ module _ {S C : Type 0} (eq : S → S → Bool) (answer : S → ScalarAnswer) (a
   pub record IsValid : Type 0 where
     pub no_fault : HasNoFault answer accepts subject
     pub fields_merge : FieldsMerge eq subject
+
+  -- what all rules tell, and what the rule against introspection tells
+  pub record WithoutIntrospection (told : Places) : Type 0 where
+    pub of_rules : Places
+    pub rules_told : AllRules of_rules
+    pub all : IsPermutation (of_rules ++ introspection_places subject) told
+
+  -- what is told of a request to a root node, by whether it has introspection disabled
+  abbrev pub RootNodeTold : Bool → Places → Type 0
+  RootNodeTold true told = WithoutIntrospection told
+  RootNodeTold false told = AllRules told
+
+  -- valid for a root node: where it has introspection disabled, no field is `__schema` or `__type` either (4.2 Schema Introspection)
+  pub record IsValidAt (introspection_disabled : Bool) : Type 0 where
+    pub valid : IsValid
+    pub introspects_nothing : introspection_disabled ≡ true → EachOf AField (λ f. introspects f.name ≡ false) (parts subject)

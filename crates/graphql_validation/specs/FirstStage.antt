@@ -1,5 +1,5 @@
 -- The errors of the rules of the first stage: all rules for documents but the one that fields merge (GraphQL October 2021, 5 Validation).
-use Rattle.std.specs.Prelude.{Bool, true, false, List, [], ◌∷◌, ◌++◌, IsPermutation}
+use Rattle.std.specs.Prelude.{List, [], ◌∷◌, ◌++◌, IsPermutation}
 use Rattle.std.specs.List.{flat_map}
 use Rattle.graphql_values.specs.declared.input_value.InputValue.{InputValue}
 use Rattle.graphql_scalars.specs.ScalarAnswers.{ScalarAnswer}
@@ -69,14 +69,3 @@ module _ {S C : Type 0} (answer : S → ScalarAnswer) (accepts : C → InputValu
     pub of_parts : Places
     pub parts_told : PartsTold of_parts
     pub all : IsPermutation (of_parts ++ document_places subject.schema.types (scopes subject)) told
-
-  -- the same, and what the rule against introspection tells
-  pub record WithoutIntrospection (told : Places) : Type 0 where
-    pub first : Places
-    pub first_told : FirstStage first
-    pub all : IsPermutation (first ++ introspection_places subject) told
-
-  -- what is told of a request to a root node, by whether it has introspection disabled
-  abbrev pub RootNodeTold : Bool → Places → Type 0
-  RootNodeTold true told = WithoutIntrospection told
-  RootNodeTold false told = FirstStage told

@@ -1,5 +1,5 @@
 -- Documents in which no rule of the first stage finds a fault (GraphQL October 2021, 5 Validation).
-use Rattle.std.specs.Prelude.{◌≡◌, Bool, true, false, []}
+use Rattle.std.specs.Prelude.{◌≡◌, []}
 use Rattle.graphql_values.specs.declared.input_value.InputValue.{InputValue}
 use Rattle.graphql_scalars.specs.ScalarAnswers.{ScalarAnswer}
 use Rattle.graphql_visitors.specs.Subjects.{Subject}
@@ -22,7 +22,7 @@ use Rattle.graphql_rules_document.specs.NoUnusedFragments.{never_reached}
 use Rattle.graphql_rules_document.specs.NoUnusedVariables.{unused_variables}
 use Rattle.graphql_rules_document.specs.UniqueNames.{repeated_fragments, repeated_operations, repeated_variables}
 use Rattle.graphql_rules_document.specs.VariablesInAllowedPosition.{disallowed_variables}
-use Rattle.graphql_validation.specs.FirstStage.{ArgumentsTold, DefaultsTold, introspection_places, places_of, scopes}
+use Rattle.graphql_validation.specs.FirstStage.{ArgumentsTold, DefaultsTold, places_of, scopes}
 
 -- no rule finds a fault among the operations and fragments of a document
 pub record HasNoFaultInScopes {S C : Type 0} (subject : Subject S C) : Type 0 where
@@ -53,9 +53,3 @@ pub record HasNoFault {S C : Type 0} (answer : S → ScalarAnswer) (accepts : C 
   pub argument_names_are_unique : places_of subject unique_argument_names ≡ []
   pub input_field_names_are_unique : places_of subject unique_input_field_names ≡ []
   pub in_scopes : HasNoFaultInScopes subject
-
-module _ {S C : Type 0} (answer : S → ScalarAnswer) (accepts : C → InputValue S → Type 0) (subject : Subject S C) where
-  -- the same of a request to a root node, by whether it has introspection disabled
-  abbrev pub RootNodeHasNoFault : Bool → Type 0
-  RootNodeHasNoFault true = HasNoFault answer accepts subject × (introspection_places subject ≡ [])
-  RootNodeHasNoFault false = HasNoFault answer accepts subject

@@ -4,15 +4,18 @@ ghost use Rattle.std.specs.Prelude.{◌≡◌, ◌↔◌, [], IfOk};
 ghost use Rattle.std.specs.List.Sorted.{IsSorted};
 ghost use Rattle.graphql_rule_errors.specs.Places.{places};
 ghost use Rattle.graphql_schema.specs.Declarations.{declarations_of};
-ghost use Rattle.graphql_validation.specs.AllRules.{AllRules, IsValid};
+ghost use Rattle.graphql_validation.specs.AllRules.{AllRules, IsValid, IsValidAt, RootNodeTold};
+ghost use Rattle.graphql_visitors.specs.Reports.{ReportsBy};
+ghost use Rattle.graphql_visitors.specs.Subjects.{subject_of};
 
-use crate::first_stage::first_stage_errors;
+use crate::first_stage::{first_stage_errors, visit_introspection_rule};
 use graphql_meta::SchemaScalar;
 use graphql_rule_errors::RuleError;
 use graphql_rules_merging::overlapping_fields_can_be_merged;
-use graphql_schema::SchemaType;
+use graphql_schema::{RootNode, SchemaType};
 use graphql_text::Items;
 use graphql_tree::Definition;
+use graphql_visitors::ValidatorContext;
 use std::alloc::{AllocError, Global};
 
 /// The errors of all rules for a document (GraphQL October 2021, 5 Validation), in order: by their places,
@@ -33,4 +36,37 @@ pub fn validation_errors<'t, S: SchemaScalar>(
         return overlapping_fields_can_be_merged(alloc, schema, document);
     }
     Ok(errors)
+}
+
+/// Asks all rules over the context's document, as `validation_errors` does. What they report comes behind
+/// the errors that are there, which do not count: the rule that fields merge is asked where those of the
+/// first stage find no fault. Where memory runs out the context has failed.
+pub fn visit_all_rules<'a, 't, S: SchemaScalar>(context: &mut ValidatorContext<'a, 't, S>)
+    ensures { ReportsBy (AllRules S.eq S.answer S.Check.accepts (subject_of context.old)) context.old context.new }
+{
+    match validation_errors(context.alloc(), context.schema(), context.document()) {
+        Ok(errors) => context.append_errors(errors),
+        Err(_) => context.fail(),
+    }
+}
+
+/// The errors of all rules for a document of a request to a root node, in order. Where the root node has
+/// introspection disabled, the errors of the rule against it stand among them, whatever the others tell.
+/// There are none exactly where the document is valid and, where introspection is disabled, asks for no
+/// `__schema` and no `__type`. An error of the call is want of memory.
+pub fn root_node_errors<'a, 't, S: SchemaScalar>(
+    alloc: Global,
+    root: &'a RootNode<S>,
+    document: &'a [Definition<'t, S>],
+) -> Result<Items<RuleError>, AllocError>
+    ensures told { IfOk result (λ errors. RootNodeTold S.eq S.answer S.Check.accepts (record { schema = declarations_of root.now.schema; document = document.now }) root.now.introspection_disabled (places errors)) }
+    ensures none { IfOk result (λ errors. (errors ≡ []) ↔ IsValidAt S.eq S.answer S.Check.accepts (record { schema = declarations_of root.now.schema; document = document.now }) root.now.introspection_disabled) }
+    ensures sorted { IfOk result (IsSorted ⟦<RuleError as Ord>⟧.cmp) }
+{
+    let mut context = ValidatorContext::new(alloc, root.schema(), document)?;
+    visit_all_rules(&mut context);
+    if root.introspection_disabled {
+        visit_introspection_rule(&mut context);
+    }
+    context.into_errors()
 }

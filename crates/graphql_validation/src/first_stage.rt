@@ -7,8 +7,8 @@ ghost use Rattle.graphql_rule_errors.specs.declared.rule_error.RuleError.{RuleEr
 ghost use Rattle.graphql_rules_document.specs.AllRules.{document_places};
 ghost use Rattle.graphql_schema.specs.Declarations.{declarations_of};
 ghost use Rattle.graphql_scopes.specs.Lent.{scopes_told};
-ghost use Rattle.graphql_validation.specs.FirstStage.{FirstStage, PartsTold, RootNodeTold, introspection_places, scopes as scopes_held};
-ghost use Rattle.graphql_validation.specs.Valid.{HasNoFault, RootNodeHasNoFault};
+ghost use Rattle.graphql_validation.specs.FirstStage.{FirstStage, PartsTold, introspection_places, scopes as scopes_held};
+ghost use Rattle.graphql_validation.specs.Valid.{HasNoFault};
 ghost use Rattle.graphql_visitors.specs.Reports.{Reports, ReportsBy};
 ghost use Rattle.graphql_visitors.specs.Subjects.{subject_of};
 
@@ -23,17 +23,17 @@ use graphql_rules_local::{
     unique_input_field_names, variables_are_input_types,
 };
 use graphql_rules_values::{arguments_of_correct_type, default_values_of_correct_type};
-use graphql_schema::{RootNode, SchemaType};
+use graphql_schema::SchemaType;
 use graphql_scopes::Scopes;
 use graphql_text::Items;
 use graphql_tree::Definition;
 use graphql_visitors::{MultiVisitorNil, ValidatorContext, visit};
 use std::alloc::{AllocError, Global};
 
-/// Asks all rules of the first stage over the context's document: each but the one that fields merge
+/// Asks the rules of the first stage over the context's document: each but the one that fields merge
 /// (GraphQL October 2021, 5 Validation). What they report comes behind the errors that are there. Walks
 /// over the document once. Where memory runs out the context has failed.
-pub fn visit_all_rules<'a, 't, S: SchemaScalar>(context: &mut ValidatorContext<'a, 't, S>)
+pub fn visit_first_stage<'a, 't, S: SchemaScalar>(context: &mut ValidatorContext<'a, 't, S>)
     ensures { ReportsBy (FirstStage S.answer S.Check.accepts (subject_of context.old)) context.old context.new }
 {
     let scopes = visit_parts(context);
@@ -100,25 +100,6 @@ pub fn first_stage_errors<'a, 't, S: SchemaScalar>(
     ensures sorted { IfOk result (IsSorted ⟦<RuleError as Ord>⟧.cmp) }
 {
     let mut context = ValidatorContext::new(alloc, schema, document)?;
-    visit_all_rules(&mut context);
-    context.into_errors()
-}
-
-/// The same for a document of a request to a root node: with the errors of the rule against
-/// introspection, where the root node has introspection disabled.
-pub fn root_node_errors<'a, 't, S: SchemaScalar>(
-    alloc: Global,
-    root: &'a RootNode<S>,
-    document: &'a [Definition<'t, S>],
-) -> Result<Items<RuleError>, AllocError>
-    ensures told { IfOk result (λ errors. RootNodeTold S.answer S.Check.accepts (record { schema = declarations_of root.now.schema; document = document.now }) root.now.introspection_disabled (places errors)) }
-    ensures none { IfOk result (λ errors. (errors ≡ []) ↔ RootNodeHasNoFault S.answer S.Check.accepts (record { schema = declarations_of root.now.schema; document = document.now }) root.now.introspection_disabled) }
-    ensures sorted { IfOk result (IsSorted ⟦<RuleError as Ord>⟧.cmp) }
-{
-    let mut context = ValidatorContext::new(alloc, root.schema(), document)?;
-    visit_all_rules(&mut context);
-    if root.introspection_disabled {
-        visit_introspection_rule(&mut context);
-    }
+    visit_first_stage(&mut context);
     context.into_errors()
 }

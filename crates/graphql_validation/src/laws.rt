@@ -38,6 +38,7 @@ pub use graphql_rules_local::laws::{
     named_types_are_known, named_types_are_of_their_kinds, nothing_is_introspected,
     spread_fragments_are_known, spreads_are_possible, variables_are_of_input_types,
 };
+pub use graphql_rules_merging::laws::visitor_tells_of_document;
 pub use graphql_rules_values::laws::{
     declared_arguments_conform, defaults_conform, literals_conform, misfits_are_determined,
     told_of_arguments_is_determined, told_of_defaults_is_determined,

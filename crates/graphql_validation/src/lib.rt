@@ -11,8 +11,10 @@
 //!   the references to its types, each a [`TypeType`]; and [`RootNode`], what requests are executed
 //!   over;
 //! - [`validation_errors`], what all [`rules`] have against a document: none exactly where it is valid;
-//! - [`first_stage_errors`] and [`root_node_errors`], what all but the one that fields merge have against
-//!   it, and [`visit_all_rules`], the same over a context;
+//!   [`root_node_errors`], the same of a request to a root node, which may have introspection disabled;
+//!   and [`visit_all_rules`], the same over a context;
+//! - [`first_stage_errors`] and [`visit_first_stage`], what all rules but the one that fields merge have
+//!   against a document;
 //! - [`Walk`], a walk over a document, which tells each [`Event`] with the types around it;
 //! - [`visit`], which takes a [`Visitor`], or a list of them, over a document, and the
 //!   [`ValidatorContext`], which keeps what they report;
@@ -29,10 +31,8 @@ pub mod laws;
 mod one_walk;
 pub mod rules;
 
-pub use all_rules::validation_errors;
-pub use first_stage::{
-    first_stage_errors, root_node_errors, visit_all_rules, visit_introspection_rule,
-};
+pub use all_rules::{root_node_errors, validation_errors, visit_all_rules};
+pub use first_stage::{first_stage_errors, visit_first_stage, visit_introspection_rule};
 pub use graphql_argument_values::FinalVariables;
 pub use graphql_literal_checks::{Source, validate_literal_value, validate_value};
 pub use graphql_meta::{

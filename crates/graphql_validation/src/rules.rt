@@ -2,7 +2,8 @@
 //!
 //! Those that look at one part of a document at a time, or judge literals, are visitors, a module each,
 //! with its `factory`. Those over all operations and fragments of a document are functions, which add to
-//! a list of errors.
+//! a list of errors. The rule that fields merge is a function, and as a visitor the module
+//! `overlapping_fields`, with its `factory`.
 
 pub use graphql_rules_document::{
     document_errors, lone_anonymous_operation, no_fragment_cycles, no_undefined_variables,
@@ -18,7 +19,10 @@ pub use graphql_rules_local::{
     known_type_names, possible_fragment_spreads, provided_non_null_arguments, scalar_leafs,
     unique_argument_names, unique_input_field_names, variables_are_input_types,
 };
-pub use graphql_rules_merging::overlapping_fields_can_be_merged;
+pub use graphql_rules_merging::{
+    OverlappingFieldsCanBeMerged, overlapping_fields_can_be_merged, report_overlapping_fields,
+    visitor as overlapping_fields,
+};
 pub use graphql_rules_values::{
     ArgumentsOfCorrectType, DefaultValuesOfCorrectType, arguments_of_correct_type,
     default_values_of_correct_type,

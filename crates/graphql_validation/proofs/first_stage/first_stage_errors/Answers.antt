@@ -14,7 +14,7 @@ told g c =
     let here : Subject g.row.S.Denot g.row.S-Check.Denot = record { schema = declarations_of c.args.schema.now; document = c.args.document.now } in
     let same : subject_of context ≡ here = (λ i. record { schema = declarations_of ((c.in_ok-context.ensures.schema i).now); document = (c.in_ok-context.ensures.document i).now }) in
     subst (λ s. IfOk c.into_errors.result (λ errors. FirstStage g.S.ScalarValue.answer g.S.Check.Check.accepts s (places errors))) same
-    (errors_told (FirstStage g.S.ScalarValue.answer g.S.Check.Check.accepts (subject_of context)) context c.visit_all_rules.new.context c.into_errors.result c.in_ok-context.ensures.errors c.visit_all_rules.ensures
+    (errors_told (FirstStage g.S.ScalarValue.answer g.S.Check.Check.accepts (subject_of context)) context c.visit_first_stage.new.context c.into_errors.result c.in_ok-context.ensures.errors c.visit_first_stage.ensures
     c.into_errors.ensures.ok c.into_errors.ensures.permutation (first_permuted g.S.ScalarValue.answer g.S.Check.Check.accepts (subject_of context)))
 
 pub returns-clause-told : goal.returns-clause-told

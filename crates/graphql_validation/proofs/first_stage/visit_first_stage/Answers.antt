@@ -1,6 +1,6 @@
 use Rattle.graphql_scopes.specs.Lent.{scopes_told}
 use Rattle.graphql_validation.proofs.ReportedLemmas.{stage_reported}
-use Rattle.graphql_validation.proofs.first_stage.visit_all_rules.Goals as goal
+use Rattle.graphql_validation.proofs.first_stage.visit_first_stage.Goals as goal
 
 pub returns : goal.returns
 returns g c =
