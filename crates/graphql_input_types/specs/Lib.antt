@@ -1,0 +1,2 @@
+pub mod Nullables
+pub mod Identifiers

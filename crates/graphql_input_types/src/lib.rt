@@ -1,0 +1,8 @@
+//! Types whose values are read from input values: what may be null, and identifiers.
+#![tactic(auto)]
+
+mod id;
+mod nullable;
+
+pub use id::ID;
+pub use nullable::Nullable;
