@@ -1,4 +1,4 @@
-mod Elements
+pub mod Elements
 mod Heights
 mod Depths
 mod GroupKeys
@@ -6,7 +6,7 @@ mod FittingData
 mod DistinctMembers
 mod Failures
 mod ExactFailures
-mod RepeatLemmas
-mod GroupRepeats
+pub mod RepeatLemmas
+pub mod GroupRepeats
 mod RepeatHeights
 mod RunRepeats

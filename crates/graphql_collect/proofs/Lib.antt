@@ -1,0 +1,6 @@
+pub mod Keyed
+pub mod WalkLaws
+pub mod CollectingLaws
+pub mod Bringing
+pub mod SizeLaws
+mod FragmentLemmas

@@ -1,0 +1,64 @@
+-- What a selection brings to its set where fragments were entered, and what a walk leaves, in a request.
+use Rattle.graphql_scalars.specs.ScalarAnswers.{ScalarAnswer}
+use Rattle.std.specs.Prelude.{◌≡◌, ◌⊎◌, ◌<◌, ℕ, Bool, true, List, [], ◌∷◌, Option, Some, None}
+use Rattle.std.specs.List.{list_any}
+use Rattle.std.specs.Str.{bytes_eq}
+use Rattle.graphql_tree.specs.declared.document.Fragment.{Fragment}
+use Rattle.graphql_collect.specs.declared.request.Request.{Request}
+use Rattle.graphql_collect.specs.declared.grouping.Occurrence.{Occurrence}
+use Rattle.graphql_plain_tree.specs.Trees.{Tree, none, height}
+use Rattle.graphql_names.specs.Names.{Bytes}
+use Rattle.graphql_plain_tree.specs.Written.{fragment_meant}
+use Rattle.graphql_plain_tree.specs.Fields.{Found}
+use Rattle.graphql_collect.specs.Requests.{drops_in, is_below_in, fragments_in, fields_in, written_in, found_at}
+use Rattle.graphql_collect.specs.Grouped.{Lent, all_found}
+use Rattle.graphql_collect.specs.declared.collecting.Brought.{Brought}
+use Rattle.graphql_collect.specs.declared.collecting.Brought.TheVariants as brought
+use Rattle.graphql_collect.specs.Walks.{Walk, Meanings}
+use Rattle.graphql_collect.specs.Walked.{Ready, Complete, Walked}
+
+module _ {S C : Type 0} where
+  abbrev pub meaning_of : Request S C → Option (Fragment S) → Bytes × Tree S
+  meaning_of request None = ([], none)
+  meaning_of request (Some f) = (f.type_condition.item, written_in request f.selection_set)
+
+  -- a fragment's type, and its set written out
+  unfoldable pub means_in : Request S C → Meanings S
+  means_in request name = meaning_of request (fragment_meant (fragments_in request) name)
+
+  -- the set of a field
+  abbrev pub below_in : Request S C → Occurrence S → Tree S
+  below_in request x = (found_at request x.field.now).below
+
+  abbrev pub state : Request S C → List Bytes → Lent S → Walk S
+  state request visited found = record { visited = visited; found = all_found (fragments_in request) found }
+
+  module _ (answer : S → ScalarAnswer) (request : Request S C) (object : Bytes) where
+    abbrev pub ReadyIn : ℕ → List Bytes → Lent S → Type 0
+    ReadyIn h visited found = Ready (drops_in answer request) (is_below_in request object) (means_in request) h (state request visited found)
+
+    abbrev pub CompleteIn : List Bytes → Lent S → Type 0
+    CompleteIn visited found = Complete (drops_in answer request) (is_below_in request object) (means_in request) (state request visited found)
+
+    abbrev pub WalkedIn : List (Found S) → List Bytes → Lent S → List Bytes → Lent S → Type 0
+    WalkedIn xs visited found visited_then found_then =
+        Walked (drops_in answer request) (is_below_in request object) (means_in request) xs (state request visited found) (state request visited_then found_then)
+
+    -- a fragment that was entered brings nothing more
+    pub record Entered (visited : List Bytes) (t : Tree S) : Type 0 where
+      pub name : Bytes
+      pub is_visited : list_any (bytes_eq name) visited ≡ true
+      pub applies : is_below_in request object (means_in request name).0 ≡ true
+      pub lower : height (means_in request name).1 < height t
+      pub same : fields_in answer request object t ≡ fields_in answer request object (means_in request name).1
+
+    -- a set that stands for a selection
+    pub record Stands (t inner : Tree S) : Type 0 where
+      pub same : fields_in answer request object t ≡ fields_in answer request object inner
+      pub lower : height inner < height t
+
+    abbrev pub Brings : List Bytes → Tree S → Brought S → Type 0
+    Brings visited t brought.Nothing = (fields_in answer request object t ≡ []) ⊎ Entered visited t
+    Brings visited t (brought.Field x) = fields_in answer request object t ≡ found_at request x.now ∷ []
+    Brings visited t (brought.Set set) = Stands t (written_in request set.now)
+    Brings visited t (brought.Fragment x set) = Stands t (written_in request set.now) × (written_in request set.now ≡ (means_in request x.now.item.name.item).1)

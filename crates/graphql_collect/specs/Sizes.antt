@@ -1,0 +1,45 @@
+-- How many fields are written in sets and fragments.
+use Rattle.std.specs.Prelude.{◌≤◌, ◌+◌, ℕ, List, [], ◌∷◌, ◌++◌, map, if◌then◌else◌}
+use Rattle.std.specs.List.{list_any}
+use Rattle.std.specs.Str.{bytes_eq}
+use Rattle.graphql_tree.specs.declared.document.Fragment.{Fragment}
+use Rattle.graphql_tree.specs.declared.selection.Selection.{Selection}
+use Rattle.graphql_plain_tree.specs.Trees.{Tree, none, field, inline}
+use Rattle.graphql_names.specs.Names.{Bytes}
+use Rattle.graphql_plain_tree.specs.Written.{Before, chain, write_with, listed}
+use Rattle.graphql_collect.specs.Grouped.{Lent}
+use Rattle.graphql_collect.specs.declared.collecting.Brought.{Brought}
+use Rattle.graphql_collect.specs.declared.collecting.Brought.TheVariants as brought
+
+module _ {S : Type 0} where
+  -- the fields of a set, with those of its inline fragments
+  abbrev pub tree_size : Tree S → ℕ
+  tree_size none = 0
+  tree_size (field head directives below rest) = 1 + tree_size rest
+  tree_size (inline on directives below rest) = tree_size below + tree_size rest
+
+  -- a selection whose spreads are left out
+  unfoldable pub bare : Selection S → Before S
+  bare = write_with (λ x rest. rest)
+
+  -- how many fields a set has of its own, its spreads left out
+  unfoldable pub size : List (Selection S) → ℕ
+  size set = tree_size (chain (map bare set) none)
+
+  -- how many fields the fragments have that are not entered yet
+  abbrev pub left_in : List Bytes → List (Fragment S) → ℕ
+  left_in visited [] = 0
+  left_in visited (f ∷ fs) = (if list_any (bytes_eq f.name.item) visited then 0 else size f.selection_set) + left_in visited fs
+
+  -- how many fields the sets of fields have of their own
+  abbrev pub size_below : Lent S → ℕ
+  size_below [] = 0
+  size_below (x ∷ xs) = size (listed x.field.now.item.selection_set) + size_below xs
+
+  -- a selection brings no more than is written
+  abbrev pub IsSized : List (Fragment S) → List Bytes → Selection S → Brought S → Type 0
+  IsSized fragments visited x brought.Nothing = Unit {0}
+  IsSized fragments visited x (brought.Field f) = 1 ≤ size (x ∷ [])
+  IsSized fragments visited x (brought.Set set) = size set.now ≤ size (x ∷ [])
+  IsSized fragments visited x (brought.Fragment spread set) =
+      size set.now + left_in (visited ++ spread.now.item.name.item ∷ []) fragments ≤ left_in visited fragments

@@ -1,0 +1,251 @@
+//! The fields of selection sets for an object type, each fragment entered once.
+
+ghost use Rattle.std.specs.Prelude.{◌≡◌, ◌≤◌, ◌+◌, ℕ, List, [], length, OnOk, IfOk, map};
+ghost use Rattle.std.specs.Option.{option_map};
+ghost use Rattle.std.specs.List.{flat_map, list_any};
+ghost use Rattle.std.specs.Str.{bytes_eq};
+ghost use Rattle.graphql_tree.specs.declared.selection.Selection.TheVariants as selection;
+ghost use Rattle.graphql_plain_tree.specs.Written.{listed, one, Settled};
+ghost use Rattle.graphql_plain_tree.specs.Trees.{height};
+ghost use Rattle.graphql_collect.specs.Requests.{drops_in, is_below_in, fields_in, written_in, fragments_in};
+ghost use Rattle.graphql_collect.specs.Grouped.{all_found};
+ghost use Rattle.graphql_plain_tree.specs.Fields.{applies};
+ghost use Rattle.graphql_plain_tree.specs.Repeats.{Repeats};
+ghost use Rattle.graphql_collect.specs.Sizes.{IsSized, left_in, size, size_below};
+ghost use Rattle.graphql_collect.specs.Collecting.{Brings, CompleteIn, ReadyIn, WalkedIn, below_in};
+
+use crate::grouping::Occurrence;
+use crate::request::Request;
+use graphql_meta::SchemaScalar;
+use graphql_plain_tree::left_out;
+use graphql_text::{Items, Spanning, TextRef};
+use graphql_tree::{Directive, Field, FragmentSpread, InlineFragment, Selection};
+use std::alloc::{AllocError, Global};
+
+/// What a selection brings to its set.
+pub enum Brought<'d, 'a, S> {
+    /// Nothing: it is left out, does not apply, or was entered before.
+    Nothing,
+
+    /// A field.
+    Field(&'d Spanning<Field<'a, S>>),
+
+    /// The fields of another set.
+    Set(&'d [Selection<'a, S>]),
+
+    /// The fields of the fragment that is spread.
+    Fragment(&'d Spanning<FragmentSpread<'a, S>>, &'d [Selection<'a, S>]),
+}
+
+/// Whether the directives leave out what they stand at.
+fn drops<S: SchemaScalar>(
+    request: &Request<'_, '_, S>,
+    directives: &Option<Items<Spanning<Directive<'_, S>>>>,
+) -> bool
+    ensures { result ≡ drops_in S.answer request.now (listed directives.now) }
+{
+    left_out(directives, request.variables)
+}
+
+/// Whether the object type is a subtype of the other type.
+fn is_below<S: SchemaScalar>(request: &Request<'_, '_, S>, object: &str, on: &str) -> bool
+    ensures { result ≡ is_below_in request.now object.now on.now }
+{
+    request.schema.is_named_subtype(object, on)
+}
+
+/// Whether the name is among the names. A scan.
+fn has_name(names: &[TextRef<'_>], name: &str) -> bool
+    ensures { result ≡ list_any (bytes_eq name.now) names.now }
+{
+    for other in names {
+        if name == other.as_str() {
+            return true;
+        }
+    }
+    false
+}
+
+/// Whether a fragment with this condition, or without one, applies to the object type.
+fn applies<S: SchemaScalar>(
+    request: &Request<'_, '_, S>,
+    object: &str,
+    on: &Option<Spanning<TextRef<'_>>>,
+) -> bool
+    ensures { result ≡ applies (is_below_in request.now object.now) (option_map (λ o. o.item) on.now) }
+{
+    match on {
+        None => true,
+        Some(on) => is_below(request, object, on.item.as_str()),
+    }
+}
+
+/// What a field brings: itself, unless it is left out.
+fn bring_field<'d, 'a, S: SchemaScalar>(
+    request: &Request<'d, 'a, S>,
+    field: &'d Spanning<Field<'a, S>>,
+) -> Brought<'d, 'a, S>
+    ensures brings { (object : List ℕ) (visited : List (List ℕ)) → Brings S.answer request.now object visited (one (fragments_in request.now) (selection.Field field.now)) result }
+    ensures sized { (visited : List (List ℕ)) → IsSized (fragments_in request.now) visited (selection.Field field.now) result }
+{
+    if drops(request, &field.item.directives) {
+        return Brought::Nothing;
+    }
+    Brought::Field(field)
+}
+
+/// What an inline fragment brings: its set, where it applies and is not left out.
+fn bring_inline<'d, 'a, S: SchemaScalar>(
+    request: &Request<'d, 'a, S>,
+    object: &str,
+    inline: &'d Spanning<InlineFragment<'a, S>>,
+) -> Brought<'d, 'a, S>
+    ensures brings { (visited : List (List ℕ)) → Brings S.answer request.now object.now visited (one (fragments_in request.now) (selection.InlineFragment inline.now)) result }
+    ensures sized { (visited : List (List ℕ)) → IsSized (fragments_in request.now) visited (selection.InlineFragment inline.now) result }
+{
+    if drops(request, &inline.item.directives) {
+        return Brought::Nothing;
+    }
+    if !applies(request, object, &inline.item.type_condition) {
+        return Brought::Nothing;
+    }
+    Brought::Set(inline.item.selection_set.as_slice())
+}
+
+/// What a spread brings: the set of the fragment that it means, where that applies, is not left out, and
+/// was not entered before.
+fn bring_fragment<'d, 'a, S: SchemaScalar>(
+    request: &Request<'d, 'a, S>,
+    object: &str,
+    spread: &'d Spanning<FragmentSpread<'a, S>>,
+    visited: &[TextRef<'_>],
+) -> Brought<'d, 'a, S>
+    requires { Settled (fragments_in request.now) }
+    ensures brings { Brings S.answer request.now object.now visited.now (one (fragments_in request.now) (selection.FragmentSpread spread.now)) result }
+    ensures sized { IsSized (fragments_in request.now) visited.now (selection.FragmentSpread spread.now) result }
+{
+    if drops(request, &spread.item.directives) {
+        return Brought::Nothing;
+    }
+    match request.fragments.get(spread.item.name.item.as_str()) {
+        None => Brought::Nothing,
+        Some(fragment) => {
+            if !is_below(request, object, fragment.type_condition.item.as_str()) {
+                return Brought::Nothing;
+            }
+            if has_name(visited, spread.item.name.item.as_str()) {
+                return Brought::Nothing;
+            }
+            Brought::Fragment(spread, fragment.selection_set.as_slice())
+        }
+    }
+}
+
+/// What a selection brings to a set of an object type, where fragments were entered.
+fn bring<'d, 'a, S: SchemaScalar>(
+    request: &Request<'d, 'a, S>,
+    object: &str,
+    selection: &'d Selection<'a, S>,
+    visited: &[TextRef<'_>],
+) -> Brought<'d, 'a, S>
+    requires { Settled (fragments_in request.now) }
+    ensures brings { Brings S.answer request.now object.now visited.now (one (fragments_in request.now) selection.now) result }
+    ensures sized { IsSized (fragments_in request.now) visited.now selection.now result }
+{
+    match selection {
+        Selection::FragmentSpread(spread) => bring_fragment(request, object, spread, visited),
+        Selection::Field(field) => bring_field(request, field),
+        Selection::InlineFragment(inline) => bring_inline(request, object, inline),
+    }
+}
+
+/// Adds the fields of a set for an object type, in order, each fragment entered once. Takes stack for each
+/// level of inline fragments and spreads. An error is want of memory.
+fn collect<'d, 'a, S: SchemaScalar>(
+    request: &Request<'d, 'a, S>,
+    object: &str,
+    set: &'d [Selection<'a, S>],
+    visited: &mut Items<TextRef<'a>>,
+    found: &mut Items<Occurrence<'d, 'a, S>>,
+) -> Result<(), AllocError>
+    requires settled { Settled (fragments_in request.now) }
+    requires ready { ReadyIn S.answer request.now object.now (height (written_in request.now set.now)) visited.old found.old }
+    ensures walked { OnOk result (WalkedIn S.answer request.now object.now (fields_in S.answer request.now object.now (written_in request.now set.now)) visited.old found.old visited.new found.new) }
+    ensures sized { OnOk result (length found.new + left_in visited.new (fragments_in request.now) ≤ length found.old + size set.now + left_in visited.old (fragments_in request.now)) }
+{
+    for selection in set {
+        match bring(request, object, selection, visited.as_slice()) {
+            Brought::Nothing => {}
+            Brought::Field(field) => found.push(Occurrence { field })?,
+            Brought::Set(inner) => collect(request, object, inner, visited, found)?,
+            Brought::Fragment(spread, inner) => {
+                visited.push(spread.item.name.item.copied())?;
+                collect(request, object, inner, visited, found)?;
+            }
+        }
+    }
+    Ok(())
+}
+
+/// Adds the fields of a field's set, if it has one. An error is want of memory.
+fn collect_below<'d, 'a, S: SchemaScalar>(
+    request: &Request<'d, 'a, S>,
+    object: &str,
+    occurrence: &Occurrence<'d, 'a, S>,
+    visited: &mut Items<TextRef<'a>>,
+    found: &mut Items<Occurrence<'d, 'a, S>>,
+) -> Result<(), AllocError>
+    requires settled { Settled (fragments_in request.now) }
+    requires complete { CompleteIn S.answer request.now object.now visited.old found.old }
+    ensures walked { OnOk result (WalkedIn S.answer request.now object.now (fields_in S.answer request.now object.now (below_in request.now occurrence.now)) visited.old found.old visited.new found.new) }
+    ensures sized { OnOk result (length found.new + left_in visited.new (fragments_in request.now) ≤ length found.old + size (listed occurrence.now.field.now.item.selection_set) + left_in visited.old (fragments_in request.now)) }
+{
+    match &occurrence.field.item.selection_set {
+        Some(set) => {
+            collect(request, object, set.as_slice(), visited, found)?;
+            Ok(())
+        }
+        None => Ok(()),
+    }
+}
+
+/// The fields of a set that apply to an object type, in order (GraphQL October 2021, 6.3.2 Field Collection,
+/// CollectFields). Each fragment is entered once, so fields that stand there before are left out, and there
+/// are at most as many as fields in the set and in all fragments. Takes stack for each level of inline
+/// fragments and spreads, and time by the selections that are gone through and for each spread by the
+/// fragments that were entered. An error is want of memory.
+pub fn fields_of_set<'d, 'a, S: SchemaScalar>(
+    alloc: Global,
+    request: &Request<'d, 'a, S>,
+    object: &str,
+    set: &'d [Selection<'a, S>],
+) -> Result<Items<Occurrence<'d, 'a, S>>, AllocError>
+    requires { Settled (fragments_in request.now) }
+    ensures fields { IfOk result (λ found. Repeats (all_found (fragments_in request.now) found) (fields_in S.answer request.now object.now (written_in request.now set.now))) }
+    ensures few { IfOk result (λ found. length found ≤ size set.now + left_in [] (fragments_in request.now)) }
+{
+    let mut visited = Items::new(alloc);
+    let mut found = Items::new(alloc);
+    collect(request, object, set, &mut visited, &mut found)?;
+    Ok(found)
+}
+
+/// The same of the sets of a group's fields together (6.4.3 Value Completion, MergeSelectionSets): each
+/// fragment is entered once for all of them.
+pub fn fields_below<'d, 'a, S: SchemaScalar>(
+    alloc: Global,
+    request: &Request<'d, 'a, S>,
+    object: &str,
+    group: &[Occurrence<'d, 'a, S>],
+) -> Result<Items<Occurrence<'d, 'a, S>>, AllocError>
+    requires { Settled (fragments_in request.now) }
+    ensures fields { IfOk result (λ found. Repeats (all_found (fragments_in request.now) found) (flat_map (fields_in S.answer request.now object.now) (map (below_in request.now) group.now))) }
+    ensures few { IfOk result (λ found. length found ≤ size_below group.now + left_in [] (fragments_in request.now)) }
+{
+    let mut visited = Items::new(alloc);
+    let mut found = Items::new(alloc);
+    for occurrence in group {
+        collect_below(request, object, occurrence, &mut visited, &mut found)?;
+    }
+    Ok(found)
+}
