@@ -1,2 +1,3 @@
 pub mod Nullables
+pub mod NullableLending
 pub mod Identifiers

@@ -1,5 +1,9 @@
 -- Values that may be null, where it is told apart whether null was given (GraphQL October 2021, 2.9.5 Null Value: "two semantically different ways to represent the lack of a value").
-use Rattle.std.specs.Prelude.{◌≡◌, ◌≢◌, Bool, true, false, Option, Some, None}
+use Rattle.std.specs.Prelude.{◌≡◌, ◌≢◌, ◌++◌, pos, Bool, true, false, Option, Some, None, IsSomeAnd}
+use Rattle.std.specs.Hash.{HashWrites, isize}
+use Rattle.std.specs.declared.cmp.Ordering.{Ordering}
+use Rattle.std.specs.declared.cmp.Ordering.TheVariants.{Less, Equal, Greater}
+use Rattle.std.specs.Borrow.{Bor, MutBor}
 use Rattle.graphql_values.specs.Conversions.{Apart}
 use Rattle.graphql_values.specs.declared.input_value.InputValue.{InputValue}
 use Rattle.graphql_values.specs.declared.input_value.InputValue.TheVariants as value
@@ -30,11 +34,53 @@ explicit nullable.ImplicitNull = None
 explicit nullable.ExplicitNull = Some None
 explicit (nullable.Some x) = Some (Some x)
 
+-- P where nothing was given, Q where null was, and R of the value
+abbrev pub MatchNullable : {T : Type 0} → Nullable T → Type 0 → Type 0 → (T → Type 0) → Type 0
+MatchNullable nullable.ImplicitNull P Q R = P
+MatchNullable nullable.ExplicitNull P Q R = Q
+MatchNullable (nullable.Some x) P Q R = R x
+
+-- both are the same null, or both have a value and R ties them
+abbrev pub IsSameBy : {T U : Type 0} → (T → U → Type 0) → Nullable T → Nullable U → Type 0
+IsSameBy R x y = MatchNullable x (y ≡ nullable.ImplicitNull) (y ≡ nullable.ExplicitNull) (λ value. IsSomeAnd (some y) (R value))
+
+-- the same null, or what the value becomes
+abbrev pub mapped : {T U : Type 0} → (T → U) → Nullable T → Nullable U
+mapped f nullable.ImplicitNull = nullable.ImplicitNull
+mapped f nullable.ExplicitNull = nullable.ExplicitNull
+mapped f (nullable.Some x) = nullable.Some (f x)
+
+-- with the value that is lent
+abbrev pub copied : {T : Type 0} → Nullable (Bor T) → Nullable T
+copied x = mapped (λ lent. lent.now) x
+
+-- with the value that is lent to be written to
+abbrev pub copied_mut : {T : Type 0} → Nullable (MutBor T) → Nullable T
+copied_mut x = mapped (λ lent. lent.now) x
+
 -- the one, or where it is null the other
 abbrev pub or : {T : Type 0} → Nullable T → Nullable T → Nullable T
 or nullable.ImplicitNull other = other
 or nullable.ExplicitNull other = other
 or (nullable.Some x) other = nullable.Some x
+
+-- what was not given stands first, then null, then values by their own order
+abbrev pub order : {T : Type 0} → (T → T → Ordering) → Nullable T → Nullable T → Ordering
+order cmp nullable.ImplicitNull nullable.ImplicitNull = Equal
+order cmp nullable.ImplicitNull nullable.ExplicitNull = Less
+order cmp nullable.ImplicitNull (nullable.Some y) = Less
+order cmp nullable.ExplicitNull nullable.ImplicitNull = Greater
+order cmp nullable.ExplicitNull nullable.ExplicitNull = Equal
+order cmp nullable.ExplicitNull (nullable.Some y) = Less
+order cmp (nullable.Some x) nullable.ImplicitNull = Greater
+order cmp (nullable.Some x) nullable.ExplicitNull = Greater
+order cmp (nullable.Some x) (nullable.Some y) = cmp x y
+
+-- which of the three it is, by its place among them, and then the value
+abbrev pub hashed : {T : Type 0} → (T → HashWrites) → Nullable T → HashWrites
+hashed writes nullable.ImplicitNull = isize (pos 0)
+hashed writes nullable.ExplicitNull = isize (pos 1)
+hashed writes (nullable.Some x) = isize (pos 2) ++ writes x
 
 -- a null that is given is one, and any other value is what it means where it may not be null (3.12 Non-Null)
 abbrev pub MeansNullable : {S T : Type 0} → (InputValue S → T → Type 0) → InputValue S → Nullable T → Type 0

@@ -15,9 +15,10 @@ ghost use Rattle.std.proofs.Common.{rules};
 ghost use Rattle.graphql_input_types.specs.Identifiers as spec;
 
 use graphql_scalars::{
-    CheckError, FromScalarValue, Scalar, ScalarValue, ToScalarValue, WrongInputScalarTypeError,
+    CheckError, FromScalarValue, ParseScalarResult, ParseScalarValue, Scalar, ScalarValue,
+    ToScalarValue, WrongInputScalarTypeError,
 };
-use graphql_text::{Text, TextRef};
+use graphql_text::{ParseError, ScalarToken, Text, TextRef};
 use graphql_values::{FromInputValue, InputValue, ToInputValue, no_scalar};
 use std::alloc::{AllocError, Global};
 use std::fmt::{Display, Formatter, Write};
@@ -71,6 +72,20 @@ impl Display for ID {
 
     fn fmt<W: Write>(&self, f: &mut Formatter<W>) -> std::fmt::Result {
         f.pad(self.text.as_str())
+    }
+}
+
+/// Reads strings, with their escapes decoded, and integers of 32 bits (3.5.5 ID, "Input Coercion").
+/// The refusal of any other token is that of an integer.
+impl<S: ScalarValue> ParseScalarValue<S> for ID {
+    ghost reads = { spec.reads_id S.of_text S.of_int };
+
+    fn from_str(alloc: Global, token: &ScalarToken<'_>) -> ParseScalarResult<S> {
+        match <String as ParseScalarValue<S>>::from_str(alloc, token) {
+            Ok(scalar) => Ok(scalar),
+            Err(ParseError::Memory) => Err(ParseError::Memory),
+            Err(_) => <i32 as ParseScalarValue<S>>::from_str(alloc, token),
+        }
     }
 }
 

@@ -2,6 +2,7 @@
 #![tactic(auto)]
 
 mod id;
+pub mod laws;
 mod nullable;
 
 pub use id::ID;

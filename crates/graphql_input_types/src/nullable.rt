@@ -1,7 +1,9 @@
 //! Values that may be null, where it is told apart whether null was given.
 
-ghost use Rattle.std.specs.Prelude.{◌≡◌, not, is_some, IsSome};
-ghost use Rattle.std.specs.Option.{unwrap_or, ok_or, option_copied};
+ghost use Rattle.std.specs.Prelude.{◌≡◌, not, is_some, is_ok, IsSome, IsSomeAnd, IsErrAnd, MatchOption, MatchResult, Ok};
+ghost use Rattle.std.specs.Borrow.{sem};
+ghost use Rattle.std.specs.Option.{unwrap_or, ok_or, option_copied_mut, ForSome, ForNone};
+ghost use Rattle.graphql_input_types.specs.NullableLending.{LendsValue};
 ghost use Rattle.graphql_input_types.specs.Nullables as spec;
 ghost use Rattle.graphql_input_types.specs.declared.nullable.Nullable.TheVariants as nullable;
 
@@ -106,7 +108,7 @@ impl<T> Nullable<T> {
         ensures { result ≡ spec.or self other }
     {
         match self {
-            Nullable::Some(given) => Nullable::Some(given),
+            Nullable::Some(own) => Nullable::Some(own),
             Nullable::ImplicitNull | Nullable::ExplicitNull => other,
         }
     }
@@ -137,6 +139,143 @@ impl<T> Nullable<T> {
             Nullable::ImplicitNull => None,
             Nullable::ExplicitNull => Some(None),
             Nullable::Some(given) => Some(Some(given)),
+        }
+    }
+}
+
+impl<T> Nullable<T> {
+    /// The same with its value lent, to be written to.
+    pub fn as_mut(&mut self) -> Nullable<&mut T>
+        ensures { spec.copied_mut result ≡ self.old }
+    {
+        match self {
+            Nullable::Some(given) => Nullable::Some(given),
+            Nullable::ImplicitNull => Nullable::ImplicitNull,
+            Nullable::ExplicitNull => Nullable::ExplicitNull,
+        }
+    }
+
+    /// The value, lent, to be written to, or none where it is null.
+    pub fn some_mut(&mut self) -> Option<&mut T>
+        ensures* writes_back { sem 𝓛 (LendsValue T.row self.entry result) }
+        ensures value { option_copied_mut result ≡ spec.some self.old }
+    {
+        match self {
+            Nullable::Some(given) => Some(given),
+            Nullable::ImplicitNull | Nullable::ExplicitNull => None,
+        }
+    }
+}
+
+impl<T> Nullable<T> {
+    /// The value, or what the closure gives where it is null.
+    pub fn unwrap_or_else<F: FnOnce() -> T>(self, default: F) -> T
+        requires { ForNone (spec.some self) (F.pre default) }
+        ensures { MatchOption (spec.some self) (F.post default result) (λ given. result ≡ given) }
+    {
+        self.some().unwrap_or_else(default)
+    }
+
+    /// What the closure gives for the value. Both nulls stay.
+    pub fn map<U, F: FnOnce(T) -> U>(self, turn: F) -> Nullable<U>
+        requires { ForSome (spec.some self) (F.pre turn) }
+        ensures { spec.IsSameBy (F.post turn) self result }
+    {
+        match self {
+            Nullable::Some(given) => Nullable::Some(turn(given)),
+            Nullable::ImplicitNull => Nullable::ImplicitNull,
+            Nullable::ExplicitNull => Nullable::ExplicitNull,
+        }
+    }
+
+    /// What the closure gives for the value, or this default where it is null.
+    pub fn map_or<U, F: FnOnce(T) -> U>(self, default: U, turn: F) -> U
+    where
+        U: Drop,
+        requires { ForSome (spec.some self) (F.pre turn) }
+        ensures { MatchOption (spec.some self) (result ≡ default) (λ given. F.post turn given result) }
+    {
+        self.some().map_or(default, turn)
+    }
+
+    /// What the second closure gives for the value, or what the first gives where it is null.
+    pub fn map_or_else<U, D: FnOnce() -> U, F: FnOnce(T) -> U>(self, default: D, turn: F) -> U
+        requires default_callable { ForNone (spec.some self) (D.pre default) }
+        requires turn_callable { ForSome (spec.some self) (λ given. F.pre turn given) }
+        ensures { MatchOption (spec.some self) (D.post default result) (λ given. F.post turn given result) }
+    {
+        self.some().map_or_else(default, turn)
+    }
+
+    /// The value, or the error that the closure gives where it is null.
+    pub fn ok_or_else<E, F: FnOnce() -> E>(self, error: F) -> Result<T, E>
+        requires { ForNone (spec.some self) (F.pre error) }
+        ensures cases { MatchOption (spec.some self) (IsErrAnd result (F.post error)) (λ given. result ≡ Ok given) }
+        ensures variant { is_ok result ≡ is_some (spec.some self) }
+    {
+        self.some().ok_or_else(error)
+    }
+
+    /// This one, or what the closure gives where this one is null.
+    pub fn or_else<F: FnOnce() -> Nullable<T>>(self, other: F) -> Nullable<T>
+        requires { ForNone (spec.some self) (F.pre other) }
+        ensures { MatchOption (spec.some self) (F.post other result) (λ given. result ≡ nullable.Some given) }
+    {
+        match self {
+            Nullable::Some(given) => Nullable::Some(given),
+            Nullable::ImplicitNull | Nullable::ExplicitNull => other(),
+        }
+    }
+}
+
+impl<T: Copy> Nullable<&T> {
+    /// The same with a copy of the value that is lent.
+    pub fn copied(self) -> Nullable<T>
+        ensures { result ≡ spec.copied self.entry }
+    {
+        match self {
+            Nullable::Some(given) => Nullable::Some(*given),
+            Nullable::ImplicitNull => Nullable::ImplicitNull,
+            Nullable::ExplicitNull => Nullable::ExplicitNull,
+        }
+    }
+}
+
+impl<T: Copy> Nullable<&mut T> {
+    /// The same with a copy of the value that is lent.
+    pub fn copied(self) -> Nullable<T>
+        ensures { result ≡ spec.copied_mut self.entry }
+    {
+        match self {
+            Nullable::Some(given) => Nullable::Some(*given),
+            Nullable::ImplicitNull => Nullable::ImplicitNull,
+            Nullable::ExplicitNull => Nullable::ExplicitNull,
+        }
+    }
+}
+
+impl<T: Clone> Nullable<&T> {
+    /// The same with a clone of the value that is lent. An error is want of memory.
+    pub fn cloned(self) -> Result<Nullable<T>, AllocError>
+        ensures { MatchResult result (spec.IsSameBy (λ lent x. T.is_clone lent.now x) self.entry) (λ _. IsSomeAnd (spec.some self.entry) (λ lent. ¬ (T.is_infallible lent.now))) }
+    {
+        match self {
+            Nullable::Some(given) => Ok(Nullable::Some(given.clone()?)),
+            Nullable::ImplicitNull => Ok(Nullable::ImplicitNull),
+            Nullable::ExplicitNull => Ok(Nullable::ExplicitNull),
+        }
+    }
+}
+
+impl<T: Clone> Nullable<&mut T> {
+    /// The same with a clone of the value that is lent. An error is want of memory.
+    pub fn cloned(self) -> Result<Nullable<T>, AllocError>
+        ensures { MatchResult result (spec.IsSameBy (λ lent x. T.is_clone lent.now x) self.entry) (λ _. IsSomeAnd (spec.some self.entry) (λ lent. ¬ (T.is_infallible lent.now))) }
+    {
+        match self {
+            Nullable::Some(given) => Ok(Nullable::Some((*given).clone()?)),
+            Nullable::ImplicitNull => Ok(Nullable::ImplicitNull),
+            Nullable::ExplicitNull => Ok(Nullable::ExplicitNull),
         }
     }
 }
