@@ -1,6 +1,6 @@
 -- What a spread brings.
 use Rattle.graphql_scalars.specs.ScalarAnswers.{ScalarAnswer}
-use Rattle.std.proofs.Common.{◌≡◌, ◌⊎◌, inl, inr, sym, ◌∙◌, ap, subst, ◌<◌, Bool, true, false, List, [], Option, Some, None}
+use Rattle.std.proofs.Common.{◌≡◌, ◌⊎◌, inl, inr, sym, ◌∙◌, ap, subst, ◌<◌, true, false, List, [], Some, None}
 use Rattle.std.specs.List.{list_any}
 use Rattle.std.specs.Str.{bytes_eq}
 use Rattle.graphql_values.specs.InputValues.{Placed}
@@ -14,7 +14,7 @@ use Rattle.graphql_plain_tree.specs.Written.{fragment_meant}
 use Rattle.graphql_plain_tree.specs.Written.{listed, one, written, Settled}
 use Rattle.graphql_collect.specs.Requests.{drops_in, is_below_in, fragments_in, fields_in}
 use Rattle.graphql_plain_tree.proofs.Layers.{out-Spread, unknown-Spread, other-Spread, in-Spread, height-of-Spread}
-use Rattle.graphql_collect.specs.Collecting.{meaning_of, means_in, Entered, Stands}
+use Rattle.graphql_collect.specs.Collecting.{meaning_of, means_in, Entered, Stands, Enters}
 
 module _ {S C : Type 0} (answer : S → ScalarAnswer) (request : Request S C) (object : Bytes) where
   abbrev spread_one : Placed (FragmentSpread S) → Tree S
@@ -54,6 +54,5 @@ module _ {S C : Type 0} (answer : S → ScalarAnswer) (request : Request S C) (o
         same = stands.same ∙ sym (ap (λ (m : Bytes × Tree S). fields_in answer request object m.1) meaning);
       })
 
-      pub bring-fragment : Stands answer request object (spread_one x) (written (fragments_in request) f.selection_set)
-          × (written (fragments_in request) f.selection_set ≡ (means_in request x.item.name.item).1)
-      bring-fragment = (stands, sym (ap (λ (m : Bytes × Tree S). m.1) meaning))
+      pub bring-fragment : list_any (bytes_eq x.item.name.item) visited ≡ false → Enters answer request object visited (spread_one x) (written (fragments_in request) f.selection_set) x.item.name.item
+      bring-fragment v = record { stands = stands; means = sym (ap (λ (m : Bytes × Tree S). m.1) meaning); first = v }

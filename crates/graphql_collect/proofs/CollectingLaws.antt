@@ -1,6 +1,6 @@
 -- Steps of a walk over a document.
 use Rattle.graphql_scalars.specs.ScalarAnswers.{ScalarAnswer}
-use Rattle.std.proofs.Common.{◌≡◌, ◌⊎◌, ⊎_elim, sym, ◌∙◌, ap, subst, ℕ, ◌+◌, ◌<◌, ◌≤◌, arith, Bool, List, [], ◌∷◌, ◌++◌, map, length, take, get_or, Option}
+use Rattle.std.proofs.Common.{◌≡◌, ◌⊎◌, ⊎_elim, sym, ◌∙◌, ap, subst, ℕ, ◌+◌, ◌<◌, ◌≤◌, arith, List, [], ◌∷◌, ◌++◌, map, length, take, get_or, Option, Some, None, Bor}
 use Rattle.std.specs.List.{flat_map}
 use Rattle.std.proofs.lemmas.List.{take_more, map-append}
 use Rattle.graphql_values.specs.InputValues.{Placed}
@@ -8,17 +8,37 @@ use Rattle.graphql_tree.specs.declared.selection.Field.{Field}
 use Rattle.graphql_tree.specs.declared.selection.Selection.{Selection}
 use Rattle.graphql_collect.specs.declared.request.Request.{Request}
 use Rattle.graphql_collect.specs.declared.grouping.Occurrence.{Occurrence}
-use Rattle.graphql_plain_tree.specs.Trees.{Tree, height}
+use Rattle.graphql_plain_tree.specs.Trees.{Directives, Tree, height}
 use Rattle.graphql_names.specs.Names.{Bytes}
-use Rattle.graphql_plain_tree.specs.Written.{one}
+use Rattle.graphql_plain_tree.specs.Written.{one, written, write, spread_as, listed, fragment_meant}
+use Rattle.graphql_plain_tree.proofs.Layers.{deep, deep-Field, deep-Spread, deep-Inline, written-cons, written-nil, fields-written, height-one}
+use Rattle.graphql_tree.specs.declared.document.Fragment.{Fragment}
+use Rattle.graphql_tree.proofs.SelectionInduction.{selection_ind}
 use Rattle.graphql_plain_tree.specs.Fields.{Found}
-use Rattle.graphql_collect.specs.Requests.{drops_in, is_below_in, fragments_in, fields_in, found_at}
+use Rattle.graphql_collect.specs.Requests.{drops_in, is_below_in, fragments_in, fields_in, found_at, written_in}
 use Rattle.graphql_collect.specs.Grouped.{Lent, all_found}
 use Rattle.graphql_collect.specs.Walks.{Walk, with_field}
-use Rattle.graphql_collect.specs.Walked.{Ready, Walked}
-use Rattle.graphql_collect.specs.Collecting.{means_in, state, ReadyIn, CompleteIn, WalkedIn, Entered, Stands, below_in}
+use Rattle.graphql_collect.specs.OpenSets.{Open}
+use Rattle.graphql_collect.specs.Walked.{Ready, Walked, Leads}
+use Rattle.graphql_collect.specs.Collecting.{means_in, state, trees_in, ReadyIn, CompleteIn, WalkedIn, LeadsIn, Steps, Entered, Stands, Enters, below_in}
 use Rattle.graphql_evaluation.proofs.RepeatLemmas.{flat-last}
-use Rattle.graphql_collect.proofs.WalkLaws.{walked-none, walked-then, ready-after, walked-field, walked-visited, ready-inside, walked-inside, complete-ready, complete-after}
+use Rattle.graphql_collect.proofs.WalkLaws.{walked-none, walked-then, walked-field, walked-visited, complete-ready, complete-after}
+use Rattle.graphql_collect.proofs.LeadLaws.{leads-first, leads-walked, leads-end, leads-apart, leads-set, leads-fragment}
+use Rattle.graphql_collect.proofs.SizeLaws.{rests-push}
+
+-- what follows a selection is no higher than both
+height-others : {S : Type 0} (fragments : List (Fragment S)) (x : Selection S) (rest : List (Selection S)) → height (written fragments rest) ≤ height (written fragments (x ∷ rest))
+height-others {S} fragments x rest = rw (written-cons fragments x rest) (before x (written fragments rest))
+  where
+    spread : (directives : Directives S) (below : Tree S) (f : Option (Fragment S)) → height below ≤ height (spread_as (write (length fragments) fragments) directives below f)
+    spread directives below None = omega arith
+    spread directives below (Some f) = omega arith
+
+    before : (y : Selection S) (below : Tree S) → height below ≤ height (deep fragments y below)
+    before = selection_ind (λ y. (below : Tree S) → height below ≤ height (deep fragments y below))
+        (λ y h below. rw (deep-Field fragments y below) (omega arith))
+        (λ y below. rw (deep-Spread fragments y below) (spread (listed y.item.directives) below (fragment_meant fragments y.item.name.item)))
+        (λ y h below. rw (deep-Inline fragments y below) (omega arith))
 
 module _ {S C : Type 0} (answer : S → ScalarAnswer) (request : Request S C) (object : Bytes) where
   abbrev F : Tree S → List (Found S)
@@ -40,22 +60,13 @@ module _ {S C : Type 0} (answer : S → ScalarAnswer) (request : Request S C) (o
   pub begins : (v : List Bytes) (f : Lent S) → WalkedIn answer request object [] v f v f
   begins v f = walked-none (drops_in answer request) (is_below_in request object) (means_in request) (state request v f)
 
-  pub more : (xs : List (Selection S)) (i : ℕ) (x : Selection S) (v : List Bytes) (f : Lent S) (v1 : List Bytes) (f1 : Lent S) (v2 : List Bytes) (f2 : Lent S)
-      → i < length xs → x ≡ get_or xs i x → WalkedIn answer request object (flat_map at (take i xs)) v f v1 f1 → WalkedIn answer request object (at x) v1 f1 v2 f2
-      → WalkedIn answer request object (flat_map at (take (i + 1) xs)) v f v2 f2
-  more xs i x v f v1 f1 v2 f2 within is a b =
-      let grown : flat_map at (take (i + 1) xs) ≡ flat_map at (take i xs) ++ at x =
-      ap (flat_map at) (take_more xs i x within ∙ ap (λ z. take i xs ++ z ∷ []) (sym is)) ∙ flat-last at x (take i xs) in
-      subst (λ zs. W zs (state request v f) (state request v2 f2)) (sym grown)
-      (walked-then (drops_in answer request) (is_below_in request object) (means_in request) _ _ (state request v f) (state request v1 f1) (state request v2 f2) a b)
-
-  pub brought-nothing : (h : ℕ) (t : Tree S) (v : List Bytes) (f : Lent S) → height t ≤ h → ReadyIn answer request object h v f
+  brought-nothing : (h : ℕ) (t : Tree S) (v : List Bytes) (f : Lent S) → height t ≤ h → ReadyIn answer request object h v f
       → (F t ≡ []) ⊎ Entered answer request object v t → WalkedIn answer request object (F t) v f v f
   brought-nothing h t v f low r = ⊎_elim
       (λ e. subst (λ zs. W zs (state request v f) (state request v f)) (sym e) (begins v f))
       (λ (w : Entered answer request object v t). walked-visited (drops_in answer request) (is_below_in request object) (means_in request) w.name (F t) h (state request v f) r w.is_visited w.applies (let less = w.lower in omega arith) w.same)
 
-  pub brought-field : (t : Tree S) (x : Placed (Field S)) (v : List Bytes) (f f2 : Lent S) (o : Occurrence S) → F t ≡ found_at request x ∷ [] → f2 ≡ f ++ o ∷ [] → o.field.now ≡ x
+  brought-field : (t : Tree S) (x : Placed (Field S)) (v : List Bytes) (f f2 : Lent S) (o : Occurrence S) → F t ≡ found_at request x ∷ [] → f2 ≡ f ++ o ∷ [] → o.field.now ≡ x
       → WalkedIn answer request object (F t) v f v f2
   brought-field t x v f f2 o is grown same =
       let there : all_found (fragments_in request) f2 ≡ all_found (fragments_in request) f ++ found_at request x ∷ [] =
@@ -67,25 +78,79 @@ module _ {S C : Type 0} (answer : S → ScalarAnswer) (request : Request S C) (o
       subst (λ zs. W zs (state request v f) (state request v f2)) (sym is)
       (subst (λ (ys : List (Found S)). W (found_at request x ∷ []) (state request v f) (record { visited = v; found = ys })) (sym there) kept_one)
 
-  pub brought-set : (t inner : Tree S) (v : List Bytes) (f : Lent S) (v2 : List Bytes) (f2 : Lent S) → Stands answer request object t inner
-      → WalkedIn answer request object (F inner) v f v2 f2 → WalkedIn answer request object (F t) v f v2 f2
-  brought-set t inner v f v2 f2 s w = subst (λ zs. W zs (state request v f) (state request v2 f2)) (sym s.same) w
+  abbrev Leading : List (Found S) → Walk S → List (Tree S) → Walk S → Type 0
+  Leading = Leads (drops_in answer request) (is_below_in request object) (means_in request)
 
-  pub brought-fragment : (t inner : Tree S) (name : Bytes) (v v1 v2 : List Bytes) (f f2 : Lent S) → Stands answer request object t inner → inner ≡ (means_in request name).1 → v1 ≡ v ++ name ∷ []
-      → WalkedIn answer request object (F inner) v1 f v2 f2 → WalkedIn answer request object (F t) v f v2 f2
-  brought-fragment t inner name v v1 v2 f f2 s own grown w =
-      brought-set t inner v f v2 f2 s (walked-inside (drops_in answer request) (is_below_in request object) (means_in request) name (F inner) (state request v f) (state request v2 f2) (ap F own)
-      (subst (λ (z : List Bytes). W (F inner) (state request z f) (state request v2 f2)) grown w))
+  abbrev Goes : List (Tree S) → List Bytes → Lent S → List (Tree S) → List Bytes → Lent S → Type 0
+  Goes = Steps answer request object
 
-  pub ready-now : (xs : List (Found S)) (h low : ℕ) (v : List Bytes) (f : Lent S) (v1 : List Bytes) (f1 : Lent S) → ReadyIn answer request object h v f
-      → WalkedIn answer request object xs v f v1 f1 → low ≤ h → ReadyIn answer request object low v1 f1
-  ready-now xs h low v f v1 f1 r w less = ready-after (drops_in answer request) (is_below_in request object) (means_in request) xs h low (state request v f) (state request v1 f1) less w r
+  pub enters-nothing : (t : Tree S) (ts : List (Tree S)) (v : List Bytes) (f : Lent S) → (F t ≡ []) ⊎ Entered answer request object v t → Goes (t ∷ ts) v f ts v f
+  enters-nothing t ts v f e = λ xs start l.
+      leads-walked (drops_in answer request) (is_below_in request object) (means_in request) xs start ts (state request v f) t (state request v f)
+      (brought-nothing (height t) t v f (omega arith) l.0 e) l
 
-  pub ready-fragment : (name : Bytes) (inner : Tree S) (h : ℕ) (v v1 : List Bytes) (f : Lent S) → ReadyIn answer request object h v f → height inner ≤ h → inner ≡ (means_in request name).1
-      → v1 ≡ v ++ name ∷ [] → ReadyIn answer request object (height inner) v1 f
-  ready-fragment name inner h v v1 f r less own grown =
-      subst (λ (z : List Bytes). R (height inner) (state request z f)) (sym grown)
-      (ready-inside (drops_in answer request) (is_below_in request object) (means_in request) name h (height inner) (state request v f) r less (omega (arith, ap height own)))
+  pub enters-field : (t : Tree S) (ts : List (Tree S)) (x : Placed (Field S)) (v : List Bytes) (f f2 : Lent S) (o : Occurrence S) → F t ≡ found_at request x ∷ []
+      → f2 ≡ f ++ o ∷ [] → o.field.now ≡ x → Goes (t ∷ ts) v f ts v f2
+  enters-field t ts x v f f2 o is grown same = λ xs start l.
+      leads-walked (drops_in answer request) (is_below_in request object) (means_in request) xs start ts (state request v f) t (state request v f2)
+      (brought-field t x v f f2 o is grown same) l
+
+  module _ (sets more_sets : Open S) (inner : Bor (List (Selection S))) (pushed : more_sets ≡ sets ++ inner ∷ []) where
+    trees-push : trees_in request more_sets ≡ written_in request inner.now ∷ trees_in request sets
+    trees-push = ap (map (written_in request)) (rests-push sets more_sets inner pushed)
+
+    pub enters-set : (t : Tree S) (v : List Bytes) (f : Lent S) → Stands answer request object t (written_in request inner.now)
+        → Goes (t ∷ trees_in request sets) v f (trees_in request more_sets) v f
+    enters-set t v f s = λ xs start l.
+        subst (λ ts. Leading xs start ts (state request v f)) (sym trees-push)
+        (leads-set (drops_in answer request) (is_below_in request object) (means_in request) xs start (trees_in request sets) (state request v f) t (written_in request inner.now) s.same s.lower l)
+
+    pub enters-fragment : (t : Tree S) (name : Bytes) (v v2 : List Bytes) (f : Lent S) → Enters answer request object v t (written_in request inner.now) name
+        → v2 ≡ v ++ name ∷ [] → Goes (t ∷ trees_in request sets) v f (trees_in request more_sets) v2 f
+    enters-fragment t name v v2 f e grown = λ xs start l.
+        subst (λ ts. Leading xs start ts (state request v2 f)) (sym trees-push)
+        (subst (λ (z : List Bytes). Leading xs start (written_in request inner.now ∷ trees_in request sets) (state request z f)) (sym grown)
+        (leads-fragment (drops_in answer request) (is_below_in request object) (means_in request) xs start (trees_in request sets) (state request v f) name t (written_in request inner.now)
+        e.stands.same e.stands.lower e.means l))
+
+    -- the first of what is left of a set, before the others
+    pub goes-on : (x : Selection S) (rest : List (Selection S)) (v : List Bytes) (f : Lent S) → rest ≡ x ∷ inner.now
+        → Goes (written_in request rest ∷ trees_in request sets) v f (one (fragments_in request) x ∷ trees_in request more_sets) v f
+    goes-on x rest v f is = λ xs start l.
+        subst (λ ts. Leading xs start (one (fragments_in request) x ∷ ts) (state request v f)) (sym trees-push)
+        (leads-apart (drops_in answer request) (is_below_in request object) (means_in request) xs start (trees_in request sets) (state request v f)
+        (written_in request (x ∷ inner.now)) (one (fragments_in request) x) (written_in request inner.now)
+        (fields-apart x inner.now) (height-one (fragments_in request) (x ∷ inner.now) 0 x (omega arith)) (height-others (fragments_in request) x inner.now)
+        (subst (λ zs. Leading xs start (written_in request zs ∷ trees_in request sets) (state request v f)) is l))
+      where
+        fields-apart : (y : Selection S) (ys : List (Selection S)) → F (written_in request (y ∷ ys)) ≡ F (one (fragments_in request) y) ++ F (written_in request ys)
+        fields-apart y ys =
+            fields-written (fragments_in request) (drops_in answer request) (is_below_in request object) (y ∷ ys)
+            ∙ ap (λ zs. F (one (fragments_in request) y) ++ zs) (sym (fields-written (fragments_in request) (drops_in answer request) (is_below_in request object) ys))
+
+    -- a set that is gone into is the innermost
+    pub goes-back : (xs : List (Found S)) (start : Walk S) (v : List Bytes) (f : Lent S) → LeadsIn answer request object xs start (trees_in request more_sets) v f
+        → LeadsIn answer request object xs start (written_in request inner.now ∷ trees_in request sets) v f
+    goes-back xs start v f l = subst (λ ts. Leading xs start ts (state request v f)) trees-push l
+
+  pub ends-set : (rest : List (Selection S)) (ts : List (Tree S)) (v : List Bytes) (f : Lent S) → length rest ≡ 0 → Goes (written_in request rest ∷ ts) v f ts v f
+  ends-set rest ts v f none = λ xs start l.
+      leads-end (drops_in answer request) (is_below_in request object) (means_in request) xs start ts (state request v f) (written_in request rest) (empty rest none) l
+    where
+      empty : (ys : List (Selection S)) → length ys ≡ 0 → F (written_in request ys) ≡ []
+      empty [] e = ap F (written-nil (fragments_in request))
+      empty (y ∷ ys) e = absurd (omega (arith, e))
+
+  pub leads-now : (set : Bor (List (Selection S))) (none_open sets : Open S) (v : List Bytes) (f : Lent S) → none_open ≡ [] → sets ≡ none_open ++ set ∷ []
+      → ReadyIn answer request object (height (written_in request set.now)) v f
+      → LeadsIn answer request object (F (written_in request set.now)) (state request v f) (trees_in request sets) v f
+  leads-now set none_open sets v f none pushed r =
+      subst (λ (zs : Open S). Leading (F (written_in request set.now)) (state request v f) (trees_in request zs) (state request v f)) (sym (pushed ∙ ap (λ zs. zs ++ set ∷ []) none))
+      (leads-first (drops_in answer request) (is_below_in request object) (means_in request) (written_in request set.now) (state request v f) r)
+
+  pub leads-last : (xs : List (Found S)) (v : List Bytes) (f : Lent S) (sets : Open S) (v2 : List Bytes) (f2 : Lent S) → sets ≡ []
+      → LeadsIn answer request object xs (state request v f) (trees_in request sets) v2 f2 → WalkedIn answer request object xs v f v2 f2
+  leads-last xs v f sets v2 f2 none l = subst (λ (zs : Open S). Leading xs (state request v f) (trees_in request zs) (state request v2 f2)) none l
 
   pub ready-first : (h : ℕ) (v : List Bytes) (f : Lent S) → CompleteIn answer request object v f → ReadyIn answer request object h v f
   ready-first h v f c = complete-ready (drops_in answer request) (is_below_in request object) (means_in request) h (state request v f) c

@@ -1,46 +1,225 @@
--- Groups, one by one.
-use Rattle.std.proofs.Common.{◌≡◌, refl, sym, ◌∙◌, ap, ℕ, ◌+◌, ◌<◌, Bool, true, false, List, [], ◌∷◌, ◌++◌, map, length, take, get_or, cond, append-nil}
-use Rattle.std.specs.List.{filter}
+-- Groups, one field more.
+use Rattle.std.proofs.Common.{◌≡◌, refl, sym, ◌∙◌, ap, subst, ℕ, suc, ◌+◌, ◌<◌, arith, Bool, true, false, not, List, [], ◌∷◌, ◌++◌, map, length, take, get_or, cond, append-nil, append_assoc}
+use Rattle.std.specs.List.{list_any, position_or_len, slice_set, AllByRecursion, IsDistinct}
+use Rattle.std.specs.Str.{bytes_eq}
+use Rattle.std.specs.Cmp.Lexicographic.{nat_list_eq_equiv}
 use Rattle.std.proofs.lemmas.List.{take_more, map-append}
 use Rattle.std.proofs.lemmas.List.Elements.{filter-append}
-use Rattle.graphql_tree.specs.declared.document.Fragment.{Fragment}
+use Rattle.std.proofs.lemmas.Map.Keys.{IsDistinct-head, IsDistinct-tail}
+use Rattle.std.proofs.lemmas.Slice.Eq.{bytes_eq-Decides}
+use Rattle.indexmap.specs.IndexSet.{insert_key}
 use Rattle.graphql_collect.specs.declared.grouping.Occurrence.{Occurrence}
+use Rattle.graphql_tree.specs.declared.document.Fragment.{Fragment}
 use Rattle.graphql_names.specs.Names.{Bytes}
 use Rattle.graphql_plain_tree.specs.Fields.{Found}
+use Rattle.graphql_plain_tree.specs.Groups.{keys_after, keys, under, groups}
 use Rattle.graphql_collect.specs.Occurrences.{found}
-use Rattle.graphql_plain_tree.specs.Groups.{under}
-use Rattle.graphql_collect.specs.Grouped.{Lent, Group, all_found, group_found, stands_under, IsUnder}
+use Rattle.graphql_collect.specs.Grouped.{Lent, Group, all_found, group_found, key_at, begun, takes, put}
+use Rattle.graphql_evaluation.proofs.GroupRepeats.{any-more, any-last}
 
-module _ {S : Type 0} (fragments : List (Fragment S)) where
-  kept_or_not : (q : Bool) (x : Occurrence S) (ys : Lent S) (zs : List (Found S)) → all_found fragments ys ≡ zs
-      → all_found fragments (cond q (x ∷ ys) ys) ≡ cond q (found fragments x.field.now ∷ zs) zs
-  kept_or_not true x ys zs h = ap (λ rest. found fragments x.field.now ∷ rest) h
-  kept_or_not false x ys zs h = h
+not-there : (k other : Bytes) (seen more : List Bytes) → list_any (bytes_eq other) seen ≡ true → list_any (bytes_eq k) (seen ++ more) ≡ false → bytes_eq k other ≡ false
+not-there k other seen more t h = cases (bytes_eq k other) refl
+  where
+    cases : (q : Bool) → bytes_eq k other ≡ q → q ≡ false
+    cases false e = refl
+    cases true e =
+        let same : k ≡ other = (bytes_eq-Decides k other).0 e in
+        let there : list_any (bytes_eq k) (seen ++ more) ≡ true = any-more (bytes_eq k) seen more (subst (λ z. list_any (bytes_eq z) seen ≡ true) (sym same) t) in
+        sym there ∙ h
 
-  -- the fields of a key, their fragments written out
-  pub under-found : (xs : Lent S) (key : Bytes) → all_found fragments (filter (stands_under key) xs) ≡ under (all_found fragments xs) key
-  under-found [] key = refl
-  under-found (x ∷ xs) key = kept_or_not (stands_under key x) x (filter (stands_under key) xs) (under (all_found fragments xs) key) (under-found xs key)
+module _ {S : Type 0} where
+  -- the keys, one field more
+  keys-last : (y : Found S) (done : List Bytes) (xs : List (Found S))
+      → keys_after done (xs ++ y ∷ []) ≡ keys_after done xs ++ cond (list_any (bytes_eq y.head.key) (done ++ keys_after done xs)) [] (y.head.key ∷ [])
+  keys-last y done [] = rw append-nil refl
+  keys-last y done (x ∷ xs) =
+      elim (list_any (bytes_eq x.head.key) done) as (λ q. cond q (keys_after done (xs ++ y ∷ [])) (x.head.key ∷ keys_after (done ++ x.head.key ∷ []) (xs ++ y ∷ []))
+      ≡ cond q (keys_after done xs) (x.head.key ∷ keys_after (done ++ x.head.key ∷ []) xs)
+      ++ cond (list_any (bytes_eq y.head.key) (done ++ cond q (keys_after done xs) (x.head.key ∷ keys_after (done ++ x.head.key ∷ []) xs))) [] (y.head.key ∷ [])) [
+        | true ↦ keys-last y done xs
+        | false ↦ ap (λ ks. x.head.key ∷ ks) (keys-last y (done ++ x.head.key ∷ []) xs
+            ∙ ap (λ ks. keys_after (done ++ x.head.key ∷ []) xs ++ cond (list_any (bytes_eq y.head.key) ks) [] (y.head.key ∷ [])) (append_assoc done (x.head.key ∷ []) (keys_after (done ++ x.head.key ∷ []) xs)))
+      ]
 
-  abbrev pub by_key : Lent S → Bytes → Bytes × List (Found S)
-  by_key xs key = (key, under (all_found fragments xs) key)
+  -- a key that is not among the keys has no fields
+  none-under : (k : Bytes) (xs : List (Found S)) (done : List Bytes) → list_any (bytes_eq k) (done ++ keys_after done xs) ≡ false → under xs k ≡ []
+  none-under k [] done h = refl
+  none-under k (x ∷ xs) done h = cases (none-under k xs) (list_any (bytes_eq x.head.key) done) refl h
+    where
+      cases : ((other : List Bytes) → list_any (bytes_eq k) (other ++ keys_after other xs) ≡ false → under xs k ≡ [])
+          → (q : Bool) → list_any (bytes_eq x.head.key) done ≡ q
+          → list_any (bytes_eq k) (done ++ cond q (keys_after done xs) (x.head.key ∷ keys_after (done ++ x.head.key ∷ []) xs)) ≡ false
+          → cond (bytes_eq k x.head.key) (x ∷ under xs k) (under xs k) ≡ []
+      cases ih true t n = rw (not-there k x.head.key done (keys_after done xs) t n) (ih done n)
+      cases ih false t n =
+          let after : list_any (bytes_eq k) ((done ++ x.head.key ∷ []) ++ keys_after (done ++ x.head.key ∷ []) xs) ≡ false =
+          ap (list_any (bytes_eq k)) (append_assoc done (x.head.key ∷ []) (keys_after (done ++ x.head.key ∷ []) xs)) ∙ n in
+          rw (not-there k x.head.key (done ++ x.head.key ∷ []) (keys_after (done ++ x.head.key ∷ []) xs) (any-last x.head.key done) after)
+          (ih (done ++ x.head.key ∷ []) after)
 
-  pub grouped-more : (xs : Lent S) (keys : List Bytes) (gs more : List (Group S)) (i : ℕ) (key : Bytes) (g : Group S)
-      → map (group_found fragments) gs ≡ map (by_key xs) (take i keys) → i < length keys → key ≡ get_or keys i key
-      → more ≡ gs ++ g ∷ [] → g.0 ≡ key → IsUnder xs key g.1 → map (group_found fragments) more ≡ map (by_key xs) (take (i + 1) keys)
-  grouped-more xs keys gs more i key g h within is grown named its =
-      let same : group_found fragments g ≡ by_key xs key = λ j. (named j, (ap (all_found fragments) its ∙ under-found xs key) j) in
-      ap (map (group_found fragments)) grown ∙ map-append (group_found fragments) gs (g ∷ [])
-      ∙ (λ j. h j ++ same j ∷ [])
-      ∙ sym (ap (map (by_key xs)) (take_more keys i key within ∙ ap (λ k. take i keys ++ k ∷ []) (sym is)) ∙ map-append (by_key xs) (take i keys) (key ∷ []))
+  abbrev pair : Bytes → List (Found S) → Bytes × List (Found S)
+  pair key fs = (key, fs)
 
--- one item more of a filter
-module _ {A : Type 0} (p : A → Bool) (xs these more : List A) (i : ℕ) (x : A) where
-  grown : i < length xs → x ≡ get_or xs i x → filter p (take (i + 1) xs) ≡ filter p (take i xs) ++ cond (p x) (x ∷ []) []
-  grown within is = ap (filter p) (take_more xs i x within ∙ ap (λ z. take i xs ++ z ∷ []) (sym is)) ∙ filter-append p (take i xs) (x ∷ [])
+  abbrev by_key : List (Found S) → Bytes → Bytes × List (Found S)
+  by_key xs key = (key, under xs key)
 
-  pub filter-kept : these ≡ filter p (take i xs) → i < length xs → x ≡ get_or xs i x → p x ≡ true → more ≡ these ++ x ∷ [] → more ≡ filter p (take (i + 1) xs)
-  filter-kept h within is t e = e ∙ (λ j. h j ++ cond (sym t j) (x ∷ []) []) ∙ sym (grown within is)
+  module _ (y : Found S) where
+    -- what the groups are, one field more
+    abbrev pub opened : List (Bytes × List (Found S)) → List (Bytes × List (Found S))
+    opened gs = cond (list_any (bytes_eq y.head.key) (map (λ g. g.0) gs)) gs (gs ++ (y.head.key, []) ∷ [])
 
-  pub filter-passed : these ≡ filter p (take i xs) → i < length xs → x ≡ get_or xs i x → p x ≡ false → more ≡ these → more ≡ filter p (take (i + 1) xs)
-  filter-passed h within is t e = e ∙ sym (append-nil these) ∙ (λ j. h j ++ cond (sym t j) (x ∷ []) []) ∙ sym (grown within is)
+    abbrev pub joins : Bytes × List (Found S) → Bytes × List (Found S)
+    joins g = cond (bytes_eq y.head.key g.0) (g.0, g.1 ++ y ∷ []) g
+
+    joins-one : (xs : List (Found S)) (k : Bytes) → joins (by_key xs k) ≡ by_key (xs ++ y ∷ []) k
+    joins-one xs k =
+        cases (bytes_eq y.head.key k)
+        ∙ ap (pair k) (ap (λ q. under xs k ++ cond q (y ∷ []) []) (nat_list_eq_equiv.symm y.head.key k) ∙ sym (filter-append (λ x. bytes_eq k x.head.key) xs (y ∷ [])))
+      where
+        cases : (q : Bool) → cond q (pair k (under xs k ++ y ∷ [])) (pair k (under xs k)) ≡ pair k (under xs k ++ cond q (y ∷ []) [])
+        cases true = refl
+        cases false = rw append-nil refl
+
+    joins-all : (xs : List (Found S)) (ks : List Bytes) → map joins (map (by_key xs) ks) ≡ map (by_key (xs ++ y ∷ [])) ks
+    joins-all xs [] = refl
+    joins-all xs (k ∷ ks) = λ j. joins-one xs k j ∷ joins-all xs ks j
+
+    the-keys : (xs : List (Found S)) (ks : List Bytes) → map (λ g. g.0) (map (by_key xs) ks) ≡ ks
+    the-keys xs [] = refl
+    the-keys xs (k ∷ ks) = ap (λ rest. k ∷ rest) (the-keys xs ks)
+
+    pub groups-last : (xs : List (Found S)) → map joins (opened (groups xs)) ≡ groups (xs ++ y ∷ [])
+    groups-last xs =
+        ap (λ ks. map joins (cond (list_any (bytes_eq y.head.key) ks) (groups xs) (groups xs ++ (y.head.key, []) ∷ []))) (the-keys xs (keys xs))
+        ∙ cases (list_any (bytes_eq y.head.key) (keys xs)) refl
+        ∙ sym (ap (map (by_key (xs ++ y ∷ []))) (keys-last y [] xs))
+      where
+        cases : (q : Bool) → list_any (bytes_eq y.head.key) (keys xs) ≡ q
+            → map joins (cond q (groups xs) (groups xs ++ (y.head.key, []) ∷ [])) ≡ map (by_key (xs ++ y ∷ [])) (keys xs ++ cond q [] (y.head.key ∷ []))
+        cases true t = joins-all xs (keys xs) ∙ ap (map (by_key (xs ++ y ∷ []))) (sym (append-nil (keys xs)))
+        cases false t =
+            ap (λ fs. map joins (groups xs ++ (y.head.key, fs) ∷ [])) (sym (none-under y.head.key xs [] t))
+            ∙ ap (map joins) (sym (map-append (by_key xs) (keys xs) (y.head.key ∷ [])))
+            ∙ joins-all xs (keys xs ++ y.head.key ∷ [])
+
+-- a field is put to its group
+module _ {S : Type 0} (x : Occurrence S) where
+  module _ (keys : List Bytes) (gs more : List (Group S)) (are : keys ≡ map (λ g. g.0) gs) where
+    pub begun-new : true ≡ not (list_any (bytes_eq (key_at x)) keys) → more ≡ gs ++ (key_at x, []) ∷ [] → more ≡ begun x gs
+    begun-new t e = e ∙ cases (list_any (bytes_eq (key_at x)) (map (λ g. g.0) gs)) (t ∙ ap (λ ks. not (list_any (bytes_eq (key_at x)) ks)) are)
+      where
+        cases : (q : Bool) → true ≡ not q → gs ++ (key_at x, []) ∷ [] ≡ cond q gs (gs ++ (key_at x, []) ∷ [])
+        cases true t = cc
+        cases false t = refl
+
+    pub begun-old : false ≡ not (list_any (bytes_eq (key_at x)) keys) → more ≡ gs → more ≡ begun x gs
+    begun-old t e = e ∙ cases (list_any (bytes_eq (key_at x)) (map (λ g. g.0) gs)) (t ∙ ap (λ ks. not (list_any (bytes_eq (key_at x)) ks)) are)
+      where
+        cases : (q : Bool) → false ≡ not q → gs ≡ cond q gs (gs ++ (key_at x, []) ∷ [])
+        cases true t = refl
+        cases false t = cc
+
+  pub keys-begun : (gs : List (Group S)) → map (λ g. g.0) (begun x gs) ≡ insert_key bytes_eq (map (λ g. g.0) gs) (key_at x)
+  keys-begun gs = cases (list_any (bytes_eq (key_at x)) (map (λ g. g.0) gs))
+    where
+      cases : (q : Bool) → map (λ (g : Group S). g.0) (cond q gs (gs ++ (key_at x, []) ∷ [])) ≡ cond q (map (λ g. g.0) gs) (map (λ g. g.0) gs ++ key_at x ∷ [])
+      cases true = refl
+      cases false = map-append (λ (g : Group S). g.0) gs ((key_at x, []) ∷ [])
+
+  keys-takes : (gs : List (Group S)) → map (λ g. g.0) (map (takes x) gs) ≡ map (λ g. g.0) gs
+  keys-takes [] = refl
+  keys-takes (g ∷ gs) = λ j. one (bytes_eq (key_at x) g.0) j ∷ keys-takes gs j
+    where
+      one : (q : Bool) → (cond q (g.0, g.1 ++ x ∷ []) g).0 ≡ g.0
+      one true = refl
+      one false = refl
+
+  pub keys-put : (gs : List (Group S)) → map (λ g. g.0) (put x gs) ≡ insert_key bytes_eq (map (λ g. g.0) gs) (key_at x)
+  keys-put gs = keys-takes (begun x gs) ∙ keys-begun gs
+
+  passed : (g : Group S) → bytes_eq (key_at x) g.0 ≡ false → g ≡ takes x g
+  passed g t = rw t refl
+
+  others : (gs : List (Group S)) (k : Bytes) → bytes_eq (key_at x) k ≡ true → AllByRecursion (λ y. bytes_eq k y ≡ false) (map (λ g. g.0) gs) → gs ≡ map (takes x) gs
+  others [] k t h = refl
+  others (g ∷ gs) k t h = λ j. passed g (nat_list_eq_equiv.congr (key_at x) k g.0 t ∙ h.0) j ∷ others gs k t h.1 j
+
+  abbrev with_it : Group S → Group S
+  with_it g = (g.0, g.1 ++ x ∷ [])
+
+  -- the group at a place, with the field
+  abbrev Taken : List (Group S) → Group S → ℕ → Type 0
+  Taken gs d n = slice_set gs n (with_it (get_or gs n d)) ≡ map (takes x) gs
+
+  placed : (gs : List (Group S)) (d : Group S) (n : ℕ) → IsDistinct bytes_eq (map (λ g. g.0) gs) → n ≡ position_or_len (bytes_eq (key_at x)) (map (λ g. g.0) gs) → n < length gs → Taken gs d n
+  placed [] d n u at within = absurd (omega arith)
+  placed (g ∷ gs) d n u at within =
+      cases (λ m. placed gs d m (IsDistinct-tail bytes_eq g.0 (map (λ h. h.0) gs) u)) (bytes_eq (key_at x) g.0) refl at
+    where
+      cases : ((m : ℕ) → m ≡ position_or_len (bytes_eq (key_at x)) (map (λ h. h.0) gs) → m < length gs → Taken gs d m)
+          → (q : Bool) → bytes_eq (key_at x) g.0 ≡ q → n ≡ cond (not q) (1 + position_or_len (bytes_eq (key_at x)) (map (λ h. h.0) gs)) 0 → Taken (g ∷ gs) d n
+      cases ih true t is =
+          let taken : with_it g ≡ takes x g = rw t refl in
+          subst (Taken (g ∷ gs) d) (sym is) (λ j. taken j ∷ others gs g.0 t (IsDistinct-head bytes_eq g.0 (map (λ h. h.0) gs) u) j)
+      cases ih false t is =
+          let next : n ≡ suc (position_or_len (bytes_eq (key_at x)) (map (λ h. h.0) gs)) = omega (arith, is) in
+          subst (Taken (g ∷ gs) d) (sym next) (λ j. passed g t j ∷ ih (position_or_len (bytes_eq (key_at x)) (map (λ h. h.0) gs)) refl (omega (arith, within, next)) j)
+
+  -- the place of the key stays when it is inserted
+  pub place-inserted : (ks : List Bytes) → position_or_len (bytes_eq (key_at x)) ks ≡ position_or_len (bytes_eq (key_at x)) (insert_key bytes_eq ks (key_at x))
+  place-inserted ks = cases (list_any (bytes_eq (key_at x)) ks)
+    where
+      pushed : (ks : List Bytes) → position_or_len (bytes_eq (key_at x)) ks ≡ position_or_len (bytes_eq (key_at x)) (ks ++ key_at x ∷ [])
+      pushed [] = rw (nat_list_eq_equiv.refl (key_at x)) refl
+      pushed (l ∷ ls) = ap (λ n. cond (not (bytes_eq (key_at x) l)) (1 + n) 0) (pushed ls)
+
+      cases : (q : Bool) → position_or_len (bytes_eq (key_at x)) ks ≡ position_or_len (bytes_eq (key_at x)) (cond q ks (ks ++ key_at x ∷ []))
+      cases true = refl
+      cases false = pushed ks
+
+  -- the field at the end of the group at its key's place
+  pub put-at : (gs begins : List (Group S)) (keys : List Bytes) (n : ℕ) (g : Group S) (fs : Lent S) → begins ≡ begun x gs → keys ≡ map (λ h. h.0) begins → IsDistinct bytes_eq keys
+      → n ≡ position_or_len (bytes_eq (key_at x)) keys → n < length keys → g ≡ get_or begins n g → fs ≡ g.1 ++ x ∷ [] → slice_set begins n (g.0, fs) ≡ put x gs
+  put-at gs begins keys n g fs are names u at within own grown =
+      let short : n < length begins = omega (arith, within, ap length names, length-names begins) in
+      (λ j. slice_set begins n ((own j).0, (grown ∙ ap (λ (h : Group S). h.1 ++ x ∷ []) own) j))
+      ∙ placed begins g n (subst (IsDistinct bytes_eq) names u) (at ∙ ap (position_or_len (bytes_eq (key_at x))) names) short
+      ∙ ap (map (takes x)) are
+    where
+      length-names : (hs : List (Group S)) → length (map (λ h. h.0) hs) ≡ length hs
+      length-names [] = refl
+      length-names (h ∷ hs) = ap suc (length-names hs)
+
+-- the same of what is found
+module _ {S : Type 0} (fragments : List (Fragment S)) (x : Occurrence S) where
+  abbrev it : Found S
+  it = found fragments x.field.now
+
+  opens-found : (gs : List (Group S)) → map (group_found fragments) (begun x gs) ≡ opened it (map (group_found fragments) gs)
+  opens-found gs =
+      cases (list_any (bytes_eq (key_at x)) (map (λ g. g.0) gs))
+      ∙ ap (λ ks. cond (list_any (bytes_eq (key_at x)) ks) (map (group_found fragments) gs) (map (group_found fragments) gs ++ (key_at x, []) ∷ [])) (sym (names gs))
+    where
+      cases : (q : Bool) → map (group_found fragments) (cond q gs (gs ++ (key_at x, []) ∷ [])) ≡ cond q (map (group_found fragments) gs) (map (group_found fragments) gs ++ (key_at x, []) ∷ [])
+      cases true = refl
+      cases false = map-append (group_found fragments) gs ((key_at x, []) ∷ [])
+
+      names : (hs : List (Group S)) → map (λ g. g.0) (map (group_found fragments) hs) ≡ map (λ g. g.0) hs
+      names [] = refl
+      names (h ∷ hs) = ap (λ rest. h.0 ∷ rest) (names hs)
+
+  joins-found : (gs : List (Group S)) → map (group_found fragments) (map (takes x) gs) ≡ map (joins it) (map (group_found fragments) gs)
+  joins-found [] = refl
+  joins-found (g ∷ gs) = λ j. one (bytes_eq (key_at x) g.0) j ∷ joins-found gs j
+    where
+      one : (q : Bool) → group_found fragments (cond q (g.0, g.1 ++ x ∷ []) g) ≡ cond q (g.0, all_found fragments g.1 ++ it ∷ []) (group_found fragments g)
+      one true = λ j. (g.0, map-append (λ (y : Occurrence S). found fragments y.field.now) g.1 (x ∷ []) j)
+      one false = refl
+
+  -- one field more
+  pub grouped-more : (xs : Lent S) (i : ℕ) (gs more : List (Group S)) → i < length xs → x ≡ get_or xs i x
+      → map (group_found fragments) gs ≡ groups (all_found fragments (take i xs)) → more ≡ put x gs → map (group_found fragments) more ≡ groups (all_found fragments (take (i + 1) xs))
+  grouped-more xs i gs more within is h e =
+      ap (map (group_found fragments)) e ∙ joins-found (begun x gs) ∙ ap (map (joins it)) (opens-found gs) ∙ ap (λ hs. map (joins it) (opened it hs)) h
+      ∙ groups-last it (all_found fragments (take i xs))
+      ∙ ap groups (sym (ap (all_found fragments) (take_more xs i x within ∙ ap (λ z. take i xs ++ z ∷ []) (sym is)) ∙ map-append (λ (y : Occurrence S). found fragments y.field.now) (take i xs) (x ∷ [])))

@@ -1,5 +1,6 @@
 pub mod Keyed
 pub mod WalkLaws
+pub mod LeadLaws
 pub mod CollectingLaws
 pub mod Bringing
 pub mod SizeLaws

@@ -1,10 +1,12 @@
--- Sizes of sets and fragments, step by step.
-use Rattle.std.proofs.Common.{◌≡◌, refl, sym, ◌∙◌, ap, subst, ℕ, ◌+◌, ◌<◌, ◌≤◌, arith, Bool, true, false, List, [], ◌∷◌, ◌++◌, map, length, take, get_or, Some, cond}
-use Rattle.std.specs.List.{list_any, find}
+-- Sizes of sets and fragments, and the turns through them, step by step.
+use Rattle.std.proofs.Common.{◌≡◌, refl, sym, ◌∙◌, ap, subst, ℕ, ◌+◌, ◌<◌, ◌≤◌, arith, Bool, true, false, List, [], ◌∷◌, ◌++◌, map, length, take, get_or, Some, cond, Bor}
+use Rattle.std.specs.List.{list_any, find, sum_by}
 use Rattle.std.specs.Str.{bytes_eq}
-use Rattle.std.proofs.lemmas.List.{take_more}
+use Rattle.std.proofs.lemmas.List.{take_more, reverse-append}
+use Rattle.std.proofs.lemmas.List.Sums.{sum_by-cons}
 use Rattle.std.proofs.lemmas.Slice.Eq.{bytes_eq-Decides}
 use Rattle.graphql_values.specs.InputValues.{Placed}
+use Rattle.graphql_tree.specs.Counts.{selection_count, count_layer, field_count_layer, inline_count_layer}
 use Rattle.graphql_tree.specs.declared.document.Fragment.{Fragment}
 use Rattle.graphql_tree.specs.declared.selection.Field.{Field}
 use Rattle.graphql_tree.specs.declared.selection.FragmentSpread.{FragmentSpread}
@@ -12,12 +14,15 @@ use Rattle.graphql_tree.specs.declared.selection.InlineFragment.{InlineFragment}
 use Rattle.graphql_tree.specs.declared.selection.Selection.{Selection}
 use Rattle.graphql_tree.specs.declared.selection.Selection.TheVariants as selection
 use Rattle.graphql_tree.proofs.SelectionEquations.{fold_field, fold_spread, fold_inline, fold_in_field, fold_in_inline}
+use Rattle.graphql_tree.proofs.CountEquations.{count_inline}
 use Rattle.graphql_tree.proofs.SelectionInduction.{selection_ind}
 use Rattle.graphql_plain_tree.specs.Trees.{Tree, none}
 use Rattle.graphql_names.specs.Names.{Bytes}
 use Rattle.graphql_plain_tree.specs.Written.{fragment_meant}
 use Rattle.graphql_plain_tree.specs.Written.{Before, chain, listed, selection_layer, field_layer, inline_layer}
-use Rattle.graphql_collect.specs.Sizes.{tree_size, bare, size, left_in, size_below}
+use Rattle.indexmap.specs.IndexSet.{insert_key}
+use Rattle.graphql_collect.specs.OpenSets.{Open, rests}
+use Rattle.graphql_collect.specs.Sizes.{tree_size, bare, size, left_by, size_below, turns, selection_turns}
 use Rattle.graphql_collect.specs.declared.grouping.Occurrence.{Occurrence}
 use Rattle.graphql_collect.specs.Grouped.{Lent}
 use Rattle.graphql_evaluation.proofs.GroupRepeats.{any-more, any-last}
@@ -33,9 +38,9 @@ less-one k name visited n = cases (list_any (bytes_eq k) visited) refl
     cases true t = rw (any-more (bytes_eq k) visited (name ∷ []) t) (omega arith)
     cases false t = under (list_any (bytes_eq k) (visited ++ name ∷ []))
 
-pub size-nil : (S : Type 0) → size {S = S} [] ≡ 0
-unfolding size
-size-nil S = refl
+-- a name that is new goes last
+pub inserted : (names more : List Bytes) (name key : Bytes) → key ≡ name → list_any (bytes_eq name) names ≡ false → more ≡ insert_key bytes_eq names key → more ≡ names ++ name ∷ []
+inserted names more name key same new e = e ∙ ap (insert_key bytes_eq names) same ∙ ap (λ q. cond q names (names ++ name ∷ [])) new
 
 module _ {S : Type 0} where
   abbrev skip : FragmentSpread S → Before S
@@ -66,7 +71,7 @@ module _ {S : Type 0} where
       (λ x rest. rw (bare-Spread x rest, bare-Spread x none) (omega arith))
       (λ x h rest. rw (bare-Inline x rest, bare-Inline x none) (omega arith))
 
-  size-cons : (x : Selection S) (xs : List (Selection S)) → size (x ∷ xs) ≡ size (x ∷ []) + size xs
+  pub size-cons : (x : Selection S) (xs : List (Selection S)) → size (x ∷ xs) ≡ size (x ∷ []) + size xs
   unfolding size
   size-cons x xs = bare-sums x (chain (map bare xs) none)
 
@@ -81,33 +86,50 @@ module _ {S : Type 0} where
   pub size-Inline : (x : Placed (InlineFragment S)) → size x.item.selection_set ≤ size (selection.InlineFragment x ∷ [])
   size-Inline x = omega (arith, size-one-Inline x)
 
-  size-last : (x : Selection S) (xs : List (Selection S)) → size (xs ++ x ∷ []) ≡ size xs + size (x ∷ [])
-  size-last x [] = omega (arith, size-nil S)
-  size-last x (y ∷ ys) = omega (arith, size-cons y (ys ++ x ∷ []), size-cons y ys, size-last x ys)
-
-  pub size-more : (xs : List (Selection S)) (i : ℕ) (x : Selection S) → i < length xs → x ≡ get_or xs i x → size (take (i + 1) xs) ≡ size (take i xs) + size (x ∷ [])
-  size-more xs i x within is = ap size (take_more xs i x within ∙ ap (λ z. take i xs ++ z ∷ []) (sym is)) ∙ size-last x (take i xs)
-
-  left-less : (fs : List (Fragment S)) (visited : List Bytes) (name : Bytes) → left_in (visited ++ name ∷ []) fs ≤ left_in visited fs
-  left-less [] visited name = omega arith
-  left-less (f ∷ fs) visited name = omega (arith, less-one f.name.item name visited (size f.selection_set), left-less fs visited name)
-
-  -- a fragment that is entered takes its size with it
-  pub left-enter : (fs : List (Fragment S)) (visited : List Bytes) (name : Bytes) (f : Fragment S) → fragment_meant fs name ≡ Some f → list_any (bytes_eq name) visited ≡ false
-      → size f.selection_set + left_in (visited ++ name ∷ []) fs ≤ left_in visited fs
-  left-enter [] visited name f e new = cc
-  left-enter (g ∷ gs) visited name f e new = cases (left-enter gs visited name f) (bytes_eq g.name.item name) refl e
+  -- the turns through a selection, and through a set
+  pub some-turns : (x : Selection S) → 0 < selection_turns x
+  some-turns x = omega (arith, counted x)
     where
-      cases : (fragment_meant gs name ≡ Some f → list_any (bytes_eq name) visited ≡ false → size f.selection_set + left_in (visited ++ name ∷ []) gs ≤ left_in visited gs)
-          → (q : Bool) → bytes_eq g.name.item name ≡ q → cond q (Some g) (find (λ h. bytes_eq h.name.item name) gs) ≡ Some f
-          → size f.selection_set + left_in (visited ++ name ∷ []) (g ∷ gs) ≤ left_in visited (g ∷ gs)
-      cases ih true t is =
-          let named : g.name.item ≡ name = (bytes_eq-Decides g.name.item name).0 t in
-          let same : g ≡ f = cc in
-          let gone : list_any (bytes_eq g.name.item) (visited ++ name ∷ []) ≡ true = subst (λ k. list_any (bytes_eq k) (visited ++ name ∷ []) ≡ true) (sym named) (any-last name visited) in
-          let there : list_any (bytes_eq g.name.item) visited ≡ false = subst (λ k. list_any (bytes_eq k) visited ≡ false) (sym named) new in
-          rw (gone, there) (omega (arith, left-less gs visited name, ap (λ (h : Fragment S). size h.selection_set) same))
-      cases ih false t is = omega (arith, ih is new, less-one g.name.item name visited (size g.selection_set))
+      counted : (y : Selection S) → 0 < selection_count y
+      counted = selection_ind (λ y. 0 < selection_count y)
+          (λ y h. omega (arith, fold_field count_layer field_count_layer inline_count_layer y))
+          (λ y. omega (arith, fold_spread count_layer field_count_layer inline_count_layer y))
+          (λ y h. omega (arith, count_inline y))
+
+  pub turns-Inline : (x : Placed (InlineFragment S)) → turns x.item.selection_set < selection_turns (selection.InlineFragment x)
+  turns-Inline x = omega (arith, count_inline x)
+
+  pub turns-cons : (x : Selection S) (xs : List (Selection S)) → turns (x ∷ xs) ≡ selection_turns x + turns xs
+  turns-cons x xs = omega (arith, sum_by-cons selection_count x xs)
+
+  -- one set more
+  pub rests-push : (sets more : Open S) (r : Bor (List (Selection S))) → more ≡ sets ++ r ∷ [] → rests more ≡ r.now ∷ rests sets
+  rests-push sets more r e = ap rests e ∙ ap (map (λ o. o.now)) (reverse-append sets (r ∷ []))
+
+  pub open-push : (measure : List (Selection S) → ℕ) (sets more : Open S) (r : Bor (List (Selection S))) → more ≡ sets ++ r ∷ [] → sum_by measure (rests more) ≡ measure r.now + sum_by measure (rests sets)
+  open-push measure sets more r e = ap (sum_by measure) (rests-push sets more r e) ∙ sum_by-cons measure r.now (rests sets)
+
+  module _ (measure : List (Selection S) → ℕ) where
+    left-less : (fs : List (Fragment S)) (visited : List Bytes) (name : Bytes) → left_by measure (visited ++ name ∷ []) fs ≤ left_by measure visited fs
+    left-less [] visited name = omega arith
+    left-less (f ∷ fs) visited name = omega (arith, less-one f.name.item name visited (measure f.selection_set), left-less fs visited name)
+
+    -- a fragment that is entered takes its own with it
+    pub left-enter : (fs : List (Fragment S)) (visited : List Bytes) (name : Bytes) (f : Fragment S) → fragment_meant fs name ≡ Some f → list_any (bytes_eq name) visited ≡ false
+        → measure f.selection_set + left_by measure (visited ++ name ∷ []) fs ≤ left_by measure visited fs
+    left-enter [] visited name f e new = cc
+    left-enter (g ∷ gs) visited name f e new = cases (left-enter gs visited name f) (bytes_eq g.name.item name) refl e
+      where
+        cases : (fragment_meant gs name ≡ Some f → list_any (bytes_eq name) visited ≡ false → measure f.selection_set + left_by measure (visited ++ name ∷ []) gs ≤ left_by measure visited gs)
+            → (q : Bool) → bytes_eq g.name.item name ≡ q → cond q (Some g) (find (λ h. bytes_eq h.name.item name) gs) ≡ Some f
+            → measure f.selection_set + left_by measure (visited ++ name ∷ []) (g ∷ gs) ≤ left_by measure visited (g ∷ gs)
+        cases ih true t is =
+            let named : g.name.item ≡ name = (bytes_eq-Decides g.name.item name).0 t in
+            let same : g ≡ f = cc in
+            let gone : list_any (bytes_eq g.name.item) (visited ++ name ∷ []) ≡ true = subst (λ k. list_any (bytes_eq k) (visited ++ name ∷ []) ≡ true) (sym named) (any-last name visited) in
+            let there : list_any (bytes_eq g.name.item) visited ≡ false = subst (λ k. list_any (bytes_eq k) visited ≡ false) (sym named) new in
+            rw (gone, there) (omega (arith, left-less gs visited name, ap (λ (h : Fragment S). measure h.selection_set) same))
+        cases ih false t is = omega (arith, ih is new, less-one g.name.item name visited (measure g.selection_set))
 
   below-last : (x : Occurrence S) (xs : Lent S) → size_below (xs ++ x ∷ []) ≡ size_below xs + size (listed x.field.now.item.selection_set)
   below-last x [] = omega arith

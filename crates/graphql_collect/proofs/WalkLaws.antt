@@ -3,7 +3,6 @@ use Rattle.std.proofs.Common.{◌⊎◌, ◌≡◌, refl, sym, subst, ℕ, ◌�
 use Rattle.std.specs.List.{Contains, list_any}
 use Rattle.std.specs.Str.{bytes_eq}
 use Rattle.std.proofs.lemmas.Slice.Eq.{bytes_eq-Decides}
-use Rattle.std.proofs.lemmas.List.Elements.{Contains-append_left}
 use Rattle.graphql_plain_tree.specs.Trees.{Directives, height}
 use Rattle.graphql_names.specs.Names.{Bytes}
 use Rattle.graphql_plain_tree.specs.Fields.{Found, fields}
@@ -44,9 +43,6 @@ module _ {S : Type 0} (drops : Directives S → Bool) (b : Bytes → Bool) (mean
   pub walked-field : (x : Found S) (xs : List (Found S)) (s t : Walk S) → Walked drops b means xs (with_field x s) t → Walked drops b means (x ∷ xs) s t
   walked-field x xs s t w = record { adds = kept x w.adds; grew = w.grew }
 
-  pub ready-field : (x : Found S) (h : ℕ) (s : Walk S) → Ready drops b means h s → Ready drops b means h (with_field x s)
-  ready-field x h s r = λ n is a. ⊎_elim (λ above. inl above) (λ c. inr (λ y d. Contains-append_left s.found (x ∷ []) y (c y d))) (r n is a)
-
   -- a fragment that was entered brings nothing more
   pub walked-visited : (name : Bytes) (xs : List (Found S)) (h : ℕ) (s : Walk S) → Ready drops b means h s → is_visited s name ≡ true
       → b (means name).0 ≡ true → height (means name).1 < h → xs ≡ fields drops b (means name).1 → Walked drops b means xs s s
@@ -70,19 +66,6 @@ module _ {S : Type 0} (drops : Directives S → Bool) (b : Bytes → Bool) (mean
         (λ marks. ⊎_elim (λ before. inl before)
         (λ e. inr (λ x d. adds-new x w.adds (subst (λ zs. Contains zs x) (sym own) (subst (λ k. Contains (fields drops b (means k).1) x) e d))))
         (last-cases n name s.visited marks))
-        (λ c. inr c) (w.grew n is a);
-  }
-
-  -- a fragment that does not apply
-  pub ready-other : (name : Bytes) (h : ℕ) (s : Walk S) → Ready drops b means h s → b (means name).0 ≡ false → Ready drops b means h (marked name s)
-  ready-other name h s r other =
-      λ n is a. ⊎_elim (λ before. r n before a) (λ e. let both : b (means name).0 ≡ true = subst (λ k. b (means k).0 ≡ true) e a in cc) (last-cases n name s.visited is)
-
-  pub walked-other : (name : Bytes) (xs : List (Found S)) (s t : Walk S) → b (means name).0 ≡ false → Walked drops b means xs (marked name s) t → Walked drops b means xs s t
-  walked-other name xs s t other w = record {
-    adds = w.adds;
-    grew = λ n is a. ⊎_elim
-        (λ marks. ⊎_elim (λ before. inl before) (λ e. let both : b (means name).0 ≡ true = subst (λ k. b (means k).0 ≡ true) e a in cc) (last-cases n name s.visited marks))
         (λ c. inr c) (w.grew n is a);
   }
 

@@ -1,6 +1,6 @@
 -- What a selection brings to its set where fragments were entered, and what a walk leaves, in a request.
 use Rattle.graphql_scalars.specs.ScalarAnswers.{ScalarAnswer}
-use Rattle.std.specs.Prelude.{◌≡◌, ◌⊎◌, ◌<◌, ℕ, Bool, true, List, [], ◌∷◌, Option, Some, None}
+use Rattle.std.specs.Prelude.{◌≡◌, ◌⊎◌, ◌<◌, ℕ, true, false, List, [], ◌∷◌, map, Option, Some, None}
 use Rattle.std.specs.List.{list_any}
 use Rattle.std.specs.Str.{bytes_eq}
 use Rattle.graphql_tree.specs.declared.document.Fragment.{Fragment}
@@ -15,7 +15,8 @@ use Rattle.graphql_collect.specs.Grouped.{Lent, all_found}
 use Rattle.graphql_collect.specs.declared.collecting.Brought.{Brought}
 use Rattle.graphql_collect.specs.declared.collecting.Brought.TheVariants as brought
 use Rattle.graphql_collect.specs.Walks.{Walk, Meanings}
-use Rattle.graphql_collect.specs.Walked.{Ready, Complete, Walked}
+use Rattle.graphql_collect.specs.Walked.{Ready, Complete, Walked, Leads}
+use Rattle.graphql_collect.specs.OpenSets.{Open, rests}
 
 module _ {S C : Type 0} where
   abbrev pub meaning_of : Request S C → Option (Fragment S) → Bytes × Tree S
@@ -33,6 +34,10 @@ module _ {S C : Type 0} where
   abbrev pub state : Request S C → List Bytes → Lent S → Walk S
   state request visited found = record { visited = visited; found = all_found (fragments_in request) found }
 
+  -- what is left of open sets, the innermost first
+  abbrev pub trees_in : Request S C → Open S → List (Tree S)
+  trees_in request sets = map (written_in request) (rests sets)
+
   module _ (answer : S → ScalarAnswer) (request : Request S C) (object : Bytes) where
     abbrev pub ReadyIn : ℕ → List Bytes → Lent S → Type 0
     ReadyIn h visited found = Ready (drops_in answer request) (is_below_in request object) (means_in request) h (state request visited found)
@@ -43,6 +48,14 @@ module _ {S C : Type 0} where
     abbrev pub WalkedIn : List (Found S) → List Bytes → Lent S → List Bytes → Lent S → Type 0
     WalkedIn xs visited found visited_then found_then =
         Walked (drops_in answer request) (is_below_in request object) (means_in request) xs (state request visited found) (state request visited_then found_then)
+
+    abbrev pub LeadsIn : List (Found S) → Walk S → List (Tree S) → List Bytes → Lent S → Type 0
+    LeadsIn xs start ts visited found = Leads (drops_in answer request) (is_below_in request object) (means_in request) xs start ts (state request visited found)
+
+    -- a step: whatever the walk of these sets led to, that of those does
+    abbrev pub Steps : List (Tree S) → List Bytes → Lent S → List (Tree S) → List Bytes → Lent S → Type 0
+    Steps ts visited found us visited_then found_then =
+        (xs : List (Found S)) (start : Walk S) → LeadsIn xs start ts visited found → LeadsIn xs start us visited_then found_then
 
     -- a fragment that was entered brings nothing more
     pub record Entered (visited : List Bytes) (t : Tree S) : Type 0 where
@@ -57,8 +70,14 @@ module _ {S C : Type 0} where
       pub same : fields_in answer request object t ≡ fields_in answer request object inner
       pub lower : height inner < height t
 
+    -- a set that stands for the spread of a fragment that was not entered yet
+    pub record Enters (visited : List Bytes) (t inner : Tree S) (name : Bytes) : Type 0 where
+      pub stands : Stands t inner
+      pub means : inner ≡ (means_in request name).1
+      pub first : list_any (bytes_eq name) visited ≡ false
+
     abbrev pub Brings : List Bytes → Tree S → Brought S → Type 0
     Brings visited t brought.Nothing = (fields_in answer request object t ≡ []) ⊎ Entered visited t
     Brings visited t (brought.Field x) = fields_in answer request object t ≡ found_at request x.now ∷ []
     Brings visited t (brought.Set set) = Stands t (written_in request set.now)
-    Brings visited t (brought.Fragment x set) = Stands t (written_in request set.now) × (written_in request set.now ≡ (means_in request x.now.item.name.item).1)
+    Brings visited t (brought.Fragment x set) = Enters visited t (written_in request set.now) x.now.item.name.item

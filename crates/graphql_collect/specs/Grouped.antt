@@ -1,6 +1,6 @@
 -- Fields of a document in groups, whatever its fragments.
-use Rattle.std.specs.Prelude.{◌≡◌, Bool, List, map}
-use Rattle.std.specs.List.{filter}
+use Rattle.std.specs.Prelude.{◌≡◌, List, [], ◌∷◌, ◌++◌, map, if◌then◌else◌}
+use Rattle.std.specs.List.{list_any}
 use Rattle.std.specs.Str.{bytes_eq}
 use Rattle.graphql_tree.specs.declared.document.Fragment.{Fragment}
 use Rattle.graphql_collect.specs.declared.grouping.Occurrence.{Occurrence}
@@ -8,7 +8,7 @@ use Rattle.graphql_names.specs.Names.{Bytes}
 use Rattle.graphql_plain_tree.specs.Written.{response_key}
 use Rattle.graphql_plain_tree.specs.Fields.{Found}
 use Rattle.graphql_collect.specs.Occurrences.{found}
-use Rattle.graphql_plain_tree.specs.Groups.{keys, groups}
+use Rattle.graphql_plain_tree.specs.Groups.{groups}
 
 -- fields of a document, lent
 abbrev pub Lent : Type 0 → Type 0
@@ -25,14 +25,21 @@ module _ {S : Type 0} where
   abbrev pub group_found : List (Fragment S) → Group S → Bytes × List (Found S)
   group_found fragments g = (g.0, all_found fragments g.1)
 
-  abbrev pub HasKeys : Lent S → List Bytes → Type 0
-  HasKeys xs ks = (fragments : List (Fragment S)) → ks ≡ keys (all_found fragments xs)
+  -- the response key of a field
+  abbrev pub key_at : Occurrence S → Bytes
+  key_at x = response_key x.field.now.item.alias x.field.now.item.name
 
-  abbrev pub stands_under : Bytes → Occurrence S → Bool
-  stands_under key x = bytes_eq key (response_key x.field.now.item.alias x.field.now.item.name)
+  -- the groups, with an empty one for the field's key if it has none
+  abbrev pub begun : Occurrence S → List (Group S) → List (Group S)
+  begun x gs = if list_any (bytes_eq (key_at x)) (map (λ g. g.0) gs) then gs else gs ++ (key_at x, []) ∷ []
 
-  abbrev pub IsUnder : Lent S → Bytes → Lent S → Type 0
-  IsUnder xs key ys = ys ≡ filter (stands_under key) xs
+  -- a group takes the field of its key
+  abbrev pub takes : Occurrence S → Group S → Group S
+  takes x g = if bytes_eq (key_at x) g.0 then (g.0, g.1 ++ x ∷ []) else g
+
+  -- the groups with the field
+  abbrev pub put : Occurrence S → List (Group S) → List (Group S)
+  put x gs = map (takes x) (begun x gs)
 
   abbrev pub IsGrouped : Lent S → List (Group S) → Type 0
   IsGrouped xs gs = (fragments : List (Fragment S)) → map (group_found fragments) gs ≡ groups (all_found fragments xs)

@@ -4,5 +4,6 @@ pub mod Grouped
 pub mod Requests
 pub mod Walks
 pub mod Walked
+pub mod OpenSets
 pub mod Sizes
 pub mod Collecting

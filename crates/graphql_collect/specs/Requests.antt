@@ -1,6 +1,6 @@
 -- What a request's selections ask of its schema, its fragments and its variables.
 use Rattle.graphql_scalars.specs.ScalarAnswers.{ScalarAnswer}
-use Rattle.std.specs.Prelude.{Bool, List, Option}
+use Rattle.std.specs.Prelude.{Bool, List}
 use Rattle.graphql_argument_values.specs.FinalVariables.{value_in}
 use Rattle.graphql_values.specs.InputValues.{Placed}
 use Rattle.graphql_tree.specs.declared.document.Fragment.{Fragment}
@@ -19,7 +19,7 @@ use Rattle.graphql_collect.specs.Occurrences.{found}
 module _ {S C : Type 0} where
   -- which directives leave a selection out, over the final variables
   unfoldable pub drops_in : (S → ScalarAnswer) → Request S C → Directives S → Bool
-  drops_in answer request = left_out answer (value_in request.variables.now)
+  drops_in answer request = left_out answer (value_in request.variables)
 
   -- which types an object type is below
   unfoldable pub is_below_in : Request S C → Bytes → Bytes → Bool

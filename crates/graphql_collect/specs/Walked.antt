@@ -1,7 +1,7 @@
 -- What a walk with visited fragments leaves behind.
-use Rattle.std.specs.Prelude.{◌≡◌, ◌≤◌, ◌⊎◌, ℕ, Bool, true, List}
+use Rattle.std.specs.Prelude.{◌≡◌, ◌≤◌, ◌⊎◌, ℕ, Bool, true, List, [], ◌∷◌}
 use Rattle.std.specs.List.{Contains}
-use Rattle.graphql_plain_tree.specs.Trees.{Directives, height}
+use Rattle.graphql_plain_tree.specs.Trees.{Directives, Tree, height}
 use Rattle.graphql_names.specs.Names.{Bytes}
 use Rattle.graphql_plain_tree.specs.Fields.{Found, fields}
 use Rattle.graphql_plain_tree.specs.Repeats.{Adds}
@@ -24,3 +24,8 @@ module _ {S : Type 0} (drops : Directives S → Bool) (is_below : Bytes → Bool
   pub record Walked (xs : List (Found S)) (s t : Walk S) : Type 0 where
     pub adds : Adds (Found S) s.found xs t.found
     pub grew : (name : Bytes) → is_visited t name ≡ true → is_below (means name).0 ≡ true → (is_visited s name ≡ true) ⊎ Covered name t.found
+
+  -- once what is left of open sets is walked, the innermost first, these fields are walked from the start
+  abbrev pub Leads : List (Found S) → Walk S → List (Tree S) → Walk S → Type 0
+  Leads xs start [] s = Walked xs start s
+  Leads xs start (t ∷ ts) s = Ready (height t) s × ((m : Walk S) → Walked (fields drops is_below t) s m → Leads xs start ts m)

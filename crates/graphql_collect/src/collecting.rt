@@ -1,6 +1,6 @@
 //! The fields of selection sets for an object type, each fragment entered once.
 
-ghost use Rattle.std.specs.Prelude.{◌≡◌, ◌≤◌, ◌+◌, ℕ, List, [], length, OnOk, IfOk, map};
+ghost use Rattle.std.specs.Prelude.{◌≡◌, ◌≤◌, ◌<◌, ◌+◌, ℕ, List, [], ◌∷◌, length, OnOk, IfOk, map};
 ghost use Rattle.std.specs.Option.{option_map};
 ghost use Rattle.std.specs.List.{flat_map, list_any};
 ghost use Rattle.std.specs.Str.{bytes_eq};
@@ -11,8 +11,8 @@ ghost use Rattle.graphql_collect.specs.Requests.{drops_in, is_below_in, fields_i
 ghost use Rattle.graphql_collect.specs.Grouped.{all_found};
 ghost use Rattle.graphql_plain_tree.specs.Fields.{applies};
 ghost use Rattle.graphql_plain_tree.specs.Repeats.{Repeats};
-ghost use Rattle.graphql_collect.specs.Sizes.{IsSized, left_in, size, size_below};
-ghost use Rattle.graphql_collect.specs.Collecting.{Brings, CompleteIn, ReadyIn, WalkedIn, below_in};
+ghost use Rattle.graphql_collect.specs.Sizes.{IsSized, left_in, selection_turns, size, size_below, size_open, turns, turns_ahead};
+ghost use Rattle.graphql_collect.specs.Collecting.{Brings, CompleteIn, ReadyIn, Steps, WalkedIn, below_in, trees_in};
 
 use crate::grouping::Occurrence;
 use crate::request::Request;
@@ -20,6 +20,7 @@ use graphql_meta::SchemaScalar;
 use graphql_plain_tree::left_out;
 use graphql_text::{Items, Spanning, TextRef};
 use graphql_tree::{Directive, Field, FragmentSpread, InlineFragment, Selection};
+use indexmap::IndexSet;
 use std::alloc::{AllocError, Global};
 
 /// What a selection brings to its set.
@@ -44,7 +45,7 @@ fn drops<S: SchemaScalar>(
 ) -> bool
     ensures { result ≡ drops_in S.answer request.now (listed directives.now) }
 {
-    left_out(directives, request.variables)
+    left_out(directives, &request.variables)
 }
 
 /// Whether the object type is a subtype of the other type.
@@ -54,16 +55,11 @@ fn is_below<S: SchemaScalar>(request: &Request<'_, '_, S>, object: &str, on: &st
     request.schema.is_named_subtype(object, on)
 }
 
-/// Whether the name is among the names. A scan.
-fn has_name(names: &[TextRef<'_>], name: &str) -> bool
-    ensures { result ≡ list_any (bytes_eq name.now) names.now }
+/// Whether the name is among the names.
+fn has_name(names: &IndexSet<TextRef<'_>>, name: &str) -> bool
+    ensures { result ≡ list_any (bytes_eq name.now) names.now.keys }
 {
-    for other in names {
-        if name == other.as_str() {
-            return true;
-        }
-    }
-    false
+    names.contains(&TextRef::new(name))
 }
 
 /// Whether a fragment with this condition, or without one, applies to the object type.
@@ -118,11 +114,11 @@ fn bring_fragment<'d, 'a, S: SchemaScalar>(
     request: &Request<'d, 'a, S>,
     object: &str,
     spread: &'d Spanning<FragmentSpread<'a, S>>,
-    visited: &[TextRef<'_>],
+    visited: &IndexSet<TextRef<'_>>,
 ) -> Brought<'d, 'a, S>
     requires { Settled (fragments_in request.now) }
-    ensures brings { Brings S.answer request.now object.now visited.now (one (fragments_in request.now) (selection.FragmentSpread spread.now)) result }
-    ensures sized { IsSized (fragments_in request.now) visited.now (selection.FragmentSpread spread.now) result }
+    ensures brings { Brings S.answer request.now object.now visited.now.keys (one (fragments_in request.now) (selection.FragmentSpread spread.now)) result }
+    ensures sized { IsSized (fragments_in request.now) visited.now.keys (selection.FragmentSpread spread.now) result }
 {
     if drops(request, &spread.item.directives) {
         return Brought::Nothing;
@@ -146,11 +142,11 @@ fn bring<'d, 'a, S: SchemaScalar>(
     request: &Request<'d, 'a, S>,
     object: &str,
     selection: &'d Selection<'a, S>,
-    visited: &[TextRef<'_>],
+    visited: &IndexSet<TextRef<'_>>,
 ) -> Brought<'d, 'a, S>
     requires { Settled (fragments_in request.now) }
-    ensures brings { Brings S.answer request.now object.now visited.now (one (fragments_in request.now) selection.now) result }
-    ensures sized { IsSized (fragments_in request.now) visited.now selection.now result }
+    ensures brings { Brings S.answer request.now object.now visited.now.keys (one (fragments_in request.now) selection.now) result }
+    ensures sized { IsSized (fragments_in request.now) visited.now.keys selection.now result }
 {
     match selection {
         Selection::FragmentSpread(spread) => bring_fragment(request, object, spread, visited),
@@ -159,50 +155,103 @@ fn bring<'d, 'a, S: SchemaScalar>(
     }
 }
 
-/// Adds the fields of a set for an object type, in order, each fragment entered once. Takes stack for each
-/// level of inline fragments and spreads. An error is want of memory.
+/// Adds the field that a selection brings, or opens the set that it brings. An error is want of memory.
+fn enter<'d, 'a, S: SchemaScalar>(
+    request: &Request<'d, 'a, S>,
+    object: &str,
+    selection: &'d Selection<'a, S>,
+    sets: &mut Items<&'d [Selection<'a, S>]>,
+    visited: &mut IndexSet<TextRef<'a>>,
+    found: &mut Items<Occurrence<'d, 'a, S>>,
+) -> Result<(), AllocError>
+    requires { Settled (fragments_in request.now) }
+    ensures steps { OnOk result (Steps S.answer request.now object.now (one (fragments_in request.now) selection.now ∷ trees_in request.now sets.old) visited.old.keys found.old (trees_in request.now sets.new) visited.new.keys found.new) }
+    ensures sized { OnOk result (length found.new + left_in visited.new.keys (fragments_in request.now) + size_open sets.new ≤ length found.old + left_in visited.old.keys (fragments_in request.now) + size (selection.now ∷ []) + size_open sets.old) }
+    ensures turns { OnOk result (turns_ahead (fragments_in request.now) sets.new visited.new.keys < selection_turns selection.now + turns_ahead (fragments_in request.now) sets.old visited.old.keys) }
+{
+    match bring(request, object, selection, visited) {
+        Brought::Nothing => Ok(()),
+        Brought::Field(field) => {
+            found.push(Occurrence { field })?;
+            Ok(())
+        }
+        Brought::Set(inner) => {
+            sets.push(inner)?;
+            Ok(())
+        }
+        Brought::Fragment(spread, inner) => {
+            visited.insert(spread.item.name.item.copied())?;
+            sets.push(inner)?;
+            Ok(())
+        }
+    }
+}
+
+/// Goes on with what is left of a set: with its first selection, if there is one. An error is want of memory.
+fn advance<'d, 'a, S: SchemaScalar>(
+    request: &Request<'d, 'a, S>,
+    object: &str,
+    rest: &'d [Selection<'a, S>],
+    sets: &mut Items<&'d [Selection<'a, S>]>,
+    visited: &mut IndexSet<TextRef<'a>>,
+    found: &mut Items<Occurrence<'d, 'a, S>>,
+) -> Result<(), AllocError>
+    requires { Settled (fragments_in request.now) }
+    ensures steps { OnOk result (Steps S.answer request.now object.now (written_in request.now rest.now ∷ trees_in request.now sets.old) visited.old.keys found.old (trees_in request.now sets.new) visited.new.keys found.new) }
+    ensures sized { OnOk result (length found.new + left_in visited.new.keys (fragments_in request.now) + size_open sets.new ≤ length found.old + left_in visited.old.keys (fragments_in request.now) + size rest.now + size_open sets.old) }
+    ensures turns { OnOk result (turns_ahead (fragments_in request.now) sets.new visited.new.keys < turns rest.now + turns_ahead (fragments_in request.now) sets.old visited.old.keys) }
+{
+    match rest.split_first() {
+        None => Ok(()),
+        Some((selection, behind)) => {
+            sets.push(behind)?;
+            enter(request, object, selection, sets, visited, found)?;
+            Ok(())
+        }
+    }
+}
+
+/// Adds the fields of a set for an object type, in order, each fragment entered once. What is left of the
+/// sets around stands on the heap, so it takes no more stack however deep they are. An error is want of
+/// memory.
 fn collect<'d, 'a, S: SchemaScalar>(
+    alloc: Global,
     request: &Request<'d, 'a, S>,
     object: &str,
     set: &'d [Selection<'a, S>],
-    visited: &mut Items<TextRef<'a>>,
+    visited: &mut IndexSet<TextRef<'a>>,
     found: &mut Items<Occurrence<'d, 'a, S>>,
 ) -> Result<(), AllocError>
     requires settled { Settled (fragments_in request.now) }
-    requires ready { ReadyIn S.answer request.now object.now (height (written_in request.now set.now)) visited.old found.old }
-    ensures walked { OnOk result (WalkedIn S.answer request.now object.now (fields_in S.answer request.now object.now (written_in request.now set.now)) visited.old found.old visited.new found.new) }
-    ensures sized { OnOk result (length found.new + left_in visited.new (fragments_in request.now) ≤ length found.old + size set.now + left_in visited.old (fragments_in request.now)) }
+    requires ready { ReadyIn S.answer request.now object.now (height (written_in request.now set.now)) visited.old.keys found.old }
+    ensures walked { OnOk result (WalkedIn S.answer request.now object.now (fields_in S.answer request.now object.now (written_in request.now set.now)) visited.old.keys found.old visited.new.keys found.new) }
+    ensures sized { OnOk result (length found.new + left_in visited.new.keys (fragments_in request.now) ≤ length found.old + size set.now + left_in visited.old.keys (fragments_in request.now)) }
 {
-    for selection in set {
-        match bring(request, object, selection, visited.as_slice()) {
-            Brought::Nothing => {}
-            Brought::Field(field) => found.push(Occurrence { field })?,
-            Brought::Set(inner) => collect(request, object, inner, visited, found)?,
-            Brought::Fragment(spread, inner) => {
-                visited.push(spread.item.name.item.copied())?;
-                collect(request, object, inner, visited, found)?;
-            }
-        }
+    let mut sets = Items::new(alloc);
+    sets.push(set)?;
+    'sets: while let Some(rest) = sets.pop() {
+        advance(request, object, rest, &mut sets, visited, found)?;
     }
     Ok(())
 }
 
 /// Adds the fields of a field's set, if it has one. An error is want of memory.
 fn collect_below<'d, 'a, S: SchemaScalar>(
+    alloc: Global,
     request: &Request<'d, 'a, S>,
     object: &str,
     occurrence: &Occurrence<'d, 'a, S>,
-    visited: &mut Items<TextRef<'a>>,
+    visited: &mut IndexSet<TextRef<'a>>,
     found: &mut Items<Occurrence<'d, 'a, S>>,
 ) -> Result<(), AllocError>
     requires settled { Settled (fragments_in request.now) }
-    requires complete { CompleteIn S.answer request.now object.now visited.old found.old }
-    ensures walked { OnOk result (WalkedIn S.answer request.now object.now (fields_in S.answer request.now object.now (below_in request.now occurrence.now)) visited.old found.old visited.new found.new) }
-    ensures sized { OnOk result (length found.new + left_in visited.new (fragments_in request.now) ≤ length found.old + size (listed occurrence.now.field.now.item.selection_set) + left_in visited.old (fragments_in request.now)) }
+    requires complete { CompleteIn S.answer request.now object.now visited.old.keys found.old }
+    ensures walked { OnOk result (WalkedIn S.answer request.now object.now (fields_in S.answer request.now object.now (below_in request.now occurrence.now)) visited.old.keys found.old visited.new.keys found.new) }
+    ensures sized { OnOk result (length found.new + left_in visited.new.keys (fragments_in request.now) ≤ length found.old + size (listed occurrence.now.field.now.item.selection_set) + left_in visited.old.keys (fragments_in request.now)) }
 {
     match &occurrence.field.item.selection_set {
         Some(set) => {
-            collect(request, object, set.as_slice(), visited, found)?;
+            collect(alloc, request, object, set.as_slice(), visited, found)?;
             Ok(())
         }
         None => Ok(()),
@@ -211,9 +260,8 @@ fn collect_below<'d, 'a, S: SchemaScalar>(
 
 /// The fields of a set that apply to an object type, in order (GraphQL October 2021, 6.3.2 Field Collection,
 /// CollectFields). Each fragment is entered once, so fields that stand there before are left out, and there
-/// are at most as many as fields in the set and in all fragments. Takes stack for each level of inline
-/// fragments and spreads, and time by the selections that are gone through and for each spread by the
-/// fragments that were entered. An error is want of memory.
+/// are at most as many as fields in the set and in all fragments. Takes time and memory by the selections
+/// that it goes through, and no more stack however deep they are. An error is want of memory.
 pub fn fields_of_set<'d, 'a, S: SchemaScalar>(
     alloc: Global,
     request: &Request<'d, 'a, S>,
@@ -224,9 +272,9 @@ pub fn fields_of_set<'d, 'a, S: SchemaScalar>(
     ensures fields { IfOk result (λ found. Repeats (all_found (fragments_in request.now) found) (fields_in S.answer request.now object.now (written_in request.now set.now))) }
     ensures few { IfOk result (λ found. length found ≤ size set.now + left_in [] (fragments_in request.now)) }
 {
-    let mut visited = Items::new(alloc);
+    let mut visited: IndexSet<TextRef<'a>> = IndexSet::new(alloc);
     let mut found = Items::new(alloc);
-    collect(request, object, set, &mut visited, &mut found)?;
+    collect(alloc, request, object, set, &mut visited, &mut found)?;
     Ok(found)
 }
 
@@ -242,10 +290,10 @@ pub fn fields_below<'d, 'a, S: SchemaScalar>(
     ensures fields { IfOk result (λ found. Repeats (all_found (fragments_in request.now) found) (flat_map (fields_in S.answer request.now object.now) (map (below_in request.now) group.now))) }
     ensures few { IfOk result (λ found. length found ≤ size_below group.now + left_in [] (fragments_in request.now)) }
 {
-    let mut visited = Items::new(alloc);
+    let mut visited: IndexSet<TextRef<'a>> = IndexSet::new(alloc);
     let mut found = Items::new(alloc);
     for occurrence in group {
-        collect_below(request, object, occurrence, &mut visited, &mut found)?;
+        collect_below(alloc, request, object, occurrence, &mut visited, &mut found)?;
     }
     Ok(found)
 }

@@ -15,5 +15,5 @@ pub struct Request<'d, 'a, S, C = <S as SchemaScalar>::Check> {
     pub fragments: Fragments<'d, 'a, S>,
 
     /// The final values of the variables.
-    pub variables: &'d FinalVariables<'d, S>,
+    pub variables: FinalVariables<'d, S>,
 }

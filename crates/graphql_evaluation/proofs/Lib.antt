@@ -1,12 +1,14 @@
 pub mod Elements
 mod Heights
+pub mod RepeatLemmas
+pub mod GroupRepeats
+mod RepeatHeights
+mod Walks
 mod Depths
-mod GroupKeys
+pub mod GroupKeys
 mod FittingData
 mod DistinctMembers
 mod Failures
 mod ExactFailures
-pub mod RepeatLemmas
-pub mod GroupRepeats
-mod RepeatHeights
-mod RunRepeats
+pub mod RunRepeats
+pub mod TurnLaws

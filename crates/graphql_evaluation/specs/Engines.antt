@@ -1,16 +1,11 @@
 -- What evaluation asks of a schema, a request and a resolver.
-use Rattle.std.specs.Prelude.{Bool, List, Option, Result}
+use Rattle.std.specs.Prelude.{Bool, Option, Result}
 use Rattle.graphql_names.specs.Names.{Bytes}
-use Rattle.graphql_values.specs.InputValues.{Placed}
-use Rattle.graphql_values.specs.declared.input_value.InputValue.{InputValue}
+use Rattle.graphql_arguments.specs.ArgumentValues.{Given}
 use Rattle.graphql_meta.specs.Types.{TypeOf}
 use Rattle.graphql_plain_tree.specs.Trees.{Directives, Head}
 use Rattle.graphql_resolve.specs.declared.field_error.FieldError.{FieldError}
 use Rattle.graphql_resolve.specs.declared.resolved.Resolved.{Resolved}
-
--- argument values: names with values, in order
-abbrev pub Given : Type 0 → Type 0
-Given S = List (Bytes × Placed (InputValue S))
 
 pub record Engine (S N : Type 0) : Type 0 where
   -- which directives leave a selection out

@@ -1,6 +1,6 @@
 -- What holds of evaluation (GraphQL October 2021, 6.3 Executing Selection Sets, 6.4.4 Handling Field Errors).
-use Rattle.std.specs.Prelude.{◌≡◌, ◌↔◌, ℕ, ◌≤◌, List, map, IfSome}
-use Rattle.std.specs.List.{Contains}
+use Rattle.std.specs.Prelude.{◌≡◌, ◌↔◌, ℕ, ◌+◌, ◌≤◌, List, map, IfSome}
+use Rattle.std.specs.List.{Contains, sum}
 use Rattle.graphql_names.specs.Names.{Bytes}
 use Rattle.graphql_output_values.specs.DistinctKeys.{HasDistinctKeysThroughout}
 use Rattle.graphql_plain_tree.specs.Trees.{Tree}
@@ -11,9 +11,10 @@ use Rattle.graphql_resolve.specs.declared.execution_error.ExecutionError.{Execut
 use Rattle.graphql_evaluation.specs.Engines.{Engine}
 use Rattle.graphql_evaluation.specs.Outcomes.{together}
 use Rattle.graphql_evaluation.specs.Completion.{object_members}
-use Rattle.graphql_evaluation.specs.Evaluation.{evaluate, found_in, highest, keyed, run}
+use Rattle.graphql_evaluation.specs.Evaluation.{Group, evaluate, found_in, highest, keyed, run}
 use Rattle.graphql_evaluation.specs.Failing.{AreAt, Fails, IsAccounted}
 use Rattle.graphql_evaluation.specs.Fitting.{MembersFit}
+use Rattle.graphql_evaluation.specs.Turns.{all_turns, turns_of_group}
 
 module _ (S N : Type 0) where
   -- each depth that suffices gives the same
@@ -53,3 +54,8 @@ module _ (S N : Type 0) where
   abbrev pub DataOfGroups : Type 0
   DataOfGroups = (e : Engine S N) (path : List Bytes) (object : Bytes) (node : N) (sets : List (Tree S)) (ys : List (Found S))
       → Repeats ys (found_in e object sets) → together (map (keyed e (evaluate e) path object node) (groups ys)) ≡ evaluate e path object node sets
+
+  -- sets take the turns that the groups of their fields take, repeats left out or not
+  abbrev pub TurnsOfGroups : Type 0
+  TurnsOfGroups = (e : Engine S N) (object : Bytes) (node : N) (sets : List (Tree S)) (ys : List (Found S))
+      → Repeats ys (found_in e object sets) → sum (map (λ (g : Group S). 1 + turns_of_group e (all_turns e) object node g.1) (groups ys)) ≡ all_turns e object node sets

@@ -4,4 +4,5 @@ pub mod Completion
 pub mod Evaluation
 pub mod Fitting
 pub mod Failing
+pub mod Turns
 pub mod Laws

@@ -1,6 +1,6 @@
 //! Laws of evaluation: each function's contract is a law, and its body does nothing.
 
-ghost use Rattle.graphql_evaluation.specs.Laws.{DataFit, DataHaveDistinctKeys, DataOfGroups, DepthsAlike, FailuresAreExact, FailuresStandBelow, NoDataFails, RepeatsGiveNothing};
+ghost use Rattle.graphql_evaluation.specs.Laws.{DataFit, DataHaveDistinctKeys, DataOfGroups, DepthsAlike, FailuresAreExact, FailuresStandBelow, NoDataFails, RepeatsGiveNothing, TurnsOfGroups};
 
 /// Each depth of selection sets that suffices gives the same value and the same failures.
 pub fn depths_are_alike<S, N>()
@@ -47,4 +47,10 @@ pub fn repeats_give_nothing<S, N>()
 /// once for an object type, however often it is spread.
 pub fn data_of_groups<S, N>()
     ensures { DataOfGroups S N }
+{}
+
+/// A walk that answers selection sets takes the turns that the groups of their fields take, each over the
+/// selection sets below it, also where fields are left out that stand there before.
+pub fn turns_of_groups<S, N>()
+    ensures { TurnsOfGroups S N }
 {}

@@ -1,7 +1,7 @@
 use Rattle.std.proofs.Common.{rules, sym, ◌∙◌, inl}
 use Rattle.graphql_collect.specs.Requests.{drops_in, is_below_in, fragments_in}
 use Rattle.graphql_plain_tree.proofs.Layers.{out-Inline, other-Inline, in-Inline, height-of-Inline}
-use Rattle.graphql_collect.proofs.SizeLaws.{size-Inline}
+use Rattle.graphql_collect.proofs.SizeLaws.{size-Inline, turns-Inline}
 use Rattle.graphql_collect.proofs.collecting.bring_inline.Goals as goal
 
 pub returns-then-drops-clause-brings : goal.returns-then-drops-clause-brings
@@ -17,4 +17,4 @@ returns-clause-brings g c = λ visited. record {
 }
 
 pub returns-clause-sized : goal.returns-clause-sized
-returns-clause-sized g c = λ visited. search (rules, size-Inline)
+returns-clause-sized g c = λ visited. rw c.as_slice.ensures (size-Inline c.args.inline.now, turns-Inline c.args.inline.now)

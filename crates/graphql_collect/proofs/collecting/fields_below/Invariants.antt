@@ -9,6 +9,6 @@ abbrev pub invariant-loop-occurrence : goal.invariant-loop-occurrence
 invariant-loop-occurrence g l = record {
   walked : WalkedIn g.S.ScalarValue.answer l.request l.object
       (flat_map (fields_in g.S.ScalarValue.answer l.request l.object) (map (below_in l.request) (take l.occurrence-index l.group)))
-      [] [] l.visited l.found;
-  sized : length l.found + left_in l.visited (fragments_in l.request) ≤ size_below (take l.occurrence-index l.group) + left_in [] (fragments_in l.request);
+      [] [] l.visited.keys l.found;
+  sized : length l.found + left_in l.visited.keys (fragments_in l.request) ≤ size_below (take l.occurrence-index l.group) + left_in [] (fragments_in l.request);
 }

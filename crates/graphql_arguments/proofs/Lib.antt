@@ -1,0 +1,3 @@
+mod Filtering
+mod Making
+mod WholeValues

@@ -1,0 +1,3 @@
+pub mod ArgumentValues
+pub mod GivenValues
+pub mod Reading
