@@ -1,0 +1,5 @@
+pub mod OutcomeLemmas
+pub mod GroupLemmas
+pub mod FrameLemmas
+pub mod RootLemmas
+pub mod TurnLemmas

@@ -1,0 +1,71 @@
+use Rattle.std.proofs.Common.{arith, refl, sym, ◌∙◌, ap, subst, ◌≡◌, ◌++◌, ◌∷◌, [], reverse}
+use Rattle.graphql_collect.specs.Requests.{fragments_in}
+use Rattle.graphql_evaluation.specs.Completion.{blame_at}
+use Rattle.graphql_evaluation.specs.Evaluation.{evaluate}
+use Rattle.graphql_value_resolution.specs.Engines.{engine_of}
+use Rattle.graphql_walk.specs.declared.frames.Frame.TheVariants as frame
+use Rattle.graphql_walk.specs.Completed.{completed}
+use Rattle.graphql_walk.specs.Frames.{Leads, comes_to, path_of, rest, shows}
+use Rattle.graphql_walk.specs.Sets.{below}
+use Rattle.graphql_walk.proofs.FrameLemmas.{fine-last, item-starts, keeps, leads-same, list-ends, step-in_place, step-pushed}
+use Rattle.graphql_walk.proofs.TurnLemmas.{item-due, waiting-last}
+use Rattle.graphql_walk.proofs.stack.advance_list.Goals as goal
+
+pub returns-in_default-clause-steps : goal.returns-in_default-clause-steps
+returns-in_default-clause-steps g c = λ path at.
+    let rq = c.args.executor.now.request.now in
+    let ty = g.R.GraphQLValue.type_of c.args.resolver.now c.args.executor.now.context.now in
+    let an = g.R.GraphQLValue.answer c.args.resolver.now c.args.executor.now.context.now in
+    let e = engine_of g.S.ScalarValue.of_text g.S.ScalarValue.answer rq ty an in
+    let fr = fragments_in rq in
+    let old = c.args.report.now in
+    let f = c.args.list_frame in
+    let fs = c.args.waiting.now in
+    let none = rw c.in_default.is at c.pop.ensures in
+    step-in_place e fr path fs (λ q. rest e fr q (frame.List f)) (λ q. shows c.list_of.result) old old at
+    (leads-same (rest e fr (path_of path fs) (frame.List f)) (shows c.list_of.result) old old (list-ends e fr (path_of path fs) f none.0 ∙ ap shows (sym c.list_of.ensures)) refl)
+
+pub returns-clause-steps : goal.returns-clause-steps
+returns-clause-steps g c = λ path at.
+    let rq = c.args.executor.now.request.now in
+    let ty = g.R.GraphQLValue.type_of c.args.resolver.now c.args.executor.now.context.now in
+    let an = g.R.GraphQLValue.answer c.args.resolver.now c.args.executor.now.context.now in
+    let e = engine_of g.S.ScalarValue.of_text g.S.ScalarValue.answer rq ty an in
+    let fr = fragments_in rq in
+    let old = c.args.report.now in
+    let f = c.args.list_frame in
+    let fs = c.args.waiting.now in
+    let x = c.in-Some.item in
+    let left = c.pop.new.self in
+    let popped = rw c.in-Some.is at c.pop.ensures in
+    let begun = c.in_ok-begun.begun in
+    let new = c.begin.new.report in
+    let p = path_of path fs in
+    let leads = subst (λ q. Leads (completed e (λ m. evaluate e q (e.concrete m) m (below rq f.fields)) (blame_at q f.location) f.name (reverse f.wraps.now) x) old (comes_to e fr begun q) new) at
+    (rw c.as_slice.ensures at c.in_ok-begun.ensures.leads) in
+    rw c.in_ok-wait.ensures
+    (step-pushed e fr path fs (frame.List (keeps e fr f left)) (λ q. rest e fr q (frame.List f)) (comes_to e fr begun) old new (c.in_ok-begun.ensures.path ∙ at)
+    (item-starts e fr p f left x (comes_to e fr begun p) old new popped leads))
+
+pub returns-clause-fine : goal.returns-clause-fine
+returns-clause-fine g c =
+    rw c.in_ok-wait.ensures (fine-last c.args.waiting.now (frame.List (record { name = c.args.list_frame.name; fields = c.args.list_frame.fields; location = c.args.list_frame.location; wraps = c.args.list_frame.wraps; items = c.pop.new.self; values = c.args.list_frame.values })) c.requires.fine tt, c.in_ok-begun.ensures.fine)
+
+pub returns-in_default-clause-turns : goal.returns-in_default-clause-turns
+returns-in_default-clause-turns g c = omega arith
+
+pub returns-clause-turns : goal.returns-clause-turns
+returns-clause-turns g c =
+    let rq = c.args.executor.now.request.now in
+    let ty = g.R.GraphQLValue.type_of c.args.resolver.now c.args.executor.now.context.now in
+    let an = g.R.GraphQLValue.answer c.args.resolver.now c.args.executor.now.context.now in
+    let e = engine_of g.S.ScalarValue.of_text g.S.ScalarValue.answer rq ty an in
+    let fr = fragments_in rq in
+    let f = c.args.list_frame in
+    let fs = c.args.waiting.now in
+    let left = c.pop.new.self in
+    let popped = rw c.in-Some.is at c.pop.ensures in
+    let begun_so = rw c.as_slice.ensures at c.in_ok-begun.ensures.turns in
+    let due = item-due e fr f left c.in-Some.item popped in
+    let last = waiting-last e fr fs (frame.List (keeps e fr f left)) in
+    rw c.in_ok-wait.ensures (omega (arith, begun_so, due, last))

@@ -1,0 +1,42 @@
+//! The groups of selection sets.
+
+ghost use Rattle.std.specs.Prelude.{◌∷◌, [], IfOk};
+ghost use Rattle.graphql_collect.specs.Requests.{fragments_in, written_in};
+ghost use Rattle.graphql_plain_tree.specs.Written.{Settled};
+ghost use Rattle.graphql_walk.specs.Sets.{AreGroups, below};
+
+use graphql_collect::{Group, Occurrence, Request, fields_below, fields_of_set, grouped};
+use graphql_meta::SchemaScalar;
+use graphql_text::Items;
+use graphql_tree::Selection;
+use std::alloc::{AllocError, Global};
+
+/// The groups of an operation's selection set for an object type. An error is want of memory.
+pub fn groups_of_set<'d, 'a, S: SchemaScalar>(
+    alloc: Global,
+    request: &Request<'d, 'a, S>,
+    object: &str,
+    set: &'d [Selection<'a, S>],
+) -> Result<Items<Group<'d, 'a, S>>, AllocError>
+    requires { Settled (fragments_in request.now) }
+    ensures { IfOk result (AreGroups S.answer request.now object.now (written_in request.now set.now ∷ [])) }
+{
+    let found = fields_of_set(alloc, request, object, set)?;
+    let groups = grouped(alloc, found.as_slice())?;
+    Ok(groups)
+}
+
+/// The groups of the selection sets of these fields for an object type. An error is want of memory.
+pub fn groups_below<'d, 'a, S: SchemaScalar>(
+    alloc: Global,
+    request: &Request<'d, 'a, S>,
+    object: &str,
+    fields: &[Occurrence<'d, 'a, S>],
+) -> Result<Items<Group<'d, 'a, S>>, AllocError>
+    requires { Settled (fragments_in request.now) }
+    ensures { IfOk result (AreGroups S.answer request.now object.now (below request.now fields.now)) }
+{
+    let found = fields_below(alloc, request, object, fields)?;
+    let groups = grouped(alloc, found.as_slice())?;
+    Ok(groups)
+}

@@ -1,0 +1,77 @@
+//! What is told beside a value.
+
+ghost use Rattle.std.specs.Prelude.{◌≡◌, ◌++◌, [], ◌∷◌, OnOk};
+ghost use Rattle.graphql_items.specs.Memory.{Gives};
+ghost use Rattle.graphql_walk.specs.Paths.{up};
+
+use graphql_resolve::{ExecutionError, FieldError};
+use graphql_text::{Items, SourcePosition, Text, TextRef};
+use std::alloc::{AllocError, Global};
+
+/// Where an execution stands, and the fields that had no value so far.
+#[derive(Drop)]
+pub struct Report<'d, S> {
+    /// The response keys from the root of the data down to the field that is answered.
+    pub path: Items<TextRef<'d>>,
+
+    /// The errors so far, in the order in which they came.
+    pub errors: Items<ExecutionError<S>>,
+}
+
+impl<'d, S> Report<'d, S> {
+    /// A report of nothing, at the root. Takes no memory.
+    pub fn new(alloc: Global) -> Report<'d, S>
+        ensures { result ≡ record { path = []; errors = [] } }
+    {
+        Report {
+            path: Items::new(alloc),
+            errors: Items::new(alloc),
+        }
+    }
+
+    /// Goes down to a field. An error is want of memory.
+    pub fn enter(&mut self, key: &TextRef<'d>) -> Result<(), AllocError>
+        ensures path { OnOk result (self.new.path ≡ self.old.path ++ key.now ∷ []) }
+        ensures errors { OnOk result (self.new.errors ≡ self.old.errors) }
+    {
+        self.path.push(key.copied())?;
+        Ok(())
+    }
+
+    /// Goes up again.
+    pub fn leave(&mut self)
+        ensures path { self.new.path ≡ up self.old.path }
+        ensures errors { self.new.errors ≡ self.old.errors }
+    {
+        let _ = self.path.pop();
+    }
+
+    /// Tells that the field at which it stands has no value. An error is want of memory.
+    pub fn fail(
+        &mut self,
+        alloc: Global,
+        location: SourcePosition,
+        error: FieldError<S>,
+    ) -> Result<(), AllocError>
+    where
+        S: Drop,
+        ensures path { OnOk result (self.new.path ≡ self.old.path) }
+        ensures errors { OnOk result (self.new.errors ≡ self.old.errors ++ record { location = location; path = self.old.path; error = error } ∷ []) }
+    {
+        let path = copied(alloc, self.path.as_slice())?;
+        self.errors
+            .push(ExecutionError::new(location, path, error))?;
+        Ok(())
+    }
+}
+
+/// The keys, as texts of their own. An error is want of memory.
+fn copied(alloc: Global, keys: &[TextRef<'_>]) -> Result<Items<Text>, AllocError>
+    ensures { Gives result keys.now }
+{
+    let mut path = Items::with_capacity(alloc, keys.len())?;
+    for key in keys {
+        path.push(Text::from_str(alloc, key.as_str())?)?;
+    }
+    Ok(path)
+}
