@@ -1,4 +1,7 @@
 pub mod Pairs
+pub mod Bits
+pub mod Tables
+pub mod Queues
 pub mod Lists
 pub mod Numbered
 pub mod Texts
@@ -6,6 +9,7 @@ pub mod Begun
 pub mod Comparisons
 pub mod WholeSets
 pub mod Underway
+pub mod Measure
 pub mod Meeting
 pub mod Settled
 pub mod Merged

@@ -1,12 +1,8 @@
 -- Where all pairs are compared, the errors are as the rule promises.
-use Rattle.std.proofs.Common.{◌≡◌, refl, ap, sym, subst, ◌∙◌, ℕ, ◌<◌, Bool, true, false, ◌&&◌, ◌||◌, ◌==◌, List, [], ◌∷◌, map, ◌⊎◌, inl, inr}
-use Rattle.std.specs.Bool.{beq}
-use Rattle.std.specs.List.{Contains, list_any}
+use Rattle.std.proofs.Common.{◌≡◌, refl, ap, sym, subst, ◌∙◌, ℕ, ◌<◌, Bool, true, false, ◌&&◌, ◌||◌, List, [], ◌∷◌, map, ◌⊎◌, inl, inr}
+use Rattle.std.specs.List.{Contains}
 use Rattle.std.proofs.lemmas.Bool.{or_cases, or_left, or_right}
-use Rattle.std.proofs.lemmas.Bool.Decides.{Decides-eqb}
 use Rattle.std.proofs.lemmas.List.Elements.{All-weaker}
-use Rattle.std.proofs.lemmas.List.Folds.{list_any_at}
-use Rattle.indexmap.proofs.CallerLemmas.{Contains-list_any}
 use Rattle.graphql_values.specs.Laws.{SameAsItself}
 use Rattle.graphql_meta.specs.declared.meta.MetaType.{MetaType}
 use Rattle.graphql_merging.specs.Sets.{Set, members_of, directs_of}
@@ -16,11 +12,9 @@ use Rattle.graphql_merging.specs.Done.{all_sets, IsTold, TellsDirects}
 use Rattle.graphql_merging.specs.Contract.{IsSound, IsDirect, IsComplete}
 use Rattle.graphql_merging.proofs.Contracts.{done-meets-contract}
 use Rattle.graphql_merging.proofs.Nested.{in-nothing}
-use Rattle.graphql_rules_merging.specs.declared.agenda.SetPair.{SetPair}
-use Rattle.graphql_rules_merging.specs.Agenda.{pair_of, IsEmptyPiece}
+use Rattle.graphql_rules_merging.specs.Agenda.{pair_of, Listed, IsListed, IsEmptyPiece}
 use Rattle.graphql_rules_merging.specs.Comparing.{Stage, members_in}
 use Rattle.graphql_rules_merging.specs.Finished.{IsFound, IsFinished}
-use Rattle.graphql_rules_merging.proofs.Pairs.{same_pairs}
 use Rattle.graphql_rules_merging.proofs.Meeting.{found_told}
 use Rattle.graphql_rules_merging.proofs.Settled.{later_members, WasBegun, IsSeen, empty_left, empty_right, as_is, turned, seen_begun, left_begun, right_begun, own_begun, fields_begun}
 use Rattle.graphql_rules_merging.proofs.WholeSets.{fields_of_same}
@@ -42,23 +36,13 @@ and-from : (x y : Bool) → x ≡ true → y ≡ true → (x && y) ≡ true
 and-from true y e f = f
 and-from false y e f = cc
 
-same-flag : (x : Bool) → beq x x ≡ true
-same-flag true = refl
-same-flag false = refl
-
-abbrev same : SetPair → SetPair → Bool
-same a b = a.left == b.left && (a.right == b.right && beq a.around b.around)
-
-same-itself : (a : SetPair) → same a a ≡ true
-same-itself a = and-from (a.left == a.left) _ ((Decides-eqb a.left a.left).1 refl) (and-from (a.right == a.right) _ ((Decides-eqb a.right a.right).1 refl) (same-flag a.around))
-
-module _ {S C : Type 0} (t : Pieces S C) (listed : List SetPair) where
+module _ {S C : Type 0} (t : Pieces S C) (listed : Listed) where
   abbrev empty : ℕ → Bool
   empty p = is-nil (t.direct p) && is-nil (t.inner p)
 
   -- the same as a test
   abbrev pub begun : ℕ → ℕ → Bool → Bool
-  begun p q x = list_any (same (pair_of p q x)) listed || (empty (pair_of p q x).left || empty (pair_of p q x).right)
+  begun p q x = (listed.waits (pair_of p q x) || listed.given (pair_of p q x)) || (empty (pair_of p q x).left || empty (pair_of p q x).right)
 
   empty-from : (p : ℕ) → empty p ≡ true → IsEmptyPiece t p
   empty-from p e = let both = and-both (is-nil (t.direct p)) (is-nil (t.inner p)) e in (nil-from (t.direct p) both.0, nil-from (t.inner p) both.1)
@@ -67,24 +51,26 @@ module _ {S C : Type 0} (t : Pieces S C) (listed : List SetPair) where
   empty-to p e = and-from (is-nil (t.direct p)) (is-nil (t.inner p)) (ap is-nil e.0) (ap is-nil e.1)
 
   pub begun_from : (p q : ℕ) (x : Bool) → begun p q x ≡ true → WasBegun t listed p q x
-  begun_from p q x h = elim (or_cases (list_any (same (pair_of p q x)) listed) (empty (pair_of p q x).left || empty (pair_of p q x).right) h) [
-    | inl e ↦ inl (Contains-list_any same same_pairs listed (pair_of p q x) e)
-    | inr e ↦ inr (elim (or_cases (empty (pair_of p q x).left) (empty (pair_of p q x).right) e) [
-      | inl l ↦ inl (empty-from (pair_of p q x).left l)
-      | inr r ↦ inr (empty-from (pair_of p q x).right r)
-    ])
-  ]
+  begun_from p q x h =
+      let k = pair_of p q x in
+      elim (or_cases (listed.waits k || listed.given k) (empty k.left || empty k.right) h) [
+        | inl e ↦ inl (or_cases (listed.waits k) (listed.given k) e)
+        | inr e ↦ inr (elim (or_cases (empty k.left) (empty k.right) e) [ inl l ↦ inl (empty-from k.left l) | inr r ↦ inr (empty-from k.right r) ])
+      ]
 
   pub begun_to : (p q : ℕ) (x : Bool) → WasBegun t listed p q x → begun p q x ≡ true
-  begun_to p q x (inl i) =
-      or_left (list_any (same (pair_of p q x)) listed) (empty (pair_of p q x).left || empty (pair_of p q x).right)
-      (list_any_at (same (pair_of p q x)) listed i.0 (pair_of p q x) i.1 (subst (λ k. same (pair_of p q x) k ≡ true) (sym i.2) (same-itself (pair_of p q x))))
+  begun_to p q x (inl (inl i)) =
+      let k = pair_of p q x in
+      or_left (listed.waits k || listed.given k) (empty k.left || empty k.right) (or_left (listed.waits k) (listed.given k) i)
+  begun_to p q x (inl (inr i)) =
+      let k = pair_of p q x in
+      or_left (listed.waits k || listed.given k) (empty k.left || empty k.right) (or_right (listed.waits k) (listed.given k) i)
   begun_to p q x (inr (inl e)) =
-      or_right (list_any (same (pair_of p q x)) listed) (empty (pair_of p q x).left || empty (pair_of p q x).right)
-      (or_left (empty (pair_of p q x).left) (empty (pair_of p q x).right) (empty-to (pair_of p q x).left e))
+      let k = pair_of p q x in
+      or_right (listed.waits k || listed.given k) (empty k.left || empty k.right) (or_left (empty k.left) (empty k.right) (empty-to k.left e))
   begun_to p q x (inr (inr e)) =
-      or_right (list_any (same (pair_of p q x)) listed) (empty (pair_of p q x).left || empty (pair_of p q x).right)
-      (or_right (empty (pair_of p q x).left) (empty (pair_of p q x).right) (empty-to (pair_of p q x).right e))
+      let k = pair_of p q x in
+      or_right (listed.waits k || listed.given k) (empty k.left || empty k.right) (or_right (empty k.left) (empty k.right) (empty-to k.right e))
 
 module _ {S C : Type 0} (eq : S → S → Bool) (types : List (MetaType S C)) (t : Pieces S C) (definitions : ℕ) (stage : Stage) (finished : IsFinished eq types t definitions stage)
     (itself : SameAsItself eq) where
@@ -114,7 +100,7 @@ module _ {S C : Type 0} (eq : S → S → Bool) (types : List (MetaType S C)) (t
     opened_told set (inr e) = directs-none set e
     opened_told set (inl h) = cases (seen_begun t stage.listed h.0 h.0 false h.1)
       where
-        of-pair : Contains stage.listed (record { left = h.0; right = h.0; around = false }) → Directs set
+        of-pair : IsListed stage.listed (record { left = h.0; right = h.0; around = false }) → Directs set
         of-pair k =
             let c = finished.compared (record { left = h.0; right = h.0; around = false }) k in
             let all = ap (map members_in) (fields_of_same eq types t (record { left = h.0; right = h.0; around = false }) refl) ∙ later_members (t.direct h.0) ∙ ap later_pairs h.2 in

@@ -1,26 +1,8 @@
--- Pairs of sets, either way round, and lists of them.
-use Rattle.std.specs.Bool.{beq}
-use Rattle.std.proofs.Common.{◌≡◌, ◌==◌, ◌&&◌, refl, sym, subst, ◌∙◌, arith, ℕ, ◌<◌, ltb, Bool, true, false, List, [], ◌∷◌, ◌++◌, append-nil, cond, ◌⊎◌, inl, inr}
-use Rattle.std.specs.List.{list_any}
-use Rattle.std.proofs.lemmas.Bool.Decides.{Decides-ltb, Decides-eqb}
-use Rattle.std.proofs.lemmas.List.Elements.{Contains-push, Contains-push_cases}
-use Rattle.indexmap.specs.IndexSet.{insert_key}
-use Rattle.indexmap.proofs.CallerLemmas.{Contains-list_any}
+-- Pairs of sets, either way round.
+use Rattle.std.proofs.Common.{◌≡◌, refl, sym, ◌∙◌, arith, ℕ, ◌<◌, ltb, Bool, true, false, cond, ◌⊎◌, inl, inr}
+use Rattle.std.proofs.lemmas.Bool.Decides.{Decides-ltb}
 use Rattle.graphql_rules_merging.specs.declared.agenda.SetPair.{SetPair}
-use Rattle.graphql_rules_merging.specs.Agenda.{pair_of, Lists}
-
-module _ (eq : SetPair → SetPair → Bool) (same : (a b : SetPair) → eq a b ≡ true → a ≡ b) where
-  -- what is inserted is listed
-  pub lists_inserted : (old new : List SetPair) (k : SetPair) → new ≡ insert_key eq old k → Lists k old new
-  lists_inserted old new k is = subst (Lists k old) (sym is) (cases (list_any (eq k) old) refl)
-    where
-      cases : (there : Bool) → list_any (eq k) old ≡ there → Lists k old (cond there old (old ++ k ∷ []))
-      cases true e = record { behind = ([], sym (append-nil old)); listed = Contains-list_any eq same old k e; only = (λ other h. inl h) }
-      cases false e = record {
-        behind = (k ∷ [], refl);
-        listed = Contains-push old k;
-        only = (λ other h. elim (Contains-push_cases old k other h) [ inl i ↦ inl i | inr i ↦ inr (sym i) ]);
-      }
+use Rattle.graphql_rules_merging.specs.Agenda.{pair_of}
 
 both-less : (p q : ℕ) → ltb q p ≡ true → ltb p q ≡ true → ⊥
 both-less p q e f = let a = (Decides-ltb q p).0 e in let b = (Decides-ltb p q).0 f in omega (arith, a, b)
@@ -62,23 +44,3 @@ pair_keeps R turned p q x h = cases (ltb q p)
     cases : (a : Bool) → R (the_pair a p q x).left (the_pair a p q x).right (the_pair a p q x).around
     cases true = turned p q x h
     cases false = h
-
-both : (x y : Bool) → (x && y) ≡ true → (x ≡ true) × (y ≡ true)
-both true y e = (refl, e)
-both false y e = cc
-
-same-flag : (x y : Bool) → beq x y ≡ true → x ≡ y
-same-flag true true e = refl
-same-flag true false e = cc
-same-flag false true e = cc
-same-flag false false e = refl
-
--- pairs are the same where their parts are
-pub same_pairs : (a b : SetPair) → (a.left == b.left && (a.right == b.right && beq a.around b.around)) ≡ true → a ≡ b
-same_pairs a b e =
-    let first = both _ _ e in
-    let rest = both _ _ first.1 in
-    let left : a.left ≡ b.left = (Decides-eqb a.left b.left).0 first.0 in
-    let right : a.right ≡ b.right = (Decides-eqb a.right b.right).0 rest.0 in
-    let around : a.around ≡ b.around = same-flag a.around b.around rest.1 in
-    λ i. record { left = left i; right = right i; around = around i }

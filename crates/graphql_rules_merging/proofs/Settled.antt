@@ -15,7 +15,7 @@ use Rattle.graphql_merging.proofs.Nested.{in-nothing}
 use Rattle.graphql_merging.proofs.DirectFields.{nothing-told-fits}
 use Rattle.graphql_merging.proofs.Standing.{agree-self, agreement-is-mutual}
 use Rattle.graphql_rules_merging.specs.declared.agenda.SetPair.{SetPair}
-use Rattle.graphql_rules_merging.specs.Agenda.{pair_of, IsEmptyPiece, IsBegun}
+use Rattle.graphql_rules_merging.specs.Agenda.{pair_of, Listed, IsListed, IsEmptyPiece, IsBegun}
 use Rattle.graphql_rules_merging.specs.Comparing.{with_each, between, later, Stage, members_in, HasOneKey, own_sets, fields_of, DoAgree}
 use Rattle.graphql_rules_merging.specs.Finished.{IsCompared, IsFinished}
 use Rattle.graphql_rules_merging.proofs.Pairs.{pair_either_way, pair_holds}
@@ -37,20 +37,20 @@ pub none-in : (es : Places) → ((e : List SourcePosition) → Contains es e →
 none-in [] h = refl
 none-in (e ∷ es) h = in-nothing e (h e (here e es))
 
-module _ {S C : Type 0} (t : Pieces S C) (listed : List SetPair) where
+module _ {S C : Type 0} (t : Pieces S C) (listed : Listed) where
   -- a pair was begun, either way round
   abbrev pub WasBegun : ℕ → ℕ → Bool → Type 0
   WasBegun p q x = IsBegun t listed (pair_of p q x)
 
-  abbrev IsListed : ℕ → ℕ → Bool → Type 0
-  IsListed p q x = Contains listed (record { left = p; right = q; around = x })
+  abbrev IsThere : ℕ → ℕ → Bool → Type 0
+  IsThere p q x = IsListed listed (record { left = p; right = q; around = x })
 
   -- one of the two is empty, or the pair is listed one way or the other
   pub data IsSeen (p q : ℕ) (x : Bool) : Type 0 where
     empty_left : IsEmptyPiece t p → IsSeen p q x
     empty_right : IsEmptyPiece t q → IsSeen p q x
-    as_is : IsListed p q x → IsSeen p q x
-    turned : IsListed q p x → IsSeen p q x
+    as_is : IsThere p q x → IsSeen p q x
+    turned : IsThere q p x → IsSeen p q x
 
   pub seen_begun : (p q : ℕ) (x : Bool) → WasBegun p q x → IsSeen p q x
   seen_begun p q x h = cases (ltb q p) h
@@ -86,7 +86,7 @@ module _ {S C : Type 0} (eq : S → S → Bool) (types : List (MetaType S C)) (t
     pub own_begun : (p : ℕ) (f : PieceField S C) → Was p p false → Contains (t.direct p) f → Was f.own f.own false
     own_begun p f h i = cases (seen_begun t stage.listed p p false h)
       where
-        of-pair : Contains stage.listed (record { left = p; right = p; around = false }) → Was f.own f.own false
+        of-pair : IsListed stage.listed (record { left = p; right = p; around = false }) → Was f.own f.own false
         of-pair k = subst (IsBegun t stage.listed) (own_itself eq false f)
             ((finished.compared (record { left = p; right = p; around = false }) k).begun (own_sets false (f, f))
             (inr (inr ((f, f), i, i, refl, agree-self eq itself types false f.member, refl))))
@@ -123,7 +123,7 @@ module _ {S C : Type 0} (eq : S → S → Bool) (types : List (MetaType S C)) (t
             ]
           ]
 
-      of-listed : (pair : SetPair) (f g : PieceField S C) → Contains stage.listed pair → Contains (t.direct pair.left) f → Contains (t.direct pair.right) g → HasOneKey (f, g)
+      of-listed : (pair : SetPair) (f g : PieceField S C) → IsListed stage.listed pair → Contains (t.direct pair.left) f → Contains (t.direct pair.right) g → HasOneKey (f, g)
           → DoAgree eq types pair.around (f, g) × IsBegun t stage.listed (own_sets pair.around (f, g))
       of-listed pair f g k i j key =
           let c = finished.compared pair k in

@@ -1,23 +1,20 @@
--- The pairs of sets are compared in the order in which they were begun.
-use Rattle.std.proofs.Common.{◌≡◌, refl, ap, sym, subst, ◌∙◌, arith, ℕ, ◌+◌, ◌<◌, ◌≤◌, eqb, Bool, true, false, List, [], ◌∷◌, ◌++◌, map, take, take_all, length, get_or, Some, slice_get, cond, inl, inr}
+-- The pairs of sets are compared, in whatever order they are given out.
+use Rattle.std.proofs.Common.{◌≡◌, refl, sym, subst, ◌∙◌, ℕ, ◌<◌, eqb, Bool, true, false, List, [], ◌++◌, map, append-nil, get_or, cond, inl, inr}
 use Rattle.std.specs.List.{All, Contains}
 use Rattle.std.specs.Str.{bytes_eq}
 use Rattle.std.proofs.lemmas.Slice.Eq.{bytes_eq-Decides}
 use Rattle.std.proofs.lemmas.Bool.{false≢true}
 use Rattle.std.proofs.lemmas.Bool.Decides.{Decides-eqb}
-use Rattle.std.proofs.lemmas.List.{take_more, take-append-le, length-append}
-use Rattle.std.proofs.lemmas.Option.{get_or_from_slice_get}
-use Rattle.std.proofs.lemmas.List.Elements.{All-nil, All-append, Contains-get_or, Contains-append_left, Contains-append_right, Contains-push_cases}
+use Rattle.std.proofs.lemmas.List.Elements.{All-nil, All-append, Contains-get_or, Contains-append_left, Contains-append_right}
 use Rattle.graphql_text.specs.declared.position.SourcePosition.{SourcePosition}
 use Rattle.graphql_meta.specs.declared.meta.MetaType.{MetaType}
 use Rattle.graphql_rule_errors.specs.Places.{Places}
 use Rattle.graphql_merging.specs.Members.{Member}
 use Rattle.graphql_merging.specs.Pieces.{Pieces, PieceField}
 use Rattle.graphql_merging.specs.Told.{Names, Tells, Fits}
-use Rattle.graphql_merging.proofs.Nested.{in-nothing}
 use Rattle.graphql_merging.proofs.DirectFields.{to-In, from-In, tells-sound}
 use Rattle.graphql_rules_merging.specs.declared.agenda.SetPair.{SetPair}
-use Rattle.graphql_rules_merging.specs.Agenda.{pair_of, IsBegun, Begins}
+use Rattle.graphql_rules_merging.specs.Agenda.{pair_of, Listed, IsListed, Takes, NoneWaits, IsBegun, IsFull, Begins}
 use Rattle.graphql_rules_merging.specs.Comparing.{between, later, Stage, members_in, fields_of, LeadsTo, ComparesSets}
 use Rattle.graphql_rules_merging.specs.Finished.{IsReached, of_definition, other_way, by_fragment, by_fields, IsCompared, IsFound, IsFinished}
 use Rattle.graphql_rules_merging.proofs.Pairs.{pair_keeps}
@@ -66,71 +63,79 @@ module _ {S C : Type 0} (eq : S → S → Bool) (types : List (MetaType S C)) (t
       let key = one-key pair.around f.member g.member unfit in
       (pair.left, pair.right, pair.around, f, g, reached, stand.0, stand.1, key, (λ agree. unfit (λ _. agree)), names)
 
-  -- so many pairs are compared
-  pub record IsUnderway (done : ℕ) (stage : Stage) : Type 0 where
+  abbrev Reached : SetPair → Type 0
+  Reached k = IsReached t definitions k.left k.right k.around
+
+  -- each pair that was given out is compared
+  pub record IsUnderway (stage : Stage) : Type 0 where
     pub begun : (k : ℕ) → k < definitions → IsBegun t stage.listed (pair_of k k false)
-    pub reached : (pair : SetPair) → Contains stage.listed pair → IsReached t definitions pair.left pair.right pair.around
-    pub within : done ≤ length stage.listed
-    pub compared : (pair : SetPair) → Contains (take done stage.listed) pair → IsCompared eq types t stage pair
+    pub reached : (pair : SetPair) → IsListed stage.listed pair → IsReached t definitions pair.left pair.right pair.around
+    pub compared : (pair : SetPair) → stage.listed.given pair ≡ true → IsCompared eq types t stage pair
     pub found : All (IsFound eq types t definitions) stage.told
+    pub full : (pair : SetPair) → stage.listed.waits pair ≡ true → IsFull t pair
 
   abbrev pub OfDefinition : SetPair → Type 0
   OfDefinition pair = (k : ℕ) × (k < definitions) × (pair ≡ pair_of k k false)
 
-  pub underway_first : (listed : List SetPair) → Begins t OfDefinition OfDefinition [] listed → IsUnderway 0 (record { told = []; listed = listed })
-  underway_first listed h = record {
+  pub underway_first : (none listed : Listed) → ((pair : SetPair) → (none.waits pair ≡ false) × (none.given pair ≡ false)) → Begins t OfDefinition OfDefinition none listed
+      → IsUnderway (record { told = []; listed = listed })
+  underway_first none listed is h = record {
     begun = (λ k small. h.each (pair_of k k false) (k, small, refl));
-    reached = (λ pair i. elim (h.only pair i) [
-      | inl j ↦ in-nothing pair j
-      | inr d ↦ reached-pair t definitions d.0 d.0 false pair d.2 (of_definition d.0 d.1)
+    reached = (λ pair i. elim i [
+      | inl w ↦ elim (h.waits pair w) [
+        | inl j ↦ absurd (false≢true (sym (is pair).0 ∙ j))
+        | inr d ↦ reached-pair t definitions d.0.0 d.0.0 false pair d.0.2 (of_definition d.0.0 d.0.1)
+      ]
+      | inr g ↦ absurd (false≢true (sym (is pair).1 ∙ sym (h.given pair) ∙ g))
     ]);
-    within = omega arith;
-    compared = (λ pair i. in-nothing pair i);
+    compared = (λ pair g. absurd (false≢true (sym (is pair).1 ∙ sym (h.given pair) ∙ g)));
     found = All-nil (IsFound eq types t definitions);
+    full = (λ pair w. elim (h.waits pair w) [ inl j ↦ absurd (false≢true (sym (is pair).0 ∙ j)) | inr d ↦ d.1 ]);
   }
 
-  still-compared : (s u : Stage) (k : SetPair) → ((more : List SetPair) × (u.listed ≡ s.listed ++ more)) → ((es : Places) × (u.told ≡ s.told ++ es))
+  still-compared : (s u : Stage) (k : SetPair) → ((other : SetPair) → IsListed s.listed other → IsListed u.listed other) → ((es : Places) × (u.told ≡ s.told ++ es))
       → IsCompared eq types t s k → IsCompared eq types t u k
-  still-compared s u k behind told h = record {
-    begun = (λ other i. begun_still t s.listed u.listed other behind (h.begun other i));
+  still-compared s u k still told h = record {
+    begun = (λ other i. begun_still t s.listed u.listed other still (h.begun other i));
     told = (h.told.0, h.told.1, λ e i. subst (λ es. Contains es e) (sym told.1) (Contains-append_left s.told told.0 e (h.told.2 e i)));
   }
 
-  pub underway_more : (done : ℕ) (s u : Stage) (pair : SetPair) → slice_get s.listed done ≡ Some pair → done < length s.listed → IsUnderway done s
-      → ComparesSets eq types t pair s u → IsUnderway (done + 1) u
-  underway_more done s u pair at small h c = record {
-    begun = (λ k less. begun_still t s.listed u.listed (pair_of k k false) c.begun.behind (h.begun k less));
-    reached = (λ k i. elim (c.begun.only k i) [ inl j ↦ h.reached k j | inr l ↦ reached-led t definitions pair k reached l ]);
-    within = grown;
-    compared = (λ k i. elim (Contains-push_cases (take done s.listed) pair k (subst (λ ks. Contains ks k) front i)) [
-      | inl j ↦ still-compared s u k c.begun.behind (c.told.0, c.told.1) (h.compared k j)
-      | inr e ↦ subst (IsCompared eq types t u) e (record {
+  -- a pair is given out, and compared
+  pub underway_more : (s u : Stage) (pair : SetPair) (between : Listed) → Takes pair s.listed between → IsUnderway s
+      → ComparesSets eq types t pair (record { told = s.told; listed = between }) u → IsUnderway u
+  underway_more s u pair between taken h c = record {
+    begun = (λ k less. begun_still t s.listed u.listed (pair_of k k false) still (h.begun k less));
+    reached = (λ k i. elim i [
+      | inl w ↦ elim (c.begun.waits k w) [ inl j ↦ h.reached k (inl (taken.waits k j)) | inr l ↦ reached-led t definitions pair k reached l.0 ]
+      | inr g ↦ elim (taken.given k (sym (c.begun.given k) ∙ g)) [ inl j ↦ h.reached k (inr j) | inr e ↦ subst Reached (sym e) reached ]
+    ]);
+    compared = (λ k g. elim (taken.given k (sym (c.begun.given k) ∙ g)) [
+      | inl j ↦ still-compared s u k still (c.told.0, c.told.1) (h.compared k j)
+      | inr e ↦ subst (IsCompared eq types t u) (sym e) (record {
         begun = c.begun.each;
         told = (c.told.0, c.told.2, λ e i. subst (λ es. Contains es e) (sym c.told.1) (Contains-append_right s.told c.told.0 e i));
       })
     ]);
     found = subst (All (IsFound eq types t definitions)) (sym c.told.1) (All-append (IsFound eq types t definitions) s.told c.told.0 h.found
         (λ k d less. found-fields pair c.told.0 reached c.told.2 (get_or c.told.0 k d) (Contains-get_or c.told.0 k d less)));
+    full = (λ k w. elim (c.begun.waits k w) [ inl j ↦ h.full k (taken.waits k j) | inr l ↦ l.1 ]);
   }
     where
-      is-there : get_or s.listed done pair ≡ pair
-      is-there = get_or_from_slice_get s.listed done pair pair at
+      reached : Reached pair
+      reached = h.reached pair (inl taken.waited)
 
-      reached : IsReached t definitions pair.left pair.right pair.around
-      reached = h.reached pair (done, small, is-there)
+      still : (other : SetPair) → IsListed s.listed other → IsListed u.listed other
+      still other i = c.begun.still other (taken.still other i)
 
-      grown : done + 1 ≤ length u.listed
-      grown = let longer : length u.listed ≡ length s.listed + length c.begun.behind.0 = ap length c.begun.behind.1 ∙ length-append s.listed c.begun.behind.0 in omega (arith, small, longer)
-
-      front : take (done + 1) u.listed ≡ take done s.listed ++ pair ∷ []
-      front =
-          ap (take (done + 1)) c.begun.behind.1 ∙ take-append-le (done + 1) s.listed c.begun.behind.0 (omega (arith, small))
-          ∙ take_more s.listed done pair small ∙ ap (λ k. take done s.listed ++ k ∷ []) is-there
-
-  pub underway_last : (done : ℕ) (s : Stage) → length s.listed ≤ done → IsUnderway done s → IsFinished eq types t definitions s
-  underway_last done s all h = record {
-    begun = h.begun;
-    reached = h.reached;
-    compared = (λ pair i. h.compared pair (subst (λ ks. Contains ks pair) (sym (take_all done s.listed all)) i));
+  -- no pair waits any more
+  pub underway_last : (s : Stage) (listed : Listed) → NoneWaits s.listed listed → IsUnderway s → IsFinished eq types t definitions (record { told = s.told; listed = listed })
+  underway_last s listed none h = record {
+    begun = (λ k less. begun_still t s.listed listed (pair_of k k false) none.still (h.begun k less));
+    reached = (λ k i. h.reached k (inr (was-given k i)));
+    compared = (λ k i. still-compared s (record { told = s.told; listed = listed }) k none.still ([], sym (append-nil s.told)) (h.compared k (was-given k i)));
     found = h.found;
   }
+    where
+      was-given : (k : SetPair) → IsListed listed k → s.listed.given k ≡ true
+      was-given k (inl w) = absurd (false≢true (sym (none.waits k) ∙ w))
+      was-given k (inr g) = none.given k g

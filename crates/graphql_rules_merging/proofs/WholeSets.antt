@@ -14,7 +14,7 @@ use Rattle.graphql_merging.proofs.Nested.{in-nothing}
 use Rattle.graphql_merging.proofs.Reports.{adds-nothing}
 use Rattle.graphql_merging.proofs.Standing.{apart-self, agreement-is-mutual}
 use Rattle.graphql_rules_merging.specs.declared.agenda.SetPair.{SetPair}
-use Rattle.graphql_rules_merging.specs.Agenda.{pair_of, PairOf, IsEmptyPiece, IsBegun, Begins}
+use Rattle.graphql_rules_merging.specs.Agenda.{pair_of, Listed, PairOf, IsEmptyPiece, IsBegun, Begins}
 use Rattle.graphql_rules_merging.specs.Comparing.{between, later, Stage, members_in, HasOneKey, own_sets, OwnSets, fields_of, LeadsTo, DoAgree, ComparesSets}
 use Rattle.graphql_rules_merging.proofs.Pairs.{pair_either_way, pair_holds}
 use Rattle.graphql_rules_merging.proofs.Lists.{map_has, map_of, between_has, between_of, later_of, later_cases}
@@ -58,7 +58,7 @@ module _ {S C : Type 0} (eq : S → S → Bool) (types : List (MetaType S C)) (t
   Any p = Unit {0}
 
   -- the own sets of fields, each with itself, and then those of each two
-  pub begins_within : {A : Type 0} (x : Bool) (s : A → PieceField S C) (ws : List A) (old mid new : List SetPair)
+  pub begins_within : {A : Type 0} (x : Bool) (s : A → PieceField S C) (ws : List A) (old mid new : Listed)
       → Begins t (PairOf (λ w. pair_of (s w).own (s w).own x) (λ w. Unit {0}) ws) (PairOf (λ w. pair_of (s w).own (s w).own x) (λ w. Unit {0}) ws) old mid
       → Begins t (PairOf (own_sets x) (Agreeing x) (later (map s ws))) (PairOf (own_sets x) HasOneKey (later (map s ws))) mid new
       → Begins t (OwnSets x (DoAgree eq types x) (map s ws) (map s ws)) (OwnSets x Any (map s ws) (map s ws)) old new
@@ -85,7 +85,7 @@ module _ {S C : Type 0} (eq : S → S → Bool) (types : List (MetaType S C)) (t
       two k h = let r = later_of (map s ws) h.0 h.1 in (h.0, r.0, r.1, h.2, tt, h.3)
 
   -- the own sets of each field of the one list and each of the other
-  pub begins_between : (x : Bool) (fs gs : List (PieceField S C)) (old new : List SetPair)
+  pub begins_between : (x : Bool) (fs gs : List (PieceField S C)) (old new : Listed)
       → Begins t (PairOf (own_sets x) (Agreeing x) (between fs gs)) (PairOf (own_sets x) HasOneKey (between fs gs)) old new
       → Begins t (OwnSets x (DoAgree eq types x) fs gs) (OwnSets x Any fs gs) old new
   begins_between x fs gs old new =
@@ -105,7 +105,7 @@ module _ {S C : Type 0} (eq : S → S → Bool) (types : List (MetaType S C)) (t
     Own P = OwnSets pair.around P (t.direct pair.left) (t.direct pair.right)
 
     -- the fragments in the one set, those in the other, and the own sets of the fields
-    pub begins_sets : (old one two new : List SetPair) → Begins t Left Left old one → Begins t Right Right one two
+    pub begins_sets : (old one two new : Listed) → Begins t Left Left old one → Begins t Right Right one two
         → Begins t (Own (DoAgree eq types pair.around)) (Own Any) two new → Begins t (LeadsTo t (DoAgree eq types pair.around) pair) (LeadsTo t Any pair) old new
     begins_sets old one two new f g h =
         begins_both t Left Left (λ k. Right k ⊎ Own (DoAgree eq types pair.around) k) (λ k. Right k ⊎ Own Any k)
@@ -163,14 +163,14 @@ module _ {S C : Type 0} (eq : S → S → Bool) (types : List (MetaType S C)) (t
     abbrev WithLeft : List ℕ → SetPair → Type 0
     WithLeft ns = PairOf (λ r. pair_of r pair.left pair.around) (λ r. Unit {0}) ns
 
-    own-lists : (fs gs hs ks : List (PieceField S C)) (old new : List SetPair) → fs ≡ hs → gs ≡ ks
+    own-lists : (fs gs hs ks : List (PieceField S C)) (old new : Listed) → fs ≡ hs → gs ≡ ks
         → Begins t (OwnSets pair.around (DoAgree eq types pair.around) fs gs) (OwnSets pair.around Any fs gs) old new
         → Begins t (OwnSets pair.around (DoAgree eq types pair.around) hs ks) (OwnSets pair.around Any hs ks) old new
     own-lists fs gs hs ks old new e f h =
         subst (λ zs. Begins t (OwnSets pair.around (DoAgree eq types pair.around) hs zs) (OwnSets pair.around Any hs zs) old new) f
         (subst (λ zs. Begins t (OwnSets pair.around (DoAgree eq types pair.around) zs gs) (OwnSets pair.around Any zs gs) old new) e h)
 
-    module _ (ns ms : List ℕ) (fs : List (PieceField S C)) (s u : Stage) (one two : List SetPair)
+    module _ (ns ms : List ℕ) (fs : List (PieceField S C)) (s u : Stage) (one two : Listed)
         (on_left : ns ≡ t.inner pair.left) (on_right : ms ≡ t.inner pair.right) (fields : fs ≡ t.direct pair.left)
         (f : Begins t (WithRight ns) (WithRight ns) s.listed one) (g : Begins t (WithLeft ms) (WithLeft ms) one two) where
       begun-sets : Begins t (Own (DoAgree eq types pair.around)) (Own Any) two u.listed → Begins t (LeadsTo t (DoAgree eq types pair.around) pair) (LeadsTo t Any pair) s.listed u.listed

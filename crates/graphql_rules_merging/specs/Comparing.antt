@@ -9,7 +9,7 @@ use Rattle.graphql_merging.specs.Pieces.{Pieces, PieceField}
 use Rattle.graphql_merging.specs.Told.{AddsErrors, Fits}
 use Rattle.graphql_rules_merging.specs.declared.agenda.SetPair.{SetPair}
 use Rattle.graphql_rules_merging.specs.declared.progress.Progress.{Progress}
-use Rattle.graphql_rules_merging.specs.Agenda.{pair_of, PairOf, Begins}
+use Rattle.graphql_rules_merging.specs.Agenda.{pair_of, Listed, listed_of, PairOf, Begins}
 
 -- one with each of others
 abbrev pub with_each : {A : Type 0} → A → List A → List (A × A)
@@ -27,10 +27,10 @@ later (x ∷ xs) = with_each x xs ++ later xs
 -- the places of the errors that are told, and the pairs of sets that are listed
 pub record Stage : Type 0 where
   pub told : Places
-  pub listed : List SetPair
+  pub listed : Listed
 
 abbrev pub stage_of : Progress → Stage
-stage_of progress = record { told = places progress.told; listed = progress.agenda.pairs.keys }
+stage_of progress = record { told = places progress.told; listed = listed_of progress.agenda }
 
 module _ {S C : Type 0} where
   abbrev pub members_in : PieceField S C × PieceField S C → Member S C × Member S C

@@ -8,7 +8,7 @@ use Rattle.graphql_merging.specs.Merging.{apart}
 use Rattle.graphql_merging.specs.Pieces.{Pieces, PieceField}
 use Rattle.graphql_merging.specs.Told.{Names, Tells, Fits}
 use Rattle.graphql_rules_merging.specs.declared.agenda.SetPair.{SetPair}
-use Rattle.graphql_rules_merging.specs.Agenda.{pair_of, IsBegun}
+use Rattle.graphql_rules_merging.specs.Agenda.{pair_of, IsListed, IsBegun}
 use Rattle.graphql_rules_merging.specs.Comparing.{Stage, members_in, HasOneKey, fields_of, LeadsTo, DoAgree}
 
 module _ {S C : Type 0} (t : Pieces S C) (definitions : ℕ) where
@@ -33,9 +33,9 @@ module _ {S C : Type 0} (eq : S → S → Bool) (types : List (MetaType S C)) (t
         (p : ℕ) × (q : ℕ) × (x : Bool) × (f : PieceField S C) × (g : PieceField S C) × IsReached t definitions p q x
         × Contains (t.direct p) f × Contains (t.direct q) g × HasOneKey (f, g) × (DoAgree eq types x (f, g) → ⊥) × Names e f.member g.member
 
-    -- the set of each definition is begun with itself, and each pair that was begun is compared
+    -- the set of each definition is begun with itself, and each pair that is listed is compared
     pub record IsFinished (stage : Stage) : Type 0 where
       pub begun : (k : ℕ) → k < definitions → IsBegun t stage.listed (pair_of k k false)
-      pub reached : (pair : SetPair) → Contains stage.listed pair → IsReached t definitions pair.left pair.right pair.around
-      pub compared : (pair : SetPair) → Contains stage.listed pair → IsCompared stage pair
+      pub reached : (pair : SetPair) → IsListed stage.listed pair → IsReached t definitions pair.left pair.right pair.around
+      pub compared : (pair : SetPair) → IsListed stage.listed pair → IsCompared stage pair
       pub found : All IsFound stage.told

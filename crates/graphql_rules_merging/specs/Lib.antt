@@ -1,3 +1,5 @@
+pub mod Numbers
+pub mod PairTables
 pub mod Agenda
 pub mod Comparing
 pub mod Finished

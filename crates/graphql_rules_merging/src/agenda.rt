@@ -1,13 +1,13 @@
 //! Pairs of selection sets that are to be compared, each once.
 
-ghost use Rattle.std.specs.Prelude.{◌≡◌, ◌<◌, ◌^◌, [], Some, OnOk, length, slice_get};
+ghost use Rattle.std.specs.Prelude.{◌≡◌, false, IfOk, OnOk, MatchOption};
 ghost use Rattle.graphql_rules_merging.specs.Agenda as spec;
 
-use indexmap::IndexSet;
+use crate::queue::PairQueue;
 use std::alloc::{AllocError, Global};
 
 /// Two selection sets by their numbers, of which the first is no greater.
-#[derive(Clone, Copy, Debug, PartialEq, Eq, Hash)]
+#[derive(Clone, Copy, Debug, PartialEq, Eq)]
 pub(crate) struct SetPair {
     /// The smaller number.
     pub left: usize,
@@ -37,37 +37,26 @@ fn pair_of(left: usize, right: usize, around: bool) -> SetPair
     }
 }
 
-/// Pairs in the order in which they were begun, each once: what is still to compare, and what was met
-/// before.
+/// Pairs that wait to be compared, and those that were given out. Each pair is given out once, so that
+/// there is an end. For each flag it takes two bits of memory for each two sets, or less.
 #[derive(Drop)]
 pub(crate) struct Agenda {
-    pairs: IndexSet<SetPair>,
+    // Those without the flag, by the numbers of their sets.
+    together: PairQueue,
+
+    // Those with it.
+    apart: PairQueue,
 }
 
 impl Agenda {
     /// No pairs. Takes no memory.
     pub(crate) fn new(alloc: Global) -> Agenda
-        ensures { result.pairs.keys ≡ [] }
+        ensures { (pair : _) → ((spec.listed_of result).waits pair ≡ false) × ((spec.listed_of result).given pair ≡ false) }
     {
         Agenda {
-            pairs: IndexSet::new(alloc),
+            together: PairQueue::new(alloc),
+            apart: PairQueue::new(alloc),
         }
-    }
-
-    /// The pair at this place, counted from zero.
-    pub(crate) fn pair(&self, place: usize) -> SetPair
-        requires { place < length self.now.pairs.keys }
-        ensures { slice_get self.now.pairs.keys place ≡ Some result }
-    {
-        self.pairs[place]
-    }
-
-    /// The number of pairs.
-    pub(crate) fn len(&self) -> usize
-        ensures len { result ≡ length self.now.pairs.keys }
-        ensures small { result < 2 ^ 63 }
-    {
-        self.pairs.len()
     }
 
     /// Begins the pair of two sets, unless it was begun, either way round. An error is want of memory.
@@ -77,9 +66,34 @@ impl Agenda {
         right: usize,
         around: bool,
     ) -> Result<(), AllocError>
-        ensures { OnOk result (spec.Lists (spec.pair_of left right around) self.old.pairs.keys self.new.pairs.keys) }
+        ensures { OnOk result (spec.Lists (spec.pair_of left right around) (spec.listed_of self.old) (spec.listed_of self.new)) }
     {
-        self.pairs.insert(pair_of(left, right, around))?;
-        Ok(())
+        let pair = pair_of(left, right, around);
+        if pair.around {
+            self.apart.begin(pair.left, pair.right)
+        } else {
+            self.together.begin(pair.left, pair.right)
+        }
+    }
+
+    /// Gives out a pair that waits, if there is one. An error is want of memory.
+    pub(crate) fn next(&mut self) -> Result<Option<SetPair>, AllocError>
+        ensures { IfOk result (λ next. MatchOption next (spec.NoneWaits (spec.listed_of self.old) (spec.listed_of self.new)) (λ pair. spec.Takes pair (spec.listed_of self.old) (spec.listed_of self.new))) }
+    {
+        if let Some((left, right)) = self.together.next()? {
+            return Ok(Some(SetPair {
+                left,
+                right,
+                around: false,
+            }));
+        }
+        let Some((left, right)) = self.apart.next()? else {
+            return Ok(None);
+        };
+        Ok(Some(SetPair {
+            left,
+            right,
+            around: true,
+        }))
     }
 }

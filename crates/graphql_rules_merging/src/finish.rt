@@ -4,7 +4,7 @@ ghost use Rattle.std.specs.Prelude.{◌≡◌, ℕ, ◌<◌, List, IfOk, OnOk, f
 ghost use Rattle.graphql_rule_errors.specs.Places.{places};
 ghost use Rattle.graphql_tree.specs.declared.document.Fragment.{Fragment};
 ghost use Rattle.graphql_merging.specs.Tables.{pieces_of};
-ghost use Rattle.graphql_rules_merging.specs.Agenda.{pair_of, Begins};
+ghost use Rattle.graphql_rules_merging.specs.Agenda.{listed_of, pair_of, Begins};
 ghost use Rattle.graphql_rules_merging.specs.Comparing.{Stage};
 ghost use Rattle.graphql_rules_merging.specs.Finished.{IsFinished};
 
@@ -24,7 +24,7 @@ fn begin_definitions<S, C>(
     agenda: &mut Agenda,
     definitions: usize,
 ) -> Result<(), AllocError>
-    ensures { OnOk result ((fragments : List (Fragment S)) → Begins (pieces_of fragments table.now) (λ pair. (k : ℕ) × (k < definitions) × (pair ≡ pair_of k k false)) (λ pair. (k : ℕ) × (k < definitions) × (pair ≡ pair_of k k false)) agenda.old.pairs.keys agenda.new.pairs.keys) }
+    ensures { OnOk result ((fragments : List (Fragment S)) → Begins (pieces_of fragments table.now) (λ pair. (k : ℕ) × (k < definitions) × (pair ≡ pair_of k k false)) (λ pair. (k : ℕ) × (k < definitions) × (pair ≡ pair_of k k false)) (listed_of agenda.old) (listed_of agenda.new)) }
 {
     for definition in 0..definitions {
         begin_sets(table, agenda, definition, definition, false)?;
@@ -47,11 +47,8 @@ pub fn merge_errors<S: PartialEq, C>(
         agenda: Agenda::new(alloc),
     };
     begin_definitions(table, &mut progress.agenda, definitions)?;
-    let mut place = 0;
-    while place < progress.agenda.len() {
-        let pair = progress.agenda.pair(place);
+    'pairs: while let Some(pair) = progress.agenda.next()? {
         compare_sets(alloc, schema, table, pair, &mut progress)?;
-        place += 1;
     }
     Ok(progress.told)
 }

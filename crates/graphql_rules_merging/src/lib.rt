@@ -8,8 +8,10 @@ mod fields;
 mod finish;
 pub mod laws;
 mod messages;
+mod numbers;
 mod overlapping_fields;
 mod progress;
+mod queue;
 mod sets;
 pub mod visitor;
 

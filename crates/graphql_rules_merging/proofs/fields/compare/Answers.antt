@@ -5,7 +5,7 @@ use Rattle.graphql_merging.specs.Tables.{pieces_of, piece_field}
 use Rattle.graphql_merging.specs.Told.{Differs, in_order}
 use Rattle.graphql_merging.proofs.SameWraps.{same-text}
 use Rattle.graphql_merging.proofs.Reports.{differing}
-use Rattle.graphql_rules_merging.specs.Agenda.{pair_of, Begins}
+use Rattle.graphql_rules_merging.specs.Agenda.{listed_of, pair_of, Begins}
 use Rattle.graphql_rules_merging.specs.Comparing.{stage_of}
 use Rattle.graphql_rules_merging.proofs.Texts.{unlike_text}
 use Rattle.graphql_rules_merging.proofs.Comparisons.{compares_unlike, compares_differ, compares_agree}
@@ -43,6 +43,6 @@ returns-in-None g c =
     (subst (Differs g.S.PartialEq.eq c.args.schema.now.types c.args.around (seen fragments c.args.left.now.selected) (seen fragments c.args.right.now.selected)) c.in-None.is
     (c.in_ok-difference.ensures fragments))
     refl
-    (subst (λ k. Begins (pieces_of fragments c.args.table.now) (λ pair. pair ≡ k) (λ pair. pair ≡ k) c.args.progress.now.agenda.pairs.keys c.begin_sets.new.agenda.pairs.keys)
+    (subst (λ k. Begins (pieces_of fragments c.args.table.now) (λ pair. pair ≡ k) (λ pair. pair ≡ k) (listed_of c.args.progress.now.agenda) (listed_of c.begin_sets.new.agenda))
     (ap (pair_of c.args.left.now.own c.args.right.now.own) (c.is_excused-excused.ensures fragments)) (begun fragments)))
     c.begin_sets.ensures

@@ -2,7 +2,7 @@ use Rattle.std.proofs.Common.{◌≡◌, ◌∙◌, ap, arith, ℕ, ◌+◌, ◌
 use Rattle.std.proofs.lemmas.Bool.Decides.{eqb_tells}
 use Rattle.graphql_merging.specs.Tables.{pieces_of}
 use Rattle.graphql_rules_merging.specs.declared.agenda.SetPair.{SetPair}
-use Rattle.graphql_rules_merging.specs.Agenda.{pair_of}
+use Rattle.graphql_rules_merging.specs.Agenda.{listed_of, pair_of}
 use Rattle.graphql_rules_merging.proofs.Begun.{begins_none, begins_both, begins_as}
 use Rattle.graphql_rules_merging.proofs.finish.begin_definitions.Goals as goal
 
@@ -20,7 +20,7 @@ below-more n pair h = elim (eqb_tells h.0 n) [
 
 pub loop-definition-init : goal.loop-definition-init
 loop-definition-init g c = λ fragments.
-    begins_none (pieces_of fragments c.args.table.now) (Below 0) (Below 0) c.args.agenda.now.pairs.keys (λ pair h. absurd (none h.0 h.1))
+    begins_none (pieces_of fragments c.args.table.now) (Below 0) (Below 0) (listed_of c.args.agenda.now) (λ pair h. absurd (none h.0 h.1))
   where
     none : (k : ℕ) → k < 0 → ⊥
     none k h = omega (arith, h)
@@ -29,7 +29,7 @@ pub loop-definition-preserved : goal.loop-definition-preserved
 loop-definition-preserved g c = λ fragments.
     let n = c.loop-definition.definition in
     begins_both (pieces_of fragments c.args.table.now) (Below n) (Below n) (λ pair. pair ≡ pair_of n n false) (λ pair. pair ≡ pair_of n n false) (Below (n + 1)) (Below (n + 1))
-    c.args.agenda.now.pairs.keys c.loop-definition.agenda.pairs.keys c.begin_sets.new.agenda.pairs.keys (λ pair h. below-more n pair h)
+    (listed_of c.args.agenda.now) (listed_of c.loop-definition.agenda) (listed_of c.begin_sets.new.agenda) (λ pair h. below-more n pair h)
     (λ pair h. (h.0, less h.0 n h.1, h.2)) (λ pair e. (n, last n, e)) (c.loop-definition.invariant fragments) (c.in_ok-begin_sets.ensures fragments)
   where
     less : (k n : ℕ) → k < n → k < n + 1
@@ -41,8 +41,8 @@ loop-definition-preserved g c = λ fragments.
 pub returns : goal.returns
 returns g c = λ fragments.
     let n = c.loop-definition.definition in
-    begins_as (pieces_of fragments c.args.table.now) (Below n) (Below n) (Below c.args.definitions) (Below c.args.definitions) c.args.agenda.now.pairs.keys
-    c.loop-definition.agenda.pairs.keys (λ pair h. (h.0, below h.0 c.args.definitions n h.1 c.loop-definition-test.false, h.2))
+    begins_as (pieces_of fragments c.args.table.now) (Below n) (Below n) (Below c.args.definitions) (Below c.args.definitions) (listed_of c.args.agenda.now)
+    (listed_of c.loop-definition.agenda) (λ pair h. (h.0, below h.0 c.args.definitions n h.1 c.loop-definition-test.false, h.2))
     (λ pair h. (h.0, below h.0 n c.args.definitions h.1 c.loop-definition.auto.definition-end, h.2)) (c.loop-definition.invariant fragments)
   where
     below : (k m n : ℕ) → k < m → m ≤ n → k < n

@@ -1,13 +1,15 @@
-use Rattle.std.proofs.Common.{◌-◌, ◌^◌, List}
+use Rattle.std.proofs.Common.{List, length}
 use Rattle.graphql_tree.specs.declared.document.Fragment.{Fragment}
 use Rattle.graphql_merging.specs.Tables.{pieces_of}
+use Rattle.graphql_rules_merging.specs.Agenda.{listed_of}
 use Rattle.graphql_rules_merging.specs.Comparing.{stage_of}
 use Rattle.graphql_rules_merging.proofs.Underway.{IsUnderway}
+use Rattle.graphql_rules_merging.proofs.Measure.{ahead}
 use Rattle.graphql_rules_merging.proofs.finish.merge_errors.Given as goal
 
--- the pairs before the place are compared
-abbrev pub invariant-loop-place : goal.invariant-loop-place
-invariant-loop-place g l = (fragments : List (Fragment g.row.S.Denot)) → IsUnderway g.S.PartialEq.eq l.schema.types (pieces_of fragments l.table) l.definitions l.place (stage_of l.progress)
+-- the pairs that were given out are compared
+abbrev pub invariant-pairs : goal.invariant-pairs
+invariant-pairs g l = (fragments : List (Fragment g.row.S.Denot)) → IsUnderway g.S.PartialEq.eq l.schema.types (pieces_of fragments l.table) l.definitions (stage_of l.progress)
 
-abbrev pub decreases-loop-place : goal.decreases-loop-place
-decreases-loop-place g l = 2 ^ 63 - l.place
+abbrev pub decreases-pairs : goal.decreases-pairs
+decreases-pairs g l = ahead (listed_of l.progress.agenda) (length l.table.sets)

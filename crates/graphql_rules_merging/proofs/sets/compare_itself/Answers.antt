@@ -1,6 +1,7 @@
 use Rattle.std.proofs.lemmas.Result.{on_ok_weaker}
 use Rattle.graphql_merging.specs.Tables.{pieces_of, piece_field}
 use Rattle.graphql_rules_merging.proofs.WholeSets.{begins_within}
+use Rattle.graphql_rules_merging.specs.Agenda.{listed_of}
 use Rattle.graphql_rules_merging.proofs.sets.compare_itself.Goals as goal
 
 pub returns : goal.returns
@@ -9,7 +10,7 @@ returns g c =
     (λ compares fragments. (
       (compares fragments).told,
       begins_within g.S.PartialEq.eq c.args.schema.now.types (pieces_of fragments c.args.table.now) c.args.around (piece_field fragments) c.args.fields.now
-          c.args.progress.now.agenda.pairs.keys c.begin_own_sets.new.agenda.pairs.keys c.compare_within.new.progress.agenda.pairs.keys
+          (listed_of c.args.progress.now.agenda) (listed_of c.begin_own_sets.new.agenda) (listed_of c.compare_within.new.progress.agenda)
           (c.in_ok-begin_own_sets.ensures fragments) (compares fragments).begun,
     ))
     c.compare_within.ensures

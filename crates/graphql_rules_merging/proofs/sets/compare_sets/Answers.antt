@@ -4,6 +4,7 @@ use Rattle.graphql_merging.specs.Tables.{pieces_of, piece_field}
 use Rattle.graphql_rules_merging.specs.Comparing.{stage_of}
 use Rattle.graphql_rules_merging.proofs.Numbered.{direct_at, inner_at, empty_at}
 use Rattle.graphql_rules_merging.proofs.WholeSets.{compares_empty, compares_itself, compares_other}
+use Rattle.graphql_rules_merging.specs.Agenda.{listed_of}
 use Rattle.graphql_rules_merging.proofs.sets.compare_sets.Goals as goal
 
 pub returns-in_default : goal.returns-in_default
@@ -25,7 +26,7 @@ returns-then-pair g c =
     let one = c.in-Some.one.now in
     compares_itself g.S.PartialEq.eq c.args.schema.now.types (pieces_of fragments table) c.args.pair c.as_slice.result.now c.as_slice-2.result.now
     (map (piece_field fragments) c.as_slice-fields.result.now) (stage_of c.args.progress.now) (stage_of c.compare_itself.new.progress)
-    c.begin_with.new.agenda.pairs.keys c.begin_with-2.new.agenda.pairs.keys
+    (listed_of c.begin_with.new.agenda) (listed_of c.begin_with-2.new.agenda)
     (c.as_slice.ensures ∙ sym (inner_at fragments table left one c.in-Some.ensures))
     (c.as_slice-2.ensures ∙ sym (inner_at fragments table c.args.pair.right c.in-Some-get.other.now c.in-Some-get.ensures))
     (ap (map (piece_field fragments)) c.as_slice-fields.ensures ∙ sym (direct_at fragments table left one c.in-Some.ensures))
@@ -43,7 +44,7 @@ returns-else-pair g c =
     let other = c.in-Some-get.other.now in
     compares_other g.S.PartialEq.eq c.args.schema.now.types (pieces_of fragments table) c.args.pair c.as_slice.result.now c.as_slice-2.result.now
     (map (piece_field fragments) c.as_slice-fields.result.now) (stage_of c.args.progress.now) (stage_of c.compare_between.new.progress)
-    c.begin_with.new.agenda.pairs.keys c.begin_with-2.new.agenda.pairs.keys
+    (listed_of c.begin_with.new.agenda) (listed_of c.begin_with-2.new.agenda)
     (c.as_slice.ensures ∙ sym (inner_at fragments table left one c.in-Some.ensures))
     (c.as_slice-2.ensures ∙ sym (inner_at fragments table right other c.in-Some-get.ensures))
     (ap (map (piece_field fragments)) c.as_slice-fields.ensures ∙ sym (direct_at fragments table left one c.in-Some.ensures))
