@@ -2,5 +2,12 @@
 #![tactic(auto)]
 
 mod query;
+mod request;
 
+pub use graphql_requests::{GraphQLError, get_operation};
+pub use graphql_resolve::{
+    ExecutionError, ExecutionResult, FieldError, FieldFault, FieldResult, IntoFieldError, Resolved,
+};
+pub use graphql_value_resolution::{Context, Executor, FromContext, GraphQLValue};
 pub use query::{Response, execute_query};
+pub use request::execute_sync;

@@ -1,0 +1,15 @@
+use Rattle.std.specs.Str.{chars}
+use Rattle.graphql_schema.specs.Declarations.{declarations_of}
+use Rattle.graphql_language.specs.Texts.{IsRefused}
+use Rattle.graphql_requests.specs.Refusals.{IsUnread}
+use Rattle.graphql_requests.proofs.FaultLemmas.{fault-told}
+use Rattle.graphql_requests.proofs.prepared.read_request.Goals as goal
+
+pub returns-in-Err-clause-refused : goal.returns-in-Err-clause-refused
+returns-in-Err-clause-refused g c =
+    let text = chars c.args.source.now in
+    let fault = c.in-Err.fault in
+    rw c.from.ensures
+    (fault-told (IsRefused g.row.S.Denot g.S.ParseScalarValue.reads g.S.ScalarValue.of_bool text)
+    (IsUnread g.S.ParseScalarValue.reads g.S.ScalarValue.of_bool g.S.PartialEq.eq g.S.ScalarValue.answer g.S.Check.Check.accepts (declarations_of c.args.root_node.now.schema) c.args.root_node.now.introspection_disabled text)
+    (λ f h. h) tt fault.item fault c.in-Err.ensures.fault)

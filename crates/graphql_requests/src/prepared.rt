@@ -1,0 +1,81 @@
+//! Requests, until they can be executed.
+
+ghost use Rattle.std.specs.Prelude.{IfErr, IfOk};
+ghost use Rattle.std.specs.HashMap.{get_by_text};
+ghost use Rattle.std.specs.List.Sorted.{IsSorted};
+ghost use Rattle.std.specs.Option.{option_map};
+ghost use Rattle.std.specs.Str.{chars};
+ghost use Rattle.graphql_schema.specs.Declarations.{declarations_of};
+ghost use Rattle.graphql_requests.specs.Operations.{chosen};
+ghost use Rattle.graphql_requests.specs.Refusals.{IsRead, IsReady, IsStopped, IsUnread, errors_of};
+
+use crate::graphql_error::GraphQLError;
+use crate::operations::get_operation;
+use graphql_language::parse_document_source;
+use graphql_meta::SchemaScalar;
+use graphql_rule_errors::RuleError;
+use graphql_schema::RootNode;
+use graphql_text::Spanning;
+use graphql_tree::{Definition, Operation, OperationType, OwnedDocument};
+use graphql_validation::root_node_errors;
+use graphql_values::Variables;
+use graphql_variable_values::validate_input_values;
+use std::alloc::Global;
+
+/// The document of a request's text, which is valid for the root node (GraphQL October 2021, 6.1
+/// Executing Requests). Its names are borrowed from the text.
+///
+/// An error is `GraphQLError::ParseError` where the text is no document: its first fault. Where it is one,
+/// the error is `GraphQLError::ValidationError` with what all rules have against it, the rule against
+/// introspection among them where the root node has it disabled, in order: by their places, then by their
+/// messages. `GraphQLError::Memory` comes only where memory ran out, and no other error comes.
+pub fn read_request<'a, S: SchemaScalar>(
+    alloc: Global,
+    source: &'a str,
+    root_node: &RootNode<S>,
+) -> Result<OwnedDocument<'a, S>, GraphQLError>
+    ensures read { IfOk result (IsRead S.reads S.of_bool S.eq S.answer S.Check.accepts (declarations_of root_node.now.schema) root_node.now.introspection_disabled (chars source.now)) }
+    ensures refused { IfErr result (IsUnread S.reads S.of_bool S.eq S.answer S.Check.accepts (declarations_of root_node.now.schema) root_node.now.introspection_disabled (chars source.now)) }
+    ensures sorted { IfErr result (λ error. IsSorted ⟦<RuleError as Ord>⟧.cmp (errors_of error)) }
+{
+    let document = match parse_document_source(alloc, source) {
+        Ok(document) => document,
+        Err(fault) => return Err(GraphQLError::from(fault)),
+    };
+    let errors = root_node_errors(alloc, root_node, document.as_slice())?;
+    if !errors.is_empty() {
+        return Err(GraphQLError::from(errors));
+    }
+    Ok(document)
+}
+
+/// The operation of a document that a request executes (GraphQL October 2021, 6.1 Executing Requests): the
+/// one that `get_operation` gives. It accepts the values that the request gives for its variables (6.1.2
+/// Coercing Variable Values), and is a query.
+///
+/// The first of these that fails decides: `get_operation` refuses; the operation does not accept the
+/// values, `GraphQLError::ValidationError` with the errors that `validate_input_values` gives; the
+/// operation is a subscription, `GraphQLError::IsSubscription`, or a mutation,
+/// `GraphQLError::NoMutationType`, also where the schema has a type for mutations: they are not executed.
+/// `GraphQLError::Memory` comes only where memory ran out, and no other error comes.
+pub fn chosen_operation<'d, 'a, S: SchemaScalar>(
+    alloc: Global,
+    document: &'d [Definition<'a, S>],
+    operation_name: Option<&str>,
+    root_node: &RootNode<S>,
+    variables: &Variables<S>,
+) -> Result<&'d Spanning<Operation<'a, S>>, GraphQLError>
+    ensures ready { IfOk result (λ operation. IsReady S.answer S.Check.accepts root_node.now.schema.types (get_by_text variables.now) (chosen (option_map (λ name. name.now) operation_name.entry) document.now) operation.now) }
+    ensures refused { IfErr result (IsStopped S.answer S.Check.accepts root_node.now.schema.types (get_by_text variables.now) (chosen (option_map (λ name. name.now) operation_name.entry) document.now)) }
+{
+    let operation = get_operation(document, operation_name)?;
+    let errors = validate_input_values(alloc, variables, operation, root_node.schema())?;
+    if !errors.is_empty() {
+        return Err(GraphQLError::from(errors));
+    }
+    match operation.item.operation_type {
+        OperationType::Query => Ok(operation),
+        OperationType::Mutation => Err(GraphQLError::NoMutationType),
+        OperationType::Subscription => Err(GraphQLError::IsSubscription),
+    }
+}
