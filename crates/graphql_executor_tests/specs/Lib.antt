@@ -1,0 +1,3 @@
+pub mod Beings
+pub mod Kinds
+pub mod SameKinds

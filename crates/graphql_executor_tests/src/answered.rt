@@ -1,0 +1,137 @@
+//! What requests are answered, as lines of text.
+
+use crate::beings::Household;
+use crate::costly::{nested, spread_twice};
+use graphql_executor::{ExecutionError, GraphQLError, Response, execute_sync};
+use graphql_text::SourcePosition;
+use graphql_validation::RootNode;
+use graphql_values::{DefaultScalarValue, Variables};
+use std::alloc::{AllocError, Global};
+use std::process::Abort;
+
+pub type Root = RootNode<DefaultScalarValue>;
+
+/// A text, and what it is answered: the data and the errors, a line each, or the refusal.
+pub type Row<'a> = (&'a str, &'a str);
+
+/// What is asserted of requests.
+#[derive(Clone, Copy)]
+pub enum Asked<'a> {
+    /// What each text is answered.
+    Texts(&'a [Row<'a>]),
+
+    /// How many bytes the answer to sets that nest so deep is shown in.
+    Nested(usize, usize),
+
+    /// What so many fragments that each spread the next one twice are answered.
+    SpreadTwice(u32, &'a str),
+
+    /// What a text is answered of which each operation is asked by its name, or without a name.
+    Operations(&'a str, &'a [(Option<&'a str>, &'a str)]),
+}
+
+/// A place: its index, its line and its column, each from zero.
+fn place_told(alloc: Global, place: &SourcePosition) -> Result<String, AllocError> {
+    let (index, line, column) = (place.index(), place.line(), place.column());
+    format!(in alloc; "({index},{line},{column})")
+}
+
+/// Where a field without a value stands, its path, and why it has none.
+fn error_told(
+    alloc: Global,
+    error: &ExecutionError<DefaultScalarValue>,
+) -> Result<String, AllocError> {
+    let place = place_told(alloc, error.location())?;
+    let mut told = format!(in alloc; "{place}")?;
+    for key in error.path() {
+        told.push_str(" ")?;
+        told.push_str(key.as_str())?;
+    }
+    told.push_str(": ")?;
+    told.push_str(error.error().message())?;
+    Ok(told)
+}
+
+/// The data, and behind them the errors, a line each.
+fn response_told(
+    alloc: Global,
+    response: &Response<DefaultScalarValue>,
+) -> Result<String, AllocError> {
+    let mut told = format!(in alloc; "{}", response.0)?;
+    for error in response.1.as_slice() {
+        let line = error_told(alloc, error)?;
+        told.push_str("\n")?;
+        told.push_str(line.as_str())?;
+    }
+    Ok(told)
+}
+
+/// What is answered, or why nothing is.
+fn told(
+    alloc: Global,
+    answer: Result<Response<DefaultScalarValue>, GraphQLError>,
+) -> Result<String, AllocError> {
+    match answer {
+        Ok(response) => response_told(alloc, &response),
+        Err(refusal) => format!(in alloc; "{refusal}"),
+    }
+}
+
+/// What a request is answered, as text.
+fn answer_told(
+    alloc: Global,
+    root: &Root,
+    text: &str,
+    name: Option<&str>,
+) -> Result<String, AllocError> {
+    let mut context = ();
+    let variables = Variables::new(alloc);
+    let answer = execute_sync(
+        alloc,
+        text,
+        name,
+        root,
+        &Household,
+        &variables,
+        &mut context,
+    );
+    told(alloc, answer)
+}
+
+/// Asserts what a request is answered.
+fn is_answered(
+    rt: &impl Abort,
+    alloc: Global,
+    root: &Root,
+    text: &str,
+    name: Option<&str>,
+    wanted: &str,
+) {
+    let told = answer_told(alloc, root, text, name).expect(rt, "memory");
+    assert_eq!(rt; told.as_str(), wanted);
+}
+
+/// Asserts of requests over a root node what they are answered.
+pub fn ask(rt: &impl Abort, alloc: Global, root: &Root, asked: Asked<'_>) {
+    match asked {
+        Asked::Texts(rows) => {
+            for row in rows {
+                is_answered(rt, alloc, root, row.0, None, row.1);
+            }
+        }
+        Asked::Nested(levels, wanted) => {
+            let text = nested(alloc, levels).expect(rt, "memory");
+            let told = answer_told(alloc, root, text.as_str(), None).expect(rt, "memory");
+            assert_eq!(rt; told.len(), wanted);
+        }
+        Asked::SpreadTwice(fragments, wanted) => {
+            let text = spread_twice(alloc, fragments).expect(rt, "memory");
+            is_answered(rt, alloc, root, text.as_str(), None, wanted);
+        }
+        Asked::Operations(text, rows) => {
+            for row in rows {
+                is_answered(rt, alloc, root, text, row.0, row.1);
+            }
+        }
+    }
+}

@@ -1,0 +1,184 @@
+//! The resolver of the tests: three beings, and a root.
+
+ghost use Rattle.std.specs.Prelude.{◌≡◌, ◌∷◌, [], Err};
+ghost use Rattle.std.specs.Option.{option_copied};
+ghost use Rattle.graphql_items.specs.Memory.{Gives};
+ghost use Rattle.graphql_arguments.specs.GivenValues.{arguments_told};
+ghost use Rattle.graphql_evaluation.specs.Completion.{reason};
+ghost use Rattle.graphql_resolve.specs.declared.resolved.Resolved.TheVariants as resolved;
+ghost use Rattle.graphql_value_resolution.specs.Answered.{Answered};
+ghost use Rattle.graphql_executor_tests.specs.Beings as spec;
+ghost use Rattle.graphql_executor_tests.specs.Kinds.{kind};
+
+use graphql_arguments::Arguments;
+use graphql_resolve::{FieldError, FieldFault, FieldResult, Resolved};
+use graphql_text::{Items, Text};
+use graphql_value_resolution::{Executor, GraphQLValue};
+use graphql_values::{DefaultScalarValue, InputValue};
+use std::alloc::{AllocError, Global};
+
+/// What fields are asked of: the root, a human, a dog and a cat.
+#[derive(Clone, Copy)]
+pub enum Being {
+    /// The root.
+    Root,
+
+    /// A human.
+    Ann,
+
+    /// A dog.
+    Rex,
+
+    /// A cat.
+    Tom,
+}
+
+type Answer = Resolved<DefaultScalarValue, Being>;
+
+/// Knows the beings.
+#[derive(Clone, Copy)]
+pub struct Household;
+
+/// A text as an answer. An error is want of memory.
+fn word(alloc: Global, words: &str) -> FieldResult<Answer, DefaultScalarValue>
+    ensures { Answered (spec.word words.now) result }
+{
+    let text = Text::from_str(alloc, words)?;
+    Ok(Resolved::Scalar(DefaultScalarValue::String(text)))
+}
+
+/// An error of this reason, or want of memory.
+fn fails(alloc: Global, words: &str) -> FieldResult<Answer, DefaultScalarValue>
+    ensures { Answered (Err (reason words.now)) result }
+{
+    let text = Text::from_str(alloc, words)?;
+    Err(FieldFault::Error(FieldError::of(text)))
+}
+
+/// Two answers as a list. An error is want of memory.
+fn listed(alloc: Global, first: Answer, second: Answer) -> Result<Answer, AllocError>
+    ensures { Gives result (resolved.List (first ∷ second ∷ [])) }
+{
+    let mut items = Items::with_capacity(alloc, 2)?;
+    items.push(first)?;
+    items.push(second)?;
+    Ok(Resolved::List(items))
+}
+
+/// A flag, and none. An error is want of memory.
+fn flags(alloc: Global) -> Result<Answer, AllocError>
+    ensures { Gives result spec.flags }
+{
+    listed(
+        alloc,
+        Resolved::Scalar(DefaultScalarValue::Boolean(true)),
+        Resolved::Null,
+    )
+}
+
+/// Of which kind the value is, if there is one.
+fn kind_or_absent(value: Option<&InputValue<DefaultScalarValue>>) -> &'static str
+    ensures { result.now ≡ spec.kind_or_absent (option_copied value.entry) }
+{
+    match value {
+        None => "absent",
+        Some(InputValue::Null) => "null",
+        Some(InputValue::Scalar(_)) => "scalar",
+        Some(InputValue::Enum(_)) => "enum",
+        Some(InputValue::Variable(_)) => "variable",
+        Some(InputValue::List(_)) => "list",
+        Some(InputValue::Object(_)) => "object",
+    }
+}
+
+/// What the root answers for a field.
+fn of_root(
+    alloc: Global,
+    field: &str,
+    arguments: &Arguments<'_, DefaultScalarValue>,
+) -> FieldResult<Answer, DefaultScalarValue>
+    ensures { Answered (spec.of_root field.now (arguments_told arguments.now)) result }
+{
+    match field {
+        "human" => Ok(Resolved::Node(Being::Ann)),
+        "dog" => Ok(Resolved::Node(Being::Rex)),
+        "pet" => Ok(Resolved::Node(Being::Tom)),
+        "pets" => Ok(listed(
+            alloc,
+            Resolved::Node(Being::Rex),
+            Resolved::Node(Being::Tom),
+        )?),
+        "self" => Ok(Resolved::Node(Being::Root)),
+        "impossible" => Ok(Resolved::Node(Being::Ann)),
+        "broken" => fails(alloc, "No such flag"),
+        "flags" => Ok(flags(alloc)?),
+        "grid" => Ok(listed(alloc, flags(alloc)?, Resolved::Null)?),
+        "one" => Ok(Resolved::Scalar(DefaultScalarValue::Boolean(true))),
+        "given" | "many" | "shape" => {
+            word(alloc, kind_or_absent(arguments.get_input_value("value")))
+        }
+        _ => Ok(Resolved::Null),
+    }
+}
+
+/// What a being of this name answers for a field.
+fn of_being(alloc: Global, own: &str, field: &str) -> FieldResult<Answer, DefaultScalarValue>
+    ensures { Answered (spec.of_being own.now field.now) result }
+{
+    match field {
+        "name" => word(alloc, own),
+        "owner" => Ok(Resolved::Node(Being::Ann)),
+        "lives" => fails(alloc, "Nobody counts"),
+        _ => Ok(Resolved::Null),
+    }
+}
+
+impl GraphQLValue<DefaultScalarValue> for Household {
+    type Context = ();
+
+    type Node = Being;
+
+    ghost use Rattle.graphql_executor_tests.specs.Beings as spec;
+    ghost use Rattle.graphql_executor_tests.specs.SameKinds.{answers-same};
+    ghost use Rattle.graphql_executor_tests.specs.declared.beings.Being.TheVariants as being;
+
+    ghost root_node = { λ _. being.Root };
+
+    ghost type_of = { λ _ _ node. spec.type_name node };
+
+    ghost answer = { λ _ _ node field given. spec.answer node field given };
+
+    ghost respects = { λ _ _ node field a b same. answers-same _ node field a b same };
+
+    fn root(&self) -> Being
+        ensures { result ≡ being.Root }
+    {
+        Being::Root
+    }
+
+    fn concrete_type_name<'c>(&'c self, _context: &'c (), node: &'c Being) -> &'c str
+        ensures { result.now ≡ spec.type_name node.now }
+    {
+        match node {
+            Being::Root => "Query",
+            Being::Ann => "Human",
+            Being::Rex => "Dog",
+            Being::Tom => "Cat",
+        }
+    }
+
+    fn resolve_field(
+        &self,
+        node: &Being,
+        field: &str,
+        arguments: &Arguments<'_, DefaultScalarValue>,
+        executor: &Executor<'_, '_, (), DefaultScalarValue>,
+    ) -> FieldResult<Answer, DefaultScalarValue> {
+        match node {
+            Being::Root => of_root(executor.alloc, field, arguments),
+            Being::Ann => of_being(executor.alloc, "Ann", field),
+            Being::Rex => of_being(executor.alloc, "Rex", field),
+            Being::Tom => of_being(executor.alloc, "Tom", field),
+        }
+    }
+}

@@ -1,0 +1,12 @@
+//! Tests of execution: what requests are answered over a resolver of the tests' own.
+#![tactic(auto)]
+
+#[cfg(test)]
+mod answered;
+pub mod beings;
+#[cfg(test)]
+mod costly;
+#[cfg(test)]
+mod rows;
+#[cfg(test)]
+mod schemas;

@@ -1,0 +1,133 @@
+//! Requests, and what they are answered.
+
+use crate::answered::{Asked, Row};
+use crate::schemas::over;
+
+/// Objects, aliases, fragments and arguments.
+const ANSWERED: &[Row<'_>] = &[
+    (
+        "{ human { name friend { name } } }",
+        "{\"human\": {\"name\": \"Ann\", \"friend\": null}}",
+    ),
+    (
+        "{ a: human { __typename } a: human { name } b: dog { name } }",
+        "{\"a\": {\"__typename\": \"Human\", \"name\": \"Ann\"}, \"b\": {\"name\": \"Rex\"}}",
+    ),
+    (
+        "{ pet { __typename name ... on Cat { owner { name } } ... on Dog { d: name } } }",
+        "{\"pet\": {\"__typename\": \"Cat\", \"name\": \"Tom\", \"owner\": {\"name\": \"Ann\"}}}",
+    ),
+    (
+        "{ pets { ...p } } fragment p on Pet { name ...p2 ...p2 } fragment p2 on Pet { __typename }",
+        "{\"pets\": [{\"name\": \"Rex\", \"__typename\": \"Dog\"}, {\"name\": \"Tom\", \"__typename\": \"Cat\"}]}",
+    ),
+    ("{ grid }", "{\"grid\": [[true, null], null]}"),
+    (
+        "{ self { self { n: __typename } } }",
+        "{\"self\": {\"self\": {\"n\": \"Query\"}}}",
+    ),
+    (
+        "{ a: given b: given(value: null) c: shape(value: {x: 1}) d: many(value: [1, null]) e: many }",
+        "{\"a\": \"scalar\", \"b\": \"null\", \"c\": \"object\", \"d\": \"list\", \"e\": \"absent\"}",
+    ),
+    (
+        "query($v: Any, $w: [Any] = [2], $x: Any = null) { a: given(value: $v) b: many(value: $w) c: many(value: [$v]) d: given(value: $x) }",
+        "{\"a\": \"scalar\", \"b\": \"list\", \"c\": \"list\", \"d\": \"null\"}",
+    ),
+    (
+        "{ human @skip(if: true) { name } dog @include(if: true) { name } being { __typename } }",
+        "{\"dog\": {\"name\": \"Rex\"}, \"being\": null}",
+    ),
+];
+
+/// Fields without a value.
+const FAILED: &[Row<'_>] = &[
+    (
+        "{ broken\n dog { name } }",
+        "{\"broken\": null, \"dog\": {\"name\": \"Rex\"}}\n(2,0,2) broken: No such flag",
+    ),
+    (
+        "{ human { name age } }",
+        "{\"human\": null}\n(15,0,15) human age: Null at a non-null place",
+    ),
+    (
+        "{ pet { name ... on Cat { l: lives } } }",
+        "{\"pet\": null}\n(26,0,26) pet l: Nobody counts",
+    ),
+    (
+        "{ impossible { name } }",
+        "{\"impossible\": null}\n(2,0,2) impossible: Answer does not fit type Pet",
+    ),
+    (
+        "{ one }",
+        "{\"one\": null}\n(2,0,2) one: Answer does not fit type [Boolean]",
+    ),
+    (
+        "{ flags }",
+        "{\"flags\": null}\n(2,0,2) flags: Null at a non-null place",
+    ),
+    (
+        "{ b: broken a: broken }",
+        "{\"b\": null, \"a\": null}\n(2,0,2) b: No such flag\n(12,0,12) a: No such flag",
+    ),
+];
+
+/// Requests that are refused, the first step that fails deciding.
+const REFUSED: &[Row<'_>] = &[
+    ("{", "Unexpected end of input. At 0:1"),
+    (
+        "{ nothing }",
+        "Unknown field \"nothing\" on type \"Query\". At 0:2",
+    ),
+    (
+        "fragment f on Human { name }",
+        "Fragment \"f\" is never used. At 0:0",
+    ),
+];
+
+#[test]
+fn requests_are_answered(rt: HostRuntime) {
+    over(&rt, rt.alloc(), Asked::Texts(ANSWERED));
+}
+
+#[test]
+fn fields_without_a_value_are_told(rt: HostRuntime) {
+    over(&rt, rt.alloc(), Asked::Texts(FAILED));
+}
+
+#[test]
+fn the_first_step_that_fails_decides(rt: HostRuntime) {
+    over(&rt, rt.alloc(), Asked::Texts(REFUSED));
+}
+
+#[test]
+fn operations_are_chosen(rt: HostRuntime) {
+    over(
+        &rt,
+        rt.alloc(),
+        Asked::Operations(
+            "query a { one: __typename } query b { two: __typename }",
+            &[
+                (Some("a"), "{\"one\": \"Query\"}"),
+                (Some("b"), "{\"two\": \"Query\"}"),
+                (Some("c"), "Unknown operation name"),
+                (Some(""), "Unknown operation name"),
+                (None, "Multiple operations provided"),
+            ],
+        ),
+    );
+}
+
+#[test]
+fn deep_sets_are_answered(rt: HostRuntime) {
+    over(&rt, rt.alloc(), Asked::Nested(10_900, 109_023));
+}
+
+#[test]
+fn each_fragment_is_entered_once(rt: HostRuntime) {
+    over(
+        &rt,
+        rt.alloc(),
+        Asked::SpreadTwice(400, "{\"__typename\": \"Query\"}"),
+    );
+}
