@@ -1,0 +1,4 @@
+mod Parts
+mod Written
+mod NoFeeds
+mod Distinct

@@ -1,0 +1,20 @@
+use Rattle.std.proofs.Common.{◌≡◌, ◌++◌, [], OnOk, codes, map, subst, sym, rules}
+use Rattle.graphql_lines.specs.Json.{joined}
+use Rattle.graphql_names.specs.Names.{Bytes}
+use Rattle.graphql_answers.specs.Texts.{request_error_text}
+use Rattle.graphql_answers.proofs.Parts.{three_parts}
+use Rattle.graphql_answers.proofs.Written.{of_refusal}
+use Rattle.graphql_answers.proofs.refusals.errors_to_json.Goals as goal
+
+pub returns : goal.returns
+returns g c =
+    let s = g.S.ScalarValue in
+    let o = c.args.out.now.items in
+    let a = c.extend_from_slice.new.self.items in
+    let b = c.push_request_errors.new.out.items in
+    let n = c.extend_from_slice-2.new.self.items in
+    let first : a ≡ o ++ codes "{\"errors\":[" = c.in_ok-extend_from_slice.ensures.items in
+    let end : OnOk c.extend_from_slice-2.result (n ≡ b ++ codes "]}") = search rules in
+    let whole = three_parts c.extend_from_slice-2.result o (codes "{\"errors\":[") a (joined [] (map request_error_text c.args.errors.now)) b (codes "]}") n first c.in_ok-push_request_errors.ensures end in
+    let P : Bytes → Type 0 = λ t. OnOk c.extend_from_slice-2.result (n ≡ o ++ t) in
+    subst P (sym (of_refusal s.answer s.of_int s.of_text g.met.S.ScalarValue.int_answers g.met.S.ScalarValue.text_answers c.args.errors.now)) whole

@@ -1,0 +1,37 @@
+-- Answers as lines of JSON (GraphQL October 2021, 7.2 Serialization Format; RFC 8259).
+use Rattle.std.specs.Prelude.{◌≡◌, ℤ, ◌==◌, false, List, [], ◌∷◌, ◌++◌}
+use Rattle.std.specs.List.{All, list_any}
+use Rattle.graphql_names.specs.Names.{Bytes}
+use Rattle.graphql_scalars.specs.ScalarAnswers.{ScalarAnswer}
+use Rattle.graphql_output_values.specs.DistinctKeys.{HasDistinctKeysThroughout}
+use Rattle.graphql_output_values.specs.declared.value.Value.{Value}
+use Rattle.graphql_resolve.specs.declared.execution_error.ExecutionError.{ExecutionError}
+use Rattle.graphql_rule_errors.specs.declared.rule_error.RuleError.{RuleError}
+use Rattle.graphql_lines.specs.Json.{json}
+use Rattle.graphql_answers.specs.Responses.{response_of, refusal_of}
+
+-- one line: it ends with a line feed, and holds no other
+pub record IsLine (bytes : Bytes) : Type 0 where
+  pub front : Bytes
+  pub is : bytes ≡ front ++ 10 ∷ []
+  pub no_feed : list_any (λ b. b == 10) front ≡ false
+
+module _ {S : Type 0} (answer : S → ScalarAnswer) where
+  -- the JSON of a value, and a line feed
+  abbrev pub line_of : Value S → Bytes
+  line_of v = json answer v ++ 10 ∷ []
+
+  abbrev pub ValuesAreLines : Type 0
+  ValuesAreLines = (v : Value S) → IsLine (line_of v)
+
+module _ {S : Type 0} (of_int : ℤ → S) (of_text : Bytes → S) where
+  -- what is told beside an error has distinct keys, however deep
+  abbrev pub ToldInDistinctKeys : ExecutionError S → Type 0
+  ToldInDistinctKeys error = HasDistinctKeysThroughout error.error.extensions
+
+  -- each object in an answer has distinct keys, however deep, where those have that it takes over (7.2.2 Serialized Map Ordering)
+  abbrev pub AnswersHaveDistinctKeys : Type 0
+  AnswersHaveDistinctKeys =
+      ((answered : Value S) (errors : List (ExecutionError S)) → HasDistinctKeysThroughout answered → All ToldInDistinctKeys errors
+      → HasDistinctKeysThroughout (response_of of_int of_text answered errors))
+      × ((errors : List RuleError) → HasDistinctKeysThroughout (refusal_of {S = S} of_int of_text errors))

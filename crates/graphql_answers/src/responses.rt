@@ -1,0 +1,115 @@
+//! Answers to requests that are executed.
+
+ghost use Rattle.std.specs.Prelude.{◌≡◌, [], ◌++◌, map, OnOk};
+ghost use Rattle.graphql_answers.specs.Responses.{response_of};
+ghost use Rattle.graphql_answers.specs.Texts as spec;
+ghost use Rattle.graphql_lines.specs.Json.{joined, json, json_text};
+
+use crate::places::push_location;
+use graphql_lines::{text_to_json, value_to_json};
+use graphql_output_values::Value;
+use graphql_resolve::ExecutionError;
+use graphql_scalars::ScalarValue;
+use graphql_text::Text;
+use std::alloc::AllocError;
+
+/// Writes response keys, with a comma between any two.
+fn push_path(out: &mut Vec<u8>, path: &[Text]) -> Result<(), AllocError>
+    ensures { OnOk result (out.new.items ≡ out.old.items ++ joined [] (map json_text path.now)) }
+{
+    let mut gap: &[u8] = b"";
+    'keys: for key in path {
+        out.extend_from_slice(gap)?;
+        text_to_json(out, key.as_str())?;
+        gap = b",";
+    }
+    Ok(())
+}
+
+/// Writes the member of what is told beside an error, unless that is null.
+fn push_extensions<S: ScalarValue>(out: &mut Vec<u8>, beside: &Value<S>) -> Result<(), AllocError>
+    ensures { OnOk result (out.new.items ≡ out.old.items ++ spec.extensions_text S.answer beside.now) }
+{
+    if beside.is_null() {
+        return Ok(());
+    }
+    out.extend_from_slice(b",\"extensions\":")?;
+    value_to_json(out, beside)
+}
+
+/// Writes where a field without a value starts, and its path.
+fn push_where<S: ScalarValue>(
+    out: &mut Vec<u8>,
+    error: &ExecutionError<S>,
+) -> Result<(), AllocError>
+    ensures { OnOk result (out.new.items ≡ out.old.items ++ spec.where_text error.now) }
+{
+    out.extend_from_slice(b",\"locations\":[")?;
+    push_location(out, error.location())?;
+    out.extend_from_slice(b"],\"path\":[")?;
+    push_path(out, error.path())?;
+    out.extend_from_slice(b"]")
+}
+
+/// Writes a field without a value.
+fn push_field_error<S: ScalarValue>(
+    out: &mut Vec<u8>,
+    error: &ExecutionError<S>,
+) -> Result<(), AllocError>
+    ensures { OnOk result (out.new.items ≡ out.old.items ++ spec.field_error_text S.answer error.now) }
+{
+    out.extend_from_slice(b"{\"message\":")?;
+    text_to_json(out, error.error().message())?;
+    push_where(out, error)?;
+    push_extensions(out, error.error().extensions())?;
+    out.extend_from_slice(b"}")
+}
+
+/// Writes fields without a value, with a comma between any two.
+fn push_field_errors<S: ScalarValue>(
+    out: &mut Vec<u8>,
+    errors: &[ExecutionError<S>],
+) -> Result<(), AllocError>
+    ensures { OnOk result (out.new.items ≡ out.old.items ++ joined [] (map (spec.field_error_text S.answer) errors.now)) }
+{
+    let mut gap: &[u8] = b"";
+    'errors: for error in errors {
+        out.extend_from_slice(gap)?;
+        push_field_error(out, error)?;
+        gap = b",";
+    }
+    Ok(())
+}
+
+/// Writes the member of errors, unless there is none.
+fn push_errors<S: ScalarValue>(
+    out: &mut Vec<u8>,
+    errors: &[ExecutionError<S>],
+) -> Result<(), AllocError>
+    ensures { OnOk result (out.new.items ≡ out.old.items ++ spec.errors_text S.answer errors.now) }
+{
+    if errors.is_empty() {
+        return Ok(());
+    }
+    out.extend_from_slice(b",\"errors\":[")?;
+    push_field_errors(out, errors)?;
+    out.extend_from_slice(b"]")
+}
+
+/// Writes the answer to a request that is executed, at the end of `out`, as JSON without spaces (GraphQL
+/// October 2021, 7.1 Response Format): the value as its data and, where there are any, its errors, each with what it
+/// says, the line and the column of its field from one, the response keys down to that field and, unless
+/// that is null, what is told beside it. An error of the call is want of memory: then `out` may hold a
+/// part of it.
+pub fn response_to_json<S: ScalarValue>(
+    out: &mut Vec<u8>,
+    value: &Value<S>,
+    errors: &[ExecutionError<S>],
+) -> Result<(), AllocError>
+    ensures { OnOk result (out.new.items ≡ out.old.items ++ json S.answer (response_of S.of_int S.of_text value.now errors.now)) }
+{
+    out.extend_from_slice(b"{\"data\":")?;
+    value_to_json(out, value)?;
+    push_errors(out, errors)?;
+    out.extend_from_slice(b"}")
+}
