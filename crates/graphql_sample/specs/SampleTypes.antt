@@ -1,0 +1,76 @@
+-- The types of the schema of the sample (GraphQL October 2021, 3.4 Types).
+use Rattle.std.specs.Prelude.{◌∷◌, [], List, Some, None, codes, map}
+use Rattle.std.specs.Borrow.{Bor}
+use Rattle.graphql_names.specs.Names.{Bytes}
+use Rattle.graphql_scalars.specs.declared.default_scalar.DefaultScalarValue.{DefaultScalarValue}
+use Rattle.graphql_type_references.specs.declared.type_modifier.TypeModifier.{TypeModifier}
+use Rattle.graphql_type_references.specs.declared.type_modifier.TypeModifier.TheVariants as modifier
+use Rattle.graphql_meta.specs.declared.meta.argument.Argument.{Argument}
+use Rattle.graphql_meta.specs.declared.meta.deprecation.DeprecationStatus.TheVariants as status
+use Rattle.graphql_meta.specs.declared.meta.field.Field.{Field}
+use Rattle.graphql_meta.specs.declared.meta.object.ObjectMeta.{ObjectMeta}
+use Rattle.graphql_meta.specs.declared.meta.MetaType.{MetaType}
+use Rattle.graphql_meta.specs.declared.meta.MetaType.TheVariants as meta
+use Rattle.graphql_schema_faults.specs.Faults.{Roots}
+
+abbrev pub Wraps : Type 0
+Wraps = List TypeModifier
+
+abbrev pub nullable : Wraps
+nullable = []
+
+abbrev pub non_null : Wraps
+non_null = modifier.NonNull ∷ []
+
+-- an argument of a name, and of the type of a name within wraps
+abbrev pub argument : Bytes → Bytes → Wraps → Argument DefaultScalarValue
+argument name type_name wraps =
+    record { name = name; description = None; arg_type = record { name = type_name; modifiers = wraps }; default_value = None }
+
+-- a field of a name, and of the type of a name within wraps
+abbrev pub field : Bytes → Bytes → Wraps → List (Argument DefaultScalarValue) → Field DefaultScalarValue
+field name type_name wraps arguments =
+    record { name = name; description = None; arguments = Some arguments; field_type = record { name = type_name; modifiers = wraps }; deprecation_status = status.Current }
+
+abbrev pub object : Bytes → List (Field DefaultScalarValue) → ObjectMeta DefaultScalarValue
+object name fields = record { name = name; description = None; fields = fields; interface_names = [] }
+
+-- what a row of a table stands for
+abbrev pub argument_of : Bor Bytes × Bor Bytes × Bor Wraps → Argument DefaultScalarValue
+argument_of row = argument row.0.now row.1.now row.2.now
+
+abbrev pub field_of : Bor Bytes × Bor Bytes × Bor Wraps × Bor (List (Bor Bytes × Bor Bytes × Bor Wraps)) → Field DefaultScalarValue
+field_of row = field row.0.now row.1.now row.2.now (map argument_of row.3.now)
+
+-- `hero: Human`
+abbrev pub query : List (Field DefaultScalarValue)
+query = field (codes "hero") (codes "Human") nullable [] ∷ []
+
+-- `id: String!`, `name: String!`, `friend: Human`
+abbrev pub human : List (Field DefaultScalarValue)
+human =
+    field (codes "id") (codes "String") non_null [] ∷ field (codes "name") (codes "String") non_null [] ∷ field (codes "friend") (codes "Human") nullable [] ∷ []
+
+-- `rename(id: String!, name: String!): Human`
+abbrev pub mutation : List (Field DefaultScalarValue)
+mutation =
+    field (codes "rename") (codes "Human") nullable (argument (codes "id") (codes "String") non_null ∷ argument (codes "name") (codes "String") non_null ∷ []) ∷ []
+
+-- `description: String`
+abbrev pub told_of_itself : List (Field DefaultScalarValue)
+told_of_itself = field (codes "description") (codes "String") nullable [] ∷ []
+
+module _ {C : Type 0} where
+  abbrev pub scalar : Bytes → C → MetaType DefaultScalarValue C
+  scalar name check = meta.Scalar (record { name = name; description = None; specified_by_url = None; check = check })
+
+  -- of the checks of `Int`, `String`, `Boolean` and `ID`
+  abbrev pub types : C → C → C → C → List (MetaType DefaultScalarValue C)
+  types int string boolean id =
+      scalar (codes "Int") int ∷ scalar (codes "String") string ∷ scalar (codes "Boolean") boolean ∷ scalar (codes "ID") id
+      ∷ meta.Object (object (codes "Query") query) ∷ meta.Object (object (codes "Human") human) ∷ meta.Object (object (codes "Mutation") mutation)
+      ∷ meta.Object (object (codes "__Schema") told_of_itself) ∷ meta.Object (object (codes "__Type") told_of_itself) ∷ []
+
+-- the roots: `Query` and `Mutation` (3.3.1 Root Operation Types)
+abbrev pub roots : Roots
+roots = record { query = codes "Query"; mutation = Some (codes "Mutation"); subscription = None }

@@ -1,0 +1,141 @@
+//! The resolver of the sample.
+
+ghost use Rattle.std.specs.Prelude.{◌≡◌, Ok};
+ghost use Rattle.graphql_value_resolution.specs.Answered.{Answered};
+ghost use Rattle.graphql_sample.specs.Sample as spec;
+
+use crate::records::{SampleRecord, SampleRecords};
+use graphql_arguments::Arguments;
+use graphql_resolve::{FieldResult, Resolved};
+use graphql_text::Text;
+use graphql_value_resolution::{Executor, GraphQLValue};
+use graphql_values::DefaultScalarValue;
+use std::alloc::Global;
+
+/// What fields are asked of: the root, and the humans.
+#[derive(Clone, Copy)]
+pub enum SampleNode {
+    /// The root.
+    Root,
+
+    /// The human at this place among the records, from zero.
+    Human(usize),
+}
+
+type Answer = Resolved<DefaultScalarValue, SampleNode>;
+
+/// Answers from the records.
+#[derive(Drop)]
+pub struct SampleResolver;
+
+/// The place of the first human of this `id`.
+fn place_of(records: &[SampleRecord], id: &str) -> Option<usize>
+    ensures { result ≡ spec.place_of records.now id.now }
+{
+    records.iter().position(|record| id == record.id.as_str())
+}
+
+/// The first human of this `id`, `Null` where there is none.
+fn human_of(records: &[SampleRecord], id: &str) -> Answer
+    ensures { result ≡ spec.human_of records.now id.now }
+{
+    match place_of(records, id) {
+        Some(place) => Resolved::Node(SampleNode::Human(place)),
+        None => Resolved::Null,
+    }
+}
+
+/// A text as an answer. An error is want of memory.
+fn word(alloc: Global, text: &Text) -> FieldResult<Answer, DefaultScalarValue>
+    ensures { Answered (Ok (spec.word text.now)) result }
+{
+    Ok(Resolved::Scalar(DefaultScalarValue::String(text.clone()?)))
+}
+
+/// What a human answers for a field. An error is want of memory.
+fn of_human(
+    alloc: Global,
+    records: &[SampleRecord],
+    human: &SampleRecord,
+    field: &str,
+) -> FieldResult<Answer, DefaultScalarValue>
+    ensures { Answered (Ok (spec.of_human records.now human.now field.now)) result }
+{
+    match field {
+        "id" => word(alloc, &human.id),
+        "name" => match &human.name {
+            Some(name) => word(alloc, name),
+            None => Ok(Resolved::Null),
+        },
+        "friend" => match &human.friend {
+            Some(friend) => Ok(human_of(records, friend.as_str())),
+            None => Ok(Resolved::Null),
+        },
+        _ => Ok(Resolved::Null),
+    }
+}
+
+/// What the root answers for a field.
+fn of_root(records: &[SampleRecord], field: &str) -> Answer
+    ensures { result ≡ spec.of_root records.now field.now }
+{
+    match field {
+        "hero" => human_of(records, "h1"),
+        _ => Resolved::Null,
+    }
+}
+
+impl GraphQLValue<DefaultScalarValue> for SampleResolver {
+    type Context = SampleRecords;
+
+    type Node = SampleNode;
+
+    ghost use Rattle.std.specs.Prelude.{refl, Ok};
+    ghost use Rattle.graphql_sample.specs.Sample as spec;
+    ghost use Rattle.graphql_sample.specs.declared.resolver.SampleNode.TheVariants as node;
+
+    ghost root_node = { λ _. node.Root };
+
+    ghost type_of = { λ _ _ n. spec.type_name n };
+
+    ghost answer = { λ _ context n field _. Ok (spec.answer context.records n field) };
+
+    ghost respects = { λ _ _ _ _ _ _ _. refl };
+
+    /// The root.
+    fn root(&self) -> SampleNode
+        ensures { result ≡ node.Root }
+    {
+        SampleNode::Root
+    }
+
+    fn concrete_type_name<'c>(
+        &'c self,
+        _context: &'c SampleRecords,
+        node: &'c SampleNode,
+    ) -> &'c str
+        ensures { result.now ≡ spec.type_name node.now }
+    {
+        match node {
+            SampleNode::Root => "Query",
+            SampleNode::Human(_) => "Human",
+        }
+    }
+
+    fn resolve_field(
+        &self,
+        node: &SampleNode,
+        field: &str,
+        _arguments: &Arguments<'_, DefaultScalarValue>,
+        executor: &Executor<'_, '_, SampleRecords, DefaultScalarValue>,
+    ) -> FieldResult<Answer, DefaultScalarValue> {
+        let records = executor.context.records.as_slice();
+        match node {
+            SampleNode::Root => Ok(of_root(records, field)),
+            SampleNode::Human(place) => match records.get(*place) {
+                Some(human) => of_human(executor.alloc, records, human, field),
+                None => Ok(Resolved::Null),
+            },
+        }
+    }
+}

@@ -1,0 +1,169 @@
+//! The schema of the sample.
+
+ghost use Rattle.std.specs.Prelude.{◌≡◌, IfOk, codes, map};
+ghost use Rattle.graphql_items.specs.Memory.{Gives};
+ghost use Rattle.graphql_schema.specs.Schemas.{Makes};
+ghost use Rattle.graphql_schema_faults.specs.Lookups.{type_named};
+ghost use Rattle.graphql_sample.specs.SampleTypes as spec;
+
+use graphql_meta::{
+    Argument, DeprecationStatus, Field, MetaType, ObjectMeta, ScalarMeta, TypeCheck,
+};
+use graphql_names::NamedItems;
+use graphql_schema::SchemaType;
+use graphql_schema_faults::SchemaError;
+use graphql_text::{Items, Text};
+use graphql_type_references::{Type, TypeModifier};
+use graphql_values::{DefaultScalarValue, ScalarValue};
+use std::alloc::{AllocError, Global};
+
+type Meta = MetaType<DefaultScalarValue>;
+
+/// The checks of the scalars of the sample (GraphQL October 2021, 3.5 Scalars).
+#[derive(Drop)]
+pub struct StandardChecks {
+    /// Which values `Int` accepts.
+    pub int: TypeCheck,
+
+    /// Which values `String` accepts.
+    pub string: TypeCheck,
+
+    /// Which values `Boolean` accepts.
+    pub boolean: TypeCheck,
+
+    /// Which values `ID` accepts.
+    pub id: TypeCheck,
+}
+
+/// An argument in short: its name, the name of its type, and the wraps of that, the innermost first.
+type ArgumentRow = (&'static str, &'static str, &'static [TypeModifier]);
+
+/// A field in short: its name, the name of its type, the wraps of that, and its arguments.
+type FieldRow = (
+    &'static str,
+    &'static str,
+    &'static [TypeModifier],
+    &'static [ArgumentRow],
+);
+
+const NULLABLE: &[TypeModifier] = &[];
+
+const NON_NULL: &[TypeModifier] = &[TypeModifier::NonNull];
+
+const NO_ARGUMENTS: &[ArgumentRow] = &[];
+
+const RENAME: &[ArgumentRow] = &[("id", "String", NON_NULL), ("name", "String", NON_NULL)];
+
+const QUERY: &[FieldRow] = &[("hero", "Human", NULLABLE, NO_ARGUMENTS)];
+
+const HUMAN: &[FieldRow] = &[
+    ("id", "String", NON_NULL, NO_ARGUMENTS),
+    ("name", "String", NON_NULL, NO_ARGUMENTS),
+    ("friend", "Human", NULLABLE, NO_ARGUMENTS),
+];
+
+const MUTATION: &[FieldRow] = &[("rename", "Human", NULLABLE, RENAME)];
+
+const TOLD_OF_ITSELF: &[FieldRow] = &[("description", "String", NULLABLE, NO_ARGUMENTS)];
+
+/// The type of this name and these wraps. An error is want of memory.
+fn reference(alloc: Global, name: &str, wraps: &[TypeModifier]) -> Result<Type<Text>, AllocError>
+    ensures { Gives result (record { name = name.now; modifiers = wraps.now }) }
+{
+    let mut modifiers = Items::new(alloc);
+    modifiers.extend_from_slice(wraps)?;
+    Ok(Type {
+        name: Text::from_str(alloc, name)?,
+        modifiers,
+    })
+}
+
+/// The argument of this row. An error is want of memory.
+fn argument(alloc: Global, row: ArgumentRow) -> Result<Argument<DefaultScalarValue>, AllocError>
+    ensures { Gives result (spec.argument_of row.entry) }
+{
+    let name = Text::from_str(alloc, row.0)?;
+    Ok(Argument::new(name, reference(alloc, row.1, row.2)?))
+}
+
+/// The arguments of these rows. An error is want of memory.
+fn arguments(
+    alloc: Global,
+    rows: &[ArgumentRow],
+) -> Result<NamedItems<Argument<DefaultScalarValue>>, AllocError>
+    ensures { Gives result (map spec.argument_of rows.now) }
+{
+    let mut items = Items::new(alloc);
+    'rows: for row in rows {
+        items.push(argument(alloc, *row)?)?;
+    }
+    NamedItems::from_items(items)
+}
+
+/// The field of this row. An error is want of memory.
+fn field(alloc: Global, row: FieldRow) -> Result<Field<DefaultScalarValue>, AllocError>
+    ensures { Gives result (spec.field_of row.entry) }
+{
+    Ok(Field {
+        name: Text::from_str(alloc, row.0)?,
+        description: None,
+        arguments: Some(arguments(alloc, row.3)?),
+        field_type: reference(alloc, row.1, row.2)?,
+        deprecation_status: DeprecationStatus::Current,
+    })
+}
+
+/// The object of this name, with the fields of these rows. An error is want of memory.
+fn object(
+    alloc: Global,
+    name: &str,
+    rows: &[FieldRow],
+) -> Result<ObjectMeta<DefaultScalarValue>, AllocError>
+    ensures { Gives result (spec.object name.now (map spec.field_of rows.now)) }
+{
+    let mut fields = Items::new(alloc);
+    'rows: for row in rows {
+        fields.push(field(alloc, *row)?)?;
+    }
+    let fields = NamedItems::from_items(fields)?;
+    Ok(ObjectMeta::new(alloc, Text::from_str(alloc, name)?, fields))
+}
+
+/// The scalar of this name and this check. An error is want of memory.
+fn scalar(alloc: Global, name: &str, check: TypeCheck) -> Result<Meta, AllocError>
+    ensures { Gives result (spec.scalar name.now check) }
+{
+    let name = Text::from_str(alloc, name)?;
+    Ok(ScalarMeta::new(name, check).into_meta())
+}
+
+/// The types of the sample. An error is want of memory.
+fn metadata(alloc: Global, checks: StandardChecks) -> Result<Items<Meta>, AllocError>
+    ensures { Gives result (spec.types checks.int checks.string checks.boolean checks.id) }
+{
+    let mut types = Items::new(alloc);
+    types.push(scalar(alloc, "Int", checks.int)?)?;
+    types.push(scalar(alloc, "String", checks.string)?)?;
+    types.push(scalar(alloc, "Boolean", checks.boolean)?)?;
+    types.push(scalar(alloc, "ID", checks.id)?)?;
+    types.push(object(alloc, "Query", QUERY)?.into_meta())?;
+    types.push(object(alloc, "Human", HUMAN)?.into_meta())?;
+    types.push(object(alloc, "Mutation", MUTATION)?.into_meta())?;
+    types.push(object(alloc, "__Schema", TOLD_OF_ITSELF)?.into_meta())?;
+    types.push(object(alloc, "__Type", TOLD_OF_ITSELF)?.into_meta())?;
+    Ok(types)
+}
+
+/// The schema of the sample, with the roots `Query` and `Mutation` (GraphQL October 2021, 3.3.1 Root
+/// Operation Types). Its `Boolean` has the check that is given for it. `SchemaError::Memory` is want of
+/// memory.
+pub fn schema_s(
+    alloc: Global,
+    checks: StandardChecks,
+) -> Result<SchemaType<DefaultScalarValue>, SchemaError>
+    ensures made { Makes ⟦<DefaultScalarValue as ScalarValue>⟧.of_text (spec.types checks.int checks.string checks.boolean checks.id) spec.roots result }
+    ensures boolean { IfOk result (λ schema. type_named schema.types (codes "Boolean") ≡ Some (spec.scalar (codes "Boolean") checks.boolean)) }
+{
+    let types = metadata(alloc, checks)?;
+    SchemaType::new(alloc, types, "Query", Some("Mutation"), None)
+}
