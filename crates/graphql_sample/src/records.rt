@@ -21,13 +21,13 @@ pub struct SampleRecord {
     pub friend: Option<Text>,
 }
 
-/// The humans, in order, and how often a root was asked for.
+/// The humans, in order, and how often fields of mutations were resolved.
 #[derive(Drop)]
 pub struct SampleRecords {
     /// The humans. Of those with one `id` the first is found.
     pub records: Items<SampleRecord>,
 
-    /// How often the root of an operation was asked for.
+    /// How often a field of a mutation was resolved: never yet, since no mutation is executed.
     pub root_calls: u32,
 }
 
