@@ -1,6 +1,6 @@
 //! Requests.
 
-ghost use Rattle.std.specs.Prelude.{◌≡◌, IfErr, IfOk};
+ghost use Rattle.std.specs.Prelude.{◌≡◌, true, IfErr, IfOk};
 ghost use Rattle.std.specs.HashMap.{get_by_text};
 ghost use Rattle.std.specs.Option.{option_map};
 ghost use Rattle.std.specs.Str.{chars};
@@ -23,7 +23,7 @@ use std::alloc::Global;
 ///
 /// The request is worked on in this order, and the first step that fails decides the error, with which
 /// nothing is executed: the text is parsed; all rules for documents are asked, among them the rule against
-/// introspection where the root node has it disabled; the operation is chosen; the values of its variables
+/// introspection, since nothing answers `__schema` and `__type` yet; the operation is chosen; the values of its variables
 /// are checked; a subscription is refused; a mutation is refused. `GraphQLError::Memory` comes only where
 /// memory ran out, which may be at any step.
 pub fn execute_sync<S: SchemaScalar + Drop, R: GraphQLValue<S>>(
@@ -36,9 +36,9 @@ pub fn execute_sync<S: SchemaScalar + Drop, R: GraphQLValue<S>>(
     context: &mut R::Context,
 ) -> Result<Response<S>, GraphQLError>
     ensures context { context.new ≡ context.old }
-    ensures answered { IfOk result (λ r. IsAnswered S.reads S.of_bool S.eq S.answer S.Check.accepts root_node.now.schema root_node.now.introspection_disabled (chars source.now) (option_map (λ name. name.now) operation_name.entry) (get_by_text variables.now) ⟦<ExecutionError<S> as Ord>⟧.cmp
+    ensures answered { IfOk result (λ r. IsAnswered S.reads S.of_bool S.eq S.answer S.Check.accepts root_node.now.schema true (chars source.now) (option_map (λ name. name.now) operation_name.entry) (get_by_text variables.now) ⟦<ExecutionError<S> as Ord>⟧.cmp
         (λ document operation. executed S.of_text S.answer root_node.now.schema document (get_by_text variables.now) operation (R.root_node resolver.now) (R.type_of resolver.now context.old) (R.answer resolver.now context.old)) r.0 r.1) }
-    ensures refused { IfErr result (IsRefused S.reads S.of_bool S.eq S.answer S.Check.accepts root_node.now.schema root_node.now.introspection_disabled (chars source.now) (option_map (λ name. name.now) operation_name.entry) (get_by_text variables.now) ⟦<RuleError as Ord>⟧.cmp) }
+    ensures refused { IfErr result (IsRefused S.reads S.of_bool S.eq S.answer S.Check.accepts root_node.now.schema true (chars source.now) (option_map (λ name. name.now) operation_name.entry) (get_by_text variables.now) ⟦<RuleError as Ord>⟧.cmp) }
 {
     let document = read_request(alloc, source, root_node)?;
     let definitions = document.as_slice();

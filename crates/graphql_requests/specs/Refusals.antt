@@ -17,7 +17,7 @@ use Rattle.graphql_rule_errors.specs.declared.rule_error.RuleError.{RuleError}
 use Rattle.graphql_language.specs.Texts.{IsDocument, IsRefused, OnlyDocument}
 use Rattle.graphql_variable_values.specs.Accepted.{AreAccepted, Refusals}
 use Rattle.graphql_visitors.specs.Subjects.{Subject}
-use Rattle.graphql_validation.specs.AllRules.{IsValidAt, RootNodeTold}
+use Rattle.graphql_validation.specs.AllRules.{IsValidAt, RequestTold}
 use Rattle.graphql_requests.specs.declared.graphql_error.GraphQLError.{GraphQLError}
 use Rattle.graphql_requests.specs.declared.graphql_error.GraphQLError.TheVariants as error
 
@@ -42,7 +42,7 @@ module _ {S C : Type 0} (reads : ScalarToken → Result S ParseError) (of_bool :
     pub document : List (Definition S)
     pub spelled : IsDocument S reads of_bool text document
     pub alone : OnlyDocument S reads of_bool text document
-    pub told : RootNodeTold eq answer accepts (subject_with document) introspection_disabled (places errors)
+    pub told : RequestTold eq answer accepts (subject_with document) introspection_disabled (places errors)
     pub at_least_one : errors ≡ [] → ⊥
 
   -- why the request is not read; want of memory tells nothing

@@ -1,6 +1,6 @@
 //! Requests, until they can be executed.
 
-ghost use Rattle.std.specs.Prelude.{IfErr, IfOk};
+ghost use Rattle.std.specs.Prelude.{true, IfErr, IfOk};
 ghost use Rattle.std.specs.HashMap.{get_by_text};
 ghost use Rattle.std.specs.List.Sorted.{IsSorted};
 ghost use Rattle.std.specs.Option.{option_map};
@@ -17,7 +17,7 @@ use graphql_rule_errors::RuleError;
 use graphql_schema::RootNode;
 use graphql_text::Spanning;
 use graphql_tree::{Definition, Operation, OperationType, OwnedDocument};
-use graphql_validation::root_node_errors;
+use graphql_validation::request_errors;
 use graphql_values::Variables;
 use graphql_variable_values::validate_input_values;
 use std::alloc::Global;
@@ -27,22 +27,22 @@ use std::alloc::Global;
 ///
 /// An error is `GraphQLError::ParseError` where the text is no document: its first fault. Where it is one,
 /// the error is `GraphQLError::ValidationError` with what all rules have against it, the rule against
-/// introspection among them where the root node has it disabled, in order: by their places, then by their
-/// messages. `GraphQLError::Memory` comes only where memory ran out, and no other error comes.
+/// introspection among them, in order: by their places, then by their messages. That rule is asked whether
+/// or not the root node has introspection disabled, since nothing answers `__schema` and `__type` yet. `GraphQLError::Memory` comes only where memory ran out, and no other error comes.
 pub fn read_request<'a, S: SchemaScalar>(
     alloc: Global,
     source: &'a str,
     root_node: &RootNode<S>,
 ) -> Result<OwnedDocument<'a, S>, GraphQLError>
-    ensures read { IfOk result (IsRead S.reads S.of_bool S.eq S.answer S.Check.accepts (declarations_of root_node.now.schema) root_node.now.introspection_disabled (chars source.now)) }
-    ensures refused { IfErr result (IsUnread S.reads S.of_bool S.eq S.answer S.Check.accepts (declarations_of root_node.now.schema) root_node.now.introspection_disabled (chars source.now)) }
+    ensures read { IfOk result (IsRead S.reads S.of_bool S.eq S.answer S.Check.accepts (declarations_of root_node.now.schema) true (chars source.now)) }
+    ensures refused { IfErr result (IsUnread S.reads S.of_bool S.eq S.answer S.Check.accepts (declarations_of root_node.now.schema) true (chars source.now)) }
     ensures sorted { IfErr result (λ error. IsSorted ⟦<RuleError as Ord>⟧.cmp (errors_of error)) }
 {
     let document = match parse_document_source(alloc, source) {
         Ok(document) => document,
         Err(fault) => return Err(GraphQLError::from(fault)),
     };
-    let errors = root_node_errors(alloc, root_node, document.as_slice())?;
+    let errors = request_errors(alloc, root_node.schema(), document.as_slice(), true)?;
     if !errors.is_empty() {
         return Err(GraphQLError::from(errors));
     }

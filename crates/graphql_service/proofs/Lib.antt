@@ -1,15 +1,3 @@
-pub mod Lookups
-pub mod Values
-pub mod Trees
-pub mod Thin
-pub mod Evaluations
-pub mod ErrorWritings
-pub mod Lines
-pub mod Kept
-pub mod Repeats
-pub mod Rearranged
-pub mod Views
-pub mod Turns
-pub mod Fittings
-pub mod Writings
-pub mod Accepting
+mod DistinctAnswers
+mod Answering
+mod Kept

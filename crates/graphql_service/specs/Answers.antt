@@ -1,63 +1,74 @@
--- The answer line of a request line.
-use Rattle.std.specs.Prelude.{◌≡◌, ◌<◌, ◌≤◌, Bool, true, false, ◌==◌, [], ◌∷◌, ◌++◌, length, List, Option, Some, None, Ok, Err, option_and_then}
-use Rattle.std.specs.List.{list_any}
+-- What a line is answered (GraphQL October 2021, 6.1 Executing Requests, 7.1 Response Format).
+use Rattle.std.specs.Prelude.{◌≡◌, ◌++◌, ◌<◌, ◌≤◌, ℕ, ℤ, Bool, List, Result, length, Option, Some, None, IsSome, option_and_then}
+use Rattle.std.specs.declared.cmp.Ordering.{Ordering}
 use Rattle.std.specs.Str.{chars}
-use Rattle.graphql_grammar.specs.Input.{Fault}
-use Rattle.graphql_service.specs.declared.refusal.ThinRefusal.{ThinRefusal}
-use Rattle.graphql_service.specs.declared.refusal.ThinRefusal.TheVariants.{LineTooLong, ParseError, NotThin}
-use Rattle.graphql_service.specs.Table.{Bytes, ObjectType, Record, type_named}
-use Rattle.graphql_service.specs.Selections.{Tree, is_distinct, fits, on_type}
-use Rattle.graphql_service.specs.Documents.{Definition, IsDocument, IsRefused, thin_document}
-use Rattle.graphql_service.specs.Evaluation.{Members, no_members, Outcome, settled, evaluate}
-use Rattle.graphql_service.specs.Json.{data_line, error_line}
-use Rattle.graphql_service.specs.Messages.{message, place_of}
-use Rattle.graphql_service.specs.Request.{Request, requested}
-use Rattle.graphql_service.specs.Service.{Service, root_of}
+use Rattle.serde_json.specs.Data.{Members}
+use Rattle.serde_json.specs.Find.{get_member}
+use Rattle.graphql_text.specs.declared.token.ScalarToken.{ScalarToken}
+use Rattle.graphql_text.specs.declared.parse_error.ParseError.{ParseError}
+use Rattle.graphql_names.specs.Names.{Bytes}
+use Rattle.graphql_scalars.specs.ScalarAnswers.{ScalarAnswer}
+use Rattle.graphql_values.specs.declared.input_value.InputValue.{InputValue}
+use Rattle.graphql_output_values.specs.declared.value.Value.{Value}
+use Rattle.graphql_schema.specs.declared.schema.SchemaType.{SchemaType}
+use Rattle.graphql_resolve.specs.declared.execution_error.ExecutionError.{ExecutionError}
+use Rattle.graphql_rule_errors.specs.declared.rule_error.RuleError.{RuleError}
+use Rattle.graphql_requests.specs.declared.graphql_error.GraphQLError.{GraphQLError}
+use Rattle.graphql_requests.specs.declared.graphql_error.GraphQLError.TheVariants as request_error
+use Rattle.graphql_lines.specs.declared.refusal.LineRefusal.{LineRefusal}
+use Rattle.graphql_lines.specs.declared.refusal.LineRefusal.TheVariants.{LineTooLong, NotARequest, BadNumber, Memory}
+use Rattle.graphql_value_resolution.specs.Engines.{Resolves}
+use Rattle.graphql_executor.specs.Answered.{IsAnswered, IsRefused}
+use Rattle.graphql_executor.specs.Executed.{executed}
+use Rattle.graphql_lines.specs.Request.{Request, request_of}
+use Rattle.graphql_lines.specs.Variables.{fields_of, input_of}
+use Rattle.graphql_answers.specs.Lines.{line_of}
+use Rattle.graphql_answers.specs.Responses.{refusal_of, response_of}
+use Rattle.graphql_service.specs.Texts.{told_of_line, told_of_request}
 
-abbrev pub refusal_line : Service → ThinRefusal → Bytes
-refusal_line s refusal = error_line (message s.line_limit refusal) (place_of refusal)
+-- what is written behind a text has a property
+abbrev pub Adds : (Bytes → Type 0) → Bytes → Bytes → Type 0
+Adds P old new = (text : Bytes) × (new ≡ old ++ text) × P text
 
--- the type of the root
-abbrev pub root_type_of : Service → Option ObjectType
-root_type_of s = option_and_then (λ r. type_named s.types r.type_name) (root_of s)
+-- by the scalars of JSON values; by the greatest length of a line in bytes, and the line
+module _ {S : Type 0} (of_bool : Bool → S) (of_int : ℤ → S) (of_text : Bytes → S) where
+  -- the values that a request gives for variables
+  abbrev pub given : Request → Bytes → Option (InputValue S)
+  given request name = option_and_then (input_of of_bool of_int of_text) (get_member name request.variables)
 
--- the set fits the type of the root
-abbrev pub fits_root : Service → Tree → Bool
-fits_root s set = on_type (λ t. fits s.types t set) (root_type_of s)
+  -- the line is no longer than the limit, and asks this, with numbers that are whole and have 32 bits
+  pub record Asks (limit : ℕ) (line : Bytes) (request : Request) : Type 0 where
+    pub within : length line ≤ limit
+    pub asked : request_of line ≡ Some request
+    pub numbers : IsSome (fields_of of_bool of_int of_text request.variables)
 
--- a request that is within the first path, by the document of its query and the selection set of that
-pub record IsAccepted (s : Service) (r : Request) (document : List Definition) (set : Tree) : Type 0 where
-  pub is_bare : r.is_bare ≡ true
-  pub thin : thin_document (chars r.query) document ≡ Some set
-  pub distinct : is_distinct set ≡ true
-  pub fits : fits_root s set ≡ true
+-- by what scalars mean, are and answer, what checks accept, how errors are ordered; by a schema; by the greatest length of a line in bytes, and the line
+module _ {S C : Type 0} (reads : ScalarToken → Result S ParseError) (of_bool : Bool → S) (of_int : ℤ → S) (of_text : Bytes → S) (eq : S → S → Bool) (answer : S → ScalarAnswer) (accepts : C → InputValue S → Type 0) (by_rules : RuleError → RuleError → Ordering) (by_fields : ExecutionError S → ExecutionError S → Ordering) (schema : SchemaType S C) (introspection_disabled : Bool) (limit : ℕ) (line : Bytes) where
+  -- why the line is no request: the first that stands
+  abbrev pub IsNoRequest : LineRefusal → Type 0
+  IsNoRequest LineTooLong = limit < length line
+  IsNoRequest NotARequest = (length line ≤ limit) × (request_of line ≡ None)
+  IsNoRequest BadNumber = (request : Request) × (length line ≤ limit) × (request_of line ≡ Some request) × (fields_of of_bool of_int of_text request.variables ≡ None)
+  IsNoRequest Memory = ⊥
 
--- the set of a request within the first path, or there is none
-abbrev pub AcceptsOrNone : Service → Request → List Definition → Option Tree → Type 0
-AcceptsOrNone s r document (Some set) = IsAccepted s r document set
-AcceptsOrNone s r document None = (set : Tree) → IsAccepted s r document set → ⊥
+  -- why the request that the line asks is not executed: the first step that fails
+  pub record IsNotExecuted (refusal : GraphQLError) : Type 0 where
+    pub request : Request
+    pub asks : Asks of_bool of_int of_text limit line request
+    pub is_refusal : refusal ≡ request_error.Memory → ⊥
+    pub due : IsRefused reads of_bool eq answer accepts schema introspection_disabled (chars request.query) request.operation_name (given of_bool of_int of_text request) by_rules refusal
 
-abbrev pub from_root : (Record → Outcome Members) → Option Record → Outcome Members
-from_root run None = settled no_members
-from_root run (Some r) = run r
+  -- by a resolver: its root, the object types of its nodes, and what it answers
+  module _ {N : Type 0} (root : N) (concrete : N → Bytes) (resolves : Resolves S N) where
+    -- the data and the errors of the operation that the line asks for
+    pub record IsExecuted (answered : Value S) (errors : List (ExecutionError S)) : Type 0 where
+      pub request : Request
+      pub asks : Asks of_bool of_int of_text limit line request
+      pub answers : IsAnswered reads of_bool eq answer accepts schema introspection_disabled (chars request.query) request.operation_name (given of_bool of_int of_text request) by_fields
+          (λ document operation. executed of_text answer schema document (given of_bool of_int of_text request) operation root concrete resolves) answered errors
 
--- what a set gives on the root
-abbrev pub outcome_of : Service → Tree → Outcome Members
-outcome_of s set = from_root (evaluate s.types s.records [] set) (root_of s)
-
--- the answer line of a line: the refusal that comes first, else data in which nothing failed
-pub data IsAnswerTo (s : Service) (line answer : Bytes) : Type 0 where
-  line_too_long : s.line_limit < length line → answer ≡ refusal_line s LineTooLong → IsAnswerTo s line answer
-  no_request : (refusal : ThinRefusal) → length line ≤ s.line_limit → requested line ≡ Err refusal → answer ≡ refusal_line s refusal → IsAnswerTo s line answer
-  parse_error : (r : Request) (fault : Fault) → length line ≤ s.line_limit → requested line ≡ Ok r
-      → IsRefused (chars r.query) fault → answer ≡ refusal_line s (ParseError fault) → IsAnswerTo s line answer
-  not_thin : (r : Request) (document : List Definition) → length line ≤ s.line_limit → requested line ≡ Ok r → IsDocument (chars r.query) document
-      → ((set : Tree) → IsAccepted s r document set → ⊥) → answer ≡ refusal_line s NotThin → IsAnswerTo s line answer
-  data_of : (r : Request) (document : List Definition) (set : Tree) → length line ≤ s.line_limit → requested line ≡ Ok r → IsDocument (chars r.query) document
-      → IsAccepted s r document set → (outcome_of s set).failures ≡ [] → answer ≡ data_line (outcome_of s set).value → IsAnswerTo s line answer
-
--- one line: it ends with a line feed, and holds no other
-pub record IsLine (bytes : Bytes) : Type 0 where
-  pub front : Bytes
-  pub is : bytes ≡ front ++ 10 ∷ []
-  pub no_feed : list_any (λ b. b == 10) front ≡ false
+    -- the answer line: of the refusal that is due, or of the data and the errors
+    pub data IsAnswer (answered : Bytes) : Type 0 where
+      no_request : (refusal : LineRefusal) → IsNoRequest refusal → answered ≡ line_of answer (refusal_of of_int of_text (told_of_line limit refusal)) → IsAnswer answered
+      not_executed : (refusal : GraphQLError) → IsNotExecuted refusal → answered ≡ line_of answer (refusal_of of_int of_text (told_of_request refusal)) → IsAnswer answered
+      executed_to : (found : Value S) (errors : List (ExecutionError S)) → IsExecuted found errors → answered ≡ line_of answer (response_of of_int of_text found errors) → IsAnswer answered

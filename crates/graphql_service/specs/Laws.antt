@@ -1,21 +1,20 @@
--- Laws of the definitions.
-use Rattle.std.specs.Prelude.{◌≡◌, List, [], ◌∷◌}
-use Rattle.graphql_service.specs.Table.{Bytes, ObjectType, Record}
-use Rattle.graphql_service.specs.Selections.{Tree, field_names}
-use Rattle.graphql_service.specs.Evaluation.{Members, no_members, member, evaluate}
-use Rattle.graphql_service.specs.Service.{Service}
-use Rattle.graphql_service.specs.Answers.{IsAnswerTo}
+-- What holds of answers (GraphQL October 2021, 7.2.2 Serialized Map Ordering).
+use Rattle.std.specs.Prelude.{◌≡◌, Result, Err}
+use Rattle.graphql_names.specs.Names.{Bytes}
+use Rattle.graphql_scalars.specs.ScalarAnswers.{ScalarAnswer}
+use Rattle.graphql_arguments.specs.ArgumentValues.{Given}
+use Rattle.graphql_output_values.specs.DistinctKeys.{HasDistinctKeysThroughout}
+use Rattle.graphql_output_values.specs.declared.value.Value.{Value}
+use Rattle.graphql_resolve.specs.declared.field_error.FieldError.{FieldError}
+use Rattle.graphql_value_resolution.specs.Engines.{Resolves}
+use Rattle.graphql_answers.specs.Lines.{line_of}
 
--- a line has no two answers
-abbrev pub OneAnswer : Type 0
-OneAnswer = (s : Service) (line a b : Bytes) → IsAnswerTo s line a → IsAnswerTo s line b → a ≡ b
+-- what a resolver tells beside its errors has distinct keys, however deep
+abbrev pub TellsInDistinctKeys : {S N : Type 0} → Resolves S N → Type 0
+TellsInDistinctKeys {S} {N} resolves = (node : N) (field : Bytes) (given : Given S) (error : FieldError S) → resolves node field given ≡ Err error → HasDistinctKeysThroughout error.extensions
 
--- the names of members, in order
-abbrev pub member_names : Members → List Bytes
-member_names no_members = []
-member_names (member name value rest) = name ∷ member_names rest
-
--- an object has a member for each field of its set, by the field's name, in order (6.3)
-abbrev pub ObjectKeys : Type 0
-ObjectKeys = (types : List ObjectType) (records : List Record) (path : List Bytes) (set : Tree) (r : Record)
-    → member_names (evaluate types records path set r).value ≡ field_names set
+-- the JSON line of a value of which each object has distinct keys, however deep
+pub record IsLineOfDistinctKeys {S : Type 0} (answer : S → ScalarAnswer) (bytes : Bytes) : Type 0 where
+  pub found : Value S
+  pub is : bytes ≡ line_of answer found
+  pub distinct : HasDistinctKeysThroughout found

@@ -1,8 +1,8 @@
 -- Why no more lines are answered, in words.
 use Rattle.std.specs.Prelude.{codes}
+use Rattle.graphql_names.specs.Names.{Bytes}
 use Rattle.graphql_service.specs.declared.serving.ServeError.{ServeError}
 use Rattle.graphql_service.specs.declared.serving.ServeError.TheVariants.{Read, Write, Memory}
-use Rattle.graphql_service.specs.Table.{Bytes}
 
 -- the text of the error
 abbrev pub serve_error_text : ServeError → Bytes

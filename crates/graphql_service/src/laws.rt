@@ -1,13 +1,26 @@
-//! Laws of the definitions, each as what an empty function ensures.
+//! Laws of answers: each function's contract is a law, and its body asks for the laws below it.
 
-ghost use Rattle.graphql_service.specs.Laws.{ObjectKeys, OneAnswer};
+ghost use Rattle.graphql_names.specs.Names.{Bytes};
+ghost use Rattle.std.specs.Prelude.{Bool, ℕ};
+ghost use Rattle.graphql_schema.specs.declared.schema.SchemaType.{SchemaType};
+ghost use Rattle.graphql_service.specs.Answers.{IsAnswer};
+ghost use Rattle.graphql_service.specs.Laws.{IsLineOfDistinctKeys, TellsInDistinctKeys};
 
-/// A line has no two answers.
-fn one_answer()
-    ensures { OneAnswer }
-{}
+use graphql_answers::laws::answers_have_distinct_keys;
+use graphql_evaluation::laws::{data_have_distinct_keys, failures_are_exact};
+use graphql_executor::GraphQLValue;
+use graphql_meta::SchemaScalar;
+use graphql_resolve::ExecutionError;
+use graphql_rule_errors::RuleError;
 
-/// An object has a member for each field of its set, by the field's name, in order.
-fn object_keys()
-    ensures { ObjectKeys }
-{}
+/// Each object in an answer line has distinct keys, however deep (GraphQL October 2021, 7.2.2 Serialized
+/// Map Ordering), where what the resolver tells beside its errors has.
+pub fn answer_lines_have_distinct_keys<S: SchemaScalar, R: GraphQLValue<S>>()
+    ensures { (schema : SchemaType S S.Check) (introspection_disabled : Bool) (limit : ℕ) (line answered : Bytes) (resolver : R) (context : R.Context) → TellsInDistinctKeys (R.answer resolver context)
+        → IsAnswer S.reads S.of_bool S.of_int S.of_text S.eq S.answer S.Check.accepts ⟦<RuleError as Ord>⟧.cmp ⟦<ExecutionError<S> as Ord>⟧.cmp schema introspection_disabled limit line (R.root_node resolver) (R.type_of resolver context) (R.answer resolver context) answered
+        → IsLineOfDistinctKeys S.answer answered }
+{
+    answers_have_distinct_keys::<S>();
+    data_have_distinct_keys::<S, R::Node>();
+    failures_are_exact::<S, R::Node>();
+}

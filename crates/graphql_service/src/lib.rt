@@ -1,28 +1,16 @@
-//! The service layer of GraphQL: request lines and JSON texts, and a service that answers request
-//! lines over a table of typed records.
+//! The service layer of GraphQL: a service that answers request lines over a schema and a resolver.
 #![tactic(auto)]
 
-mod data;
-mod document;
-mod fault;
-mod fits;
-mod json;
-mod laws;
-mod names;
-mod place;
+pub mod laws;
 mod refusal;
-mod request;
-mod selection;
+mod response;
 mod service;
 mod serving;
-mod table;
 
-pub use fault::ThinFault;
 pub use graphql_lines::{
     GraphQLRequest, LineRefusal, json_of_line, request_from_line, request_in, text_to_json,
     value_to_json, variables_from_json,
 };
-pub use refusal::ThinRefusal;
-pub use service::ThinService;
+pub use graphql_sample as sample;
+pub use service::{Service, ServiceFault};
 pub use serving::{ServeError, serve};
-pub use table::{ThinKind, ThinRecord, ThinType};

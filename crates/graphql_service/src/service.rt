@@ -1,176 +1,191 @@
 //! A service that answers request lines.
 
-ghost use Rattle.std.specs.Prelude.{◌≡◌, ◌++◌, map, None, IfOk, OnOk, option_map, string_bytes};
-ghost use Rattle.graphql_service.specs.Table.{type_of, record_of};
-ghost use Rattle.graphql_service.specs.Faults.{fault_within};
+ghost use Rattle.std.specs.Prelude.{◌≡◌, true, option_map, string_bytes};
+ghost use Rattle.graphql_schema.specs.Executable.{is_executable};
+ghost use Rattle.graphql_schema.specs.Schemas.{roots_of};
+ghost use Rattle.graphql_schema.specs.Directives.{has_standard_conditions};
 
-use crate::data::push_object;
-use crate::document::{parse, thin_document};
-use crate::fault::{ThinFault, fault_within};
-use crate::fits::{fits, is_distinct};
-use crate::names::by_name;
-use crate::refusal::ThinRefusal;
-use crate::request::{ThinRequest, read_request};
-use crate::selection::Selection;
-use crate::table::{ThinRecord, ThinType};
-use graphql_language::Definition;
-use graphql_names::NameMap;
+use crate::laws::answer_lines_have_distinct_keys;
+use crate::refusal::{push_error, push_line_refusal};
+use crate::response::push_response;
+use graphql_answers::laws::values_are_lines;
+use graphql_executor::{GraphQLValue, execute_sync};
+use graphql_lines::{GraphQLRequest, LineRefusal, request_from_line};
+use graphql_meta::SchemaScalar;
+use graphql_resolve::ExecutionError;
+use graphql_rule_errors::RuleError;
+use graphql_schema::RootNode;
 use std::alloc::{AllocError, Global};
 
-/// Types, and records of them, over which request lines are answered.
-#[derive(Drop)]
-pub struct ThinService {
-    types: NameMap<ThinType>,
-    records: NameMap<ThinRecord>,
-    root_id: String,
-    line_limit: usize,
-    ghost sound: { fault_within (map type_of types) (map record_of records) (string_bytes root_id) ≡ None },
+/// Why there is no service.
+#[derive(Clone, Copy, Debug, PartialEq, Eq)]
+pub enum ServiceFault {
+    /// A type of the schema does not keep what it promises: `schema_is_executable` is false.
+    NotExecutable,
+
+    /// The directive `skip` or `include` is not the standard's: `has_standard_conditions` is false.
+    OtherConditions,
 }
 
-impl ThinService {
-    ghost use Rattle.graphql_service.specs.Service.{service_of, root_of, Makes};
-    ghost use Rattle.graphql_service.specs.Requests.{request_view};
-    ghost use Rattle.graphql_service.specs.Selections.{tree_of};
-    ghost use Rattle.graphql_service.specs.Evaluation.{object};
-    ghost use Rattle.graphql_service.specs.Told.{told_root};
-    ghost use Rattle.graphql_service.specs.Json.{json, data_line};
-    ghost use Rattle.graphql_service.specs.Answers.{IsAnswerTo, IsLine, AcceptsOrNone, refusal_line, root_type_of};
+/// A schema that can be executed, a resolver and its context, over which request lines are answered.
+#[derive(Drop)]
+pub struct Service<S, R, X, C = <S as SchemaScalar>::Check> {
+    root_node: RootNode<S, C>,
+    resolver: R,
+    context: X,
+    line_limit: usize,
+    selection_limit: usize,
+    ghost executable: { is_executable root_node.schema.types (roots_of root_node.schema) ≡ true },
+    ghost conditions: { has_standard_conditions root_node.schema.directives ≡ true },
+}
 
-    /// A service over these types and records, whose requests are answered on the record of
-    /// `root_id`, and whose lines have at most `line_limit` bytes.
+impl<S: SchemaScalar + Drop, R: GraphQLValue<S>> Service<S, R, R::Context> {
+    ghost use Rattle.std.specs.Prelude.{[], OnErr, OnOk};
+    ghost use Rattle.graphql_answers.specs.Lines.{IsLine};
+    ghost use Rattle.graphql_lines.specs.Request.{HoldsRequest, Request};
+    ghost use Rattle.graphql_names.specs.Names.{Bytes};
+    ghost use Rattle.graphql_service.specs.Answers.{Adds, Asks, IsAnswer};
+    ghost use Rattle.graphql_service.specs.Laws.{IsLineOfDistinctKeys, TellsInDistinctKeys};
+    ghost use Rattle.graphql_service.specs.Made.{IsOf, Makes};
+
+    /// A service over this root node, this resolver and this context. Its lines have at most `line_limit`
+    /// bytes, and plain texts at most `selection_limit` fields and inline fragments.
     ///
-    /// Each fault is answered where it is the first that stands, in the order of [`ThinFault`]. The
-    /// service holds the types in the order of their names, and the records in that of their ids.
+    /// The first fault that stands is told, in the order of [`ServiceFault`]; the parts are let go then.
     pub fn new(
-        alloc: Global,
-        types: Vec<ThinType>,
-        records: Vec<ThinRecord>,
-        root_id: String,
+        root_node: RootNode<S>,
+        resolver: R,
+        context: R::Context,
         line_limit: usize,
-    ) -> Result<ThinService, ThinFault>
-        ensures { Makes (record {
-          types = map type_of types.items;
-          records = map record_of records.items;
-          root_id = string_bytes root_id;
-          line_limit = line_limit;
-        }) result }
+        selection_limit: usize,
+    ) -> Result<Service<S, R, R::Context>, ServiceFault>
+    where
+        R: Drop,
+        R::Context: Drop,
+        ensures { Makes root_node resolver context line_limit selection_limit result }
     {
-        let Some(types) = by_name(types) else {
-            return Err(ThinFault::DuplicateName);
-        };
-        let Some(records) = by_name(records) else {
-            return Err(ThinFault::DuplicateName);
-        };
-        match fault_within(alloc, &types, &records, root_id.as_str())? {
-            Some(fault) => Err(fault),
-            None => Ok(ThinService {
-                types,
-                records,
-                root_id,
-                line_limit,
-            }),
+        if !root_node.schema().schema_is_executable() {
+            return Err(ServiceFault::NotExecutable);
         }
+        if !root_node.schema().has_standard_conditions() {
+            return Err(ServiceFault::OtherConditions);
+        }
+        Ok(Service {
+            root_node,
+            resolver,
+            context,
+            line_limit,
+            selection_limit,
+        })
+    }
+
+    /// What the resolver answers from.
+    pub fn context(&self) -> &R::Context
+        ensures { result.now ≡ self.now.context }
+    {
+        &self.context
     }
 
     /// The greatest length of a line, in bytes. A longer one is refused.
     pub fn line_limit(&self) -> usize
-        ensures { result ≡ (service_of self.now).line_limit }
+        ensures { result ≡ self.now.line_limit }
     {
         self.line_limit
     }
 
-    /// The answer line of a request line, the line feed included: the refusal that comes first, in
-    /// the order of [`ThinRefusal`], or data. Of a query that is no document the first fault is told,
-    /// whatever else the request asks.
+    /// The greatest size of a plain text, in fields and inline fragments.
+    pub fn selection_limit(&self) -> usize
+        ensures { result ≡ self.now.selection_limit }
+    {
+        self.selection_limit
+    }
+
+    /// The answer line of a request line, its line feed included, which is then all that `out` holds: the
+    /// refusal that comes first, in the order of [`LineRefusal`] and then of `execute_sync`, or data and
+    /// errors (GraphQL October 2021, 7 Response). The line is given without its line feed. Each object in
+    /// the answer has distinct keys, however deep, where what the resolver tells beside its errors has. The
+    /// service, its context too, stays as it was.
     ///
-    /// The line is `{"query": ..}` as JSON, and is given without its line feed. The only error is
-    /// want of memory, after which nothing has changed.
-    pub fn answer(&self, alloc: Global, line: &[u8]) -> Result<Vec<u8>, AllocError>
-        ensures answers { IfOk result (λ out. IsAnswerTo (service_of self.now) line.now out.items) }
-        ensures line { IfOk result (λ out. IsLine out.items) }
+    /// The only error is want of memory, after which `out` is empty.
+    pub fn answer(
+        &mut self,
+        alloc: Global,
+        line: &[u8],
+        out: &mut Vec<u8>,
+    ) -> Result<(), AllocError>
+        ensures answers { OnOk result (IsAnswer S.reads S.of_bool S.of_int S.of_text S.eq S.answer S.Check.accepts ⟦<RuleError as Ord>⟧.cmp ⟦<ExecutionError<S> as Ord>⟧.cmp self.old.root_node.schema true self.old.line_limit line.now
+            (R.root_node self.old.resolver) (R.type_of self.old.resolver self.old.context) (R.answer self.old.resolver self.old.context) out.new.items) }
+        ensures line { OnOk result (IsLine out.new.items) }
+        ensures distinct { OnOk result (TellsInDistinctKeys (R.answer self.old.resolver self.old.context) → IsLineOfDistinctKeys S.answer out.new.items) }
+        ensures unchanged { IsOf self.old.root_node self.old.resolver self.old.context self.old.line_limit self.old.selection_limit self.new }
+        ensures emptied { OnErr result (out.new.items ≡ []) }
+    {
+        values_are_lines::<S>();
+        answer_lines_have_distinct_keys::<S, R>();
+        out.clear();
+        match self.push_answer(alloc, line, out) {
+            Ok(()) => Ok(()),
+            Err(error) => {
+                out.clear();
+                Err(error)
+            }
+        }
+    }
+
+    /// Writes the answer line of a request line, at the end of `out`.
+    fn push_answer(
+        &mut self,
+        alloc: Global,
+        line: &[u8],
+        out: &mut Vec<u8>,
+    ) -> Result<(), AllocError>
+        ensures answers { OnOk result (Adds (IsAnswer S.reads S.of_bool S.of_int S.of_text S.eq S.answer S.Check.accepts ⟦<RuleError as Ord>⟧.cmp ⟦<ExecutionError<S> as Ord>⟧.cmp self.old.root_node.schema true self.old.line_limit line.now
+            (R.root_node self.old.resolver) (R.type_of self.old.resolver self.old.context) (R.answer self.old.resolver self.old.context)) out.old.items out.new.items) }
+        ensures unchanged { IsOf self.old.root_node self.old.resolver self.old.context self.old.line_limit self.old.selection_limit self.new }
     {
         if line.len() > self.line_limit {
-            return self.refused(alloc, ThinRefusal::LineTooLong);
+            return push_line_refusal::<S>(alloc, out, LineRefusal::LineTooLong, self.line_limit);
         }
-        let request = match read_request(alloc, line)? {
-            Ok(request) => request,
-            Err(refusal) => return self.refused(alloc, refusal),
-        };
-        let document = match parse(alloc, request.query.as_str())? {
-            Ok(document) => document,
-            Err(fault) => return self.refused(alloc, ThinRefusal::ParseError(fault)),
-        };
-        match self.accepted(alloc, &request, document.as_slice())? {
-            Some(set) => self.data(alloc, set.as_slice()),
-            None => self.refused(alloc, ThinRefusal::NotThin),
+        match request_from_line(alloc, line) {
+            Ok(request) => self.push_executed(alloc, &request, out),
+            Err(refusal) => push_line_refusal::<S>(alloc, out, refusal, self.line_limit),
         }
     }
 
-    fn refused(&self, alloc: Global, refusal: ThinRefusal) -> Result<Vec<u8>, AllocError>
-        ensures { IfOk result (λ out. out.items ≡ refusal_line (service_of self.now) refusal) }
-    {
-        let mut out = Vec::new(alloc);
-        refusal.push_line(alloc, &mut out, self.line_limit)?;
-        Ok(out)
-    }
-
-    /// The type of the root.
-    fn root_type(&self) -> Option<&ThinType>
-        ensures { option_map (λ t. type_of t.now) result ≡ root_type_of (service_of self.now) }
-    {
-        match self.records.get(self.root_id.as_str()) {
-            Some(root) => self.types.get(root.type_name.as_str()),
-            None => None,
-        }
-    }
-
-    /// The selection set of a request, by the document of its query, or None where that is outside
-    /// the first path.
-    fn accepted<'v>(
-        &self,
+    /// Writes the answer line of a request, at the end of `out`.
+    fn push_executed(
+        &mut self,
         alloc: Global,
-        request: &'v ThinRequest,
-        document: &[Definition<'v>],
-    ) -> Result<Option<Vec<Selection<'v>>>, AllocError>
-        ensures { IfOk result (λ o. AcceptsOrNone (service_of self.now) (request_view request.now) document.now (option_map (λ v. tree_of v.items) o)) }
+        request: &GraphQLRequest<S>,
+        out: &mut Vec<u8>,
+    ) -> Result<(), AllocError>
+        ensures answers { OnOk result ((line : Bytes) (asked : Request) → Asks S.of_bool S.of_int S.of_text self.old.line_limit line asked → HoldsRequest S.of_bool S.of_int S.of_text asked request.now
+            → Adds (IsAnswer S.reads S.of_bool S.of_int S.of_text S.eq S.answer S.Check.accepts ⟦<RuleError as Ord>⟧.cmp ⟦<ExecutionError<S> as Ord>⟧.cmp self.old.root_node.schema true self.old.line_limit line (R.root_node self.old.resolver) (R.type_of self.old.resolver self.old.context) (R.answer self.old.resolver self.old.context)) out.old.items out.new.items) }
+        ensures unchanged { IsOf self.old.root_node self.old.resolver self.old.context self.old.line_limit self.old.selection_limit self.new }
     {
-        if !request.is_bare {
-            return Ok(None);
+        let name = lent(&request.operation_name);
+        let query = request.query.as_str();
+        match execute_sync(
+            alloc,
+            query,
+            name,
+            &self.root_node,
+            &self.resolver,
+            &request.variables,
+            &mut self.context,
+        ) {
+            Ok(response) => push_response(out, response),
+            Err(error) => push_error::<S>(alloc, out, error),
         }
-        let Some(set) = thin_document(alloc, request.query.as_str(), document)? else {
-            return Ok(None);
-        };
-        let Some(parent) = self.root_type() else {
-            return Ok(None);
-        };
-        if !is_distinct(alloc, set.as_slice())? {
-            return Ok(None);
-        }
-        if !fits(&self.types, parent, set.as_slice()) {
-            return Ok(None);
-        }
-        Ok(Some(set))
     }
+}
 
-    /// The answer line of a set's data on the root.
-    fn data(&self, alloc: Global, set: &[Selection]) -> Result<Vec<u8>, AllocError>
-        ensures { IfOk result (λ out. out.items ≡ data_line (told_root (service_of self.now).records (tree_of set.now) (root_of (service_of self.now)))) }
-    {
-        let mut out = Vec::new(alloc);
-        out.extend_from_slice(b"{\"data\":")?;
-        self.push_root(&mut out, set)?;
-        out.extend_from_slice(b"}\n")?;
-        Ok(out)
-    }
-
-    /// Writes what a set gives on the root, as a JSON object at the end of `out`.
-    fn push_root(&self, out: &mut Vec<u8>, set: &[Selection]) -> Result<(), AllocError>
-        ensures { OnOk result (out.new.items ≡ out.old.items
-            ++ json (object (told_root (service_of self.now).records (tree_of set.now) (root_of (service_of self.now))))) }
-    {
-        match self.records.get(self.root_id.as_str()) {
-            Some(root) => push_object(out, &self.records, root, set),
-            None => out.extend_from_slice(b"{}"),
-        }
+/// A text that there may be, as it is lent.
+fn lent(text: &Option<String>) -> Option<&str>
+    ensures { option_map (λ text. text.now) result ≡ option_map (λ text. string_bytes text) text.now }
+{
+    match text {
+        Some(text) => Some(text.as_str()),
+        None => None,
     }
 }

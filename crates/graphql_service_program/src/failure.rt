@@ -1,9 +1,11 @@
 //! Why the program ended before the end of its input.
 
 ghost use Rattle.std.specs.Prelude.{◌≡◌};
-ghost use Rattle.graphql_service_program.specs.Status.{status_of, failure_of_fault, failure_of_error};
+ghost use Rattle.graphql_service_program.specs.Status.{status_of, failure_of_schema, failure_of_error};
 
-use graphql_service::{ServeError, ThinFault};
+use graphql_schema_faults::SchemaError;
+use graphql_service::{ServeError, ServiceFault};
+use std::alloc::AllocError;
 use std::error::Error;
 use std::fmt;
 
@@ -12,8 +14,8 @@ use std::fmt;
 pub enum Failure {
     /// There were arguments.
     Usage,
-    /// The sample has a fault.
-    Sample(ThinFault),
+    /// The sample can't be served.
+    Sample,
     /// A read of standard input failed.
     Read,
     /// A write to standard output failed, or took nothing.
@@ -28,7 +30,7 @@ impl Failure {
         ensures { result ≡ status_of self }
     {
         match self {
-            Failure::Sample(_) => 1,
+            Failure::Sample => 1,
             Failure::Usage => 2,
             Failure::Read | Failure::Write => 3,
             Failure::Memory => 4,
@@ -40,7 +42,7 @@ impl fmt::Display for Failure {
     fn fmt<W: fmt::Write>(&self, f: &mut fmt::Formatter<W>) -> fmt::Result {
         match self {
             Failure::Usage => write!(f, "usage: graphql_service"),
-            Failure::Sample(fault) => write!(f, "sample: {fault:?}"),
+            Failure::Sample => write!(f, "schema: NotExecutable"),
             Failure::Read => write!(f, "read failed"),
             Failure::Write => write!(f, "write failed"),
             Failure::Memory => write!(f, "out of memory"),
@@ -50,14 +52,36 @@ impl fmt::Display for Failure {
 
 impl Error for Failure {}
 
-impl From<ThinFault> for Failure {
-    ghost from_gives = { λ fault failure. failure ≡ failure_of_fault fault };
+/// Want of memory, or a fault of the sample's schema.
+impl From<SchemaError> for Failure {
+    ghost from_gives = { λ fault failure. failure ≡ failure_of_schema fault };
 
-    fn from(fault: ThinFault) -> Failure {
+    fn from(fault: SchemaError) -> Failure {
         match fault {
-            ThinFault::Memory => Failure::Memory,
-            fault => Failure::Sample(fault),
+            SchemaError::Memory => Failure::Memory,
+            _ => Failure::Sample,
         }
+    }
+}
+
+/// The sample can't be served.
+impl From<ServiceFault> for Failure {
+    ghost use Rattle.graphql_service_program.specs.declared.failure.Failure.TheVariants.{Sample};
+
+    ghost from_gives = { λ _ failure. failure ≡ Sample };
+
+    fn from(_fault: ServiceFault) -> Failure {
+        Failure::Sample
+    }
+}
+
+impl From<AllocError> for Failure {
+    ghost use Rattle.graphql_service_program.specs.declared.failure.Failure.TheVariants.{Memory};
+
+    ghost from_gives = { λ _ failure. failure ≡ Memory };
+
+    fn from(_error: AllocError) -> Failure {
+        Failure::Memory
     }
 }
 

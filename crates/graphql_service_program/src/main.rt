@@ -1,16 +1,30 @@
-//! Answers GraphQL request lines from standard input over the records of a sample.
+//! Answers GraphQL request lines from standard input over a sample schema and its records.
 #![tactic(auto)]
 
 mod failure;
-mod sample;
+
+ghost use Rattle.std.specs.Prelude.{◌≡◌};
+ghost use Rattle.graphql_items.specs.Memory.{Told};
+ghost use Rattle.graphql_scalars.specs.declared.check_error.CheckError.TheVariants.{Memory};
+ghost use Rattle.graphql_meta.specs.ScalarChecks.{IsBoolean, IsId, IsInt, IsString};
 
 use failure::Failure;
-use graphql_service::serve;
+use graphql_meta::TypeCheck;
+use graphql_meta::scalar_checks::{boolean_check, id_check, int_check, string_check};
+use graphql_schema::RootNode;
+use graphql_service::sample::{SampleResolver, StandardChecks, sample_records, schema_s};
+use graphql_service::{Service, serve};
+use graphql_values::{DefaultScalarValue, InputValue};
 use std::process::ExitCode;
 use std::{env, io};
 
 /// The greatest length of a line, in bytes.
 const LINE_LIMIT: usize = 65_536;
+
+/// The greatest size of a plain text, in fields and inline fragments.
+const SELECTION_LIMIT: usize = 10_000;
+
+type Value = InputValue<DefaultScalarValue>;
 
 /// Refuses arguments: the program takes none.
 fn check_arguments(rt: &(impl env::Env + AllocGlobal)) -> Result<(), Failure> {
@@ -28,13 +42,68 @@ fn check_arguments(rt: &(impl env::Env + AllocGlobal)) -> Result<(), Failure> {
     }
 }
 
-fn run(rt: &HostRuntime) -> Result<(), Failure> {
-    check_arguments(rt)?;
-    let service = sample::service(rt.alloc(), LINE_LIMIT)?;
+/// Serves the sample, with these checks of its scalars.
+fn serve_sample(rt: &HostRuntime, checks: StandardChecks) -> Result<(), Failure> {
+    let alloc = rt.alloc();
+    let root_node = RootNode::new(schema_s(alloc, checks)?);
+    let records = sample_records(alloc)?;
+    let mut service = Service::new(
+        root_node,
+        SampleResolver,
+        records,
+        LINE_LIMIT,
+        SELECTION_LIMIT,
+    )?;
     let mut reader = rt.reader();
     let mut writer = io::writer(rt);
-    serve(rt.alloc(), &service, &mut reader, &mut writer)?;
+    serve(alloc, &mut service, &mut reader, &mut writer)?;
     Ok(())
+}
+
+fn run(rt: &HostRuntime) -> Result<(), Failure> {
+    check_arguments(rt)?;
+    let alloc = rt.alloc();
+    let Ok(int) = Box::new(
+        alloc,
+        move |value: &Value|
+            ensures { Told (λ e. e ≡ Memory) result (IsInt value.now) }
+        { int_check(alloc, value) },
+    ) else {
+        return Err(Failure::Memory);
+    };
+    let Ok(string) = Box::new(
+        alloc,
+        move |value: &Value|
+            ensures { Told (λ e. e ≡ Memory) result (IsString value.now) }
+        { string_check(alloc, value) },
+    ) else {
+        return Err(Failure::Memory);
+    };
+    let Ok(boolean) = Box::new(
+        alloc,
+        move |value: &Value|
+            ensures { Told (λ e. e ≡ Memory) result (IsBoolean value.now) }
+        { boolean_check(alloc, value) },
+    ) else {
+        return Err(Failure::Memory);
+    };
+    let Ok(id) = Box::new(
+        alloc,
+        move |value: &Value|
+            ensures { Told (λ e. e ≡ Memory) result (IsId value.now) }
+        { id_check(alloc, value) },
+    ) else {
+        return Err(Failure::Memory);
+    };
+    serve_sample(
+        rt,
+        StandardChecks {
+            int: TypeCheck::new(int),
+            string: TypeCheck::new(string),
+            boolean: TypeCheck::new(boolean),
+            id: TypeCheck::new(id),
+        },
+    )
 }
 
 fn main(rt: HostRuntime) -> ExitCode {

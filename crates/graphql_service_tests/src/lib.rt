@@ -1,11 +1,16 @@
 //! Tests of the service layer.
 //!
 //! They show what no contract says: that lines are requests and values become JSON where there is
-//! memory, and how a service's lines are read and its answers written. The program's own run, over
-//! its files `stdin` and `stdout`, shows its answers to worked requests.
+//! memory, what worked requests are answered, and how lines are read and answers written.
 #![tactic(auto)]
 
 #[cfg(test)]
 mod lines;
+#[cfg(test)]
+mod rows;
+#[cfg(test)]
+mod schemas;
+#[cfg(test)]
+mod served;
 #[cfg(test)]
 mod serving;

@@ -9,14 +9,14 @@ use Rattle.graphql_visitors.proofs.RunLemmas.{as_before_after, reported_after}
 use Rattle.graphql_visitors.specs.Reports.{Reports, ReportsBy}
 use Rattle.graphql_visitors.specs.Subjects.{subject_of}
 use Rattle.graphql_visitors.specs.declared.context.ValidatorContext.{ValidatorContext}
-use Rattle.graphql_validation.specs.AllRules.{AllRules, RootNodeTold}
+use Rattle.graphql_validation.specs.AllRules.{AllRules, RequestTold}
 use Rattle.graphql_validation.specs.FirstStage.{introspection_places}
 
 module _ {S C : Type 0} where
   module _ (eq : S → S → Bool) (answer : S → ScalarAnswer) (accepts : C → InputValue S → Type 0) where
     -- and then the rule against introspection
     pub introspection_reported : (a b d : ValidatorContext S C) → ReportsBy (AllRules eq answer accepts (subject_of a)) a b → Reports (introspection_places (subject_of b)) b d
-        → ReportsBy (RootNodeTold eq answer accepts (subject_of a) true) a d
+        → ReportsBy (RequestTold eq answer accepts (subject_of a) true) a d
     introspection_reported a b d h k = record {
       as_before = as_before_after a b d h.as_before k.as_before;
       reported = λ m.

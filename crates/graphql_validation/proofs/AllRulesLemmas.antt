@@ -23,7 +23,7 @@ use Rattle.graphql_rules_local.proofs.LawLemmas.{no_introspection}
 use Rattle.graphql_rules_merging.specs.Visitor.{MergingTold}
 use Rattle.graphql_settled_fragments.specs.Laws.{EndingFragmentsAreSettled}
 use Rattle.graphql_validation.proofs.ValidLemmas.{first_none, first_permuted, first_then}
-use Rattle.graphql_validation.specs.AllRules.{AllRules, of_first_stage, of_merging, FieldsMerge, IsValid, IsValidAt, RootNodeTold}
+use Rattle.graphql_validation.specs.AllRules.{AllRules, of_first_stage, of_merging, FieldsMerge, IsValid, IsValidAt, RequestTold}
 use Rattle.graphql_validation.specs.FirstStage.{FirstStage, introspection_places, parts}
 use Rattle.graphql_validation.specs.WellFormed.{IsWellFormed}
 
@@ -79,11 +79,11 @@ module _ {S C : Type 0} (eq : S → S → Bool) (answer : S → ScalarAnswer) (a
   all_permuted told other p (of_merging first merging) = of_merging first (merging_permuted eq subject told other p merging)
 
   -- the same of a request to a root node
-  pub root_permuted : (is_disabled : Bool) (told other : Places) → IsPermutation told other → RootNodeTold eq answer accepts subject is_disabled told → RootNodeTold eq answer accepts subject is_disabled other
+  pub root_permuted : (is_disabled : Bool) (told other : Places) → IsPermutation told other → RequestTold eq answer accepts subject is_disabled told → RequestTold eq answer accepts subject is_disabled other
   root_permuted true told other p h = record { of_rules = h.of_rules; rules_told = h.rules_told; all = IsPermutation-trans (h.of_rules ++ introspection_places subject) told other h.all p }
   root_permuted false told other p h = all_permuted told other p h
 
-  pub root_exactly : (is_disabled : Bool) (told : Places) → RootNodeTold eq answer accepts subject is_disabled told → (told ≡ []) ↔ IsValidAt eq answer accepts subject is_disabled
+  pub root_exactly : (is_disabled : Bool) (told : Places) → RequestTold eq answer accepts subject is_disabled told → (told ≡ []) ↔ IsValidAt eq answer accepts subject is_disabled
   root_exactly false told h = let all = all-exactly told h in (λ e. record { valid = all.0 e; introspects_nothing = λ t. absurd (false≢true t) }, λ v. all.1 v.valid)
   root_exactly true told h =
       let all = all-exactly h.of_rules h.rules_told in

@@ -36,12 +36,12 @@ module _ {S C : Type 0} (eq : S → S → Bool) (answer : S → ScalarAnswer) (a
     pub rules_told : AllRules of_rules
     pub all : IsPermutation (of_rules ++ introspection_places subject) told
 
-  -- what is told of a request to a root node, by whether it has introspection disabled
-  abbrev pub RootNodeTold : Bool → Places → Type 0
-  RootNodeTold true told = WithoutIntrospection told
-  RootNodeTold false told = AllRules told
+  -- what is told of a request, by whether introspection is disabled
+  abbrev pub RequestTold : Bool → Places → Type 0
+  RequestTold true told = WithoutIntrospection told
+  RequestTold false told = AllRules told
 
-  -- valid for a root node: where it has introspection disabled, no field is `__schema` or `__type` either (4.2 Schema Introspection)
+  -- valid as a request: where introspection is disabled, no field is `__schema` or `__type` either (4.2 Schema Introspection)
   pub record IsValidAt (introspection_disabled : Bool) : Type 0 where
     pub valid : IsValid
     pub introspects_nothing : introspection_disabled ≡ true → EachOf AField (λ f. introspects f.name ≡ false) (parts subject)

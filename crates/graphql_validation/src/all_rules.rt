@@ -4,7 +4,7 @@ ghost use Rattle.std.specs.Prelude.{◌≡◌, ◌↔◌, [], IfOk};
 ghost use Rattle.std.specs.List.Sorted.{IsSorted};
 ghost use Rattle.graphql_rule_errors.specs.Places.{places};
 ghost use Rattle.graphql_schema.specs.Declarations.{declarations_of};
-ghost use Rattle.graphql_validation.specs.AllRules.{AllRules, IsValid, IsValidAt, RootNodeTold};
+ghost use Rattle.graphql_validation.specs.AllRules.{AllRules, IsValid, IsValidAt, RequestTold};
 ghost use Rattle.graphql_visitors.specs.Reports.{ReportsBy};
 ghost use Rattle.graphql_visitors.specs.Subjects.{subject_of};
 
@@ -50,23 +50,37 @@ pub fn visit_all_rules<'a, 't, S: SchemaScalar>(context: &mut ValidatorContext<'
     }
 }
 
-/// The errors of all rules for a document of a request to a root node, in order. Where the root node has
-/// introspection disabled, the errors of the rule against it stand among them, whatever the others tell.
-/// There are none exactly where the document is valid and, where introspection is disabled, asks for no
-/// `__schema` and no `__type`. An error of the call is want of memory.
+/// The errors of all rules for a document of a request, in order. Where introspection is disabled, the
+/// errors of the rule against it stand among them, whatever the others tell. There are none exactly where
+/// the document is valid and, where introspection is disabled, asks for no `__schema` and no `__type`
+/// (GraphQL October 2021, 4.2 Schema Introspection). An error of the call is want of memory.
+pub fn request_errors<'a, 't, S: SchemaScalar>(
+    alloc: Global,
+    schema: &'a SchemaType<S>,
+    document: &'a [Definition<'t, S>],
+    introspection_disabled: bool,
+) -> Result<Items<RuleError>, AllocError>
+    ensures told { IfOk result (λ errors. RequestTold S.eq S.answer S.Check.accepts (record { schema = declarations_of schema.now; document = document.now }) introspection_disabled (places errors)) }
+    ensures none { IfOk result (λ errors. (errors ≡ []) ↔ IsValidAt S.eq S.answer S.Check.accepts (record { schema = declarations_of schema.now; document = document.now }) introspection_disabled) }
+    ensures sorted { IfOk result (IsSorted ⟦<RuleError as Ord>⟧.cmp) }
+{
+    let mut context = ValidatorContext::new(alloc, schema, document)?;
+    visit_all_rules(&mut context);
+    if introspection_disabled {
+        visit_introspection_rule(&mut context);
+    }
+    context.into_errors()
+}
+
+/// The same of a request to a root node, which may have introspection disabled.
 pub fn root_node_errors<'a, 't, S: SchemaScalar>(
     alloc: Global,
     root: &'a RootNode<S>,
     document: &'a [Definition<'t, S>],
 ) -> Result<Items<RuleError>, AllocError>
-    ensures told { IfOk result (λ errors. RootNodeTold S.eq S.answer S.Check.accepts (record { schema = declarations_of root.now.schema; document = document.now }) root.now.introspection_disabled (places errors)) }
+    ensures told { IfOk result (λ errors. RequestTold S.eq S.answer S.Check.accepts (record { schema = declarations_of root.now.schema; document = document.now }) root.now.introspection_disabled (places errors)) }
     ensures none { IfOk result (λ errors. (errors ≡ []) ↔ IsValidAt S.eq S.answer S.Check.accepts (record { schema = declarations_of root.now.schema; document = document.now }) root.now.introspection_disabled) }
     ensures sorted { IfOk result (IsSorted ⟦<RuleError as Ord>⟧.cmp) }
 {
-    let mut context = ValidatorContext::new(alloc, root.schema(), document)?;
-    visit_all_rules(&mut context);
-    if root.introspection_disabled {
-        visit_introspection_rule(&mut context);
-    }
-    context.into_errors()
+    request_errors(alloc, root.schema(), document, root.introspection_disabled)
 }

@@ -11,7 +11,8 @@
 //!   the references to its types, each a [`TypeType`]; and [`RootNode`], what requests are executed
 //!   over;
 //! - [`validation_errors`], what all [`rules`] have against a document: none exactly where it is valid;
-//!   [`root_node_errors`], the same of a request to a root node, which may have introspection disabled;
+//!   [`request_errors`], the same of a request, where introspection may be disabled, and
+//!   [`root_node_errors`], as a root node has it;
 //!   and [`visit_all_rules`], the same over a context;
 //! - [`first_stage_errors`] and [`visit_first_stage`], what all rules but the one that fields merge have
 //!   against a document;
@@ -31,7 +32,7 @@ pub mod laws;
 mod one_walk;
 pub mod rules;
 
-pub use all_rules::{root_node_errors, validation_errors, visit_all_rules};
+pub use all_rules::{request_errors, root_node_errors, validation_errors, visit_all_rules};
 pub use first_stage::{first_stage_errors, visit_first_stage, visit_introspection_rule};
 pub use graphql_argument_values::FinalVariables;
 pub use graphql_literal_checks::{Source, validate_literal_value, validate_value};

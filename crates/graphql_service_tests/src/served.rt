@@ -1,0 +1,176 @@
+//! Services over the sample, and what is asserted of them.
+
+ghost use Rattle.std.specs.Prelude.{◌≡◌};
+ghost use Rattle.graphql_items.specs.Memory.{Told};
+ghost use Rattle.graphql_scalars.specs.declared.check_error.CheckError.TheVariants.{Memory};
+ghost use Rattle.graphql_meta.specs.ScalarChecks.{IsBoolean, IsId, IsInt, IsString};
+
+use crate::schemas::{is_refused, unkept, with_other_skip};
+use crate::serving::{Run, are_served};
+use graphql_items::{Items, Text};
+use graphql_meta::TypeCheck;
+use graphql_meta::scalar_checks::{boolean_check, id_check, int_check, string_check};
+use graphql_schema::{RootNode, SchemaType};
+use graphql_service::sample::{
+    SampleRecord, SampleRecords, SampleResolver, StandardChecks, sample_records, schema_s,
+};
+use graphql_service::{Service, ServiceFault};
+use graphql_values::{DefaultScalarValue, InputValue};
+use std::alloc::{AllocError, Global};
+use std::process::Abort;
+
+type Value = InputValue<DefaultScalarValue>;
+
+/// A service over the sample's schema and resolver.
+pub type SampleService = Service<DefaultScalarValue, SampleResolver, SampleRecords>;
+
+/// A line, and its answer without the line feed.
+pub type Row<'a> = (&'a str, &'a str);
+
+/// What is asserted of services.
+#[derive(Clone, Copy)]
+pub enum Asked<'a> {
+    /// What lines of at most so many bytes are answered over the sample's records.
+    Lines(usize, &'a [Row<'a>]),
+
+    /// The same where the second human has no name.
+    Nameless(&'a [Row<'a>]),
+
+    /// How runs over input end, and what they write.
+    Runs(&'a [Run<'a>]),
+
+    /// That a schema whose types do not keep what they promise makes no service.
+    Unkept,
+
+    /// That a schema with another `skip` makes no service.
+    OtherSkip,
+}
+
+/// The sample's records, with no name of the second human.
+fn nameless(alloc: Global) -> Result<SampleRecords, AllocError> {
+    let mut records = Items::with_capacity(alloc, 2)?;
+    records.push(SampleRecord {
+        id: Text::from_str(alloc, "h1")?,
+        name: Some(Text::from_str(alloc, "Ann")?),
+        friend: Some(Text::from_str(alloc, "h2")?),
+    })?;
+    records.push(SampleRecord {
+        id: Text::from_str(alloc, "h2")?,
+        name: None,
+        friend: None,
+    })?;
+    Ok(SampleRecords {
+        records,
+        root_calls: 0,
+    })
+}
+
+/// Asserts what lines are answered, and that the records stay.
+fn are_answered(rt: &impl Abort, alloc: Global, service: &mut SampleService, rows: &[Row<'_>]) {
+    let mut out = Vec::new(alloc);
+    for row in rows {
+        let is_answered = service.answer(alloc, row.0.as_bytes(), &mut out).is_ok();
+        assert!(rt; is_answered);
+        let (end, front) = match out.as_slice().split_last() {
+            Some((end, front)) => (*end, front),
+            None => (0, row.1.as_bytes()),
+        };
+        assert_eq!(rt; front, row.1.as_bytes());
+        assert_eq!(rt; end, b'\n');
+        assert_eq!(rt; service.context().root_calls, 0);
+    }
+}
+
+/// A service whose lines have at most so many bytes.
+fn service(
+    rt: &impl Abort,
+    schema: SchemaType<DefaultScalarValue>,
+    records: SampleRecords,
+    limit: usize,
+) -> SampleService {
+    Service::new(
+        RootNode::new(schema),
+        SampleResolver,
+        records,
+        limit,
+        10_000,
+    )
+    .expect(rt, "a service")
+}
+
+/// Asserts of services over the sample's schema what lines are answered, and how runs end.
+fn with_schema(
+    rt: &impl Abort,
+    alloc: Global,
+    schema: SchemaType<DefaultScalarValue>,
+    asked: Asked<'_>,
+) {
+    let records = sample_records(alloc).expect(rt, "memory");
+    match asked {
+        Asked::Lines(limit, rows) => {
+            are_answered(rt, alloc, &mut service(rt, schema, records, limit), rows);
+        }
+        Asked::Nameless(rows) => {
+            let records = nameless(alloc).expect(rt, "memory");
+            are_answered(rt, alloc, &mut service(rt, schema, records, 65_536), rows);
+        }
+        Asked::Runs(runs) => are_served(rt, alloc, &mut service(rt, schema, records, 64), runs),
+        Asked::Unkept | Asked::OtherSkip => {
+            let schema = with_other_skip(rt, alloc, schema);
+            is_refused(rt, alloc, schema, ServiceFault::OtherConditions);
+        }
+    }
+}
+
+/// Asserts of services over a schema with these checks.
+fn with_checks(rt: &impl Abort, alloc: Global, checks: StandardChecks, asked: Asked<'_>) {
+    if let Asked::Unkept = asked {
+        let schema = unkept(rt, alloc, checks);
+        return is_refused(rt, alloc, schema, ServiceFault::NotExecutable);
+    }
+    let schema = schema_s(alloc, checks).expect(rt, "a schema");
+    with_schema(rt, alloc, schema, asked);
+}
+
+/// Asserts of services over the sample's schema.
+pub fn over(rt: &impl Abort, alloc: Global, asked: Asked<'_>) {
+    let int = TypeCheck::new(Box::new(
+        alloc,
+        move |value: &Value|
+            ensures { Told (λ e. e ≡ Memory) result (IsInt value.now) }
+        { int_check(alloc, value) },
+    )
+    .expect(rt, "memory"));
+    let string = TypeCheck::new(Box::new(
+        alloc,
+        move |value: &Value|
+            ensures { Told (λ e. e ≡ Memory) result (IsString value.now) }
+        { string_check(alloc, value) },
+    )
+    .expect(rt, "memory"));
+    let boolean = TypeCheck::new(Box::new(
+        alloc,
+        move |value: &Value|
+            ensures { Told (λ e. e ≡ Memory) result (IsBoolean value.now) }
+        { boolean_check(alloc, value) },
+    )
+    .expect(rt, "memory"));
+    let id = TypeCheck::new(Box::new(
+        alloc,
+        move |value: &Value|
+            ensures { Told (λ e. e ≡ Memory) result (IsId value.now) }
+        { id_check(alloc, value) },
+    )
+    .expect(rt, "memory"));
+    with_checks(
+        rt,
+        alloc,
+        StandardChecks {
+            int,
+            string,
+            boolean,
+            id,
+        },
+        asked,
+    );
+}
