@@ -14,9 +14,9 @@ fn no_boolean(alloc: Global) -> Result<String, AllocError> {
 }
 
 #[test]
-fn errors_say_what_was_found(rt: HostRuntime) -> Result<(), AllocError> {
+fn errors_say_what_was_found(rt: HostRuntime) {
     let told = no_boolean(rt.alloc());
-    check(&rt, told, "Expected `Boolean`, found: \"yes\"")
+    check(&rt, told, "Expected `Boolean`, found: \"yes\"");
 }
 
 /// The copy of an error, as `{:?}` writes it.
@@ -27,7 +27,7 @@ fn copy_text(alloc: Global) -> Result<String, AllocError> {
 }
 
 #[test]
-fn errors_are_copied(rt: HostRuntime) -> Result<(), AllocError> {
+fn errors_are_copied(rt: HostRuntime) {
     let told = copy_text(rt.alloc());
-    check(&rt, told, "Message(\"no name\")")
+    check(&rt, told, "Message(\"no name\")");
 }

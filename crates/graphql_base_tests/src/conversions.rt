@@ -54,50 +54,38 @@ fn numbers(alloc: Global) -> Result<Vec<InputValue>, AllocError> {
 }
 
 #[test]
-fn lists_are_read(rt: HostRuntime) -> Result<(), AllocError> {
+fn lists_are_read(rt: HostRuntime) {
     let alloc = rt.alloc();
-    let rows = [
-        check(
-            &rt,
-            reads::<Vec<i32>>(alloc, numbers(alloc)),
-            "Err(Null); Err(Null); Ok([1]); Ok([1, 2, 3]); Err(Item(Message(\"Expected GraphQL scalar, found: null\")))",
-        ),
-        check(
-            &rt,
-            reads::<Vec<Vec<i32>>>(alloc, numbers(alloc)),
-            "Err(Null); Err(Null); Ok([[1]]); Ok([[1], [2], [3]]); Err(Item(Null))",
-        ),
-        check(
-            &rt,
-            reads::<Option<Vec<Option<i32>>>>(alloc, numbers(alloc)),
-            "Ok(None); Ok(None); Ok(Some([Some(1)])); Ok(Some([Some(1), Some(2), Some(3)])); Ok(Some([Some(1), Some(2), None]))",
-        ),
-    ];
-    for row in rows {
-        row?;
-    }
-    Ok(())
+    check(
+        &rt,
+        reads::<Vec<i32>>(alloc, numbers(alloc)),
+        "Err(Null); Err(Null); Ok([1]); Ok([1, 2, 3]); Err(Item(Message(\"Expected GraphQL scalar, found: null\")))",
+    );
+    check(
+        &rt,
+        reads::<Vec<Vec<i32>>>(alloc, numbers(alloc)),
+        "Err(Null); Err(Null); Ok([[1]]); Ok([[1], [2], [3]]); Err(Item(Null))",
+    );
+    check(
+        &rt,
+        reads::<Option<Vec<Option<i32>>>>(alloc, numbers(alloc)),
+        "Ok(None); Ok(None); Ok(Some([Some(1)])); Ok(Some([Some(1), Some(2), Some(3)])); Ok(Some([Some(1), Some(2), None]))",
+    );
 }
 
 #[test]
-fn arrays_are_read(rt: HostRuntime) -> Result<(), AllocError> {
+fn arrays_are_read(rt: HostRuntime) {
     let alloc = rt.alloc();
-    let rows = [
-        check(
-            &rt,
-            reads::<[i32; 3]>(alloc, numbers(alloc)),
-            "Err(Null); Err(Null); Err(WrongCount { actual: 1, expected: 3 }); Ok([1, 2, 3]); Err(Item(Message(\"Expected GraphQL scalar, found: null\")))",
-        ),
-        check(
-            &rt,
-            reads::<[i32; 1]>(alloc, numbers(alloc)),
-            "Err(Null); Err(Null); Ok([1]); Err(WrongCount { actual: 3, expected: 1 }); Err(WrongCount { actual: 3, expected: 1 })",
-        ),
-    ];
-    for row in rows {
-        row?;
-    }
-    Ok(())
+    check(
+        &rt,
+        reads::<[i32; 3]>(alloc, numbers(alloc)),
+        "Err(Null); Err(Null); Err(WrongCount { actual: 1, expected: 3 }); Ok([1, 2, 3]); Err(Item(Message(\"Expected GraphQL scalar, found: null\")))",
+    );
+    check(
+        &rt,
+        reads::<[i32; 1]>(alloc, numbers(alloc)),
+        "Err(Null); Err(Null); Ok([1]); Err(WrongCount { actual: 3, expected: 1 }); Err(WrongCount { actual: 3, expected: 1 })",
+    );
 }
 
 /// What absence, null, 1 and the two lists mean where an integer may be null.
@@ -105,25 +93,19 @@ const NULLABLE: &str =
     "Ok(None); Ok(None); Ok(Some(1)); Err(Message(\"Expected GraphQL scalar, found: [1, 2, 3]\")); Err(Message(\"Expected GraphQL scalar, found: [1, 2, null]\"))";
 
 #[test]
-fn nullable_values_are_read(rt: HostRuntime) -> Result<(), AllocError> {
+fn nullable_values_are_read(rt: HostRuntime) {
     let alloc = rt.alloc();
-    let rows = [
-        check(&rt, reads::<Option<i32>>(alloc, numbers(alloc)), NULLABLE),
-        check(
-            &rt,
-            reads::<Box<Option<i32>>>(alloc, numbers(alloc)),
-            NULLABLE,
-        ),
-        check(
-            &rt,
-            reads::<Rc<Option<i32>>>(alloc, numbers(alloc)),
-            NULLABLE,
-        ),
-    ];
-    for row in rows {
-        row?;
-    }
-    Ok(())
+    check(&rt, reads::<Option<i32>>(alloc, numbers(alloc)), NULLABLE);
+    check(
+        &rt,
+        reads::<Box<Option<i32>>>(alloc, numbers(alloc)),
+        NULLABLE,
+    );
+    check(
+        &rt,
+        reads::<Rc<Option<i32>>>(alloc, numbers(alloc)),
+        NULLABLE,
+    );
 }
 
 /// The text `ab`, `true` and the enum value `RED`.
@@ -135,29 +117,23 @@ fn words(alloc: Global) -> Result<Vec<InputValue>, AllocError> {
 }
 
 #[test]
-fn scalars_are_read(rt: HostRuntime) -> Result<(), AllocError> {
+fn scalars_are_read(rt: HostRuntime) {
     let alloc = rt.alloc();
-    let rows = [
-        check(
-            &rt,
-            reads::<String>(alloc, words(alloc)),
-            "Err(Message(\"Expected GraphQL scalar, found: null\")); Ok(\"ab\"); Err(Message(\"Expected `String`, found: true\")); Err(Message(\"Expected GraphQL scalar, found: RED\"))",
-        ),
-        check(
-            &rt,
-            reads::<bool>(alloc, words(alloc)),
-            "Err(Message(\"Expected GraphQL scalar, found: null\")); Err(Message(\"Expected `Boolean`, found: \\\"ab\\\"\")); Ok(true); Err(Message(\"Expected GraphQL scalar, found: RED\"))",
-        ),
-        check(
-            &rt,
-            reads::<i32>(alloc, words(alloc)),
-            "Err(Message(\"Expected GraphQL scalar, found: null\")); Err(Message(\"Expected `Int`, found: \\\"ab\\\"\")); Err(Message(\"Expected `Int`, found: true\")); Err(Message(\"Expected GraphQL scalar, found: RED\"))",
-        ),
-    ];
-    for row in rows {
-        row?;
-    }
-    Ok(())
+    check(
+        &rt,
+        reads::<String>(alloc, words(alloc)),
+        "Err(Message(\"Expected GraphQL scalar, found: null\")); Ok(\"ab\"); Err(Message(\"Expected `String`, found: true\")); Err(Message(\"Expected GraphQL scalar, found: RED\"))",
+    );
+    check(
+        &rt,
+        reads::<bool>(alloc, words(alloc)),
+        "Err(Message(\"Expected GraphQL scalar, found: null\")); Err(Message(\"Expected `Boolean`, found: \\\"ab\\\"\")); Ok(true); Err(Message(\"Expected GraphQL scalar, found: RED\"))",
+    );
+    check(
+        &rt,
+        reads::<i32>(alloc, words(alloc)),
+        "Err(Message(\"Expected GraphQL scalar, found: null\")); Err(Message(\"Expected `Int`, found: \\\"ab\\\"\")); Err(Message(\"Expected `Int`, found: true\")); Err(Message(\"Expected GraphQL scalar, found: RED\"))",
+    );
 }
 
 /// Which input value stands for a value, as `{}` writes it.
@@ -170,30 +146,24 @@ fn giving<T: ToInputValue<DefaultScalarValue> + Drop>(
 }
 
 #[test]
-fn values_are_given(rt: HostRuntime) -> Result<(), AllocError> {
+fn values_are_given(rt: HostRuntime) {
     let alloc = rt.alloc();
     let numbers = [1, 2];
     let none: Option<i32> = None;
     let list = numbers.to_vec(alloc);
     let boxed = Box::new(alloc, 1).map_err(AllocError::from);
     let shared = Rc::new(alloc, 1).map_err(AllocError::from);
-    let rows = [
-        check(&rt, giving(alloc, Ok(none)), "null"),
-        check(&rt, giving(alloc, Ok(Some(1))), "1"),
-        check(&rt, giving(alloc, Ok(numbers.as_slice())), "[1, 2]"),
-        check(&rt, giving(alloc, Ok([[true]; 2])), "[[true], [true]]"),
-        check(&rt, giving(alloc, Ok(&&1)), "1"),
-        check(&rt, giving(alloc, Ok("ab")), "\"ab\""),
-        check(&rt, giving(alloc, list), "[1, 2]"),
-        check(&rt, giving(alloc, boxed), "1"),
-        check(&rt, giving(alloc, shared), "1"),
-        check(&rt, giving(alloc, String::from_str(alloc, "ab")), "\"ab\""),
-        check(&rt, giving(alloc, Ok(Value::scalar(1))), "1"),
-    ];
-    for row in rows {
-        row?;
-    }
-    Ok(())
+    check(&rt, giving(alloc, Ok(none)), "null");
+    check(&rt, giving(alloc, Ok(Some(1))), "1");
+    check(&rt, giving(alloc, Ok(numbers.as_slice())), "[1, 2]");
+    check(&rt, giving(alloc, Ok([[true]; 2])), "[[true], [true]]");
+    check(&rt, giving(alloc, Ok(&&1)), "1");
+    check(&rt, giving(alloc, Ok("ab")), "\"ab\"");
+    check(&rt, giving(alloc, list), "[1, 2]");
+    check(&rt, giving(alloc, boxed), "1");
+    check(&rt, giving(alloc, shared), "1");
+    check(&rt, giving(alloc, String::from_str(alloc, "ab")), "\"ab\"");
+    check(&rt, giving(alloc, Ok(Value::scalar(1))), "1");
 }
 
 /// Which input value a value becomes, as `{}` writes it.
@@ -206,35 +176,29 @@ fn becoming<T: IntoInputValue<DefaultScalarValue>>(
 }
 
 #[test]
-fn values_become_input(rt: HostRuntime) -> Result<(), AllocError> {
+fn values_become_input(rt: HostRuntime) {
     let alloc = rt.alloc();
     let none: Option<i32> = None;
-    let rows = [
-        check(&rt, becoming(alloc, Ok(none)), "null"),
-        check(&rt, becoming(alloc, Ok(Some(true))), "true"),
-        check(&rt, becoming(alloc, Ok(&1)), "1"),
-        check(&rt, becoming(alloc, Ok(1)), "1"),
-        check(&rt, becoming(alloc, Ok("ab")), "\"ab\""),
-        check(&rt, becoming(alloc, Ok(CowStr::Borrowed("ab"))), "\"ab\""),
-        check(
-            &rt,
-            becoming(alloc, one_two_and(alloc, InputValue::null())),
-            "[1, 2, null]",
-        ),
-        check(
-            &rt,
-            becoming(alloc, String::from_str(alloc, "ab")),
-            "\"ab\"",
-        ),
-    ];
-    for row in rows {
-        row?;
-    }
-    Ok(())
+    check(&rt, becoming(alloc, Ok(none)), "null");
+    check(&rt, becoming(alloc, Ok(Some(true))), "true");
+    check(&rt, becoming(alloc, Ok(&1)), "1");
+    check(&rt, becoming(alloc, Ok(1)), "1");
+    check(&rt, becoming(alloc, Ok("ab")), "\"ab\"");
+    check(&rt, becoming(alloc, Ok(CowStr::Borrowed("ab"))), "\"ab\"");
+    check(
+        &rt,
+        becoming(alloc, one_two_and(alloc, InputValue::null())),
+        "[1, 2, null]",
+    );
+    check(
+        &rt,
+        becoming(alloc, String::from_str(alloc, "ab")),
+        "\"ab\"",
+    );
 }
 
 #[test]
-fn errors_are_displayed(rt: HostRuntime) -> Result<(), AllocError> {
+fn errors_are_displayed(rt: HostRuntime) {
     let alloc = rt.alloc();
     let no_list: FromInputValueVecError<Vec<i32>, DefaultScalarValue> =
         FromInputValueVecError::Item(FromInputValueVecError::Null);
@@ -245,25 +209,19 @@ fn errors_are_displayed(rt: HostRuntime) -> Result<(), AllocError> {
             actual: 3,
             expected: 2,
         };
-    let rows = [
-        check(
-            &rt,
-            no_list.to_string(alloc),
-            "Failed to convert into `Vec`: Value cannot be `null`",
-        ),
-        check(
-            &rt,
-            no_array.to_string(alloc),
-            "Failed to convert into exact-size array: Value cannot be `null`",
-        ),
-        check(
-            &rt,
-            other.to_string(alloc),
-            "Failed to convert into exact-size array: wrong elements count: 3 instead of 2",
-        ),
-    ];
-    for row in rows {
-        row?;
-    }
-    Ok(())
+    check(
+        &rt,
+        no_list.to_string(alloc),
+        "Failed to convert into `Vec`: Value cannot be `null`",
+    );
+    check(
+        &rt,
+        no_array.to_string(alloc),
+        "Failed to convert into exact-size array: Value cannot be `null`",
+    );
+    check(
+        &rt,
+        other.to_string(alloc),
+        "Failed to convert into exact-size array: wrong elements count: 3 instead of 2",
+    );
 }

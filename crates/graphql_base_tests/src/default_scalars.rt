@@ -1,6 +1,6 @@
 ghost use Rattle.std.specs.Prelude.{◌≡◌, IfOk};
 
-use crate::told::{check, check_each};
+use crate::told::check;
 use graphql_scalars::{DefaultScalarValue, ParseScalarResult, ParseScalarValue, ScalarValue};
 use graphql_text::{ScalarToken, Text, TextRef};
 use std::alloc::{AllocError, Global};
@@ -65,8 +65,10 @@ const STRINGS: [(&str, &str); 18] = [
 ];
 
 #[test]
-fn strings_are_decoded(rt: HostRuntime) -> Result<(), AllocError> {
-    check_each(&rt, &string_reading, &STRINGS)
+fn strings_are_decoded(rt: HostRuntime) {
+    for row in &STRINGS {
+        check(&rt, string_reading(rt.alloc(), row.0), row.1);
+    }
 }
 
 /// What an integer reads, in words.
@@ -89,33 +91,29 @@ const INTEGERS: [(&str, &str); 9] = [
 ];
 
 #[test]
-fn integers_have_32_bits(rt: HostRuntime) -> Result<(), AllocError> {
-    check_each(&rt, &integer_reading, &INTEGERS)
+fn integers_have_32_bits(rt: HostRuntime) {
+    for row in &INTEGERS {
+        check(&rt, integer_reading(rt.alloc(), row.0), row.1);
+    }
 }
 
 #[test]
-fn each_type_reads_its_own(rt: HostRuntime) -> Result<(), AllocError> {
+fn each_type_reads_its_own(rt: HostRuntime) {
     let alloc = rt.alloc();
     let int = ScalarToken::Int(TextRef::new("5"));
     let float = ScalarToken::Float(TextRef::new("5.5"));
     let text = ScalarToken::String(TextRef::new("a"));
-    let rows = [
-        check(
-            &rt,
-            reading::<DefaultScalarValue>(alloc, &float),
-            "There needs to be a Float type",
-        ),
-        check(&rt, reading::<i32>(alloc, &int), "5"),
-        check(&rt, reading::<i32>(alloc, &float), "Unexpected \"5.5\""),
-        check(&rt, reading::<i32>(alloc, &text), "Unexpected \"\"a\"\""),
-        check(&rt, reading::<String>(alloc, &text), "<a>"),
-        check(&rt, reading::<String>(alloc, &int), "Unexpected \"5\""),
-        check(&rt, reading::<bool>(alloc, &text), "Unexpected \"\"a\"\""),
-    ];
-    for row in rows {
-        row?;
-    }
-    Ok(())
+    check(
+        &rt,
+        reading::<DefaultScalarValue>(alloc, &float),
+        "There needs to be a Float type",
+    );
+    check(&rt, reading::<i32>(alloc, &int), "5");
+    check(&rt, reading::<i32>(alloc, &float), "Unexpected \"5.5\"");
+    check(&rt, reading::<i32>(alloc, &text), "Unexpected \"\"a\"\"");
+    check(&rt, reading::<String>(alloc, &text), "<a>");
+    check(&rt, reading::<String>(alloc, &int), "Unexpected \"5\"");
+    check(&rt, reading::<bool>(alloc, &text), "Unexpected \"\"a\"\"");
 }
 
 /// The copy of a text's scalar, as `{:?}` writes it.
@@ -126,7 +124,7 @@ fn copy_text(alloc: Global) -> Result<String, AllocError> {
 }
 
 #[test]
-fn scalars_are_copied(rt: HostRuntime) -> Result<(), AllocError> {
+fn scalars_are_copied(rt: HostRuntime) {
     let told = copy_text(rt.alloc());
-    check(&rt, told, "String(\"a\")")
+    check(&rt, told, "String(\"a\")");
 }

@@ -59,25 +59,19 @@ const DEBUGGED: &str =
     "Object([(Spanning { item: \"k\", span: Span { start: SourcePosition { index: 0, line: 0, column: 0 }, end: SourcePosition { index: 0, line: 0, column: 0 } } }, Spanning { item: Null, span: Span { start: SourcePosition { index: 0, line: 0, column: 0 }, end: SourcePosition { index: 0, line: 0, column: 0 } } })])";
 
 #[test]
-fn values_are_displayed(rt: HostRuntime) -> Result<(), AllocError> {
+fn values_are_displayed(rt: HostRuntime) {
     let alloc = rt.alloc();
     let numbers = two_fields(alloc, [("k", 1), ("l", -2)]);
     let v = InputValue::variable(alloc, "v");
     let object = under_k(alloc, InputValue::null());
-    let rows = [
-        check(
-            &rt,
-            written(alloc, sample(alloc)),
-            "{k: [$v, JEDI, null, \"a\"b\"]}",
-        ),
-        check(&rt, written(alloc, numbers), "{k: 1, l: -2}"),
-        check(&rt, debugged(alloc, v), "Variable(\"v\")"),
-        check(&rt, debugged(alloc, object), DEBUGGED),
-    ];
-    for row in rows {
-        row?;
-    }
-    Ok(())
+    check(
+        &rt,
+        written(alloc, sample(alloc)),
+        "{k: [$v, JEDI, null, \"a\"b\"]}",
+    );
+    check(&rt, written(alloc, numbers), "{k: 1, l: -2}");
+    check(&rt, debugged(alloc, v), "Variable(\"v\")");
+    check(&rt, debugged(alloc, object), DEBUGGED);
 }
 
 /// Whether null, the enum value `RED` and the scalar 5 are told as what they are, and not as another.
@@ -95,10 +89,9 @@ fn kinds(alloc: Global) -> Result<[bool; 5], AllocError> {
 }
 
 #[test]
-fn kinds_are_told(rt: HostRuntime) -> Result<(), AllocError> {
-    let kinds = kinds(rt.alloc())?;
+fn kinds_are_told(rt: HostRuntime) {
+    let kinds = kinds(rt.alloc()).expect(&rt, "memory");
     assert_eq!(rt; kinds, [true; 5]);
-    Ok(())
 }
 
 /// How many items a list lends.
@@ -158,19 +151,13 @@ fn filled(alloc: Global) -> Result<String, AllocError> {
 }
 
 #[test]
-fn parts_are_lent_and_variables_filled(rt: HostRuntime) -> Result<(), AllocError> {
+fn parts_are_lent_and_variables_filled(rt: HostRuntime) {
     let alloc = rt.alloc();
     let none: Variables<DefaultScalarValue> = HashMap::new(alloc);
-    let rows = [
-        check(&rt, counts(alloc), "Some(4) Some(1)"),
-        check(&rt, variables(alloc), "[\"v\"]"),
-        check(&rt, filled(alloc), "{k: [true, JEDI, null, \"a\"b\"]}"),
-        check(&rt, constant_text(alloc, &none), "no value"),
-    ];
-    for row in rows {
-        row?;
-    }
-    Ok(())
+    check(&rt, counts(alloc), "Some(4) Some(1)");
+    check(&rt, variables(alloc), "[\"v\"]");
+    check(&rt, filled(alloc), "{k: [true, JEDI, null, \"a\"b\"]}");
+    check(&rt, constant_text(alloc, &none), "no value");
 }
 
 /// Whether two objects are the same but for their places.
@@ -218,12 +205,11 @@ fn nested_by_turns(alloc: Global, depth: usize) -> Result<InputValue, AllocError
 }
 
 #[test]
-fn deep_values_go(rt: HostRuntime) -> Result<(), AllocError> {
+fn deep_values_go(rt: HostRuntime) {
     let alloc = rt.alloc();
-    let _lists = nested_lists(alloc, 100_000)?;
-    let _objects = nested(alloc, 100_000)?;
-    let _both = nested_by_turns(alloc, 100_000)?;
-    Ok(())
+    let _lists = nested_lists(alloc, 100_000).expect(&rt, "memory");
+    let _objects = nested(alloc, 100_000).expect(&rt, "memory");
+    let _both = nested_by_turns(alloc, 100_000).expect(&rt, "memory");
 }
 
 /// How long the text of a deep list is, and how many variables stand in it.
@@ -235,11 +221,10 @@ fn told_of_deep(alloc: Global) -> Result<(usize, usize), AllocError> {
 }
 
 #[test]
-fn deep_values_are_told(rt: HostRuntime) -> Result<(), AllocError> {
-    let (length, variables) = told_of_deep(rt.alloc())?;
+fn deep_values_are_told(rt: HostRuntime) {
+    let (length, variables) = told_of_deep(rt.alloc()).expect(&rt, "memory");
     assert_eq!(rt; length, 400_001);
     assert_eq!(rt; variables, 0);
-    Ok(())
 }
 
 /// Whether a deep object is the same as itself, and not as one less deep.
@@ -295,30 +280,32 @@ fn many_are_same(alloc: Global) -> Result<(bool, bool), AllocError> {
 }
 
 #[test]
-fn many_fields_are_compared(rt: HostRuntime) -> Result<(), AllocError> {
-    let (turned, other) = many_are_same(rt.alloc())?;
+fn many_fields_are_compared(rt: HostRuntime) {
+    let (turned, other) = many_are_same(rt.alloc()).expect(&rt, "memory");
     assert!(rt; turned && !other);
-    Ok(())
 }
 
 #[test]
-fn objects_are_compared(rt: HostRuntime) -> Result<(), AllocError> {
+fn objects_are_compared(rt: HostRuntime) {
     let alloc = rt.alloc();
     let two = [("k", 1), ("l", 2)];
     let repeated = [("k", 1), ("k", 1)];
-    let turned = are_same(alloc, two, [("l", 2), ("k", 1)])?;
+    let turned = are_same(alloc, two, [("l", 2), ("k", 1)]).expect(&rt, "memory");
     assert!(rt; turned);
-    let first = are_same(alloc, repeated, two)?;
-    let last = are_same(alloc, two, repeated)?;
+    let first = are_same(alloc, repeated, two).expect(&rt, "memory");
+    let last = are_same(alloc, two, repeated).expect(&rt, "memory");
     assert!(rt; !first && !last);
-    let in_order = are_same(alloc, [("k", 1), ("k", 2)], [("k", 1), ("k", 2)])?;
-    let out_of_order = are_same(alloc, [("k", 1), ("k", 2)], [("k", 2), ("k", 1)])?;
+    let in_order = are_same(alloc, [("k", 1), ("k", 2)], [("k", 1), ("k", 2)]).expect(
+        &rt, "memory",
+    );
+    let out_of_order = are_same(alloc, [("k", 1), ("k", 2)], [("k", 2), ("k", 1)]).expect(
+        &rt, "memory",
+    );
     assert!(rt; in_order && !out_of_order);
-    let (same, other) = deep_are_same(alloc)?;
+    let (same, other) = deep_are_same(alloc).expect(&rt, "memory");
     assert!(rt; same && !other);
-    let repeated = repeated_are_same(alloc)?;
+    let repeated = repeated_are_same(alloc).expect(&rt, "memory");
     assert!(rt; repeated);
-    Ok(())
 }
 
 #[test]

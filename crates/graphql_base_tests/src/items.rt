@@ -112,15 +112,9 @@ fn written(alloc: Global) -> Result<String, AllocError> {
 }
 
 #[test]
-fn items_are_kept_and_lent(rt: HostRuntime) -> Result<(), AllocError> {
+fn items_are_kept_and_lent(rt: HostRuntime) {
     let alloc = rt.alloc();
-    let rows = [
-        check(&rt, grown(alloc), "[1, 2, 3, 4, 5, 8, 7]"),
-        check(&rt, begun_again(alloc), "[3, 3, 4, 6] [4, 6]"),
-        check(&rt, written(alloc), "9 [5, 5] [7, 7]"),
-    ];
-    for row in rows {
-        row?;
-    }
-    Ok(())
+    check(&rt, grown(alloc), "[1, 2, 3, 4, 5, 8, 7]");
+    check(&rt, begun_again(alloc), "[3, 3, 4, 6] [4, 6]");
+    check(&rt, written(alloc), "9 [5, 5] [7, 7]");
 }

@@ -26,9 +26,9 @@ fn put_text(alloc: Global) -> Result<String, NameMapError> {
 }
 
 #[test]
-fn items_are_found_by_their_names(rt: HostRuntime) -> Result<(), NameMapError> {
+fn items_are_found_by_their_names(rt: HostRuntime) {
     let told = put_text(rt.alloc());
-    check(&rt, told, "[\"B\", \"a\", \"b\", \"c\"] Some(\"b\") None")
+    check(&rt, told, "[\"B\", \"a\", \"b\", \"c\"] Some(\"b\") None");
 }
 
 /// Why `b`, `a` and `b` make no map.
@@ -40,7 +40,7 @@ fn refusal_text(alloc: Global) -> Result<String, AllocError> {
 }
 
 #[test]
-fn names_that_stand_twice_are_refused(rt: HostRuntime) -> Result<(), AllocError> {
+fn names_that_stand_twice_are_refused(rt: HostRuntime) {
     let told = refusal_text(rt.alloc());
-    check(&rt, told, "More than one item is named \"b\"")
+    check(&rt, told, "More than one item is named \"b\"");
 }

@@ -70,8 +70,7 @@ fn is_copied(alloc: Global) -> Result<bool, AllocError> {
 }
 
 #[test]
-fn goes_down(rt: HostRuntime) -> Result<(), AllocError> {
-    let is_copied = is_copied(rt.alloc())?;
+fn goes_down(rt: HostRuntime) {
+    let is_copied = is_copied(rt.alloc()).expect(&rt, "memory");
     assert!(rt; is_copied);
-    Ok(())
 }

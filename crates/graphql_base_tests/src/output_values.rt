@@ -125,45 +125,39 @@ fn made_keys(alloc: Global) -> Result<String, AllocError> {
 }
 
 #[test]
-fn values_are_displayed(rt: HostRuntime) -> Result<(), AllocError> {
+fn values_are_displayed(rt: HostRuntime) {
     let alloc = rt.alloc();
-    let rows = [
-        check(
-            &rt,
-            written(alloc, list_of_two(alloc)),
-            "[true, \"a \"b\"\"]",
-        ),
-        check(
-            &rt,
-            object_text(alloc, sample(alloc)),
-            "{\"int\": 1, \"null\": null, \"string\": \"foo\"}",
-        ),
-        check(
-            &rt,
-            written(alloc, Ok(Value::list(Items::new(alloc)))),
-            "[]",
-        ),
-        check(
-            &rt,
-            object_text(alloc, Object::with_capacity(alloc, 0)),
-            "{}",
-        ),
-        check(
-            &rt,
-            put_text(alloc),
-            "true {\"int\": 2, \"null\": false, \"string\": \"foo\"}",
-        ),
-        check(
-            &rt,
-            hidden_text(alloc),
-            "{\"int\": true, \"null\": null, \"string\": true}",
-        ),
-        check(&rt, made_keys(alloc), "ab"),
-    ];
-    for row in rows {
-        row?;
-    }
-    Ok(())
+    check(
+        &rt,
+        written(alloc, list_of_two(alloc)),
+        "[true, \"a \"b\"\"]",
+    );
+    check(
+        &rt,
+        object_text(alloc, sample(alloc)),
+        "{\"int\": 1, \"null\": null, \"string\": \"foo\"}",
+    );
+    check(
+        &rt,
+        written(alloc, Ok(Value::list(Items::new(alloc)))),
+        "[]",
+    );
+    check(
+        &rt,
+        object_text(alloc, Object::with_capacity(alloc, 0)),
+        "{}",
+    );
+    check(
+        &rt,
+        put_text(alloc),
+        "true {\"int\": 2, \"null\": false, \"string\": \"foo\"}",
+    );
+    check(
+        &rt,
+        hidden_text(alloc),
+        "{\"int\": true, \"null\": null, \"string\": true}",
+    );
+    check(&rt, made_keys(alloc), "ab");
 }
 
 /// The list of `true`, this value and `false`.
@@ -194,16 +188,15 @@ fn nested(alloc: Global, turns: usize) -> Result<Value, AllocError> {
 }
 
 #[test]
-fn deep_values_are_displayed_and_let_go(rt: HostRuntime) -> Result<(), AllocError> {
+fn deep_values_are_displayed_and_let_go(rt: HostRuntime) {
     let alloc = rt.alloc();
     check(
         &rt,
         written(alloc, nested(alloc, 1)),
         "{\"a\": true, \"b\": [true, null, false], \"c\": false}",
-    )?;
-    let text = written(alloc, nested(alloc, 50_000))?;
+    );
+    let text = written(alloc, nested(alloc, 50_000)).expect(&rt, "memory");
     assert_eq!(rt; text.len(), 50_000 * 45 + 4);
-    Ok(())
 }
 
 /// Whether the sample is equal to that of another order, and whether it is to null.
@@ -214,10 +207,9 @@ fn equalities(alloc: Global) -> Result<(bool, bool), AllocError> {
 }
 
 #[test]
-fn order_of_fields_is_not_seen(rt: HostRuntime) -> Result<(), AllocError> {
-    let (same, null) = equalities(rt.alloc())?;
+fn order_of_fields_is_not_seen(rt: HostRuntime) {
+    let (same, null) = equalities(rt.alloc()).expect(&rt, "memory");
     assert!(rt; same && !null);
-    Ok(())
 }
 
 /// The object of a field for each of these letters, whose value is `true`.
@@ -243,10 +235,9 @@ fn many_equalities(alloc: Global) -> Result<(bool, bool, bool), AllocError> {
 }
 
 #[test]
-fn order_of_many_fields_is_not_seen(rt: HostRuntime) -> Result<(), AllocError> {
-    let (copy, same, other) = many_equalities(rt.alloc())?;
+fn order_of_many_fields_is_not_seen(rt: HostRuntime) {
+    let (copy, same, other) = many_equalities(rt.alloc()).expect(&rt, "memory");
     assert!(rt; copy && same && !other);
-    Ok(())
 }
 
 /// Which value another value becomes, as `{}` writes it.
@@ -259,21 +250,15 @@ fn becoming<T: IntoValue<DefaultScalarValue>>(
 }
 
 #[test]
-fn other_values_become_values(rt: HostRuntime) -> Result<(), AllocError> {
+fn other_values_become_values(rt: HostRuntime) {
     let alloc = rt.alloc();
     let nothing: Option<i32> = None;
-    let rows = [
-        check(&rt, becoming(alloc, Ok(nothing)), "null"),
-        check(&rt, becoming(alloc, Ok(Some(5))), "5"),
-        check(&rt, becoming(alloc, Ok(&5)), "5"),
-        check(&rt, becoming(alloc, Ok(true)), "true"),
-        check(&rt, becoming(alloc, Ok(CowStr::Borrowed("b"))), "\"b\""),
-        check(&rt, becoming(alloc, String::from_str(alloc, "a")), "\"a\""),
-    ];
-    for row in rows {
-        row?;
-    }
-    Ok(())
+    check(&rt, becoming(alloc, Ok(nothing)), "null");
+    check(&rt, becoming(alloc, Ok(Some(5))), "5");
+    check(&rt, becoming(alloc, Ok(&5)), "5");
+    check(&rt, becoming(alloc, Ok(true)), "true");
+    check(&rt, becoming(alloc, Ok(CowStr::Borrowed("b"))), "\"b\"");
+    check(&rt, becoming(alloc, String::from_str(alloc, "a")), "\"a\"");
 }
 
 #[test]

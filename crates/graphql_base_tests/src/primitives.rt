@@ -18,9 +18,9 @@ fn letter(alloc: Global) -> Result<String, CheckError> {
 }
 
 #[test]
-fn scalars_are_plain_values(rt: HostRuntime) -> Result<(), CheckError> {
+fn scalars_are_plain_values(rt: HostRuntime) {
     let told = letter(rt.alloc());
-    check(&rt, told, "a")
+    check(&rt, told, "a");
 }
 
 /// Why the integer -5 is no boolean.

@@ -5,7 +5,7 @@ use graphql_items::{Items, Text};
 use std::alloc::{AllocError, Global};
 use std::collections::HashMap;
 use std::fmt::Write;
-use std::test::Fail;
+use std::process::Abort;
 
 /// A struct whose clone is the same value, by its parts.
 #[derive(Clone, Debug, PartialEq, Eq, Drop)]
@@ -30,30 +30,29 @@ fn push_both(text: &mut Text, first: &str, last: &str) -> Result<(), AllocError>
 }
 
 /// Adds two texts, a character and a number.
-fn grow(text: &mut Text) -> Result<(), Fail> {
-    push_both(text, "na", "me")?;
-    text.push('é')?;
-    write!(text, "{}", 12)?;
-    Ok(())
+fn grow(rt: &impl Abort, text: &mut Text) {
+    push_both(text, "na", "me").expect(rt, "memory");
+    text.push('é').expect(rt, "memory");
+    write!(text, "{}", 12).expect(rt, "memory");
 }
 
 /// A text that has grown, as a string, whether it is that text, how long it is, and whether it is
 /// empty once it is cleared.
-fn grown(alloc: Global) -> Result<String, Fail> {
+fn grown(rt: &impl Abort, alloc: Global) -> Result<String, AllocError> {
     let mut text = Text::new(alloc);
-    grow(&mut text)?;
+    grow(rt, &mut text);
     let kept = text.clone()?.into_string();
     let same = text.is("nameé12");
     let length = text.len();
     text.clear();
     let empty = text.is_empty();
-    Ok(format!(in alloc; "{kept} {same} {length} {empty}")?)
+    format!(in alloc; "{kept} {same} {length} {empty}")
 }
 
 #[test]
-fn grows(rt: HostRuntime) -> Result<(), Fail> {
-    let told = grown(rt.alloc());
-    check(&rt, told, "nameé12 true 8 true")
+fn grows(rt: HostRuntime) {
+    let told = grown(&rt, rt.alloc());
+    check(&rt, told, "nameé12 true 8 true");
 }
 
 /// A text as it is, padded, and quoted.
@@ -96,17 +95,11 @@ fn cloned(alloc: Global) -> Result<String, AllocError> {
 }
 
 #[test]
-fn texts_are_told(rt: HostRuntime) -> Result<(), AllocError> {
+fn texts_are_told(rt: HostRuntime) {
     let alloc = rt.alloc();
     let clone = "true Named { name: \"n\", parts: [\"x\"] }";
-    let rows = [
-        check(&rt, shown(alloc, "a\"é\n"), "<  a\"é\n> \"a\\\"é\\n\""),
-        check(&rt, compared(alloc, "a", "a"), "Equal false Some(1)"),
-        check(&rt, compared(alloc, "a", "ab"), "Less true None"),
-        check(&rt, cloned(alloc), clone),
-    ];
-    for row in rows {
-        row?;
-    }
-    Ok(())
+    check(&rt, shown(alloc, "a\"é\n"), "<  a\"é\n> \"a\\\"é\\n\"");
+    check(&rt, compared(alloc, "a", "a"), "Equal false Some(1)");
+    check(&rt, compared(alloc, "a", "ab"), "Less true None");
+    check(&rt, cloned(alloc), clone);
 }

@@ -1,25 +1,13 @@
 //! What the tests share: each text that is told is the one that is wanted.
 
-use std::alloc::{AllocError, Global};
+use std::fmt::Debug;
 use std::process::Abort;
 
 /// Asserts which text is told.
-pub(crate) fn check<E>(rt: &impl Abort, told: Result<String, E>, wanted: &str) -> Result<(), E> {
-    let told = told?;
+///
+/// No test answers a result, and none but this and `expect` has a way out, so that nothing has to be let
+/// go in the midst of a test, and a test is one function to prove.
+pub(crate) fn check<E: Debug>(rt: &impl Abort, told: Result<String, E>, wanted: &str) {
+    let told = told.expect(rt, "memory");
     assert_eq!(rt; told.as_str(), wanted);
-    Ok(())
-}
-
-/// Asserts which text is told of each of some texts.
-pub(crate) fn check_each<F: Fn(Global, &str) -> Result<String, AllocError>>(
-    rt: &(impl Abort + AllocGlobal),
-    tell: &F,
-    rows: &[(&str, &str)],
-) -> Result<(), AllocError>
-    requires { F.IsAlwaysCallable tell.now }
-{
-    for row in rows {
-        check(rt, tell(rt.alloc(), row.0), row.1)?;
-    }
-    Ok(())
 }

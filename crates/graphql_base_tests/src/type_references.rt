@@ -32,35 +32,29 @@ fn type_text(alloc: Global, given: Result<Named, AllocError>) -> Result<String, 
 }
 
 #[test]
-fn types_are_told_apart(rt: HostRuntime) -> Result<(), AllocError> {
+fn types_are_told_apart(rt: HostRuntime) {
     let alloc = rt.alloc();
     let needed = int(alloc).wrap_non_null();
-    let rows = [
-        check(
-            &rt,
-            type_text(alloc, Ok(int(alloc))),
-            "Int false false Some(\"Int\") Int",
-        ),
-        check(
-            &rt,
-            type_text(alloc, needed),
-            "Int! true false Some(\"Int\") Int",
-        ),
-        check(
-            &rt,
-            type_text(alloc, list(alloc)),
-            "[Int!] false true None Int",
-        ),
-        check(
-            &rt,
-            type_text(alloc, nested(alloc)),
-            "[[Int!]!]! true true None Int",
-        ),
-    ];
-    for row in rows {
-        row?;
-    }
-    Ok(())
+    check(
+        &rt,
+        type_text(alloc, Ok(int(alloc))),
+        "Int false false Some(\"Int\") Int",
+    );
+    check(
+        &rt,
+        type_text(alloc, needed),
+        "Int! true false Some(\"Int\") Int",
+    );
+    check(
+        &rt,
+        type_text(alloc, list(alloc)),
+        "[Int!] false true None Int",
+    );
+    check(
+        &rt,
+        type_text(alloc, nested(alloc)),
+        "[[Int!]!]! true true None Int",
+    );
 }
 
 /// The nested type with null, lent, how many wraps it has, and the outermost of them.
@@ -73,9 +67,9 @@ fn nullable_text(alloc: Global) -> Result<String, AllocError> {
 }
 
 #[test]
-fn null_comes_back(rt: HostRuntime) -> Result<(), AllocError> {
+fn null_comes_back(rt: HostRuntime) {
     let told = nullable_text(rt.alloc());
-    check(&rt, told, "[[Int!]!] 4 Some(List(Some(3)))")
+    check(&rt, told, "[[Int!]!] 4 Some(List(Some(3)))");
 }
 
 /// The copy of the nested type, as it is written, and whether it is equal to that type.
@@ -87,7 +81,7 @@ fn copy_text(alloc: Global) -> Result<String, AllocError> {
 }
 
 #[test]
-fn types_are_copied(rt: HostRuntime) -> Result<(), AllocError> {
+fn types_are_copied(rt: HostRuntime) {
     let told = copy_text(rt.alloc());
-    check(&rt, told, "[[Int!]!]! true")
+    check(&rt, told, "[[Int!]!]! true");
 }

@@ -2,8 +2,8 @@
 
 use crate::repeated::CostlyRow;
 use crate::repeated::Piece::{Next, Number, Words};
-use crate::schemas::{OF_KINDS, over};
-use crate::told::Asked;
+use crate::schemas::over_kinds;
+use crate::told::{Asked, Judge};
 
 /// A field of one name, in one set.
 const FIELDS: CostlyRow = (
@@ -170,67 +170,24 @@ const SHORT_TWICE: CostlyRow = (
     0,
 );
 
+/// What costs the rules of the first stage most.
+const FIRST_STAGE: &[CostlyRow] = &[
+    FIELDS, UNKNOWN, ROW, RING, TWICE, VARIABLES, OPERATIONS, USES,
+];
+
+/// What costs the rule that fields merge most.
+const MERGING: &[CostlyRow] = &[FEWER_FIELDS, SHORT_TWICE, NESTED];
+
 #[test]
-fn a_field_many_times_merges(rt: HostRuntime) {
-    over(
+fn costly_documents_end(rt: HostRuntime) {
+    over_kinds(
         &rt,
         rt.alloc(),
-        OF_KINDS,
-        Asked::MergingCounts(&[FEWER_FIELDS]),
+        Asked::Counts(Judge::FirstStage, FIRST_STAGE),
     );
 }
 
 #[test]
-fn fragments_spread_twice_merge(rt: HostRuntime) {
-    over(
-        &rt,
-        rt.alloc(),
-        OF_KINDS,
-        Asked::MergingCounts(&[SHORT_TWICE]),
-    );
-}
-
-#[test]
-fn nested_sets_merge(rt: HostRuntime) {
-    over(&rt, rt.alloc(), OF_KINDS, Asked::MergingCounts(&[NESTED]));
-}
-
-#[test]
-fn a_field_many_times_ends(rt: HostRuntime) {
-    over(&rt, rt.alloc(), OF_KINDS, Asked::Counts(&[FIELDS]));
-}
-
-#[test]
-fn many_unknown_fields_end(rt: HostRuntime) {
-    over(&rt, rt.alloc(), OF_KINDS, Asked::Counts(&[UNKNOWN]));
-}
-
-#[test]
-fn fragments_in_a_row_end(rt: HostRuntime) {
-    over(&rt, rt.alloc(), OF_KINDS, Asked::Counts(&[ROW]));
-}
-
-#[test]
-fn fragments_in_a_ring_end(rt: HostRuntime) {
-    over(&rt, rt.alloc(), OF_KINDS, Asked::Counts(&[RING]));
-}
-
-#[test]
-fn fragments_spread_twice_end(rt: HostRuntime) {
-    over(&rt, rt.alloc(), OF_KINDS, Asked::Counts(&[TWICE]));
-}
-
-#[test]
-fn many_variables_end(rt: HostRuntime) {
-    over(&rt, rt.alloc(), OF_KINDS, Asked::Counts(&[VARIABLES]));
-}
-
-#[test]
-fn many_operations_over_fragments_end(rt: HostRuntime) {
-    over(&rt, rt.alloc(), OF_KINDS, Asked::Counts(&[OPERATIONS]));
-}
-
-#[test]
-fn many_operations_over_uses_end(rt: HostRuntime) {
-    over(&rt, rt.alloc(), OF_KINDS, Asked::Counts(&[USES]));
+fn costly_documents_merge(rt: HostRuntime) {
+    over_kinds(&rt, rt.alloc(), Asked::Counts(Judge::MergingAlone, MERGING));
 }

@@ -1,7 +1,9 @@
 //! Each rule, by documents at fault and by one that is not.
 
-use crate::schemas::{OF_KINDS, over};
-use crate::told::Asked;
+use crate::schemas::over_kinds;
+use crate::told::{Asked, Judge};
+use std::alloc::Global;
+use std::process::Abort;
 
 /// Documents at fault in their fields, arguments, values and directives, each with its errors.
 const FIELDS: &[(&str, &str)] = &[
@@ -255,14 +257,25 @@ fragment Tame on Pet { name }
 /// Documents without a fault.
 const RIGHT: &[(&str, &str)] = &[(FAULTLESS, ""), ("subscription { x }", "")];
 
+/// Asserts which errors of the first stage each text has.
+fn have_errors(rt: &impl Abort, alloc: Global, rows: &[(&str, &str)]) {
+    over_kinds(rt, alloc, Asked::Errors(Judge::FirstStage, rows));
+}
+
 #[test]
 fn each_rule_has_its_errors(rt: HostRuntime) {
-    for rows in [FIELDS, FRAGMENTS, OPERATIONS, TOGETHER, RIGHT] {
-        over(&rt, rt.alloc(), OF_KINDS, Asked::Rules(rows));
-    }
+    have_errors(&rt, rt.alloc(), FIELDS);
+    have_errors(&rt, rt.alloc(), FRAGMENTS);
+    have_errors(&rt, rt.alloc(), OPERATIONS);
+    have_errors(&rt, rt.alloc(), TOGETHER);
+    have_errors(&rt, rt.alloc(), RIGHT);
 }
 
 #[test]
 fn introspection_is_refused_where_it_is_disabled(rt: HostRuntime) {
-    over(&rt, rt.alloc(), OF_KINDS, Asked::Requests(INTROSPECTION));
+    over_kinds(
+        &rt,
+        rt.alloc(),
+        Asked::Errors(Judge::Request, INTROSPECTION),
+    );
 }

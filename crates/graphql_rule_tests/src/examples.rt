@@ -63,9 +63,8 @@ fn text(rt: &impl Abort, alloc: Global, words: &str) -> Text {
 }
 
 /// The items with one more.
-pub fn with<T: Drop>(rt: &impl Abort, mut items: Items<T>, item: T) -> Items<T> {
-    let pushed = items.push(item).is_ok();
-    assert!(rt; pushed);
+pub fn with<T>(rt: &impl Abort, mut items: Items<T>, item: T) -> Items<T> {
+    items.push(item).expect(rt, "memory");
     items
 }
 

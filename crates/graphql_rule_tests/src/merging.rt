@@ -1,7 +1,7 @@
 //! Fields that merge, and fields that do not.
 
-use crate::schemas::{OF_HEROES, OF_PETS, over};
-use crate::told::Asked;
+use crate::schemas::{over_heroes, over_pets};
+use crate::told::{Asked, Judge};
 
 /// Documents over the schema of pets, each with the errors of the rule alone.
 const PETS: [(&str, &str); 9] = [
@@ -77,11 +77,11 @@ const REQUESTS: [(&str, &str); 3] = [
 
 #[test]
 fn fields_merge_or_are_told(rt: HostRuntime) {
-    over(&rt, rt.alloc(), OF_PETS, Asked::Merging(&PETS));
+    over_pets(&rt, rt.alloc(), Asked::Errors(Judge::Merging, &PETS));
 }
 
 #[test]
 fn the_second_stage_follows_the_first(rt: HostRuntime) {
-    over(&rt, rt.alloc(), OF_HEROES, Asked::AllRules(&HEROES));
-    over(&rt, rt.alloc(), OF_HEROES, Asked::Requests(&REQUESTS));
+    over_heroes(&rt, rt.alloc(), Asked::Errors(Judge::AllRules, &HEROES));
+    over_heroes(&rt, rt.alloc(), Asked::Errors(Judge::Request, &REQUESTS));
 }

@@ -17,34 +17,25 @@ pub type Part = (u32, &'static [Piece]);
 /// The parts of a document's text, and how many errors the document has.
 pub type CostlyRow = (&'static [Part], usize);
 
-fn push_piece(
-    alloc: Global,
-    text: &mut String,
-    piece: Piece,
-    round: u32,
-) -> Result<(), AllocError> {
+fn push_piece(text: &mut String, piece: Piece, round: u32) -> Result<(), AllocError> {
+    let next = round.saturating_add(1);
     match piece {
         Piece::Words(words) => text.push_str(words),
-        Piece::Number => text.push_str(round.to_string(alloc)?.as_str()),
-        Piece::Next => text.push_str(round.saturating_add(1).to_string(alloc)?.as_str()),
+        Piece::Number => write!(text, "{round}"),
+        Piece::Next => write!(text, "{next}"),
     }
 }
 
-fn push_round(
-    alloc: Global,
-    text: &mut String,
-    pieces: &[Piece],
-    round: u32,
-) -> Result<(), AllocError> {
+fn push_round(text: &mut String, pieces: &[Piece], round: u32) -> Result<(), AllocError> {
     for piece in pieces {
-        push_piece(alloc, text, *piece, round)?;
+        push_piece(text, *piece, round)?;
     }
     Ok(())
 }
 
-fn push_part(alloc: Global, text: &mut String, part: Part) -> Result<(), AllocError> {
+fn push_part(text: &mut String, part: Part) -> Result<(), AllocError> {
     for round in 0..part.0 {
-        push_round(alloc, text, part.1, round)?;
+        push_round(text, part.1, round)?;
     }
     Ok(())
 }
@@ -53,7 +44,7 @@ fn push_part(alloc: Global, text: &mut String, part: Part) -> Result<(), AllocEr
 pub fn text_of(alloc: Global, parts: &[Part]) -> Result<String, AllocError> {
     let mut text = String::new(alloc);
     for part in parts {
-        push_part(alloc, &mut text, *part)?;
+        push_part(&mut text, *part)?;
     }
     Ok(text)
 }

@@ -22,7 +22,7 @@ type Value = InputValue<DefaultScalarValue>;
 
 /// A schema in short, over the scalars `String`, `Boolean` and `Int`. Its query root is `Query`.
 #[derive(Clone, Copy)]
-pub struct Table {
+struct Table {
     /// The objects, interfaces and unions.
     rows: &'static [Row],
 
@@ -37,7 +37,7 @@ pub struct Table {
 }
 
 /// The schema of heroes.
-pub const OF_HEROES: Table = Table {
+const OF_HEROES: Table = Table {
     rows: &HEROES,
     mutation: Some("Mutation"),
     enumeration: ("Color", "RED"),
@@ -45,7 +45,7 @@ pub const OF_HEROES: Table = Table {
 };
 
 /// The schema with types of each kind.
-pub const OF_KINDS: Table = Table {
+const OF_KINDS: Table = Table {
     rows: &KINDS,
     mutation: Some("Mutation"),
     enumeration: ("Color", "RED"),
@@ -53,7 +53,7 @@ pub const OF_KINDS: Table = Table {
 };
 
 /// The schema of pets.
-pub const OF_PETS: Table = Table {
+const OF_PETS: Table = Table {
     rows: &PETS,
     mutation: None,
     enumeration: ("DogCommand", "HEEL"),
@@ -189,8 +189,8 @@ fn root_of(rt: &impl Abort, alloc: Global, types: Items<Meta>, mutation: Option<
     RootNode::new(schema.expect(rt, "a schema")).disable_introspection()
 }
 
-/// Asserts of documents what is asked, over the schema of a table.
-pub fn over(rt: &impl Abort, alloc: Global, table: Table, asked: Asked<'_>) {
+/// Asserts of documents what is asked, over the schema of a table. Each check goes into its type at once.
+fn over(rt: &impl Abort, alloc: Global, table: Table, asked: Asked<'_>) {
     let string = TypeCheck::new(Box::new(
         alloc,
         move |value: &Value|
@@ -198,6 +198,7 @@ pub fn over(rt: &impl Abort, alloc: Global, table: Table, asked: Asked<'_>) {
         { string_check(alloc, value) },
     )
     .expect(rt, "memory"));
+    let types = with(rt, Items::new(alloc), scalar(rt, alloc, "String", string));
     let boolean = TypeCheck::new(Box::new(
         alloc,
         move |value: &Value|
@@ -205,6 +206,7 @@ pub fn over(rt: &impl Abort, alloc: Global, table: Table, asked: Asked<'_>) {
         { boolean_check(alloc, value) },
     )
     .expect(rt, "memory"));
+    let types = with(rt, types, scalar(rt, alloc, "Boolean", boolean));
     let int = TypeCheck::new(Box::new(
         alloc,
         move |value: &Value|
@@ -212,6 +214,7 @@ pub fn over(rt: &impl Abort, alloc: Global, table: Table, asked: Asked<'_>) {
         { int_check(alloc, value) },
     )
     .expect(rt, "memory"));
+    let types = with(rt, types, scalar(rt, alloc, "Int", int));
     let values = TypeCheck::new(Box::new(
         alloc,
         |_value: &Value|
@@ -219,6 +222,7 @@ pub fn over(rt: &impl Abort, alloc: Global, table: Table, asked: Asked<'_>) {
         { Ok(()) },
     )
     .expect(rt, "memory"));
+    let types = with(rt, types, enumeration(rt, alloc, table.enumeration, values));
     let fields = TypeCheck::new(Box::new(
         alloc,
         |_value: &Value|
@@ -226,12 +230,23 @@ pub fn over(rt: &impl Abort, alloc: Global, table: Table, asked: Asked<'_>) {
         { Ok(()) },
     )
     .expect(rt, "memory"));
-    let types = with(rt, Items::new(alloc), scalar(rt, alloc, "String", string));
-    let types = with(rt, types, scalar(rt, alloc, "Boolean", boolean));
-    let types = with(rt, types, scalar(rt, alloc, "Int", int));
-    let types = with(rt, types, enumeration(rt, alloc, table.enumeration, values));
     let types = with(rt, types, input_object(rt, alloc, table.input, fields));
     let types = with_all(rt, alloc, types, &TOLD_OF_ITSELF);
     let types = with_all(rt, alloc, types, table.rows);
     ask(rt, alloc, &root_of(rt, alloc, types, table.mutation), asked);
+}
+
+/// Asserts of documents what is asked, over the schema of heroes.
+pub fn over_heroes(rt: &impl Abort, alloc: Global, asked: Asked<'_>) {
+    over(rt, alloc, OF_HEROES, asked);
+}
+
+/// Asserts of documents what is asked, over the schema with types of each kind.
+pub fn over_kinds(rt: &impl Abort, alloc: Global, asked: Asked<'_>) {
+    over(rt, alloc, OF_KINDS, asked);
+}
+
+/// Asserts of documents what is asked, over the schema of pets.
+pub fn over_pets(rt: &impl Abort, alloc: Global, asked: Asked<'_>) {
+    over(rt, alloc, OF_PETS, asked);
 }

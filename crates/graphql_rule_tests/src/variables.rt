@@ -1,6 +1,6 @@
 //! Values of variables that an operation accepts, and values that it does not.
 
-use crate::schemas::{OF_KINDS, over};
+use crate::schemas::over_kinds;
 use crate::told::Asked;
 use crate::values::VariableRow;
 
@@ -99,5 +99,5 @@ const ROWS: &[VariableRow] = &[
 
 #[test]
 fn values_of_variables_are_accepted_or_told(rt: HostRuntime) {
-    over(&rt, rt.alloc(), OF_KINDS, Asked::Variables(ROWS));
+    over_kinds(&rt, rt.alloc(), Asked::Variables(ROWS));
 }

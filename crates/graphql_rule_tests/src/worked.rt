@@ -1,7 +1,7 @@
 //! Worked examples over the schema of heroes.
 
-use crate::schemas::{OF_HEROES, over};
-use crate::told::Asked;
+use crate::schemas::over_heroes;
+use crate::told::{Asked, Judge};
 
 /// Documents, each with its only error.
 const WORKED: [(&str, &str); 5] = [
@@ -29,5 +29,5 @@ const WORKED: [(&str, &str); 5] = [
 
 #[test]
 fn worked_examples_have_their_errors(rt: HostRuntime) {
-    over(&rt, rt.alloc(), OF_HEROES, Asked::Rules(&WORKED));
+    over_heroes(&rt, rt.alloc(), Asked::Errors(Judge::FirstStage, &WORKED));
 }
