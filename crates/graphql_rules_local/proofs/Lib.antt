@@ -4,3 +4,6 @@ pub mod ArgumentRows
 pub mod FieldRows
 pub mod SilentLemmas
 pub mod LawLemmas
+pub mod OverlapLemmas
+pub mod ByNameLemmas
+pub mod SpreadLemmas

@@ -10,6 +10,9 @@ pub mod FragmentsOnCompositeTypes
 pub mod KnownFragmentNames
 pub mod KnownTypeNames
 pub mod PossibleFragmentSpreads
+pub mod Overlaps
+pub mod PossibleByNames
+pub mod PossibleVisitor
 pub mod ScalarLeafs
 pub mod VariablesAreInputTypes
 pub mod Laws

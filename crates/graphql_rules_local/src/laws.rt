@@ -2,12 +2,15 @@
 //! and its body does nothing.
 
 ghost use Rattle.std.specs.Prelude.{◌≡◌, ◌↔◌, List, false, true, map, not};
-ghost use Rattle.std.specs.List.{IsDistinct};
+ghost use Rattle.std.specs.List.{IsDistinct, flat_map};
 ghost use Rattle.std.specs.Option.{ForSome, IsSome};
 ghost use Rattle.std.specs.Str.{bytes_eq};
 ghost use Rattle.graphql_tree.specs.Definitions.{fragment_named};
+ghost use Rattle.graphql_occurrences.specs.Events.{events};
 ghost use Rattle.graphql_occurrences.specs.Lookups.{known};
+ghost use Rattle.graphql_occurrences.specs.Occurrences.{occurrences};
 ghost use Rattle.graphql_occurrences.specs.Parts.{Part, AField, ASpread, ADirective, AnInline, Condition, Given, ObjectOf, VariableDefined};
+ghost use Rattle.graphql_rule_errors.specs.Places.{Places};
 ghost use Rattle.graphql_rules_local.specs.DisableIntrospection.{introspection_field, introspects};
 ghost use Rattle.graphql_rules_local.specs.FieldsOnCorrectType.{unknown_field};
 ghost use Rattle.graphql_rules_local.specs.FragmentsOnCompositeTypes.{no_composite};
@@ -17,12 +20,16 @@ ghost use Rattle.graphql_rules_local.specs.KnownFragmentNames.{unknown_fragment}
 ghost use Rattle.graphql_rules_local.specs.KnownTypeNames.{unknown_type};
 ghost use Rattle.graphql_rules_local.specs.Laws.{AreDeclared, AreDistinct, AreProvided, EachOf, FindsNoFault, IsDeclaredField, IsKnownAs, IsPlaced, IsSelected, MayApply};
 ghost use Rattle.graphql_rules_local.specs.PossibleFragmentSpreads.{impossible_spread};
+ghost use Rattle.graphql_rules_local.specs.PossibleVisitor.{by_names};
 ghost use Rattle.graphql_rules_local.specs.ProvidedNonNullArguments.{provided_non_null_arguments};
 ghost use Rattle.graphql_rules_local.specs.ScalarLeafs.{wrong_leaf};
 ghost use Rattle.graphql_rules_local.specs.UniqueArgumentNames.{unique_argument_names};
 ghost use Rattle.graphql_rules_local.specs.UniqueInputFieldNames.{unique_input_field_names};
 ghost use Rattle.graphql_rules_local.specs.VariablesAreInputTypes.{no_input_type};
+ghost use Rattle.graphql_rules_local.specs.declared.possible_fragment_spreads.PossibleFragmentSpreads.{PossibleFragmentSpreads};
+ghost use Rattle.graphql_schema.specs.Declarations.{declarations_of};
 ghost use Rattle.graphql_schema_faults.specs.Faults.{is_composite};
+ghost use Rattle.graphql_visitors.specs.Runs.{Runs, joined};
 ghost use Rattle.graphql_visitors.specs.Subjects.{Subject};
 
 use graphql_meta::SchemaScalar;
@@ -80,6 +87,12 @@ pub fn named_types_are_of_their_kinds<S: SchemaScalar>()
 /// it is selected (5.5.2.3 Fragment Spread Is Possible).
 pub fn spreads_are_possible<S: SchemaScalar>()
     ensures { (subject : Subject S S.Check) → (parts : List (Part S S.Check)) → FindsNoFault impossible_spread subject parts ↔ (EachOf ASpread (λ s. ForSome (fragment_named subject.document s.name.item) (λ f. MayApply subject.schema s.parent f.item.type_condition.item)) parts × EachOf AnInline (λ i. ForSome i.condition (λ name. MayApply subject.schema i.parent name.item)) parts) }
+{}
+
+/// Over the events of a document, a visitor of `PossibleFragmentSpreads` that is made for the document's
+/// schema tells just what the rule says of the document's occurrences.
+pub fn possible_spreads_tell_of_occurrences<S: SchemaScalar>()
+    ensures { (subject : Subject S S.Check) → (v w : PossibleFragmentSpreads S S.Check) → (told : List Places) → declarations_of v.overlaps.schema.now ≡ subject.schema → Runs by_names subject v (events subject.schema subject.document) w told → joined told ≡ flat_map (impossible_spread subject) (occurrences subject.schema subject.document) }
 {}
 
 /// `KnownDirectives` finds no fault exactly where each directive is declared and may stand where it does

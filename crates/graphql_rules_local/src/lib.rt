@@ -12,6 +12,7 @@ pub mod known_directives;
 pub mod known_fragment_names;
 pub mod known_type_names;
 pub mod laws;
+mod overlaps;
 pub mod possible_fragment_spreads;
 pub mod provided_non_null_arguments;
 mod repeats;

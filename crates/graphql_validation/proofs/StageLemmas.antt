@@ -21,7 +21,11 @@ use Rattle.graphql_rules_local.specs.KnownArgumentNames.{known_argument_names}
 use Rattle.graphql_rules_local.specs.KnownDirectives.{known_directives}
 use Rattle.graphql_rules_local.specs.KnownFragmentNames.{unknown_fragment}
 use Rattle.graphql_rules_local.specs.KnownTypeNames.{unknown_type}
+use Rattle.graphql_rules_local.proofs.SpreadLemmas.{spreads_told}
 use Rattle.graphql_rules_local.specs.PossibleFragmentSpreads.{impossible_spread}
+use Rattle.graphql_rules_local.specs.PossibleVisitor.{by_names}
+use Rattle.graphql_rules_local.specs.declared.possible_fragment_spreads.PossibleFragmentSpreads.{PossibleFragmentSpreads}
+use Rattle.graphql_schema.specs.Declarations.{declarations_of}
 use Rattle.graphql_rules_local.specs.ProvidedNonNullArguments.{provided_non_null_arguments}
 use Rattle.graphql_rules_local.specs.ScalarLeafs.{wrong_leaf}
 use Rattle.graphql_rules_local.specs.UniqueArgumentNames.{unique_argument_names}
@@ -35,23 +39,37 @@ module _ {S C : Type 0} (subject : Subject S C) where
   abbrev document_events : List (Seen S C)
   document_events = events subject.schema subject.document
 
-  -- over the document, a visitor tells these places, in some order
-  record Tells {V : Type 0} (step : Step V S C) (told : Places) : Type 0 where
-    all : (v w : V) (ts : List Places) → Runs step subject v document_events w ts → IsPermutation told (joined ts)
+  -- over the document, a visitor that is made so tells these places, in some order
+  record Tells {V : Type 0} (step : Step V S C) (Made : V → Type 0) (told : Places) : Type 0 where
+    all : (v w : V) (ts : List Places) → Made v → Runs step subject v document_events w ts → IsPermutation told (joined ts)
 
-  tells_none : Tells silent []
-  tells_none = record { all = λ v w ts runs. subst (IsPermutation []) (sym (runs_silent subject v w document_events ts runs)) (IsPermutation-refl []) }
+  tells_none : Tells silent (λ v. Unit {0}) []
+  tells_none = record { all = λ v w ts made runs. subst (IsPermutation []) (sym (runs_silent subject v w document_events ts runs)) (IsPermutation-refl []) }
+
+  -- one visitor's places, and those of others
+  module _ {A B : Type 0} (one : Step A S C) (others : Step B S C) (Made : A → Type 0) (MadeSo : B → Type 0) (here told : Places) where
+    tells_before : ((v w : A) (ts : List Places) → Made v → Runs one subject v document_events w ts → joined ts ≡ here) → Tells others MadeSo told
+        → Tells (both one others) (λ v. Made v.first × MadeSo v.second) (here ++ told)
+    tells_before first rest = record {
+      all = λ v w ts made runs.
+          let split = runs_both one others subject v w document_events ts runs in
+          IsPermutation-trans (here ++ told) (joined split.0 ++ joined split.1) (joined ts)
+          (subst (λ x. IsPermutation (here ++ told) (x ++ joined split.1)) (sym (first v.first w.first split.0 made.0 split.2)) (IsPermutation-append_right here told (joined split.1) (rest.all v.second w.second split.1 made.1 split.3)))
+          split.4;
+    }
 
   -- a rule before other visitors
-  tells_rule : {A B : Type 0} (rule : Rule S C) (others : Step B S C) (told : Places) → Tells others told → Tells (both (local {V = A} rule) others) (places_of subject rule ++ told)
-  tells_rule rule others told rest = record {
-    all = λ v w ts runs.
-        let split = runs_both (local rule) others subject v w document_events ts runs in
-        let here : joined split.0 ≡ places_of subject rule = runs_local rule subject v.first w.first document_events split.0 split.2 ∙ ap (flat_map (rule subject)) (events_told subject.schema subject.document) in
-        IsPermutation-trans (places_of subject rule ++ told) (joined split.0 ++ joined split.1) (joined ts)
-        (subst (λ x. IsPermutation (places_of subject rule ++ told) (x ++ joined split.1)) (sym here) (IsPermutation-append_right (places_of subject rule) told (joined split.1) (rest.all v.second w.second split.1 split.3)))
-        split.4;
-  }
+  tells_rule : {A B : Type 0} (rule : Rule S C) (others : Step B S C) (Made : B → Type 0) (told : Places) → Tells others Made told → Tells (both (local {V = A} rule) others) (λ v. Unit {0} × Made v.second) (places_of subject rule ++ told)
+  tells_rule rule others Made told rest =
+      tells_before (local rule) others (λ v. Unit {0}) Made (places_of subject rule) told (λ v w ts made runs. runs_local rule subject v w document_events ts runs ∙ ap (flat_map (rule subject)) (events_told subject.schema subject.document)) rest
+
+  -- the visitor is made for the document's schema
+  abbrev pub IsMadeFor : PossibleFragmentSpreads S C → Type 0
+  IsMadeFor v = declarations_of v.overlaps.schema.now ≡ subject.schema
+
+  -- the rule that keeps its answers before other visitors
+  tells_spreads : {B : Type 0} (others : Step B S C) (Made : B → Type 0) (told : Places) → Tells others Made told → Tells (both by_names others) (λ v. IsMadeFor v.first × Made v.second) (places_of subject impossible_spread ++ told)
+  tells_spreads others Made told rest = tells_before by_names others IsMadeFor Made (places_of subject impossible_spread) told (spreads_told subject) rest
 
   module _ {A B : Type 0} (Says : Relation S C) (others : Step B S C) where
     -- a rule that asks checks before other visitors
@@ -67,30 +85,35 @@ module _ {S C : Type 0} (subject : Subject S C) where
         )
 
   -- the visitors of the rules, in the order of the list
-  module _ (A1 A2 A3 A4 A5 A6 A7 A8 A9 A10 A11 A12 : Type 0) where
+  module _ (A1 A2 A3 A4 A5 A6 A8 A9 A10 A11 A12 : Type 0) where
     abbrev LocalVisitors : Type 0
     LocalVisitors =
         MultiVisitorCons A1 (MultiVisitorCons A2 (MultiVisitorCons A3 (MultiVisitorCons A4 (MultiVisitorCons A5 (MultiVisitorCons A6
-        (MultiVisitorCons A7 (MultiVisitorCons A8 (MultiVisitorCons A9 (MultiVisitorCons A10 (MultiVisitorCons A11 (MultiVisitorCons A12 MultiVisitorNil)))))))))))
+        (MultiVisitorCons (PossibleFragmentSpreads S C) (MultiVisitorCons A8 (MultiVisitorCons A9 (MultiVisitorCons A10 (MultiVisitorCons A11 (MultiVisitorCons A12 MultiVisitorNil)))))))))))
 
     abbrev local_step : Step LocalVisitors S C
     local_step =
         both (local {V = A1} unknown_field) (both (local {V = A2} wrong_leaf) (both (local {V = A3} no_composite) (both (local {V = A4} unknown_type) (both (local {V = A5} no_input_type)
-        (both (local {V = A6} unknown_fragment) (both (local {V = A7} impossible_spread) (both (local {V = A8} known_directives) (both (local {V = A9} known_argument_names)
+        (both (local {V = A6} unknown_fragment) (both by_names (both (local {V = A8} known_directives) (both (local {V = A9} known_argument_names)
         (both (local {V = A10} provided_non_null_arguments) (both (local {V = A11} unique_argument_names) (both (local {V = A12} unique_input_field_names) silent)))))))))))
 
-    tells_locals : Tells local_step (local_places subject)
-    tells_locals =
-        tells_rule unknown_field _ _ (tells_rule wrong_leaf _ _ (tells_rule no_composite _ _ (tells_rule unknown_type _ _ (tells_rule no_input_type _ _
-        (tells_rule unknown_fragment _ _ (tells_rule impossible_spread _ _ (tells_rule known_directives _ _ (tells_rule known_argument_names _ _
-        (tells_rule provided_non_null_arguments _ _ (tells_rule unique_argument_names _ _ (tells_rule unique_input_field_names _ _ tells_none)))))))))))
+    -- that of the rule that keeps its answers
+    abbrev pub spreads_among : LocalVisitors → PossibleFragmentSpreads S C
+    spreads_among v = v.second.second.second.second.second.second.first
+
+    tells_locals : (v w : LocalVisitors) (ts : List Places) → IsMadeFor (spreads_among v) → Runs local_step subject v document_events w ts → IsPermutation (local_places subject) (joined ts)
+    tells_locals v w ts made runs =
+        (tells_rule unknown_field _ _ _ (tells_rule wrong_leaf _ _ _ (tells_rule no_composite _ _ _ (tells_rule unknown_type _ _ _ (tells_rule no_input_type _ _ _
+        (tells_rule unknown_fragment _ _ _ (tells_spreads _ _ _ (tells_rule known_directives _ _ _ (tells_rule known_argument_names _ _ _
+        (tells_rule provided_non_null_arguments _ _ _ (tells_rule unique_argument_names _ _ _ (tells_rule unique_input_field_names _ _ _ tells_none)))))))))))).all v w ts
+        (tt, (tt, (tt, (tt, (tt, (tt, (made, (tt, (tt, (tt, (tt, (tt, tt)))))))))))) runs
 
     module _ (A B : Type 0) (answer : S → ScalarAnswer) (accepts : C → InputValue S → Type 0) where
       abbrev first_step : Step (MultiVisitorCons A (MultiVisitorCons B LocalVisitors)) S C
       first_step = both (locally {V = A} (arguments_of_correct_type answer accepts)) (both (locally {V = B} (default_values_of_correct_type answer accepts)) local_step)
 
-      pub parts_told : (v w : MultiVisitorCons A (MultiVisitorCons B LocalVisitors)) (ts : List Places) → Runs first_step subject v document_events w ts → PartsTold answer accepts subject (joined ts)
-      parts_told v w ts runs =
+      pub parts_told : (v w : MultiVisitorCons A (MultiVisitorCons B LocalVisitors)) (ts : List Places) → IsMadeFor (spreads_among v.second.second) → Runs first_step subject v document_events w ts → PartsTold answer accepts subject (joined ts)
+      parts_told v w ts made runs =
           let one = asks_before (arguments_of_correct_type answer accepts) (both (locally {V = B} (default_values_of_correct_type answer accepts)) local_step) v w ts runs in
           let two = asks_before (default_values_of_correct_type answer accepts) local_step v.second w.second one.1 one.3 in
           record {
@@ -101,7 +124,7 @@ module _ {S C : Type 0} (subject : Subject S C) where
             all = IsPermutation-trans (one.0 ++ (two.0 ++ local_places subject)) (one.0 ++ joined one.1) (joined ts)
                 (IsPermutation-append_right one.0 (two.0 ++ local_places subject) (joined one.1)
                 (IsPermutation-trans (two.0 ++ local_places subject) (two.0 ++ joined two.1) (joined one.1)
-                (IsPermutation-append_right two.0 (local_places subject) (joined two.1) (tells_locals.all v.second.second w.second.second two.1 two.3))
+                (IsPermutation-append_right two.0 (local_places subject) (joined two.1) (tells_locals v.second.second w.second.second two.1 made two.3))
                 two.4))
                 one.4;
           }

@@ -47,13 +47,14 @@ fn visit_parts<'a, 't, S: SchemaScalar>(
     ensures reports { ReportsBy (PartsTold S.answer S.Check.accepts (subject_of context.old)) context.old context.new }
     ensures gathered { context.new.failed ≡ false → scopes_told result ≡ scopes_held (subject_of context.old) }
 {
+    let spreads = possible_fragment_spreads::factory(context.alloc(), context.schema());
     let mut rules = MultiVisitorNil
         .with(unique_input_field_names::factory())
         .with(unique_argument_names::factory())
         .with(provided_non_null_arguments::factory())
         .with(known_argument_names::factory())
         .with(known_directives::factory())
-        .with(possible_fragment_spreads::factory())
+        .with(spreads)
         .with(known_fragment_names::factory())
         .with(variables_are_input_types::factory())
         .with(known_type_names::factory())

@@ -36,7 +36,8 @@ pub use graphql_rules_local::laws::{
     conditions_are_composite, directives_may_stand, fields_are_declared,
     fields_are_declared_and_fit, input_fields_are_distinct, leaves_have_no_sets,
     named_types_are_known, named_types_are_of_their_kinds, nothing_is_introspected,
-    spread_fragments_are_known, spreads_are_possible, variables_are_of_input_types,
+    possible_spreads_tell_of_occurrences, spread_fragments_are_known, spreads_are_possible,
+    variables_are_of_input_types,
 };
 pub use graphql_rules_merging::laws::visitor_tells_of_document;
 pub use graphql_rules_values::laws::{

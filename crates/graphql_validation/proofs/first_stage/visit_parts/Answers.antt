@@ -1,4 +1,6 @@
+use Rattle.std.proofs.Common.{◌≡◌, ◌∙◌}
 use Rattle.graphql_occurrences.specs.Events.{events}
+use Rattle.graphql_schema.specs.Declarations.{declarations_of}
 use Rattle.graphql_visitors.specs.Subjects.{subject_of}
 use Rattle.graphql_validation.proofs.StageLemmas.{parts_told}
 use Rattle.graphql_validation.proofs.WalkLemmas.{reports_visited}
@@ -8,6 +10,16 @@ use Rattle.graphql_validation.proofs.first_stage.visit_parts.Goals as goal
 pub returns-clause-reports : goal.returns-clause-reports
 returns-clause-reports g c =
     let subject = subject_of c.args.context.now in
+    let same : c.with-rules.result.second.second.second.second.second.second.second.second.first.overlaps.schema ≡ c.args.context.now.schema =
+    (λ i. (c.with-rules.ensures.second i).second.second.second.second.second.second.second.first.overlaps.schema)
+    ∙ (λ i. (c.with-13.ensures.second i).second.second.second.second.second.second.first.overlaps.schema)
+    ∙ (λ i. (c.with-12.ensures.second i).second.second.second.second.second.first.overlaps.schema)
+    ∙ (λ i. (c.with-11.ensures.second i).second.second.second.second.first.overlaps.schema)
+    ∙ (λ i. (c.with-10.ensures.second i).second.second.second.first.overlaps.schema)
+    ∙ (λ i. (c.with-9.ensures.second i).second.second.first.overlaps.schema)
+    ∙ (λ i. (c.with-8.ensures.second i).second.first.overlaps.schema)
+    ∙ (λ i. (c.with-7.ensures.second i).first.overlaps.schema)
+    ∙ (λ i. (c.with-6.ensures.first i).overlaps.schema) ∙ c.factory-spreads.ensures ∙ c.schema.ensures in
     reports_visited _ (PartsTold g.S.ScalarValue.answer g.S.Check.Check.accepts subject) (events subject.schema subject.document) c.with-rules.result c.visit_and_gather.new.visitor c.args.context.now c.visit_and_gather.new.context
     c.visit_and_gather.ensures.visited c.visit_and_gather.ensures.around
-    (λ ts runs. parts_told subject _ _ _ _ _ _ _ _ _ _ _ _ _ _ g.S.ScalarValue.answer g.S.Check.Check.accepts c.with-rules.result c.visit_and_gather.new.visitor ts runs)
+    (λ ts runs. parts_told subject _ _ _ _ _ _ _ _ _ _ _ _ _ g.S.ScalarValue.answer g.S.Check.Check.accepts c.with-rules.result c.visit_and_gather.new.visitor ts (λ i. declarations_of ((same i).now)) runs)
