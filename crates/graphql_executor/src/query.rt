@@ -17,7 +17,7 @@ use graphql_meta::SchemaScalar;
 use graphql_output_values::Value;
 use graphql_resolve::{ExecutionError, in_order};
 use graphql_schema::SchemaType;
-use graphql_text::Items;
+use graphql_text::{Items, SourcePosition, Spanning};
 use graphql_tree::{Definition, Operation, Selection};
 use graphql_value_resolution::{Executor, GraphQLValue, query_root_name};
 use graphql_values::Variables;
@@ -37,24 +37,22 @@ fn data_of<S>(found: Option<Value<S>>) -> Value<S>
     }
 }
 
-/// What a selection set of a request gives on a resolver's root. An error is want of memory.
+/// What the selection set of an operation that starts at this place gives on a resolver's root. An error is
+/// want of memory.
 fn respond<'d, 'a, S: SchemaScalar + Drop, R: GraphQLValue<S>>(
     alloc: Global,
     request: &'d Request<'d, 'a, S>,
     resolver: &R,
     context: &'d R::Context,
-    object: &str,
+    object: &'d str,
+    start: SourcePosition,
     set: &'d [Selection<'a, S>],
 ) -> Result<Response<S>, AllocError>
     requires { Settled (fragments_in request.now) }
     ensures { let e = engine_of S.of_text S.answer request.now (R.type_of resolver.now context.now) (R.answer resolver.now context.now) in
         IfOk result (λ r. IsResponse ⟦<ExecutionError<S> as Ord>⟧.cmp (evaluate e [] object.now (R.root_node resolver.now) (written_in request.now set.now ∷ [])) r.0 r.1) }
 {
-    let executor = Executor {
-        alloc,
-        request,
-        context,
-    };
+    let executor = Executor::at_root(alloc, request, context, object, start);
     let root = resolver.root();
     let mut report = Report::new(alloc);
     let value = answer_selections(resolver, &executor, object, &root, set, &mut report)?;
@@ -67,13 +65,13 @@ fn respond_over<'d, 'a, S: SchemaScalar + Drop, R: GraphQLValue<S>>(
     alloc: Global,
     schema: &'d SchemaType<S>,
     document: &'d [Definition<'a, S>],
-    operation: &'d Operation<'a, S>,
+    operation: &'d Spanning<Operation<'a, S>>,
     resolver: &R,
     variables: FinalVariables<'d, S>,
     context: &'d R::Context,
 ) -> Result<Response<S>, AllocError>
     requires { Settled (fragments_listed document.now) }
-    ensures { IfOk result (λ r. IsResponse ⟦<ExecutionError<S> as Ord>⟧.cmp (executed_over S.of_text S.answer schema.now document.now (value_in variables.entry) operation.now (R.root_node resolver.now) (R.type_of resolver.now context.now) (R.answer resolver.now context.now)) r.0 r.1) }
+    ensures { IfOk result (λ r. IsResponse ⟦<ExecutionError<S> as Ord>⟧.cmp (executed_over S.of_text S.answer schema.now document.now (value_in variables.entry) operation.now.item (R.root_node resolver.now) (R.type_of resolver.now context.now) (R.answer resolver.now context.now)) r.0 r.1) }
 {
     let fragments = Fragments::new(alloc, document)?;
     let request = Request {
@@ -82,8 +80,9 @@ fn respond_over<'d, 'a, S: SchemaScalar + Drop, R: GraphQLValue<S>>(
         variables,
     };
     let root = query_root_name(schema);
-    let set = operation.selection_set.as_slice();
-    let response = respond(alloc, &request, resolver, context, root, set)?;
+    let start = operation.span.start;
+    let set = operation.item.selection_set.as_slice();
+    let response = respond(alloc, &request, resolver, context, root, start, set)?;
     Ok(response)
 }
 
@@ -93,15 +92,15 @@ pub fn execute_query<'d, 'a, S: SchemaScalar + Drop, R: GraphQLValue<S>>(
     alloc: Global,
     schema: &'d SchemaType<S>,
     document: &'d [Definition<'a, S>],
-    operation: &'d Operation<'a, S>,
+    operation: &'d Spanning<Operation<'a, S>>,
     resolver: &R,
     variables: &'d Variables<S>,
     context: &'d R::Context,
 ) -> Result<Response<S>, AllocError>
     requires { Settled (fragments_listed document.now) }
-    ensures { IfOk result (λ r. IsResponse ⟦<ExecutionError<S> as Ord>⟧.cmp (executed S.of_text S.answer schema.now document.now (get_by_text variables.now) operation.now (R.root_node resolver.now) (R.type_of resolver.now context.now) (R.answer resolver.now context.now)) r.0 r.1) }
+    ensures { IfOk result (λ r. IsResponse ⟦<ExecutionError<S> as Ord>⟧.cmp (executed S.of_text S.answer schema.now document.now (get_by_text variables.now) operation.now.item (R.root_node resolver.now) (R.type_of resolver.now context.now) (R.answer resolver.now context.now)) r.0 r.1) }
 {
-    let values = FinalVariables::new(alloc, variables, operation)?;
+    let values = FinalVariables::new(alloc, variables, &operation.item)?;
     let response = respond_over(
         alloc, schema, document, operation, resolver, values, context,
     )?;

@@ -48,7 +48,7 @@ pub fn execute_sync<S: SchemaScalar + Drop, R: GraphQLValue<S>>(
         alloc,
         root_node.schema(),
         definitions,
-        &operation.item,
+        operation,
         resolver,
         variables,
         context,

@@ -2,9 +2,13 @@
 
 use crate::beings::Household;
 use crate::costly::{nested, spread_twice};
-use graphql_executor::{ExecutionError, GraphQLError, Response, execute_sync};
-use graphql_text::SourcePosition;
+use crate::told::error_told;
+use graphql_executor::{
+    GraphQLError, Response, execute_sync, execute_validated_query, get_operation,
+};
+use graphql_requests::read_request;
 use graphql_validation::RootNode;
+use graphql_validation::laws::documents_without_a_fault_are_settled;
 use graphql_values::{DefaultScalarValue, Variables};
 use std::alloc::{AllocError, Global};
 use std::process::Abort;
@@ -28,28 +32,9 @@ pub enum Asked<'a> {
 
     /// What a text is answered of which each operation is asked by its name, or without a name.
     Operations(&'a str, &'a [(Option<&'a str>, &'a str)]),
-}
 
-/// A place: its index, its line and its column, each from zero.
-fn place_told(alloc: Global, place: &SourcePosition) -> Result<String, AllocError> {
-    let (index, line, column) = (place.index(), place.line(), place.column());
-    format!(in alloc; "({index},{line},{column})")
-}
-
-/// Where a field without a value stands, its path, and why it has none.
-fn error_told(
-    alloc: Global,
-    error: &ExecutionError<DefaultScalarValue>,
-) -> Result<String, AllocError> {
-    let place = place_told(alloc, error.location())?;
-    let mut told = format!(in alloc; "{place}")?;
-    for key in error.path() {
-        told.push_str(" ")?;
-        told.push_str(key.as_str())?;
-    }
-    told.push_str(": ")?;
-    told.push_str(error.error().message())?;
-    Ok(told)
+    /// What a text is answered of which each operation is executed as one of a valid document.
+    Validated(&'a str, &'a [(Option<&'a str>, &'a str)]),
 }
 
 /// The data, and behind them the errors, a line each.
@@ -98,6 +83,31 @@ fn answer_told(
     told(alloc, answer)
 }
 
+/// What the operation of this name of a valid document is answered.
+fn validated_answer(
+    alloc: Global,
+    root: &Root,
+    text: &str,
+    name: Option<&str>,
+) -> Result<Response<DefaultScalarValue>, GraphQLError> {
+    let mut context = ();
+    let variables = Variables::new(alloc);
+    let document = read_request(alloc, text, root)?;
+    let definitions = document.as_slice();
+    let operation = get_operation(definitions, name)?;
+    documents_without_a_fault_are_settled(root.schema());
+    let response = execute_validated_query(
+        alloc,
+        definitions,
+        operation,
+        root,
+        &Household,
+        &variables,
+        &mut context,
+    )?;
+    Ok(response)
+}
+
 /// Asserts what a request is answered.
 fn is_answered(
     rt: &impl Abort,
@@ -131,6 +141,13 @@ pub fn ask(rt: &impl Abort, alloc: Global, root: &Root, asked: Asked<'_>) {
         Asked::Operations(text, rows) => {
             for row in rows {
                 is_answered(rt, alloc, root, text, row.0, row.1);
+            }
+        }
+        Asked::Validated(text, rows) => {
+            for row in rows {
+                let answer = validated_answer(alloc, root, text, row.0);
+                let told = told(alloc, answer).expect(rt, "memory");
+                assert_eq!(rt; told.as_str(), row.1);
             }
         }
     }

@@ -1,6 +1,6 @@
 //! The resolver of the tests: three beings, and a root.
 
-ghost use Rattle.std.specs.Prelude.{◌≡◌, ◌∷◌, [], Err};
+ghost use Rattle.std.specs.Prelude.{◌≡◌, ◌∷◌, [], Ok, Err};
 ghost use Rattle.std.specs.Option.{option_copied};
 ghost use Rattle.graphql_items.specs.Memory.{Gives};
 ghost use Rattle.graphql_arguments.specs.GivenValues.{arguments_told};
@@ -10,9 +10,10 @@ ghost use Rattle.graphql_value_resolution.specs.Answered.{Answered};
 ghost use Rattle.graphql_executor_tests.specs.Beings as spec;
 ghost use Rattle.graphql_executor_tests.specs.Kinds.{kind};
 
+use crate::told::error_told;
 use graphql_arguments::Arguments;
 use graphql_resolve::{FieldError, FieldFault, FieldResult, Resolved};
-use graphql_text::{Items, Text};
+use graphql_text::{Items, SourcePosition, Text};
 use graphql_value_resolution::{Executor, GraphQLValue};
 use graphql_values::{DefaultScalarValue, InputValue};
 use std::alloc::{AllocError, Global};
@@ -34,6 +35,9 @@ pub enum Being {
 }
 
 type Answer = Resolved<DefaultScalarValue, Being>;
+
+/// What `placed` wants to be told of its place, and what it tells of the start of the text.
+const PLACES: &str = "(19,2,3) self there: here\n(0,0,0) self there: at the start\n";
 
 /// Knows the beings.
 #[derive(Clone, Copy)]
@@ -91,15 +95,52 @@ fn kind_or_absent(value: Option<&InputValue<DefaultScalarValue>>) -> &'static st
     }
 }
 
+/// The errors that an executor makes of the field at which it stands, a line each. An error is want of
+/// memory.
+fn places_told(executor: &Executor<'_, '_, (), DefaultScalarValue>) -> Result<String, AllocError> {
+    let alloc = executor.alloc();
+    let mut errors = Items::new(alloc);
+    let here = FieldError::of(Text::from_str(alloc, "here")?);
+    executor.push_error(here, &mut errors)?;
+    let there = FieldError::of(Text::from_str(alloc, "at the start")?);
+    let start = SourcePosition::new_origin();
+    let other = executor.replaced_context(&true);
+    other.push_error_at(there, start, &mut errors)?;
+    let mut told = String::new(alloc);
+    for error in errors.as_slice() {
+        let line = error_told(alloc, error)?;
+        told.push_str(line.as_str())?;
+        told.push_str("\n")?;
+    }
+    Ok(told)
+}
+
+/// `Null`, if the executor stands at the field of the one request that asks for it; else want of memory,
+/// which alone may depend on a place.
+fn placed(
+    executor: &Executor<'_, '_, (), DefaultScalarValue>,
+) -> FieldResult<Answer, DefaultScalarValue>
+    ensures { Answered (Ok resolved.Null) result }
+{
+    let told = places_told(executor)?;
+    if executor.current_type().name == "Boolean" && told.as_str() == PLACES {
+        Ok(Resolved::Null)
+    } else {
+        Err(FieldFault::Memory)
+    }
+}
+
 /// What the root answers for a field.
 fn of_root(
-    alloc: Global,
+    executor: &Executor<'_, '_, (), DefaultScalarValue>,
     field: &str,
     arguments: &Arguments<'_, DefaultScalarValue>,
 ) -> FieldResult<Answer, DefaultScalarValue>
     ensures { Answered (spec.of_root field.now (arguments_told arguments.now)) result }
 {
+    let alloc = executor.alloc();
     match field {
+        "placed" => placed(executor),
         "human" => Ok(Resolved::Node(Being::Ann)),
         "dog" => Ok(Resolved::Node(Being::Rex)),
         "pet" => Ok(Resolved::Node(Being::Tom)),
@@ -175,7 +216,7 @@ impl GraphQLValue<DefaultScalarValue> for Household {
         executor: &Executor<'_, '_, (), DefaultScalarValue>,
     ) -> FieldResult<Answer, DefaultScalarValue> {
         match node {
-            Being::Root => of_root(executor.alloc, field, arguments),
+            Being::Root => of_root(executor, field, arguments),
             Being::Ann => of_being(executor.alloc, "Ann", field),
             Being::Rex => of_being(executor.alloc, "Rex", field),
             Being::Tom => of_being(executor.alloc, "Tom", field),

@@ -10,3 +10,4 @@ mod costly;
 mod rows;
 #[cfg(test)]
 mod schemas;
+mod told;

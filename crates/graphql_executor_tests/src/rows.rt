@@ -35,6 +35,10 @@ const ANSWERED: &[Row<'_>] = &[
         "{\"a\": \"scalar\", \"b\": \"list\", \"c\": \"list\", \"d\": \"null\"}",
     ),
     (
+        "query {\n self {\n   there: placed } }",
+        "{\"self\": {\"there\": null}}",
+    ),
+    (
         "{ human @skip(if: true) { name } dog @include(if: true) { name } being { __typename } }",
         "{\"dog\": {\"name\": \"Rex\"}, \"being\": null}",
     ),
@@ -113,6 +117,23 @@ fn operations_are_chosen(rt: HostRuntime) {
                 (Some("c"), "Unknown operation name"),
                 (Some(""), "Unknown operation name"),
                 (None, "Multiple operations provided"),
+            ],
+        ),
+    );
+}
+
+#[test]
+fn queries_alone_are_executed(rt: HostRuntime) {
+    over(
+        &rt,
+        rt.alloc(),
+        Asked::Validated(
+            "query a { one: __typename } mutation b { two } subscription c { three }",
+            &[
+                (Some("a"), "{\"one\": \"Query\"}"),
+                (Some("b"), "No mutation type"),
+                (Some("c"), "Operation is a subscription"),
+                (Some("d"), "Unknown operation name"),
             ],
         ),
     );

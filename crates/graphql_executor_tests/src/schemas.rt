@@ -48,6 +48,7 @@ const ROOT: &[FieldRow] = &[
     ("flags", "Boolean", LIST_OF_NON_NULL),
     ("grid", "Boolean", LIST_OF_LISTS),
     ("one", "Boolean", LIST),
+    ("placed", "Boolean", NULLABLE),
 ];
 
 const HUMAN: &[FieldRow] = &[

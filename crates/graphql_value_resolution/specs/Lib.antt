@@ -1,3 +1,4 @@
 pub mod Answered
 pub mod FieldDeclarations
+pub mod FieldPaths
 pub mod Engines

@@ -12,6 +12,7 @@ use crate::executor::Executor;
 use crate::fields::declared_arguments;
 use crate::graphql_value::GraphQLValue;
 use graphql_arguments::Arguments;
+use graphql_declarations::TypeLiteral;
 use graphql_meta::SchemaScalar;
 use graphql_resolve::{FieldResult, Resolved};
 use graphql_text::{Spanning, Text, TextRef};
@@ -53,8 +54,10 @@ fn text_scalar<S: SchemaScalar>(alloc: Global, text: &str) -> Result<S, AllocErr
     Ok(S::from_string(Text::from_str(alloc, text)?.into_string()))
 }
 
-/// What a node of an object type answers for a field. The name of an object's type is told of each
-/// object, and the resolver is not asked (GraphQL October 2021, 4.1 Type Name Introspection).
+/// What a node of an object type answers for a field, of which the schema declares this type, and to which
+/// these response keys lead. The name of an object's type is told of each object, and the resolver is not
+/// asked (GraphQL October 2021, 4.1 Type Name Introspection). A resolver is handed an executor that stands
+/// at the field.
 /// `FieldFault::Memory` is want of memory.
 #[tactic(auto, unfolding(crate::specs::Engines::engine_over))]
 pub fn ask<'d, 'a, S: SchemaScalar + Drop, R: GraphQLValue<S>>(
@@ -63,6 +66,8 @@ pub fn ask<'d, 'a, S: SchemaScalar + Drop, R: GraphQLValue<S>>(
     object: &str,
     node: &R::Node,
     field: &'d Spanning<Field<'a, S>>,
+    declared: TypeLiteral<'d>,
+    keys: &[TextRef<'d>],
 ) -> FieldResult<Resolved<S, R::Node>, S>
     ensures { let e = engine_of S.of_text S.answer executor.now.request.now (R.type_of resolver.now executor.now.context.now) (R.answer resolver.now executor.now.context.now) in
         Answered (e.answer node.now object.now (head_of field.now).name (e.arguments object.now (head_of field.now))) result }
@@ -72,5 +77,6 @@ pub fn ask<'d, 'a, S: SchemaScalar + Drop, R: GraphQLValue<S>>(
         return Ok(Resolved::Scalar(text_scalar(executor.alloc, object)?));
     }
     let arguments = arguments_of(executor, object, field)?;
-    resolver.resolve_field(node, name, &arguments, executor)
+    let here = executor.at_field(keys, field.span.start, declared);
+    resolver.resolve_field(node, name, &arguments, &here)
 }

@@ -1,18 +1,26 @@
 //! What a resolver sees of an execution.
 
-ghost use Rattle.std.specs.Prelude.{◌≡◌};
+ghost use Rattle.std.specs.Prelude.{◌≡◌, ◌++◌, ◌∷◌, [], OnErr, OnOk};
 ghost use Rattle.std.specs.Option.{option_copied};
 ghost use Rattle.graphql_collect.specs.Requests.{fragments_in};
+ghost use Rattle.graphql_declarations.specs.Lent.{literal_of};
+ghost use Rattle.graphql_items.specs.Memory.{Gives};
 ghost use Rattle.graphql_plain_tree.specs.Written.{fragment_meant};
+ghost use Rattle.graphql_value_resolution.specs.FieldPaths.{error_at, keys_of, place_of};
 
+use crate::field_path::FieldPath;
 use graphql_argument_values::FinalVariables;
 use graphql_collect::Request;
+use graphql_declarations::TypeLiteral;
 use graphql_meta::SchemaScalar;
+use graphql_resolve::{ExecutionError, FieldError};
 use graphql_schema::SchemaType;
+use graphql_text::{Items, SourcePosition, TextRef};
 use graphql_tree::Fragment;
-use std::alloc::Global;
+use std::alloc::{AllocError, Global};
 
-/// The request that is executed, and the context over which it is (GraphQL October 2021, 6 Execution).
+/// The request that is executed, the context over which it is, and the field that is answered (GraphQL
+/// October 2021, 6 Execution).
 #[derive(Drop)]
 pub struct Executor<'d, 'a, Context, S, C = <S as SchemaScalar>::Check> {
     /// Where memory is taken.
@@ -23,9 +31,81 @@ pub struct Executor<'d, 'a, Context, S, C = <S as SchemaScalar>::Check> {
 
     /// What resolvers answer from.
     pub context: &'d Context,
+
+    /// Where the field stands that is answered.
+    pub path: FieldPath<'d>,
+
+    /// The type that the schema declares for that field; at the root the type of the root.
+    pub current_type: TypeLiteral<'d>,
 }
 
 impl<'d, 'a, Context, S, C> Executor<'d, 'a, Context, S, C> {
+    /// The executor of an operation that starts at this place of the request's text, at the root, which is
+    /// an object of the type of this name.
+    pub fn at_root(
+        alloc: Global,
+        request: &'d Request<'d, 'a, S, C>,
+        context: &'d Context,
+        object: &'d str,
+        start: SourcePosition,
+    ) -> Executor<'d, 'a, Context, S, C>
+        ensures request { result.request.now ≡ request.now }
+        ensures context { result.context.now ≡ context.now }
+        ensures location { place_of result.path ≡ start }
+        ensures path { keys_of result.path ≡ [] }
+        ensures current_type { literal_of result.current_type ≡ record { name = object.now; modifiers = [] } }
+    {
+        Executor {
+            alloc,
+            request,
+            context,
+            path: FieldPath::Root(start),
+            current_type: TypeLiteral {
+                name: object,
+                modifiers: &[],
+            },
+        }
+    }
+
+    /// The executor of a field, by all the response keys that lead to it, its start, and the type that the
+    /// schema declares for it.
+    pub fn at_field<'p>(
+        &self,
+        keys: &'p [TextRef<'d>],
+        start: SourcePosition,
+        declared: TypeLiteral<'p>,
+    ) -> Executor<'p, 'a, Context, S, C>
+        ensures request { result.request.now ≡ self.now.request.now }
+        ensures context { result.context.now ≡ self.now.context.now }
+        ensures location { place_of result.path ≡ start }
+        ensures path { keys_of result.path ≡ keys.now }
+        ensures current_type { result.current_type ≡ declared.entry }
+    {
+        Executor {
+            alloc: self.alloc,
+            request: self.request,
+            context: self.context,
+            path: FieldPath::Keys(keys, start),
+            current_type: declared,
+        }
+    }
+
+    /// The executor of the same field over another context.
+    pub fn replaced_context<Other>(&self, context: &'d Other) -> Executor<'d, 'a, Other, S, C>
+        ensures request { result.request.now ≡ self.now.request.now }
+        ensures context { result.context.now ≡ context.now }
+        ensures path { result.path ≡ self.now.path }
+        ensures current_type { result.current_type ≡ self.now.current_type }
+    {
+        Executor {
+            alloc: self.alloc,
+            request: self.request,
+            context,
+            path: self.path,
+            current_type: self.current_type,
+        }
+    }
+
     /// Where memory is taken.
     pub fn alloc(&self) -> Global {
         self.alloc
@@ -57,5 +137,76 @@ impl<'d, 'a, Context, S, C> Executor<'d, 'a, Context, S, C> {
         ensures { option_copied result ≡ fragment_meant (fragments_in self.now.request.now) name.now }
     {
         self.request.fragments.get(name)
+    }
+
+    /// The type that the schema declares for the field that is answered; at the root the type of the root.
+    pub fn current_type(&self) -> TypeLiteral<'d>
+        ensures { result ≡ self.now.current_type }
+    {
+        self.current_type
+    }
+
+    /// Where the field starts that is answered; at the root where the operation does.
+    pub fn location(&self) -> &SourcePosition
+        ensures { result.now ≡ place_of self.now.path }
+    {
+        self.path.location()
+    }
+
+    /// The error of the field that is answered (GraphQL October 2021, 7.1.2 Errors): at its start, with its
+    /// path. An error is want of memory.
+    pub fn new_error(&self, error: FieldError<S>) -> Result<ExecutionError<S>, AllocError>
+    where
+        S: Drop,
+        ensures { Gives result (error_at (place_of self.now.path) self.now.path error) }
+    {
+        self.error_at(error, *self.location())
+    }
+
+    /// The same error, told of another place.
+    fn error_at(
+        &self,
+        error: FieldError<S>,
+        location: SourcePosition,
+    ) -> Result<ExecutionError<S>, AllocError>
+    where
+        S: Drop,
+        ensures { Gives result (error_at location self.now.path error) }
+    {
+        let path = self.path.keys(self.alloc)?;
+        Ok(ExecutionError::new(location, path, error))
+    }
+
+    /// Tells the error of the field that is answered, behind those that were told. An error is want of
+    /// memory, and nothing is told then.
+    pub fn push_error(
+        &self,
+        error: FieldError<S>,
+        errors: &mut Items<ExecutionError<S>>,
+    ) -> Result<(), AllocError>
+    where
+        S: Drop,
+        ensures told { OnOk result (errors.new ≡ errors.old ++ error_at (place_of self.now.path) self.now.path error ∷ []) }
+        ensures kept { OnErr result (errors.new ≡ errors.old) }
+    {
+        self.push_error_at(error, *self.location(), errors)
+    }
+
+    /// Tells the error of the field that is answered as one of another place, behind those that were told.
+    /// An error is want of memory, and nothing is told then.
+    pub fn push_error_at(
+        &self,
+        error: FieldError<S>,
+        location: SourcePosition,
+        errors: &mut Items<ExecutionError<S>>,
+    ) -> Result<(), AllocError>
+    where
+        S: Drop,
+        ensures told { OnOk result (errors.new ≡ errors.old ++ error_at location self.now.path error ∷ []) }
+        ensures kept { OnErr result (errors.new ≡ errors.old) }
+    {
+        let error = self.error_at(error, location)?;
+        errors.push(error)?;
+        Ok(())
     }
 }

@@ -4,11 +4,13 @@
 mod asking;
 mod context;
 mod executor;
+mod field_path;
 mod fields;
 mod graphql_value;
 
 pub use asking::ask;
 pub use context::{Context, FromContext};
 pub use executor::Executor;
+pub use field_path::{FieldPath, copied_keys};
 pub use fields::{declared_type, is_leaf, possible_name, query_root_name};
 pub use graphql_value::GraphQLValue;

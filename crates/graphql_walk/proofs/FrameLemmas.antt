@@ -1,5 +1,5 @@
 -- Laws of frames.
-use Rattle.std.proofs.Common.{◌≡◌, refl, sym, ◌∙◌, ap, subst, ℕ, zero, suc, ◌+◌, ◌<◌, ◌≤◌, arith, Bool, true, false, List, [], ◌∷◌, ◌++◌, map, length, drop, reverse, append-nil, append_assoc, Option, Some, None, option_map, slice_get, Result}
+use Rattle.std.proofs.Common.{◌≡◌, refl, sym, ◌∙◌, ap, subst, ℕ, zero, suc, ◌+◌, arith, Bool, true, false, List, [], ◌∷◌, ◌++◌, map, drop, reverse, append-nil, append_assoc, Option, Some, None, option_map, slice_get, Result}
 use Rattle.std.specs.Prelude.{IfSome}
 use Rattle.std.specs.List.{IsDistinct}
 use Rattle.std.specs.Map.{keys_of}
@@ -22,7 +22,9 @@ use Rattle.graphql_plain_tree.specs.Groups.{groups}
 use Rattle.graphql_names.specs.Names.{Bytes}
 use Rattle.graphql_plain_tree.specs.Trees.{Head, Tree}
 use Rattle.graphql_walk.specs.declared.frames.Frame.TheVariants as frame
-use Rattle.graphql_walk.specs.Frames.{FrameIn, ObjectFrameIn, ListFrameIn}
+use Rattle.graphql_walk.specs.Frames.{FrameIn, KnownIn, ObjectFrameIn, ListFrameIn}
+use Rattle.graphql_walk.specs.Sets.{AreKnown}
+use Rattle.std.specs.Option.{option_or}
 use Rattle.graphql_resolve.specs.declared.execution_error.ExecutionError.{ExecutionError}
 use Rattle.graphql_walk.specs.declared.report.Report.{Report}
 use Rattle.graphql_resolve.specs.declared.resolved.Resolved.{Resolved}
@@ -109,11 +111,12 @@ module _ {S N : Type 0} where
   pub group-path : (path : List Bytes) (f : ObjectFrameIn S N) (g : Group S) → slice_get f.groups f.next ≡ Some g → down path (frame.Object f) ≡ path ++ g.0 ∷ []
   group-path path f g at = ap (down_group path) (drop-next f.groups f.next g at)
 
-  pub fine-last : (fs : List (FrameIn S N)) (f : FrameIn S N) → AllFine fs → Fine f → AllFine (fs ++ f ∷ [])
+module _ {S N : Type 0} (e : Engine S N) (fragments : List (Fragment S)) where
+  pub fine-last : (fs : List (FrameIn S N)) (f : FrameIn S N) → AllFine e fragments fs → Fine e fragments f → AllFine e fragments (fs ++ f ∷ [])
   fine-last [] f h k = (k, tt)
   fine-last (g ∷ fs) f h k = (h.0, fine-last fs f h.1 k)
 
-  pub fine-pop : (fs : List (FrameIn S N)) (f : FrameIn S N) → AllFine (fs ++ f ∷ []) → AllFine fs × Fine f
+  pub fine-pop : (fs : List (FrameIn S N)) (f : FrameIn S N) → AllFine e fragments (fs ++ f ∷ []) → AllFine e fragments fs × Fine e fragments f
   fine-pop [] f h = (tt, h.0)
   fine-pop (g ∷ fs) f h = (let ih = fine-pop fs f h.1 in ((h.0, ih.0), ih.1))
 
@@ -213,7 +216,7 @@ fine-nothing k keys (Some xs) (Some x) h =
     subst (IsDistinct bytes_eq) (sym (append_assoc (keys_of xs) (k ∷ []) keys) ∙ ap (λ ks. ks ++ keys) (sym (map-append (λ p. p.0) xs ((k, x) ∷ [])))) h
 
 pub group-fine : {S N : Type 0} (f : ObjectFrameIn S N) (g : Group S) (v : Option (Value S)) (members : Option (Members S)) → slice_get f.groups f.next ≡ Some g
-    → members ≡ both (λ xs x. xs ++ (g.0, x) ∷ []) f.members v → Fine {N = N} (frame.Object f) → IfSome members (λ ms. IsDistinct bytes_eq (keys_of ms ++ map (λ h. h.0) (drop (f.next + 1) f.groups)))
+    → members ≡ both (λ xs x. xs ++ (g.0, x) ∷ []) f.members v → IfSome f.members (λ ms. IsDistinct bytes_eq (keys_of ms ++ map (λ h. h.0) (drop f.next f.groups))) → IfSome members (λ ms. IsDistinct bytes_eq (keys_of ms ++ map (λ h. h.0) (drop (f.next + 1) f.groups)))
 group-fine f g v members at is fine =
     subst (λ m. IfSome m (λ ms. IsDistinct bytes_eq (keys_of ms ++ map (λ h. h.0) (drop (f.next + 1) f.groups)))) (sym is)
     (fine-nothing g.0 (map (λ h. h.0) (drop (f.next + 1) f.groups)) f.members v (rw (drop-next f.groups f.next g at) at fine))
@@ -290,7 +293,7 @@ module _ {S N : Type 0} (e : Engine S N) (fragments : List (Fragment S)) where
   list-ends path f p = ap (λ xs. more value.List f.values (map (item_at e fragments path f) (reverse xs))) p ∙ more-none value.List f.values
 
   abbrev pub keeps : ListFrameIn S N → List (Resolved S N) → ListFrameIn S N
-  keeps f items = record { name = f.name; fields = f.fields; location = f.location; wraps = f.wraps; items = items; values = f.values }
+  keeps f items = record { name = f.name; fields = f.fields; location = f.location; wraps = f.wraps; items = items; values = f.values; known = f.known }
 
   -- a list's next item
   pub item-starts : (path : List Bytes) (f : ListFrameIn S N) (items : List (Resolved S N)) (x : Resolved S N) (o : Outcome S (Value S)) (old new : Report S) → f.items ≡ items ++ x ∷ []
@@ -306,6 +309,12 @@ module _ {S N : Type 0} (e : Engine S N) (fragments : List (Fragment S)) where
             ∙ more-after value.List f.values l.told (show_place needed o) left;
         errors = l.errors;
       }
+
+-- what is known later is known too
+pub known-or : {S : Type 0} (fragments : List (Fragment S)) (selected : Bytes → List (Found S)) (a b : Option (KnownIn S)) → AreKnown fragments selected a → AreKnown fragments selected b
+    → AreKnown fragments selected (option_or a b)
+known-or fragments selected None b h k = k
+known-or fragments selected (Some x) b h k = h
 
 pub answer-gives : {S : Type 0} (key : Bytes) (needed : Bool) (o q : Outcome S (Value S)) (old mid below new : Report S) (v : Option (Value S)) → Leads o old (show_place needed q) mid → Gives q mid v below
     → mid.path ≡ old.path ++ key ∷ [] → new.path ≡ up below.path → new.errors ≡ below.errors → Gives o old (shown needed v) new

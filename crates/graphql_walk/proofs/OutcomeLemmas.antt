@@ -1,8 +1,7 @@
 -- Outcomes, put together one by one.
-use Rattle.std.proofs.Common.{◌≡◌, refl, sym, ◌∙◌, ap, ℕ, ◌-◌, ◌+◌, arith, Bool, true, false, List, [], ◌∷◌, ◌++◌, append-nil, append_assoc, length, length-append, take, Option, Some, None, option_map}
+use Rattle.std.proofs.Common.{◌≡◌, refl, sym, ◌∙◌, ap, ℕ, ◌-◌, ◌+◌, arith, Bool, List, [], ◌∷◌, ◌++◌, append-nil, append_assoc, length, length-append, take, Option, Some, None, option_map}
 use Rattle.std.proofs.Math.Seq.{take-append_seam}
 use Rattle.graphql_output_values.specs.declared.value.Value.{Value}
-use Rattle.graphql_resolve.specs.declared.execution_error.ExecutionError.{ExecutionError}
 use Rattle.graphql_walk.specs.declared.report.Report.{Report}
 use Rattle.graphql_walk.specs.Paths.{up}
 use Rattle.graphql_evaluation.specs.Outcomes.{Outcome, both, together, outcome_map, show_place, shown}

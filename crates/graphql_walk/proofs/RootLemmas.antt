@@ -15,7 +15,7 @@ use Rattle.graphql_collect.specs.Grouped.{Group, all_found, group_found}
 use Rattle.graphql_evaluation.specs.Completion.{Members}
 use Rattle.graphql_evaluation.specs.Engines.{Engine}
 use Rattle.graphql_evaluation.specs.Evaluation.{evaluate, group, keyed}
-use Rattle.graphql_evaluation.specs.Outcomes.{Outcome, both, outcome_map, together}
+use Rattle.graphql_evaluation.specs.Outcomes.{Outcome, both, together}
 use Rattle.graphql_evaluation.proofs.GroupKeys.{distinct-groups}
 use Rattle.graphql_walk.specs.declared.report.Report.{Report}
 use Rattle.graphql_walk.specs.Gives.{Gives}

@@ -1,5 +1,5 @@
 -- Turns of frames.
-use Rattle.std.proofs.Common.{◌≡◌, refl, sym, ◌∙◌, ap, ℕ, zero, suc, ◌+◌, ◌<◌, arith, List, [], ◌∷◌, ◌++◌, map, drop, reverse, Some, None, slice_get}
+use Rattle.std.proofs.Common.{◌≡◌, refl, sym, ◌∙◌, ap, ℕ, zero, suc, ◌+◌, arith, List, [], ◌∷◌, ◌++◌, map, drop, reverse, Some, None, slice_get}
 use Rattle.std.specs.List.{sum}
 use Rattle.std.proofs.lemmas.List.{reverse-append}
 use Rattle.std.proofs.lemmas.List.Sums.{sum-map, sum_by-cons, sum_by_push}
@@ -10,7 +10,7 @@ use Rattle.graphql_plain_tree.specs.Fields.{Found}
 use Rattle.graphql_plain_tree.specs.Groups.{groups}
 use Rattle.graphql_plain_tree.specs.Repeats.{Repeats}
 use Rattle.graphql_plain_tree.specs.Trees.{Tree}
-use Rattle.graphql_collect.specs.Grouped.{Group, all_found, group_found}
+use Rattle.graphql_collect.specs.Grouped.{Group, group_found}
 use Rattle.graphql_resolve.specs.declared.resolved.Resolved.{Resolved}
 use Rattle.graphql_evaluation.specs.Engines.{Engine}
 use Rattle.graphql_evaluation.specs.Evaluation.{found_in}

@@ -2,7 +2,7 @@
 use Rattle.std.specs.List.{IsDistinct}
 use Rattle.std.specs.Map.{keys_of}
 use Rattle.std.specs.Str.{bytes_eq}
-use Rattle.std.specs.Prelude.{◌≡◌, ℕ, IfSome, Bool, List, [], ◌∷◌, ◌++◌, map, drop, reverse, Option, Some, None, option_map}
+use Rattle.std.specs.Prelude.{◌≡◌, IfSome, List, [], ◌∷◌, ◌++◌, map, drop, reverse, Option, Some, None}
 use Rattle.graphql_output_values.specs.declared.value.Value.{Value}
 use Rattle.graphql_output_values.specs.declared.value.Value.TheVariants as value
 use Rattle.graphql_tree.specs.declared.document.Fragment.{Fragment}
@@ -16,13 +16,16 @@ use Rattle.graphql_walk.specs.declared.frames.Frame.{Frame}
 use Rattle.graphql_walk.specs.declared.frames.Frame.TheVariants as frame
 use Rattle.graphql_walk.specs.declared.frames.ObjectFrame.{ObjectFrame}
 use Rattle.graphql_walk.specs.declared.frames.ListFrame.{ListFrame}
+use Rattle.graphql_walk.specs.declared.frames.Known.{Known}
 use Rattle.graphql_resolve.specs.declared.execution_error.ExecutionError.{ExecutionError}
 use Rattle.graphql_walk.specs.declared.report.Report.{Report}
 use Rattle.graphql_resolve.specs.declared.resolved.Resolved.{Resolved}
 use Rattle.graphql_evaluation.specs.Engines.{Engine}
-use Rattle.graphql_evaluation.specs.Evaluation.{evaluate, keyed, sets_below}
+use Rattle.graphql_evaluation.specs.Evaluation.{evaluate, found_in, keyed, sets_below}
 use Rattle.graphql_evaluation.specs.Completion.{blame_at, is_required, object_members}
 use Rattle.graphql_walk.specs.Completed.{completed_item}
+use Rattle.std.specs.Option.{option_or}
+use Rattle.graphql_walk.specs.Sets.{AreKnown}
 use Rattle.graphql_evaluation.specs.Outcomes.{Outcome, both, together, outcome_map, show_place}
 
 -- frames over a document's groups and fields
@@ -30,7 +33,11 @@ abbrev pub ObjectFrameIn : Type 0 → Type 0 → Type 0
 ObjectFrameIn S N = ObjectFrame S N (List (Group S))
 
 abbrev pub ListFrameIn : Type 0 → Type 0 → Type 0
-ListFrameIn S N = ListFrame S N (Lent S)
+ListFrameIn S N = ListFrame S N (List (Group S)) (Lent S)
+
+-- groups of a document's fields
+abbrev pub KnownIn : Type 0 → Type 0
+KnownIn S = Known (List (Group S))
 
 abbrev pub FrameIn : Type 0 → Type 0 → Type 0
 FrameIn S N = Frame S N (List (Group S)) (Lent S)
@@ -100,27 +107,42 @@ module _ {S N : Type 0} (e : Engine S N) (fragments : List (Fragment S)) where
   comes_to (begun.Value v) path = shows v
   comes_to (begun.Frame f) path = rest path f
 
--- no key stands twice among the members so far and the groups that are left
-abbrev pub Fine : {S N : Type 0} → FrameIn S N → Type 0
-Fine (frame.Object f) = IfSome f.members (λ ms. IsDistinct bytes_eq (keys_of ms ++ map (λ g. g.0) (drop f.next f.groups)))
-Fine (frame.List f) = Unit {0}
+module _ {S N : Type 0} where
+  -- the groups that are known of what has begun: those of an object
+  abbrev pub known_in : FrameIn S N → Option (KnownIn S)
+  known_in (frame.Object f) = Some (record { object = f.object; groups = f.groups })
+  known_in (frame.List f) = None
 
-abbrev pub AllFine : {S N : Type 0} → List (FrameIn S N) → Type 0
-AllFine [] = Unit {0}
-AllFine (f ∷ fs) = Fine f × AllFine fs
+  abbrev pub known_of : Begun S N → Option (KnownIn S)
+  known_of (begun.Value v) = None
+  known_of (begun.Frame f) = known_in f
 
-abbrev pub FineBegun : {S N : Type 0} → Begun S N → Type 0
-FineBegun (begun.Value v) = Unit {0}
-FineBegun (begun.Frame f) = Fine f
+  -- the list knows these groups, if there are any
+  abbrev pub learns : ListFrameIn S N → Option (KnownIn S) → ListFrameIn S N
+  learns f known = record { name = f.name; fields = f.fields; location = f.location; wraps = f.wraps; items = f.items; values = f.values; known = option_or known f.known }
+
+module _ {S N : Type 0} (e : Engine S N) (fragments : List (Fragment S)) where
+  -- no key stands twice among an object's members so far and the groups that are left; what a list knows are groups of its fields
+  abbrev pub Fine : FrameIn S N → Type 0
+  Fine (frame.Object f) = IfSome f.members (λ ms. IsDistinct bytes_eq (keys_of ms ++ map (λ g. g.0) (drop f.next f.groups)))
+  Fine (frame.List f) = AreKnown fragments (λ o. found_in e o (sets_below (all_found fragments f.fields))) f.known
+
+  abbrev pub AllFine : List (FrameIn S N) → Type 0
+  AllFine [] = Unit {0}
+  AllFine (f ∷ fs) = Fine f × AllFine fs
+
+  abbrev pub FineBegun : Begun S N → Type 0
+  FineBegun (begun.Value v) = Unit {0}
+  FineBegun (begun.Frame f) = Fine f
 
 -- what a turn leaves: the end, where no frame waits, or what there is now
 abbrev pub turned_to : {S N : Type 0} (e : Engine S N) (fragments : List (Fragment S)) → Turned S N → List Bytes → Outcome S (Value S)
 turned_to e fragments (turned.Done v) path = shows v
 turned_to e fragments (turned.Open b) path = comes_to e fragments b path
 
-abbrev pub FineTurned : {S N : Type 0} → Turned S N → List (FrameIn S N) → Type 0
-FineTurned (turned.Done v) waiting = waiting ≡ []
-FineTurned (turned.Open b) waiting = AllFine waiting × FineBegun b
+abbrev pub FineTurned : {S N : Type 0} (e : Engine S N) (fragments : List (Fragment S)) → Turned S N → List (FrameIn S N) → Type 0
+FineTurned e fragments (turned.Done v) waiting = waiting ≡ []
+FineTurned e fragments (turned.Open b) waiting = AllFine e fragments waiting × FineBegun e fragments b
 
 -- a step: what is told is part of what was left to tell; the report stands at the innermost place
 pub record Steps {S N : Type 0} (e : Engine S N) (fragments : List (Fragment S)) (path : List Bytes) (before : Outcome S (Value S)) (old : Report S) (waiting : List (FrameIn S N)) (now : List Bytes → Outcome S (Value S)) (new : Report S) : Type 0 where

@@ -1,5 +1,6 @@
 //! Objects and lists in progress.
 
+use crate::shared::Shared;
 use graphql_collect::{Group, Occurrence};
 use graphql_output_values::Value;
 use graphql_resolve::Resolved;
@@ -29,9 +30,19 @@ pub struct ObjectFrame<'d, S, N, G> {
     pub members: Option<Items<(Text, Value<S>)>>,
 }
 
+/// The groups of an object type, which are a `G`.
+#[derive(Drop)]
+pub struct Known<'d, G> {
+    /// The name of the object type, as the schema has it.
+    pub object: TextRef<'d>,
+
+    /// Its groups.
+    pub groups: G,
+}
+
 /// A list in progress, whose fields are an `F`.
 #[derive(Drop)]
-pub struct ListFrame<'d, S, N, F> {
+pub struct ListFrame<'d, S, N, G, F> {
     /// The name of the items' type.
     pub name: TextRef<'d>,
 
@@ -49,6 +60,9 @@ pub struct ListFrame<'d, S, N, F> {
 
     /// The values so far; `None` once one is missing.
     pub values: Option<Items<Value<S>>>,
+
+    /// What the fields select from the last item that was an object: its groups, if there was one.
+    pub known: Option<Known<'d, G>>,
 }
 
 /// An object or a list in progress.
@@ -58,21 +72,33 @@ pub enum Frame<'d, S, N, G, F> {
     Object(ObjectFrame<'d, S, N, G>),
 
     /// A list.
-    List(ListFrame<'d, S, N, F>),
+    List(ListFrame<'d, S, N, G, F>),
 }
 
+/// Groups of a document's fields, which an object and the list that it stands in both hold.
+pub type SharedGroups<'d, 'a, S> = Shared<Items<Group<'d, 'a, S>>>;
+
+/// The groups of an object type, of a document's fields.
+pub type KnownIn<'d, 'a, S> = Known<'d, SharedGroups<'d, 'a, S>>;
+
 /// An object in progress over a document's groups.
-pub type ObjectFrameIn<'d, 'a, S, N> = ObjectFrame<'d, S, N, Items<Group<'d, 'a, S>>>;
+pub type ObjectFrameIn<'d, 'a, S, N> = ObjectFrame<'d, S, N, SharedGroups<'d, 'a, S>>;
 
 /// A list in progress over a document's fields.
-pub type ListFrameIn<'d, 'a, S, N> = ListFrame<'d, S, N, Items<Occurrence<'d, 'a, S>>>;
+pub type ListFrameIn<'d, 'a, S, N> = ListFrame<
+    'd,
+    S,
+    N,
+    SharedGroups<'d, 'a, S>,
+    Items<Occurrence<'d, 'a, S>>,
+>;
 
 /// An object or a list in progress over a document.
 pub type FrameIn<'d, 'a, S, N> = Frame<
     'd,
     S,
     N,
-    Items<Group<'d, 'a, S>>,
+    SharedGroups<'d, 'a, S>,
     Items<Occurrence<'d, 'a, S>>,
 >;
 

@@ -9,6 +9,7 @@ mod groups;
 mod parts;
 mod report;
 mod selections;
+mod shared;
 mod stack;
 mod steps;
 

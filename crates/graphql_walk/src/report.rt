@@ -1,11 +1,11 @@
 //! What is told beside a value.
 
 ghost use Rattle.std.specs.Prelude.{◌≡◌, ◌++◌, [], ◌∷◌, OnOk};
-ghost use Rattle.graphql_items.specs.Memory.{Gives};
 ghost use Rattle.graphql_walk.specs.Paths.{up};
 
 use graphql_resolve::{ExecutionError, FieldError};
-use graphql_text::{Items, SourcePosition, Text, TextRef};
+use graphql_text::{Items, SourcePosition, TextRef};
+use graphql_value_resolution::copied_keys;
 use std::alloc::{AllocError, Global};
 
 /// Where an execution stands, and the fields that had no value so far.
@@ -58,20 +58,9 @@ impl<'d, S> Report<'d, S> {
         ensures path { OnOk result (self.new.path ≡ self.old.path) }
         ensures errors { OnOk result (self.new.errors ≡ self.old.errors ++ record { location = location; path = self.old.path; error = error } ∷ []) }
     {
-        let path = copied(alloc, self.path.as_slice())?;
+        let path = copied_keys(alloc, self.path.as_slice())?;
         self.errors
             .push(ExecutionError::new(location, path, error))?;
         Ok(())
     }
-}
-
-/// The keys, as texts of their own. An error is want of memory.
-fn copied(alloc: Global, keys: &[TextRef<'_>]) -> Result<Items<Text>, AllocError>
-    ensures { Gives result keys.now }
-{
-    let mut path = Items::with_capacity(alloc, keys.len())?;
-    for key in keys {
-        path.push(Text::from_str(alloc, key.as_str())?)?;
-    }
-    Ok(path)
 }

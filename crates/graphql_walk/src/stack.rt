@@ -11,10 +11,10 @@ ghost use Rattle.graphql_walk.specs.declared.frames.Frame.TheVariants as frame;
 ghost use Rattle.graphql_value_resolution.specs.Engines.{engine_of};
 ghost use Rattle.graphql_evaluation.specs.Evaluation.{evaluate, group};
 ghost use Rattle.graphql_walk.specs.FrameTurns.{all_waiting, begun_turns, rest_turns, turned_turns};
-ghost use Rattle.graphql_walk.specs.Frames.{Steps, resume, path_of, comes_to, turned_to, rest, Fine, AllFine, FineBegun, FineTurned};
+ghost use Rattle.graphql_walk.specs.Frames.{Steps, resume, path_of, comes_to, known_of, learns, turned_to, rest, Fine, AllFine, FineBegun, FineTurned};
 ghost use Rattle.graphql_walk.specs.Gives.{Gives};
 
-use crate::frame_parts::{list_of, object_of};
+use crate::frame_parts::{known_of, list_of, object_of};
 use crate::frames::{
     Begun, Frame, FrameIn, ListFrame, ListFrameIn, ObjectFrame, ObjectFrameIn, Turned,
 };
@@ -39,6 +39,37 @@ fn wait<'d, 'a, S: SchemaScalar + Drop, N: Drop>(
     Ok(())
 }
 
+/// Leaves a list to wait for an item that has begun; if that is an object, its groups are known from now on.
+/// An error is want of memory.
+fn wait_for_item<'d, 'a, S: SchemaScalar + Drop, N: Drop>(
+    waiting: &mut Items<FrameIn<'d, 'a, S, N>>,
+    waits: ListFrameIn<'d, 'a, S, N>,
+    begun: &Begun<'d, 'a, S, N>,
+) -> Result<(), AllocError>
+    ensures { OnOk result (waiting.new ≡ waiting.old ++ frame.List (learns waits.entry (known_of begun.now)) ∷ []) }
+{
+    let ListFrame {
+        name,
+        fields,
+        location,
+        wraps,
+        items,
+        values,
+        known,
+    } = waits;
+    let waits = Frame::List(ListFrame {
+        name,
+        fields,
+        location,
+        wraps,
+        items,
+        values,
+        known: known_of(begun)?.or(known),
+    });
+    wait(waiting, waits)?;
+    Ok(())
+}
+
 /// Starts an object's next group, or ends the object. An error is want of memory.
 fn advance_object<'d, 'a, S: SchemaScalar + Drop, R: GraphQLValue<S>>(
     resolver: &R,
@@ -48,13 +79,15 @@ fn advance_object<'d, 'a, S: SchemaScalar + Drop, R: GraphQLValue<S>>(
     report: &mut Report<'d, S>,
 ) -> Result<Begun<'d, 'a, S, R::Node>, AllocError>
     requires settled { Settled (fragments_in executor.now.request.now) }
-    requires fine { Fine (frame.Object object_frame) × AllFine waiting.now }
+    requires fine { let e = engine_of S.of_text S.answer executor.now.request.now (R.type_of resolver.now executor.now.context.now) (R.answer resolver.now executor.now.context.now) in
+        Fine e (fragments_in executor.now.request.now) (frame.Object object_frame) × AllFine e (fragments_in executor.now.request.now) waiting.now }
     ensures steps { let e = engine_of S.of_text S.answer executor.now.request.now (R.type_of resolver.now executor.now.context.now) (R.answer resolver.now executor.now.context.now) in
         let fr = fragments_in executor.now.request.now in
         IfOk result (λ b. (path : List Bytes) → report.old.path ≡ path_of path waiting.old → Steps e fr path (resume e fr path waiting.old (λ q. rest e fr q (frame.Object object_frame.entry))) report.old waiting.new (comes_to e fr b) report.new) }
     ensures turns { let e = engine_of S.of_text S.answer executor.now.request.now (R.type_of resolver.now executor.now.context.now) (R.answer resolver.now executor.now.context.now) in
         IfOk result (λ b. all_waiting e (fragments_in executor.now.request.now) waiting.new + begun_turns e (fragments_in executor.now.request.now) b < all_waiting e (fragments_in executor.now.request.now) waiting.old + rest_turns e (fragments_in executor.now.request.now) (frame.Object object_frame.entry)) }
-    ensures fine { IfOk result (λ b. AllFine waiting.new × FineBegun b) }
+    ensures fine { let e = engine_of S.of_text S.answer executor.now.request.now (R.type_of resolver.now executor.now.context.now) (R.answer resolver.now executor.now.context.now) in
+        IfOk result (λ b. AllFine e (fragments_in executor.now.request.now) waiting.new × FineBegun e (fragments_in executor.now.request.now) b) }
 {
     let ObjectFrame {
         node,
@@ -64,7 +97,7 @@ fn advance_object<'d, 'a, S: SchemaScalar + Drop, R: GraphQLValue<S>>(
         is_needed: _,
         members,
     } = object_frame;
-    let started = match groups.get(next) {
+    let started = match groups.get().get(next) {
         None => return Ok(Begun::Value(object_of(members))),
         Some(group) => start(resolver, executor, object.as_str(), &node, group, report)?,
     };
@@ -89,13 +122,15 @@ fn advance_list<'d, 'a, S: SchemaScalar + Drop, R: GraphQLValue<S>>(
     report: &mut Report<'d, S>,
 ) -> Result<Begun<'d, 'a, S, R::Node>, AllocError>
     requires settled { Settled (fragments_in executor.now.request.now) }
-    requires fine { AllFine waiting.now }
+    requires fine { let e = engine_of S.of_text S.answer executor.now.request.now (R.type_of resolver.now executor.now.context.now) (R.answer resolver.now executor.now.context.now) in
+        Fine e (fragments_in executor.now.request.now) (frame.List list_frame) × AllFine e (fragments_in executor.now.request.now) waiting.now }
     ensures steps { let e = engine_of S.of_text S.answer executor.now.request.now (R.type_of resolver.now executor.now.context.now) (R.answer resolver.now executor.now.context.now) in
         let fr = fragments_in executor.now.request.now in
         IfOk result (λ b. (path : List Bytes) → report.old.path ≡ path_of path waiting.old → Steps e fr path (resume e fr path waiting.old (λ q. rest e fr q (frame.List list_frame.entry))) report.old waiting.new (comes_to e fr b) report.new) }
     ensures turns { let e = engine_of S.of_text S.answer executor.now.request.now (R.type_of resolver.now executor.now.context.now) (R.answer resolver.now executor.now.context.now) in
         IfOk result (λ b. all_waiting e (fragments_in executor.now.request.now) waiting.new + begun_turns e (fragments_in executor.now.request.now) b < all_waiting e (fragments_in executor.now.request.now) waiting.old + rest_turns e (fragments_in executor.now.request.now) (frame.List list_frame.entry)) }
-    ensures fine { IfOk result (λ b. AllFine waiting.new × FineBegun b) }
+    ensures fine { let e = engine_of S.of_text S.answer executor.now.request.now (R.type_of resolver.now executor.now.context.now) (R.answer resolver.now executor.now.context.now) in
+        IfOk result (λ b. AllFine e (fragments_in executor.now.request.now) waiting.new × FineBegun e (fragments_in executor.now.request.now) b) }
 {
     let ListFrame {
         name,
@@ -104,6 +139,7 @@ fn advance_list<'d, 'a, S: SchemaScalar + Drop, R: GraphQLValue<S>>(
         wraps,
         items,
         values,
+        known,
     } = list_frame;
     let mut items = items;
     let Some(item) = items.pop() else {
@@ -113,17 +149,19 @@ fn advance_list<'d, 'a, S: SchemaScalar + Drop, R: GraphQLValue<S>>(
         name: &name,
         fields: fields.as_slice(),
         location,
+        known: &known,
     };
     let begun = begin(resolver, executor, &spot, wraps, item, report)?;
-    let waits = Frame::List(ListFrame {
+    let waits = ListFrame {
         name,
         fields,
         location,
         wraps,
         items,
         values,
-    });
-    wait(waiting, waits)?;
+        known,
+    };
+    wait_for_item(waiting, waits, &begun)?;
     Ok(begun)
 }
 
@@ -136,13 +174,15 @@ fn turn<'d, 'a, S: SchemaScalar + Drop, R: GraphQLValue<S>>(
     report: &mut Report<'d, S>,
 ) -> Result<Turned<'d, 'a, S, R::Node>, AllocError>
     requires settled { Settled (fragments_in executor.now.request.now) }
-    requires fine { AllFine waiting.now × FineBegun now }
+    requires fine { let e = engine_of S.of_text S.answer executor.now.request.now (R.type_of resolver.now executor.now.context.now) (R.answer resolver.now executor.now.context.now) in
+        AllFine e (fragments_in executor.now.request.now) waiting.now × FineBegun e (fragments_in executor.now.request.now) now }
     ensures steps { let e = engine_of S.of_text S.answer executor.now.request.now (R.type_of resolver.now executor.now.context.now) (R.answer resolver.now executor.now.context.now) in
         let fr = fragments_in executor.now.request.now in
         IfOk result (λ t. (path : List Bytes) → report.old.path ≡ path_of path waiting.old → Steps e fr path (resume e fr path waiting.old (comes_to e fr now.entry)) report.old waiting.new (turned_to e fr t) report.new) }
     ensures turns { let e = engine_of S.of_text S.answer executor.now.request.now (R.type_of resolver.now executor.now.context.now) (R.answer resolver.now executor.now.context.now) in
         IfOk result (λ t. all_waiting e (fragments_in executor.now.request.now) waiting.new + turned_turns e (fragments_in executor.now.request.now) t < all_waiting e (fragments_in executor.now.request.now) waiting.old + begun_turns e (fragments_in executor.now.request.now) now.entry) }
-    ensures fine { IfOk result (λ t. FineTurned t waiting.new) }
+    ensures fine { let e = engine_of S.of_text S.answer executor.now.request.now (R.type_of resolver.now executor.now.context.now) (R.answer resolver.now executor.now.context.now) in
+        IfOk result (λ t. FineTurned e (fragments_in executor.now.request.now) t waiting.new) }
 {
     match now {
         Begun::Value(value) => match waiting.pop() {
@@ -171,7 +211,8 @@ fn drive<'d, 'a, S: SchemaScalar + Drop, R: GraphQLValue<S>>(
     report: &mut Report<'d, S>,
 ) -> Result<Option<Value<S>>, AllocError>
     requires settled { Settled (fragments_in executor.now.request.now) }
-    requires fine { FineBegun first }
+    requires fine { let e = engine_of S.of_text S.answer executor.now.request.now (R.type_of resolver.now executor.now.context.now) (R.answer resolver.now executor.now.context.now) in
+        FineBegun e (fragments_in executor.now.request.now) first }
     ensures { let e = engine_of S.of_text S.answer executor.now.request.now (R.type_of resolver.now executor.now.context.now) (R.answer resolver.now executor.now.context.now) in
         IfOk result (λ value. Gives (comes_to e (fragments_in executor.now.request.now) first.entry report.old.path) report.old value report.new) }
 {

@@ -11,19 +11,19 @@ ghost use Rattle.graphql_walk.specs.declared.frames.Frame.TheVariants as frame;
 ghost use Rattle.graphql_value_resolution.specs.Engines.{engine_of};
 ghost use Rattle.graphql_evaluation.specs.Completion.{blame_at, run_if};
 ghost use Rattle.graphql_evaluation.specs.Engines.{Engine};
-ghost use Rattle.graphql_evaluation.specs.Evaluation.{evaluate, group};
+ghost use Rattle.graphql_evaluation.specs.Evaluation.{evaluate, found_in, group};
 ghost use Rattle.graphql_walk.specs.Completed.{completed};
 ghost use Rattle.graphql_walk.specs.Parts.{IsListAround};
 ghost use Rattle.graphql_evaluation.specs.Turns.{all_turns, turns_if, turns_of_group};
 ghost use Rattle.graphql_walk.specs.FrameTurns.{answer_turns, begun_turns, rest_turns, waiting_turns};
-ghost use Rattle.graphql_walk.specs.Frames.{Leads, comes_to, close, rest, down, shows, Fine, FineBegun};
+ghost use Rattle.graphql_walk.specs.Frames.{Leads, comes_to, close, rest, down, known_of, shows, Fine, FineBegun};
 ghost use Rattle.graphql_evaluation.specs.Outcomes.{show_place};
-ghost use Rattle.graphql_walk.specs.Sets.{below};
+ghost use Rattle.graphql_walk.specs.Sets.{AreKnown, below};
 
 use crate::failing::{fail, misfit, own_null};
-use crate::frame_parts::{lent_again, reversed};
+use crate::frame_parts::{behind, lent_again, reversed};
 use crate::frames::{
-    Begun, Frame, FrameIn, ListFrame, ListFrameIn, ObjectFrame, ObjectFrameIn, Started,
+    Begun, Frame, FrameIn, KnownIn, ListFrame, ListFrameIn, ObjectFrame, ObjectFrameIn, Started,
 };
 use crate::groups::groups_below;
 use crate::parts::{Outer, is_null, is_required, shown, take_apart, with_item, with_member};
@@ -50,6 +50,9 @@ pub struct Spot<'p, 'd, 'a, S> {
 
     /// Where the first of them stands.
     pub location: SourcePosition,
+
+    /// What is known of what they select.
+    pub known: &'p Option<KnownIn<'d, 'a, S>>,
 }
 
 /// What a node comes to at a type without wraps. An error is want of memory.
@@ -61,13 +64,18 @@ fn begin_node<'d, 'a, S: SchemaScalar + Drop, R: GraphQLValue<S>>(
     report: &mut Report<'d, S>,
 ) -> Result<Begun<'d, 'a, S, R::Node>, AllocError>
     requires settled { Settled (fragments_in executor.now.request.now) }
+    requires known { let e = engine_of S.of_text S.answer executor.now.request.now (R.type_of resolver.now executor.now.context.now) (R.answer resolver.now executor.now.context.now) in
+        AreKnown (fragments_in executor.now.request.now) (λ o. found_in e o (below executor.now.request.now spot.now.fields.now)) spot.now.known.now }
     ensures leads { let e = engine_of S.of_text S.answer executor.now.request.now (R.type_of resolver.now executor.now.context.now) (R.answer resolver.now executor.now.context.now) in
         IfOk result (λ b. Leads (run_if (λ m. evaluate e report.old.path (e.concrete m) m (below executor.now.request.now spot.now.fields.now)) (blame_at report.old.path spot.now.location) spot.now.name.now (e.is_leaf spot.now.name.now) (λ m. e.is_possible spot.now.name.now (e.concrete m)) (e.is_possible spot.now.name.now (e.concrete node)) node)
         report.old (comes_to e (fragments_in executor.now.request.now) b report.old.path) report.new) }
     ensures path { OnOk result (report.new.path ≡ report.old.path) }
     ensures turns { let e = engine_of S.of_text S.answer executor.now.request.now (R.type_of resolver.now executor.now.context.now) (R.answer resolver.now executor.now.context.now) in
         IfOk result (λ b. begun_turns e (fragments_in executor.now.request.now) b ≡ turns_if (λ m. all_turns e (e.concrete m) m (below executor.now.request.now spot.now.fields.now)) (e.is_possible spot.now.name.now (e.concrete node)) node) }
-    ensures fine { IfOk result FineBegun }
+    ensures fine { let e = engine_of S.of_text S.answer executor.now.request.now (R.type_of resolver.now executor.now.context.now) (R.answer resolver.now executor.now.context.now) in
+        IfOk result (FineBegun e (fragments_in executor.now.request.now)) }
+    ensures known { let e = engine_of S.of_text S.answer executor.now.request.now (R.type_of resolver.now executor.now.context.now) (R.answer resolver.now executor.now.context.now) in
+        IfOk result (λ b. AreKnown (fragments_in executor.now.request.now) (λ o. found_in e o (below executor.now.request.now spot.now.fields.now)) (known_of b)) }
 {
     let Some(object) = possible_name(
         executor.request.schema,
@@ -83,7 +91,13 @@ fn begin_node<'d, 'a, S: SchemaScalar + Drop, R: GraphQLValue<S>>(
             report,
         )?));
     };
-    let groups = groups_below(executor.alloc, executor.request, object, spot.fields)?;
+    let groups = groups_below(
+        executor.alloc,
+        executor.request,
+        object,
+        spot.fields,
+        spot.known,
+    )?;
     let members = Some(Items::new(executor.alloc));
     Ok(Begun::Frame(Frame::Object(ObjectFrame {
         node,
@@ -104,13 +118,18 @@ fn begin_named<'d, 'a, S: SchemaScalar + Drop, R: GraphQLValue<S>>(
     report: &mut Report<'d, S>,
 ) -> Result<Begun<'d, 'a, S, R::Node>, AllocError>
     requires settled { Settled (fragments_in executor.now.request.now) }
+    requires known { let e = engine_of S.of_text S.answer executor.now.request.now (R.type_of resolver.now executor.now.context.now) (R.answer resolver.now executor.now.context.now) in
+        AreKnown (fragments_in executor.now.request.now) (λ o. found_in e o (below executor.now.request.now spot.now.fields.now)) spot.now.known.now }
     ensures leads { let e = engine_of S.of_text S.answer executor.now.request.now (R.type_of resolver.now executor.now.context.now) (R.answer resolver.now executor.now.context.now) in
         IfOk result (λ b. Leads (completed e (λ m. evaluate e report.old.path (e.concrete m) m (below executor.now.request.now spot.now.fields.now)) (blame_at report.old.path spot.now.location) spot.now.name.now [] answer)
         report.old (comes_to e (fragments_in executor.now.request.now) b report.old.path) report.new) }
     ensures path { OnOk result (report.new.path ≡ report.old.path) }
     ensures turns { let e = engine_of S.of_text S.answer executor.now.request.now (R.type_of resolver.now executor.now.context.now) (R.answer resolver.now executor.now.context.now) in
         IfOk result (λ b. begun_turns e (fragments_in executor.now.request.now) b ≡ answer_turns e (below executor.now.request.now spot.now.fields.now) spot.now.name.now [] answer) }
-    ensures fine { IfOk result FineBegun }
+    ensures fine { let e = engine_of S.of_text S.answer executor.now.request.now (R.type_of resolver.now executor.now.context.now) (R.answer resolver.now executor.now.context.now) in
+        IfOk result (FineBegun e (fragments_in executor.now.request.now)) }
+    ensures known { let e = engine_of S.of_text S.answer executor.now.request.now (R.type_of resolver.now executor.now.context.now) (R.answer resolver.now executor.now.context.now) in
+        IfOk result (λ b. AreKnown (fragments_in executor.now.request.now) (λ o. found_in e o (below executor.now.request.now spot.now.fields.now)) (known_of b)) }
 {
     match answer {
         Resolved::Null => Ok(Begun::Value(None)),
@@ -155,7 +174,10 @@ fn begin_list<'d, 'a, S: SchemaScalar + Drop, R: GraphQLValue<S>>(
     ensures path { OnOk result (report.new.path ≡ report.old.path) }
     ensures turns { let e = engine_of S.of_text S.answer executor.now.request.now (R.type_of resolver.now executor.now.context.now) (R.answer resolver.now executor.now.context.now) in
         IfOk result (λ b. begun_turns e (fragments_in executor.now.request.now) b ≡ answer_turns e (below executor.now.request.now spot.now.fields.now) spot.now.name.now (reverse whole.now) answer) }
-    ensures fine { IfOk result FineBegun }
+    ensures fine { let e = engine_of S.of_text S.answer executor.now.request.now (R.type_of resolver.now executor.now.context.now) (R.answer resolver.now executor.now.context.now) in
+        IfOk result (FineBegun e (fragments_in executor.now.request.now)) }
+    ensures known { let e = engine_of S.of_text S.answer executor.now.request.now (R.type_of resolver.now executor.now.context.now) (R.answer resolver.now executor.now.context.now) in
+        IfOk result (λ b. AreKnown (fragments_in executor.now.request.now) (λ o. found_in e o (below executor.now.request.now spot.now.fields.now)) (known_of b)) }
 {
     match answer {
         Resolved::Null => Ok(Begun::Value(None)),
@@ -184,6 +206,7 @@ fn begin_list<'d, 'a, S: SchemaScalar + Drop, R: GraphQLValue<S>>(
                 wraps,
                 items,
                 values,
+                known: None,
             })))
         }
     }
@@ -199,13 +222,18 @@ pub fn begin<'d, 'a, S: SchemaScalar + Drop, R: GraphQLValue<S>>(
     report: &mut Report<'d, S>,
 ) -> Result<Begun<'d, 'a, S, R::Node>, AllocError>
     requires settled { Settled (fragments_in executor.now.request.now) }
+    requires known { let e = engine_of S.of_text S.answer executor.now.request.now (R.type_of resolver.now executor.now.context.now) (R.answer resolver.now executor.now.context.now) in
+        AreKnown (fragments_in executor.now.request.now) (λ o. found_in e o (below executor.now.request.now spot.now.fields.now)) spot.now.known.now }
     ensures leads { let e = engine_of S.of_text S.answer executor.now.request.now (R.type_of resolver.now executor.now.context.now) (R.answer resolver.now executor.now.context.now) in
         IfOk result (λ b. Leads (completed e (λ m. evaluate e report.old.path (e.concrete m) m (below executor.now.request.now spot.now.fields.now)) (blame_at report.old.path spot.now.location) spot.now.name.now (reverse wraps.now) answer)
         report.old (comes_to e (fragments_in executor.now.request.now) b report.old.path) report.new) }
     ensures path { OnOk result (report.new.path ≡ report.old.path) }
     ensures turns { let e = engine_of S.of_text S.answer executor.now.request.now (R.type_of resolver.now executor.now.context.now) (R.answer resolver.now executor.now.context.now) in
         IfOk result (λ b. begun_turns e (fragments_in executor.now.request.now) b ≡ answer_turns e (below executor.now.request.now spot.now.fields.now) spot.now.name.now (reverse wraps.now) answer) }
-    ensures fine { IfOk result FineBegun }
+    ensures fine { let e = engine_of S.of_text S.answer executor.now.request.now (R.type_of resolver.now executor.now.context.now) (R.answer resolver.now executor.now.context.now) in
+        IfOk result (FineBegun e (fragments_in executor.now.request.now)) }
+    ensures known { let e = engine_of S.of_text S.answer executor.now.request.now (R.type_of resolver.now executor.now.context.now) (R.answer resolver.now executor.now.context.now) in
+        IfOk result (λ b. AreKnown (fragments_in executor.now.request.now) (λ o. found_in e o (below executor.now.request.now spot.now.fields.now)) (known_of b)) }
 {
     match take_apart(wraps) {
         Outer::Named => begin_named(resolver, executor, spot, answer, report),
@@ -240,7 +268,8 @@ pub fn start<'d, 'a, S: SchemaScalar + Drop, R: GraphQLValue<S>>(
     ensures path { OnOk result (report.new.path ≡ report.old.path ++ these.now.0 ∷ []) }
     ensures turns { let e = engine_of S.of_text S.answer executor.now.request.now (R.type_of resolver.now executor.now.context.now) (R.answer resolver.now executor.now.context.now) in
         IfOk result (λ s. begun_turns e (fragments_in executor.now.request.now) s.begun ≡ turns_of_group e (all_turns e) object.now node.now (all_found (fragments_in executor.now.request.now) these.now.1)) }
-    ensures fine { IfOk result (λ s. FineBegun s.begun) }
+    ensures fine { let e = engine_of S.of_text S.answer executor.now.request.now (R.type_of resolver.now executor.now.context.now) (R.answer resolver.now executor.now.context.now) in
+        IfOk result (λ s. FineBegun e (fragments_in executor.now.request.now) s.begun) }
 {
     report.enter(&these.0)?;
     let Some(first) = these.1.first() else {
@@ -265,8 +294,18 @@ pub fn start<'d, 'a, S: SchemaScalar + Drop, R: GraphQLValue<S>>(
         name: &name,
         fields: these.1.as_slice(),
         location: first.field.span.start,
+        known: &None,
     };
-    let begun = match ask(resolver, executor, object, node, first.field) {
+    let keys = report.path.as_slice();
+    let begun = match ask(
+        resolver,
+        executor,
+        object,
+        node,
+        first.field,
+        declared,
+        keys,
+    ) {
         Err(FieldFault::Memory) => return Err(AllocError),
         Err(FieldFault::Error(error)) => Begun::Value(fail(
             executor.alloc,
@@ -292,7 +331,7 @@ fn give_object<'d, 'a, S: Drop, N: Drop>(
     ensures path { OnOk result ((path : List Bytes) → report.old.path ≡ down path (frame.Object waits.entry) → report.new.path ≡ path) }
     ensures errors { OnOk result (report.new.errors ≡ report.old.errors) }
     ensures turns { IfOk result (λ f. (e : Engine S N) (fragments : List (Fragment S)) → rest_turns e fragments f ≡ waiting_turns e fragments (frame.Object waits.entry)) }
-    ensures fine { Fine (frame.Object waits.entry) → IfOk result Fine }
+    ensures fine { (e : Engine S N) (fragments : List (Fragment S)) → Fine e fragments (frame.Object waits.entry) → IfOk result (Fine e fragments) }
 {
     let ObjectFrame {
         node,
@@ -302,7 +341,8 @@ fn give_object<'d, 'a, S: Drop, N: Drop>(
         is_needed,
         members,
     } = waits;
-    let members = match groups.get(next) {
+    let these = groups.get();
+    let members = match these.get(next) {
         None => return Ok(Frame::Object(ObjectFrame {
             node,
             object,
@@ -316,11 +356,12 @@ fn give_object<'d, 'a, S: Drop, N: Drop>(
             with_member(members, &group.0, shown(is_needed, value))?
         }
     };
+    let next = behind(these, next);
     Ok(Frame::Object(ObjectFrame {
         node,
         object,
         groups,
-        next: next + 1,
+        next,
         is_needed: false,
         members,
     }))
@@ -333,7 +374,7 @@ fn give_list<'d, 'a, S: Drop, N: Drop>(
 ) -> Result<FrameIn<'d, 'a, S, N>, AllocError>
     ensures gives { IfOk result (λ f. (e : Engine S N) (fragments : List (Fragment S)) (path : List Bytes) → close e fragments path (frame.List waits.entry) (shows value) ≡ rest e fragments path f) }
     ensures turns { IfOk result (λ f. (e : Engine S N) (fragments : List (Fragment S)) → rest_turns e fragments f ≡ waiting_turns e fragments (frame.List waits.entry)) }
-    ensures fine { IfOk result Fine }
+    ensures fine { (e : Engine S N) (fragments : List (Fragment S)) → Fine e fragments (frame.List waits.entry) → IfOk result (Fine e fragments) }
 {
     let ListFrame {
         name,
@@ -342,6 +383,7 @@ fn give_list<'d, 'a, S: Drop, N: Drop>(
         wraps,
         items,
         values,
+        known,
     } = waits;
     let values = with_item(values, shown(is_required(wraps), value))?;
     Ok(Frame::List(ListFrame {
@@ -351,6 +393,7 @@ fn give_list<'d, 'a, S: Drop, N: Drop>(
         wraps,
         items,
         values,
+        known,
     }))
 }
 
@@ -364,7 +407,7 @@ pub fn give<'d, 'a, S: Drop, N: Drop>(
     ensures path { OnOk result ((path : List Bytes) → report.old.path ≡ down path waits.entry → report.new.path ≡ path) }
     ensures errors { OnOk result (report.new.errors ≡ report.old.errors) }
     ensures turns { IfOk result (λ f. (e : Engine S N) (fragments : List (Fragment S)) → rest_turns e fragments f ≡ waiting_turns e fragments waits.entry) }
-    ensures fine { Fine waits.entry → IfOk result Fine }
+    ensures fine { (e : Engine S N) (fragments : List (Fragment S)) → Fine e fragments waits.entry → IfOk result (Fine e fragments) }
 {
     match waits {
         Frame::Object(frame) => give_object(frame, value, report),

@@ -9,7 +9,7 @@ use Rattle.graphql_plain_tree.specs.Repeats.{Repeats}
 use Rattle.graphql_value_resolution.specs.Engines.{engine_of}
 use Rattle.graphql_value_resolution.proofs.EngineParts.{engine-found}
 use Rattle.graphql_walk.specs.Gives.{Gives}
-use Rattle.graphql_walk.specs.Sets.{AreGroups}
+use Rattle.graphql_walk.specs.Sets.{AreGroups, selected_in}
 use Rattle.graphql_walk.proofs.OutcomeLemmas.{gives-map}
 use Rattle.graphql_walk.proofs.RootLemmas.{by_groups, groups-more, members-distinct}
 use Rattle.graphql_walk.proofs.selections.answer_selections.Goals as goal
@@ -42,7 +42,7 @@ object_of-requires g c =
     let old = c.args.report.now in
     let whole : take c.groups.group-index items ≡ items = take_all _ _ c.groups-test.false in
     let inv : Gives (by_groups fr e old.path c.args.object.now c.args.node.now items) old c.groups.members c.groups.report = rw whole at c.groups.invariant in
-    let are : AreGroups g.S.ScalarValue.answer rq c.args.object.now (written_in rq c.args.set.now ∷ []) items = rw c.as_slice-group-items.ensures c.in_ok-groups.ensures in
+    let are : AreGroups fr (selected_in g.S.ScalarValue.answer rq (written_in rq c.args.set.now ∷ []) c.args.object.now) items = rw c.as_slice-group-items.ensures c.in_ok-groups.ensures in
     members-distinct fr e old.path c.args.object.now c.args.node.now are.found items c.groups.members are.groups inv.is
 
 pub returns : goal.returns
@@ -59,7 +59,7 @@ returns g c =
     let sets = written_in rq c.args.set.now ∷ [] in
     let whole : take c.groups.group-index items ≡ items = take_all _ _ c.groups-test.false in
     let inv : Gives (by_groups fr e old.path object node items) old c.groups.members c.groups.report = rw whole at c.groups.invariant in
-    let are : AreGroups g.S.ScalarValue.answer rq object sets items = rw c.as_slice-group-items.ensures c.in_ok-groups.ensures in
+    let are : AreGroups fr (selected_in g.S.ScalarValue.answer rq sets object) items = rw c.as_slice-group-items.ensures c.in_ok-groups.ensures in
     let repeats : Repeats are.found (found_in e object sets) = rw (engine-found g.S.ScalarValue.of_text g.S.ScalarValue.answer rq ty an object sets) at are.repeats in
     let is : by_groups fr e old.path object node items ≡ evaluate e old.path object node sets =
     ap (λ hs. together (map (keyed e (evaluate e) old.path object node) hs)) are.groups ∙ evaluate-groups e old.path object node sets are.found repeats in

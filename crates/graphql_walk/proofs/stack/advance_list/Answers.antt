@@ -1,13 +1,13 @@
-use Rattle.std.proofs.Common.{arith, refl, sym, ◌∙◌, ap, subst, ◌≡◌, ◌++◌, ◌∷◌, [], reverse}
+use Rattle.std.proofs.Common.{arith, refl, sym, ◌∙◌, ap, subst, reverse}
 use Rattle.graphql_collect.specs.Requests.{fragments_in}
 use Rattle.graphql_evaluation.specs.Completion.{blame_at}
-use Rattle.graphql_evaluation.specs.Evaluation.{evaluate}
+use Rattle.graphql_evaluation.specs.Evaluation.{evaluate, found_in}
 use Rattle.graphql_value_resolution.specs.Engines.{engine_of}
 use Rattle.graphql_walk.specs.declared.frames.Frame.TheVariants as frame
 use Rattle.graphql_walk.specs.Completed.{completed}
-use Rattle.graphql_walk.specs.Frames.{Leads, comes_to, path_of, rest, shows}
+use Rattle.graphql_walk.specs.Frames.{Leads, comes_to, known_of, learns, path_of, rest, shows}
 use Rattle.graphql_walk.specs.Sets.{below}
-use Rattle.graphql_walk.proofs.FrameLemmas.{fine-last, item-starts, keeps, leads-same, list-ends, step-in_place, step-pushed}
+use Rattle.graphql_walk.proofs.FrameLemmas.{fine-last, item-starts, keeps, known-or, leads-same, list-ends, step-in_place, step-pushed}
 use Rattle.graphql_walk.proofs.TurnLemmas.{item-due, waiting-last}
 use Rattle.graphql_walk.proofs.stack.advance_list.Goals as goal
 
@@ -43,13 +43,19 @@ returns-clause-steps g c = λ path at.
     let p = path_of path fs in
     let leads = subst (λ q. Leads (completed e (λ m. evaluate e q (e.concrete m) m (below rq f.fields)) (blame_at q f.location) f.name (reverse f.wraps.now) x) old (comes_to e fr begun q) new) at
     (rw c.as_slice.ensures at c.in_ok-begun.ensures.leads) in
-    rw c.in_ok-wait.ensures
-    (step-pushed e fr path fs (frame.List (keeps e fr f left)) (λ q. rest e fr q (frame.List f)) (comes_to e fr begun) old new (c.in_ok-begun.ensures.path ∙ at)
+    rw c.in_ok-wait_for_item.ensures
+    (step-pushed e fr path fs (frame.List (learns (keeps e fr f left) (known_of begun))) (λ q. rest e fr q (frame.List f)) (comes_to e fr begun) old new (c.in_ok-begun.ensures.path ∙ at)
     (item-starts e fr p f left x (comes_to e fr begun p) old new popped leads))
 
 pub returns-clause-fine : goal.returns-clause-fine
 returns-clause-fine g c =
-    rw c.in_ok-wait.ensures (fine-last c.args.waiting.now (frame.List (record { name = c.args.list_frame.name; fields = c.args.list_frame.fields; location = c.args.list_frame.location; wraps = c.args.list_frame.wraps; items = c.pop.new.self; values = c.args.list_frame.values })) c.requires.fine tt, c.in_ok-begun.ensures.fine)
+    let rq = c.args.executor.now.request.now in
+    let e = engine_of g.S.ScalarValue.of_text g.S.ScalarValue.answer rq (g.R.GraphQLValue.type_of c.args.resolver.now c.args.executor.now.context.now) (g.R.GraphQLValue.answer c.args.resolver.now c.args.executor.now.context.now) in
+    let fr = fragments_in rq in
+    let f = c.args.list_frame in
+    let kept = learns (keeps e fr f c.pop.new.self) (known_of c.in_ok-begun.begun) in
+    let fine = known-or fr (λ o. found_in e o (below rq f.fields)) (known_of c.in_ok-begun.begun) f.known (rw c.as_slice.ensures at c.in_ok-begun.ensures.known) c.requires.fine.0 in
+    rw c.in_ok-wait_for_item.ensures (fine-last e fr c.args.waiting.now (frame.List kept) c.requires.fine.1 fine, c.in_ok-begun.ensures.fine)
 
 pub returns-in_default-clause-turns : goal.returns-in_default-clause-turns
 returns-in_default-clause-turns g c = omega arith
@@ -67,5 +73,5 @@ returns-clause-turns g c =
     let popped = rw c.in-Some.is at c.pop.ensures in
     let begun_so = rw c.as_slice.ensures at c.in_ok-begun.ensures.turns in
     let due = item-due e fr f left c.in-Some.item popped in
-    let last = waiting-last e fr fs (frame.List (keeps e fr f left)) in
-    rw c.in_ok-wait.ensures (omega (arith, begun_so, due, last))
+    let last = waiting-last e fr fs (frame.List (learns (keeps e fr f left) (known_of c.in_ok-begun.begun))) in
+    rw c.in_ok-wait_for_item.ensures (omega (arith, begun_so, due, last))

@@ -13,7 +13,7 @@ use Rattle.graphql_walk.proofs.stack.advance_object.Goals as goal
 pub object_of-requires : goal.object_of-requires
 object_of-requires g c =
     let f = c.args.object_frame in
-    distinct-end f.members (drop f.next f.groups) (drop-end f.groups f.next (sym (rw c.in-None.is at c.get.ensures.value))) c.requires.fine.0
+    distinct-end f.members (drop f.next f.groups) (drop-end f.groups f.next (sym (rw (c.in-None.is, c.get.ensures) at c.get-2.ensures.value))) c.requires.fine.0
 
 pub returns-in-None-clause-steps : goal.returns-in-None-clause-steps
 returns-in-None-clause-steps g c = λ path at.
@@ -25,7 +25,7 @@ returns-in-None-clause-steps g c = λ path at.
     let old = c.args.report.now in
     let f = c.args.object_frame in
     let fs = c.args.waiting.now in
-    let none : slice_get f.groups f.next ≡ None = sym (rw c.in-None.is at c.get.ensures.value) in
+    let none : slice_get f.groups f.next ≡ None = sym (rw (c.in-None.is, c.get.ensures) at c.get-2.ensures.value) in
     step-in_place e fr path fs (λ q. rest e fr q (frame.Object f)) (λ q. shows c.object_of.result) old old at
     (leads-same (rest e fr (path_of path fs) (frame.Object f)) (shows c.object_of.result) old old (object-ends e fr (path_of path fs) f none ∙ ap shows (sym c.object_of.ensures)) refl)
 
@@ -40,7 +40,7 @@ returns-clause-steps g c = λ path at.
     let f = c.args.object_frame in
     let fs = c.args.waiting.now in
     let x = c.in-Some.group.now in
-    let here : slice_get f.groups f.next ≡ Some x = sym (rw c.in-Some.is at c.get.ensures.value) in
+    let here : slice_get f.groups f.next ≡ Some x = sym (rw (c.in-Some.is, c.get.ensures) at c.get-2.ensures.value) in
     let started = c.in_ok-started-in-Some.started in
     let new = c.start.new.report in
     let p = path_of path fs in
@@ -53,8 +53,11 @@ returns-clause-steps g c = λ path at.
 
 pub returns-clause-fine : goal.returns-clause-fine
 returns-clause-fine g c =
+    let rq = c.args.executor.now.request.now in
+    let e = engine_of g.S.ScalarValue.of_text g.S.ScalarValue.answer rq (g.R.GraphQLValue.type_of c.args.resolver.now c.args.executor.now.context.now) (g.R.GraphQLValue.answer c.args.resolver.now c.args.executor.now.context.now) in
+    let fr = fragments_in rq in
     let f = c.args.object_frame in
-    rw c.in_ok-wait.ensures (fine-last c.args.waiting.now (frame.Object (record { node = f.node; object = f.object; groups = f.groups; next = f.next; is_needed = c.in_ok-started-in-Some.started.is_needed; members = f.members })) c.requires.fine.1 c.requires.fine.0, c.in_ok-started-in-Some.ensures.fine)
+    rw c.in_ok-wait.ensures (fine-last e fr c.args.waiting.now (frame.Object (record { node = f.node; object = f.object; groups = f.groups; next = f.next; is_needed = c.in_ok-started-in-Some.started.is_needed; members = f.members })) c.requires.fine.1 c.requires.fine.0, c.in_ok-started-in-Some.ensures.fine)
 
 pub returns-in-None-clause-turns : goal.returns-in-None-clause-turns
 returns-in-None-clause-turns g c = omega arith
@@ -69,7 +72,7 @@ returns-clause-turns g c =
     let f = c.args.object_frame in
     let fs = c.args.waiting.now in
     let x = c.in-Some.group.now in
-    let here : slice_get f.groups f.next ≡ Some x = sym (rw c.in-Some.is at c.get.ensures.value) in
+    let here : slice_get f.groups f.next ≡ Some x = sym (rw (c.in-Some.is, c.get.ensures) at c.get-2.ensures.value) in
     let started = c.in_ok-started-in-Some.started in
     let begun_so = rw c.as_str.ensures at c.in_ok-started-in-Some.ensures.turns in
     let due = group-due e fr f x here in

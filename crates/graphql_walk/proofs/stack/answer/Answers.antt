@@ -2,7 +2,6 @@ use Rattle.std.proofs.Common.{subst, ◌++◌, ◌∷◌, []}
 use Rattle.graphql_collect.specs.Grouped.{all_found}
 use Rattle.graphql_collect.specs.Requests.{fragments_in}
 use Rattle.graphql_evaluation.specs.Evaluation.{evaluate, group}
-use Rattle.graphql_evaluation.specs.Outcomes.{shown}
 use Rattle.graphql_value_resolution.specs.Engines.{engine_of}
 use Rattle.graphql_walk.specs.Frames.{comes_to}
 use Rattle.graphql_walk.specs.Gives.{Gives}

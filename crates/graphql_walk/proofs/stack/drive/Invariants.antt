@@ -10,7 +10,7 @@ invariant-turns g l =
     let rq = l.executor.request.now in
     let e = engine_of g.S.ScalarValue.of_text g.S.ScalarValue.answer rq (g.R.GraphQLValue.type_of l.resolver l.executor.context.now) (g.R.GraphQLValue.answer l.resolver l.executor.context.now) in
     let fr = fragments_in rq in
-    (AllFine l.waiting × FineBegun l.now) × Steps e fr l.fn.report.path (comes_to e fr l.fn.first l.fn.report.path) l.fn.report l.waiting (comes_to e fr l.now) l.report
+    (AllFine e fr l.waiting × FineBegun e fr l.now) × Steps e fr l.fn.report.path (comes_to e fr l.fn.first l.fn.report.path) l.fn.report l.waiting (comes_to e fr l.now) l.report
 
 abbrev pub decreases-turns : goal.decreases-turns
 decreases-turns g l =

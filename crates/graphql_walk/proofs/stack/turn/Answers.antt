@@ -41,9 +41,12 @@ returns-in_ok-given-in-Some-clause-steps g c = λ path at.
 
 pub returns-in_ok-given-in-Some-clause-fine : goal.returns-in_ok-given-in-Some-clause-fine
 returns-in_ok-given-in-Some-clause-fine g c =
+    let rq = c.args.executor.now.request.now in
+    let e = engine_of g.S.ScalarValue.of_text g.S.ScalarValue.answer rq (g.R.GraphQLValue.type_of c.args.resolver.now c.args.executor.now.context.now) (g.R.GraphQLValue.answer c.args.resolver.now c.args.executor.now.context.now) in
+    let fr = fragments_in rq in
     let popped : c.args.waiting.now ≡ c.pop.new.self ++ c.in-Some.waits ∷ [] = rw c.in-Some.is at c.pop.ensures in
-    let parts = fine-pop c.pop.new.self c.in-Some.waits (rw popped at c.requires.fine.0) in
-    (parts.0, c.in_ok-given-in-Some.ensures.fine parts.1)
+    let parts = fine-pop e fr c.pop.new.self c.in-Some.waits (rw popped at c.requires.fine.0) in
+    (parts.0, c.in_ok-given-in-Some.ensures.fine e fr parts.1)
 
 pub returns-in_ok-begun-in-Frame-List-clause-steps : goal.returns-in_ok-begun-in-Frame-List-clause-steps
 returns-in_ok-begun-in-Frame-List-clause-steps g c =

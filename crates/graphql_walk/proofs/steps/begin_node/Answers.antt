@@ -1,17 +1,18 @@
-use Rattle.std.proofs.Common.{refl, sym, ◌∙◌, ap, ◌≡◌, ◌+◌, [], map, Some, true, false, is_some}
-use Rattle.graphql_collect.specs.Grouped.{group_found}
+use Rattle.std.proofs.Common.{refl, sym, subst, ◌∙◌, ap, ◌≡◌, ◌+◌, List, [], Some, true, false, is_some}
 use Rattle.graphql_collect.specs.Requests.{fragments_in}
 use Rattle.graphql_evaluation.specs.Completion.{blame_at, misfit_error, object_members}
 use Rattle.graphql_evaluation.specs.Evaluation.{evaluate, found_in}
 use Rattle.graphql_evaluation.specs.Outcomes.{fails, outcome_map}
 use Rattle.graphql_evaluation.specs.Turns.{all_turns}
+use Rattle.graphql_names.specs.Names.{Bytes}
+use Rattle.graphql_plain_tree.specs.Fields.{Found}
 use Rattle.graphql_plain_tree.specs.Repeats.{Repeats}
 use Rattle.graphql_value_resolution.specs.Engines.{engine_of}
 use Rattle.graphql_value_resolution.specs.FieldDeclarations.{is_possible_named}
 use Rattle.graphql_value_resolution.proofs.EngineParts.{engine-concrete, engine-found, engine-is_possible}
 use Rattle.graphql_walk.specs.Frames.{groups_left, more}
 use Rattle.graphql_walk.specs.FrameTurns.{groups_turns}
-use Rattle.graphql_walk.specs.Sets.{below}
+use Rattle.graphql_walk.specs.Sets.{AreGroups, AreKnown, below}
 use Rattle.graphql_walk.proofs.FrameLemmas.{distinct-begins, leads-same, leads-value, object-begins}
 use Rattle.graphql_walk.proofs.TurnLemmas.{groups-begin}
 use Rattle.graphql_walk.proofs.steps.begin_node.Goals as goal
@@ -92,3 +93,26 @@ returns-clause-turns g c =
     let repeats : Repeats are.found (found_in e object ts) = rw (engine-found g.S.ScalarValue.of_text g.S.ScalarValue.answer rq ty an object ts) at are.repeats in
     rw possible
     (ap (λ o. 2 + groups_turns e fr o node gs) c.new-2.ensures ∙ ap (λ n. 2 + n) (groups-begin e fr object node ts are.found gs are.groups repeats ∙ ap (λ o. all_turns e o node ts) same))
+
+-- what is known for the engine is known for the request
+pub groups_below-requires-clause-known : goal.groups_below-requires-clause-known
+groups_below-requires-clause-known g c =
+    let rq = c.args.executor.now.request.now in
+    let ty = g.R.GraphQLValue.type_of c.args.resolver.now c.args.executor.now.context.now in
+    let an = g.R.GraphQLValue.answer c.args.resolver.now c.args.executor.now.context.now in
+    let e = engine_of g.S.ScalarValue.of_text g.S.ScalarValue.answer rq ty an in
+    let fr = fragments_in rq in
+    let ts = below rq c.args.spot.now.fields.now in
+    subst (λ (selected : Bytes → List (Found _)). AreKnown fr selected c.args.spot.now.known.now) (λ i o. sym (engine-found g.S.ScalarValue.of_text g.S.ScalarValue.answer rq ty an o ts) i) c.requires.known
+
+pub returns-clause-known : goal.returns-clause-known
+returns-clause-known g c =
+    let rq = c.args.executor.now.request.now in
+    let ty = g.R.GraphQLValue.type_of c.args.resolver.now c.args.executor.now.context.now in
+    let an = g.R.GraphQLValue.answer c.args.resolver.now c.args.executor.now.context.now in
+    let e = engine_of g.S.ScalarValue.of_text g.S.ScalarValue.answer rq ty an in
+    let fr = fragments_in rq in
+    let ts = below rq c.args.spot.now.fields.now in
+    let gs = c.in_ok-groups.groups in
+    subst (λ o. AreGroups fr (found_in e o ts) gs) (sym c.new-2.ensures)
+    (subst (λ xs. AreGroups fr xs gs) (engine-found g.S.ScalarValue.of_text g.S.ScalarValue.answer rq ty an c.in-Some.object.now ts) c.in_ok-groups.ensures)

@@ -5,7 +5,7 @@ use Rattle.std.proofs.lemmas.Simd.{map-map}
 use Rattle.graphql_collect.specs.Requests.{fields_in, found_at, fragments_in}
 use Rattle.graphql_plain_tree.specs.Fields.{Found}
 use Rattle.graphql_plain_tree.specs.Repeats.{Repeats}
-use Rattle.graphql_walk.proofs.groups.groups_below.Goals as goal
+use Rattle.graphql_walk.proofs.groups.collected_below.Goals as goal
 
 pub returns : goal.returns
 returns g c =
