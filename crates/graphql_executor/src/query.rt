@@ -1,41 +1,31 @@
 //! Queries of documents that are known to be valid.
 
-ghost use Rattle.std.specs.Prelude.{◌≡◌, [], ◌∷◌, IfOk, unwrap_or};
-ghost use Rattle.graphql_output_values.specs.declared.value.Value.TheVariants as value;
+ghost use Rattle.std.specs.Prelude.{[], ◌∷◌, IfOk};
 ghost use Rattle.std.specs.HashMap.{get_by_text};
 ghost use Rattle.graphql_argument_values.specs.FinalVariables.{value_in};
 ghost use Rattle.graphql_collect.specs.FragmentLists.{fragments_listed};
 ghost use Rattle.graphql_collect.specs.Requests.{fragments_in, written_in};
 ghost use Rattle.graphql_evaluation.specs.Evaluation.{evaluate};
 ghost use Rattle.graphql_plain_tree.specs.Written.{Settled};
-ghost use Rattle.graphql_value_resolution.specs.Engines.{engine_of};
+ghost use Rattle.graphql_execution.specs.Engines.{engine_of};
 ghost use Rattle.graphql_executor.specs.Executed.{IsResponse, executed, executed_over};
 
 use graphql_argument_values::FinalVariables;
 use graphql_collect::{Fragments, Request};
+use graphql_execution::{
+    Executor, GraphQLValue, Report, answer_selections, or_null, query_root_name,
+};
 use graphql_meta::SchemaScalar;
 use graphql_output_values::Value;
 use graphql_resolve::{ExecutionError, in_order};
 use graphql_schema::SchemaType;
 use graphql_text::{Items, SourcePosition, Spanning};
 use graphql_tree::{Definition, Operation, Selection};
-use graphql_value_resolution::{Executor, GraphQLValue, query_root_name};
 use graphql_values::Variables;
-use graphql_walk::{Report, answer_selections};
 use std::alloc::{AllocError, Global};
 
 /// Data, and the errors of fields without a value, in order (GraphQL October 2021, 7.1 Response Format).
 pub type Response<S> = (Value<S>, Items<ExecutionError<S>>);
-
-/// The data: `null` where there is no object.
-fn data_of<S>(found: Option<Value<S>>) -> Value<S>
-    ensures { result ≡ unwrap_or found value.Null }
-{
-    match found {
-        Some(data) => data,
-        None => Value::Null,
-    }
-}
 
 /// What the selection set of an operation that starts at this place gives on a resolver's root. An error is
 /// want of memory.
@@ -52,11 +42,11 @@ fn respond<'d, 'a, S: SchemaScalar + Drop, R: GraphQLValue<S>>(
     ensures { let e = engine_of S.of_text S.answer request.now (R.type_of resolver.now context.now) (R.answer resolver.now context.now) in
         IfOk result (λ r. IsResponse ⟦<ExecutionError<S> as Ord>⟧.cmp (evaluate e [] object.now (R.root_node resolver.now) (written_in request.now set.now ∷ [])) r.0 r.1) }
 {
-    let executor = Executor::at_root(alloc, request, context, object, start);
+    let executor = Executor::at_root(alloc, request, context, object, start, set);
     let root = resolver.root();
     let mut report = Report::new(alloc);
-    let value = answer_selections(resolver, &executor, object, &root, set, &mut report)?;
-    Ok((data_of(value), in_order(report.errors)))
+    let value = answer_selections(resolver, &executor, object, &root, &mut report)?;
+    Ok((or_null(value), in_order(report.errors)))
 }
 
 /// What an operation of a document gives over the final values of its variables. An error is want of

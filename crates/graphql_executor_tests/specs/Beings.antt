@@ -1,5 +1,5 @@
 -- What the resolver of the tests answers.
-use Rattle.std.specs.Prelude.{◌∷◌, [], ◌++◌, List, true, false, Option, Some, None, Result, Ok, Err, codes, map, if◌then◌else◌}
+use Rattle.std.specs.Prelude.{◌∷◌, [], true, Option, Some, None, Result, Ok, Err, codes, if◌then◌else◌}
 use Rattle.std.specs.Str.{bytes_eq}
 use Rattle.graphql_names.specs.Names.{Bytes}
 use Rattle.graphql_scalars.specs.declared.default_scalar.DefaultScalarValue.{DefaultScalarValue}
@@ -23,6 +23,12 @@ type_name being.Ann = codes "Human"
 type_name being.Rex = codes "Dog"
 type_name being.Tom = codes "Cat"
 
+abbrev pub own_name : Being → Bytes
+own_name being.Root = codes "Root"
+own_name being.Ann = codes "Ann"
+own_name being.Rex = codes "Rex"
+own_name being.Tom = codes "Tom"
+
 abbrev pub one : Being → Answer
 one b = Ok (resolved.Node b)
 
@@ -32,8 +38,12 @@ word text = Ok (resolved.Scalar (scalar.String text))
 abbrev pub flag : Resolved DefaultScalarValue Being
 flag = resolved.Scalar (scalar.Boolean true)
 
-abbrev pub both : List (Resolved DefaultScalarValue Being)
-both = resolved.Node being.Rex ∷ resolved.Node being.Tom ∷ []
+abbrev pub both : Being → Being → Resolved DefaultScalarValue Being
+both a b = resolved.List (resolved.Node a ∷ resolved.Node b ∷ [])
+
+-- a dog twice, and a cat and the dog
+abbrev pub packs : Resolved DefaultScalarValue Being
+packs = resolved.List (both being.Rex being.Rex ∷ both being.Tom being.Rex ∷ [])
 
 -- a flag, and none
 abbrev pub flags : Resolved DefaultScalarValue Being
@@ -53,7 +63,8 @@ of_root_by shown field =
     if bytes_eq field (codes "human") then one being.Ann else
     if bytes_eq field (codes "dog") then one being.Rex else
     if bytes_eq field (codes "pet") then one being.Tom else
-    if bytes_eq field (codes "pets") then Ok (resolved.List both) else
+    if bytes_eq field (codes "pets") then Ok (both being.Rex being.Tom) else
+    if bytes_eq field (codes "packs") then Ok packs else
     if bytes_eq field (codes "self") then one being.Root else
     if bytes_eq field (codes "impossible") then one being.Ann else
     if bytes_eq field (codes "broken") then Err (reason (codes "No such flag")) else
@@ -75,6 +86,6 @@ of_being own field =
 
 abbrev pub answer : Being → Bytes → Given DefaultScalarValue → Answer
 answer being.Root field given = of_root field given
-answer being.Ann field given = of_being (codes "Ann") field
-answer being.Rex field given = of_being (codes "Rex") field
-answer being.Tom field given = of_being (codes "Tom") field
+answer being.Ann field given = of_being (own_name being.Ann) field
+answer being.Rex field given = of_being (own_name being.Rex) field
+answer being.Tom field given = of_being (own_name being.Tom) field

@@ -1,5 +1,5 @@
 -- The same arguments, wherever they stand, are of the same kinds, so they are answered alike.
-use Rattle.std.specs.Prelude.{◌≡◌, refl, Bool, true, false, [], ◌∷◌, Option, Some, None, codes, if◌then◌else◌}
+use Rattle.std.specs.Prelude.{◌≡◌, refl, Bool, true, false, [], ◌∷◌, Option, Some, codes, if◌then◌else◌}
 use Rattle.std.proofs.Common.{sym, ◌∙◌, ap}
 use Rattle.std.specs.List.{find}
 use Rattle.std.specs.Option.{option_map}
@@ -11,7 +11,7 @@ use Rattle.graphql_values.specs.SameValue.{SameValue, same_null, same_scalar, sa
 use Rattle.graphql_values.specs.declared.input_value.InputValue.{InputValue}
 use Rattle.graphql_values.specs.declared.input_value.InputValue.TheVariants as value
 use Rattle.graphql_arguments.specs.ArgumentValues.{Given}
-use Rattle.graphql_value_resolution.specs.Answered.{SameArguments}
+use Rattle.graphql_execution.specs.Answered.{SameArguments}
 use Rattle.graphql_executor_tests.specs.Beings.{answer, given_kind, kind_or_absent, of_root_by}
 use Rattle.graphql_executor_tests.specs.Kinds.{kind, kind_layer}
 use Rattle.graphql_executor_tests.specs.declared.beings.Being.{Being}

@@ -2,7 +2,7 @@
 
 use crate::beings::Household;
 use crate::costly::{nested, spread_twice};
-use crate::told::error_told;
+use crate::told::errors_told;
 use graphql_executor::{
     GraphQLError, Response, execute_sync, execute_validated_query, get_operation,
 };
@@ -42,13 +42,8 @@ fn response_told(
     alloc: Global,
     response: &Response<DefaultScalarValue>,
 ) -> Result<String, AllocError> {
-    let mut told = format!(in alloc; "{}", response.0)?;
-    for error in response.1.as_slice() {
-        let line = error_told(alloc, error)?;
-        told.push_str("\n")?;
-        told.push_str(line.as_str())?;
-    }
-    Ok(told)
+    let errors = errors_told(alloc, response.1.as_slice())?;
+    format!(in alloc; "{}{errors}", response.0)
 }
 
 /// What is answered, or why nothing is.

@@ -4,17 +4,20 @@ ghost use Rattle.std.specs.Prelude.{◌≡◌, ◌∷◌, [], Ok, Err};
 ghost use Rattle.std.specs.Option.{option_copied};
 ghost use Rattle.graphql_items.specs.Memory.{Gives};
 ghost use Rattle.graphql_arguments.specs.GivenValues.{arguments_told};
+ghost use Rattle.graphql_collect.specs.Requests.{fragments_in};
 ghost use Rattle.graphql_evaluation.specs.Completion.{reason};
+ghost use Rattle.graphql_plain_tree.specs.Written.{Settled};
 ghost use Rattle.graphql_resolve.specs.declared.resolved.Resolved.TheVariants as resolved;
-ghost use Rattle.graphql_value_resolution.specs.Answered.{Answered};
+ghost use Rattle.graphql_execution.specs.Answered.{Answered};
 ghost use Rattle.graphql_executor_tests.specs.Beings as spec;
 ghost use Rattle.graphql_executor_tests.specs.Kinds.{kind};
 
-use crate::told::error_told;
+use crate::completed::completed;
+use crate::told::errors_told;
 use graphql_arguments::Arguments;
+use graphql_execution::{Executor, GraphQLValue};
 use graphql_resolve::{FieldError, FieldFault, FieldResult, Resolved};
 use graphql_text::{Items, SourcePosition, Text};
-use graphql_value_resolution::{Executor, GraphQLValue};
 use graphql_values::{DefaultScalarValue, InputValue};
 use std::alloc::{AllocError, Global};
 
@@ -34,10 +37,10 @@ pub enum Being {
     Tom,
 }
 
-type Answer = Resolved<DefaultScalarValue, Being>;
+pub type Answer = Resolved<DefaultScalarValue, Being>;
 
 /// What `placed` wants to be told of its place, and what it tells of the start of the text.
-const PLACES: &str = "(19,2,3) self there: here\n(0,0,0) self there: at the start\n";
+const PLACES: &str = "\n(19,2,3) self there: here\n(0,0,0) self there: at the start";
 
 /// Knows the beings.
 #[derive(Clone, Copy)]
@@ -95,8 +98,8 @@ fn kind_or_absent(value: Option<&InputValue<DefaultScalarValue>>) -> &'static st
     }
 }
 
-/// The errors that an executor makes of the field at which it stands, a line each. An error is want of
-/// memory.
+/// The errors that an executor makes of the field at which it stands, each behind the end of a line.
+/// An error is want of memory.
 fn places_told(executor: &Executor<'_, '_, (), DefaultScalarValue>) -> Result<String, AllocError> {
     let alloc = executor.alloc();
     let mut errors = Items::new(alloc);
@@ -106,28 +109,39 @@ fn places_told(executor: &Executor<'_, '_, (), DefaultScalarValue>) -> Result<St
     let start = SourcePosition::new_origin();
     let other = executor.replaced_context(&true);
     other.push_error_at(there, start, &mut errors)?;
-    let mut told = String::new(alloc);
-    for error in errors.as_slice() {
-        let line = error_told(alloc, error)?;
-        told.push_str(line.as_str())?;
-        told.push_str("\n")?;
-    }
-    Ok(told)
+    errors_told(alloc, errors.as_slice())
 }
 
-/// `Null`, if the executor stands at the field of the one request that asks for it; else want of memory,
-/// which alone may depend on a place.
+/// `Null`, if this holds; else want of memory, which alone may depend on an executor's place.
+pub fn null_if(holds: bool) -> FieldResult<Answer, DefaultScalarValue>
+    ensures { Answered (Ok resolved.Null) result }
+{
+    if holds {
+        Ok(Resolved::Null)
+    } else {
+        Err(FieldFault::Memory)
+    }
+}
+
+/// `Null`, if the executor stands at the field of the one request that asks for it.
 fn placed(
     executor: &Executor<'_, '_, (), DefaultScalarValue>,
 ) -> FieldResult<Answer, DefaultScalarValue>
     ensures { Answered (Ok resolved.Null) result }
 {
     let told = places_told(executor)?;
-    if executor.current_type().name == "Boolean" && told.as_str() == PLACES {
-        Ok(Resolved::Null)
-    } else {
-        Err(FieldFault::Memory)
-    }
+    null_if(executor.current_type().name == "Boolean" && told.as_str() == PLACES)
+}
+
+/// A dog twice, and a cat and the dog. An error is want of memory.
+fn packs(alloc: Global) -> Result<Answer, AllocError>
+    ensures { Gives result spec.packs }
+{
+    let dog = Resolved::Node(Being::Rex);
+    let same = listed(alloc, dog, Resolved::Node(Being::Rex))?;
+    let cat = Resolved::Node(Being::Tom);
+    let mixed = listed(alloc, cat, Resolved::Node(Being::Rex))?;
+    listed(alloc, same, mixed)
 }
 
 /// What the root answers for a field.
@@ -136,11 +150,13 @@ fn of_root(
     field: &str,
     arguments: &Arguments<'_, DefaultScalarValue>,
 ) -> FieldResult<Answer, DefaultScalarValue>
+    requires { Settled (fragments_in executor.now.request.now) }
     ensures { Answered (spec.of_root field.now (arguments_told arguments.now)) result }
 {
     let alloc = executor.alloc();
     match field {
         "placed" => placed(executor),
+        "completed" => completed(executor),
         "human" => Ok(Resolved::Node(Being::Ann)),
         "dog" => Ok(Resolved::Node(Being::Rex)),
         "pet" => Ok(Resolved::Node(Being::Tom)),
@@ -149,6 +165,7 @@ fn of_root(
             Resolved::Node(Being::Rex),
             Resolved::Node(Being::Tom),
         )?),
+        "packs" => Ok(packs(alloc)?),
         "self" => Ok(Resolved::Node(Being::Root)),
         "impossible" => Ok(Resolved::Node(Being::Ann)),
         "broken" => fails(alloc, "No such flag"),
@@ -162,8 +179,32 @@ fn of_root(
     }
 }
 
+/// What a being is called.
+pub fn own_name(being: &Being) -> &'static str
+    ensures { result.now ≡ spec.own_name being.now }
+{
+    match being {
+        Being::Root => "Root",
+        Being::Ann => "Ann",
+        Being::Rex => "Rex",
+        Being::Tom => "Tom",
+    }
+}
+
+/// The name of a being's object type.
+pub fn type_name(being: &Being) -> &'static str
+    ensures { result.now ≡ spec.type_name being.now }
+{
+    match being {
+        Being::Root => "Query",
+        Being::Ann => "Human",
+        Being::Rex => "Dog",
+        Being::Tom => "Cat",
+    }
+}
+
 /// What a being of this name answers for a field.
-fn of_being(alloc: Global, own: &str, field: &str) -> FieldResult<Answer, DefaultScalarValue>
+pub fn of_being(alloc: Global, own: &str, field: &str) -> FieldResult<Answer, DefaultScalarValue>
     ensures { Answered (spec.of_being own.now field.now) result }
 {
     match field {
@@ -200,12 +241,7 @@ impl GraphQLValue<DefaultScalarValue> for Household {
     fn concrete_type_name<'c>(&'c self, _context: &'c (), node: &'c Being) -> &'c str
         ensures { result.now ≡ spec.type_name node.now }
     {
-        match node {
-            Being::Root => "Query",
-            Being::Ann => "Human",
-            Being::Rex => "Dog",
-            Being::Tom => "Cat",
-        }
+        type_name(node)
     }
 
     fn resolve_field(
@@ -217,9 +253,7 @@ impl GraphQLValue<DefaultScalarValue> for Household {
     ) -> FieldResult<Answer, DefaultScalarValue> {
         match node {
             Being::Root => of_root(executor, field, arguments),
-            Being::Ann => of_being(executor.alloc, "Ann", field),
-            Being::Rex => of_being(executor.alloc, "Rex", field),
-            Being::Tom => of_being(executor.alloc, "Tom", field),
+            _ => of_being(executor.alloc, own_name(node), field),
         }
     }
 }

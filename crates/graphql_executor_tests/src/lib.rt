@@ -4,8 +4,10 @@
 #[cfg(test)]
 mod answered;
 pub mod beings;
+mod completed;
 #[cfg(test)]
 mod costly;
+mod kennel;
 #[cfg(test)]
 mod rows;
 #[cfg(test)]

@@ -21,6 +21,10 @@ const ANSWERED: &[Row<'_>] = &[
         "{ pets { ...p } } fragment p on Pet { name ...p2 ...p2 } fragment p2 on Pet { __typename }",
         "{\"pets\": [{\"name\": \"Rex\", \"__typename\": \"Dog\"}, {\"name\": \"Tom\", \"__typename\": \"Cat\"}]}",
     ),
+    (
+        "{ packs { __typename name } }",
+        "{\"packs\": [[{\"__typename\": \"Dog\", \"name\": \"Rex\"}, {\"__typename\": \"Dog\", \"name\": \"Rex\"}], [{\"__typename\": \"Cat\", \"name\": \"Tom\"}, {\"__typename\": \"Dog\", \"name\": \"Rex\"}]]}",
+    ),
     ("{ grid }", "{\"grid\": [[true, null], null]}"),
     (
         "{ self { self { n: __typename } } }",
@@ -37,6 +41,10 @@ const ANSWERED: &[Row<'_>] = &[
     (
         "query {\n self {\n   there: placed } }",
         "{\"self\": {\"there\": null}}",
+    ),
+    (
+        "{ completed { name ...f } } fragment f on Pet { owner { name } ... on Cat { lives } }",
+        "{\"completed\": null}",
     ),
     (
         "{ human @skip(if: true) { name } dog @include(if: true) { name } being { __typename } }",

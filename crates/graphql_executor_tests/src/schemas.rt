@@ -42,6 +42,7 @@ const ROOT: &[FieldRow] = &[
     ("pet", "Pet", NULLABLE),
     ("pets", "Pet", LIST_OF_NON_NULL),
     ("being", "Being", NULLABLE),
+    ("packs", "Pet", LIST_OF_LISTS),
     ("self", "Query", NULLABLE),
     ("impossible", "Pet", NULLABLE),
     ("broken", "Boolean", NULLABLE),
@@ -49,6 +50,7 @@ const ROOT: &[FieldRow] = &[
     ("grid", "Boolean", LIST_OF_LISTS),
     ("one", "Boolean", LIST),
     ("placed", "Boolean", NULLABLE),
+    ("completed", "Pet", NULLABLE),
 ];
 
 const HUMAN: &[FieldRow] = &[

@@ -12,7 +12,7 @@ fn place_told(alloc: Global, place: &SourcePosition) -> Result<String, AllocErro
 }
 
 /// Where a field without a value stands, its path, and why it has none.
-pub fn error_told(
+fn error_told(
     alloc: Global,
     error: &ExecutionError<DefaultScalarValue>,
 ) -> Result<String, AllocError> {
@@ -24,5 +24,19 @@ pub fn error_told(
     }
     told.push_str(": ")?;
     told.push_str(error.error().message())?;
+    Ok(told)
+}
+
+/// These errors, each behind the end of a line.
+pub fn errors_told(
+    alloc: Global,
+    errors: &[ExecutionError<DefaultScalarValue>],
+) -> Result<String, AllocError> {
+    let mut told = String::new(alloc);
+    for error in errors {
+        let line = error_told(alloc, error)?;
+        told.push_str("\n")?;
+        told.push_str(line.as_str())?;
+    }
     Ok(told)
 }

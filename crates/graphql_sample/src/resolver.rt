@@ -1,14 +1,14 @@
 //! The resolver of the sample.
 
 ghost use Rattle.std.specs.Prelude.{◌≡◌, Ok};
-ghost use Rattle.graphql_value_resolution.specs.Answered.{Answered};
+ghost use Rattle.graphql_execution.specs.Answered.{Answered};
 ghost use Rattle.graphql_sample.specs.Sample as spec;
 
 use crate::records::{SampleRecord, SampleRecords};
 use graphql_arguments::Arguments;
+use graphql_execution::{Executor, GraphQLValue};
 use graphql_resolve::{FieldResult, Resolved};
 use graphql_text::Text;
-use graphql_value_resolution::{Executor, GraphQLValue};
 use graphql_values::DefaultScalarValue;
 use std::alloc::Global;
 

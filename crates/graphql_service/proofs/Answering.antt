@@ -14,7 +14,7 @@ use Rattle.graphql_resolve.specs.declared.execution_error.ExecutionError.{Execut
 use Rattle.graphql_rule_errors.specs.declared.rule_error.RuleError.{RuleError}
 use Rattle.graphql_requests.specs.declared.graphql_error.GraphQLError.{GraphQLError}
 use Rattle.graphql_requests.specs.declared.graphql_error.GraphQLError.TheVariants as request_error
-use Rattle.graphql_value_resolution.specs.Engines.{Resolves}
+use Rattle.graphql_execution.specs.Engines.{Resolves}
 use Rattle.graphql_executor.specs.Answered.{IsAnswered, IsRefused}
 use Rattle.graphql_executor.specs.Executed.{executed}
 use Rattle.graphql_lines.specs.Request.{HoldsRequest, Request, request_of}

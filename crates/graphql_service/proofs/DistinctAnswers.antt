@@ -30,7 +30,7 @@ use Rattle.graphql_evaluation.specs.Laws.{DataHaveDistinctKeys, FailuresAreExact
 use Rattle.graphql_executor.specs.Executed.{data_of}
 use Rattle.graphql_evaluation.specs.Failing.{FailsAt, misfit, required_null, required, item, ReasonAt, Fails, resolver, answer, below}
 use Rattle.graphql_evaluation.specs.Outcomes.{Outcome}
-use Rattle.graphql_value_resolution.specs.Engines.{Resolves, engine_over, with_typename}
+use Rattle.graphql_execution.specs.Engines.{Resolves, engine_over, with_typename}
 use Rattle.graphql_service.specs.Laws.{TellsInDistinctKeys}
 
 abbrev Tells : {S : Type 0} → FieldError S → Type 0

@@ -17,7 +17,7 @@ use Rattle.graphql_requests.specs.declared.graphql_error.GraphQLError.{GraphQLEr
 use Rattle.graphql_requests.specs.declared.graphql_error.GraphQLError.TheVariants as request_error
 use Rattle.graphql_lines.specs.declared.refusal.LineRefusal.{LineRefusal}
 use Rattle.graphql_lines.specs.declared.refusal.LineRefusal.TheVariants.{LineTooLong, NotARequest, BadNumber, Memory}
-use Rattle.graphql_value_resolution.specs.Engines.{Resolves}
+use Rattle.graphql_execution.specs.Engines.{Resolves}
 use Rattle.graphql_executor.specs.Answered.{IsAnswered, IsRefused}
 use Rattle.graphql_executor.specs.Executed.{executed}
 use Rattle.graphql_lines.specs.Request.{Request, request_of}

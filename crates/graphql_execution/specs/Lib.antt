@@ -1,0 +1,14 @@
+pub mod Answered
+pub mod FieldDeclarations
+pub mod FieldPaths
+pub mod Engines
+pub mod Paths
+pub mod Completed
+pub mod Gives
+pub mod Parts
+pub mod Sets
+pub mod Frames
+pub mod FrameTurns
+pub mod OwnErrors
+pub mod Begins
+pub mod Completions

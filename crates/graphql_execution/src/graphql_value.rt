@@ -1,0 +1,58 @@
+//! What resolvers are.
+
+use crate::executor::Executor;
+use graphql_arguments::Arguments;
+use graphql_meta::SchemaScalar;
+use graphql_resolve::{FieldResult, Resolved};
+
+/// What answers the fields of a schema's objects (GraphQL October 2021, 6.4.2 Value Resolution). An answer
+/// is a function of the context, the node, the field and the argument values, and depends on nothing
+/// else: not on where in a document an argument's value stands, nor on what was asked before.
+pub trait GraphQLValue<S: SchemaScalar> {
+    /// What it answers from.
+    type Context;
+
+    /// What fields are asked of.
+    type Node: Drop;
+
+    ghost use Rattle.std.specs.Prelude.{◌≡◌, ℕ, List, Result};
+    ghost use Rattle.graphql_arguments.specs.ArgumentValues.{Given};
+    ghost use Rattle.graphql_arguments.specs.GivenValues.{arguments_told};
+    ghost use Rattle.graphql_collect.specs.Requests.{fragments_in};
+    ghost use Rattle.graphql_plain_tree.specs.Written.{Settled};
+    ghost use Rattle.graphql_resolve.specs.declared.resolved.Resolved.{Resolved};
+    ghost use Rattle.graphql_resolve.specs.declared.field_error.FieldError.{FieldError};
+    ghost use Rattle.graphql_execution.specs.Answered.{Answered, SameArguments};
+
+    /// The node from which a query starts.
+    ghost root_node: { Self → Self.Node };
+
+    /// The name of a node's object type.
+    ghost type_of: { Self → Self.Context → Self.Node → List ℕ };
+
+    /// What it answers for a field of a node.
+    ghost answer: { Self → Self.Context → Self.Node → List ℕ → Given S → Result (Resolved S Self.Node) (FieldError S) };
+
+    /// The node from which a query starts.
+    fn root(&self) -> Self::Node
+        ensures { result ≡ root_node self.now };
+
+    /// The name of a node's object type.
+    fn concrete_type_name<'c>(&'c self, context: &'c Self::Context, node: &'c Self::Node) -> &'c str
+        ensures { result.now ≡ type_of self.now context.now node.now };
+
+    /// What it answers for a field of a node. The executor stands at the field, over a request whose
+    /// fragments are without a cycle. `FieldFault::Memory` is want of memory, and tells nothing.
+    fn resolve_field(
+        &self,
+        node: &Self::Node,
+        field: &str,
+        arguments: &Arguments<'_, S>,
+        executor: &Executor<'_, '_, Self::Context, S>,
+    ) -> FieldResult<Resolved<S, Self::Node>, S>
+        requires { Settled (fragments_in executor.now.request.now) }
+        ensures { Answered (answer self.now executor.now.context.now node.now field.now (arguments_told arguments.now)) result };
+
+    /// To arguments that are the same, wherever they stand, it gives one answer.
+    ghost respects: { (r : Self) (c : Self.Context) (n : Self.Node) (f : List ℕ) (a b : Given S) → SameArguments S.eq a b → answer r c n f a ≡ answer r c n f b };
+}

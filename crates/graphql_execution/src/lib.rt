@@ -1,0 +1,33 @@
+//! Resolvers, and the walk over a document that answers its selections with what they say (GraphQL October
+//! 2021, 6.3 Executing Selection Sets, 6.4 Executing Fields).
+#![tactic(auto)]
+
+mod asking;
+mod beginning;
+mod completing;
+mod context;
+mod executor;
+mod failing;
+mod field_path;
+mod fields;
+mod frame_parts;
+mod frames;
+mod graphql_value;
+mod groups;
+mod parts;
+mod report;
+mod selected;
+mod selections;
+mod shared;
+mod stack;
+mod steps;
+
+pub use context::{Context, FromContext};
+pub use executor::Executor;
+pub use field_path::FieldPath;
+pub use fields::{declared_type, query_root_name};
+pub use graphql_value::GraphQLValue;
+pub use parts::or_null;
+pub use report::Report;
+pub use selected::Selected;
+pub use selections::answer_selections;

@@ -1,4 +1,0 @@
-pub mod Answered
-pub mod FieldDeclarations
-pub mod FieldPaths
-pub mod Engines

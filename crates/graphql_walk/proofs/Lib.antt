@@ -1,5 +1,0 @@
-pub mod OutcomeLemmas
-pub mod GroupLemmas
-pub mod FrameLemmas
-pub mod RootLemmas
-pub mod TurnLemmas
