@@ -5,11 +5,14 @@ mod query;
 mod request;
 mod validated;
 
+pub use graphql_arguments::Arguments;
 pub use graphql_execution::{Context, Executor, FieldPath, FromContext, GraphQLValue};
+pub use graphql_input_types::{ID, Nullable};
 pub use graphql_requests::{GraphQLError, get_operation};
 pub use graphql_resolve::{
     ExecutionError, ExecutionResult, FieldError, FieldFault, FieldResult, IntoFieldError, Resolved,
 };
+pub use graphql_values::{FromInputValueArrayError, FromInputValueVecError};
 pub use query::{Response, execute_query};
 pub use request::execute_sync;
 pub use validated::execute_validated_query;
