@@ -13,7 +13,7 @@ use Rattle.graphql_output_values.specs.ValueInduction.{value_ind}
 use Rattle.graphql_output_values.specs.declared.value.Value.{Value}
 use Rattle.graphql_output_values.specs.declared.value.Value.TheVariants as value
 use Rattle.graphql_output_values.proofs.DistinctKeyLaws.{by_forms}
-use Rattle.graphql_resolve.specs.declared.execution_error.ExecutionError.{ExecutionError}
+use Rattle.graphql_field_results.specs.declared.execution_error.ExecutionError.{ExecutionError}
 use Rattle.graphql_rule_errors.specs.declared.rule_error.RuleError.{RuleError}
 use Rattle.graphql_answers.specs.Lines.{ToldInDistinctKeys}
 use Rattle.graphql_answers.specs.Responses.{object_of, text_of, number_of, location_of, locations_of, extensions_layer, extensions_by, extensions_of, field_error_of, request_error_of, response_of, refusal_of}

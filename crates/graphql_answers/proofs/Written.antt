@@ -10,7 +10,7 @@ use Rattle.graphql_output_values.specs.ValueEquations.{fold_null, fold_scalar, f
 use Rattle.graphql_output_values.specs.ValueInduction.{value_ind}
 use Rattle.graphql_output_values.specs.declared.value.Value.{Value, fold-Value}
 use Rattle.graphql_output_values.specs.declared.value.Value.TheVariants as value
-use Rattle.graphql_resolve.specs.declared.execution_error.ExecutionError.{ExecutionError}
+use Rattle.graphql_field_results.specs.declared.execution_error.ExecutionError.{ExecutionError}
 use Rattle.graphql_rule_errors.specs.declared.rule_error.RuleError.{RuleError}
 use Rattle.graphql_lines.specs.Json.{joined, json_text, member_json, scalar_json, int_or, bool_or, text_or_null, json, json_layer, fields_layer}
 use Rattle.graphql_lines.proofs.JsonSteps.{object_is}

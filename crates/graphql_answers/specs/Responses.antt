@@ -6,7 +6,7 @@ use Rattle.graphql_output_values.specs.Objects.{Pair}
 use Rattle.graphql_output_values.specs.declared.value.Value.{Value, fold-Value}
 use Rattle.graphql_output_values.specs.declared.value.Value.TheOpen.{Value-F}
 use Rattle.graphql_output_values.specs.declared.value.Value.TheVariants as value
-use Rattle.graphql_resolve.specs.declared.execution_error.ExecutionError.{ExecutionError}
+use Rattle.graphql_field_results.specs.declared.execution_error.ExecutionError.{ExecutionError}
 use Rattle.graphql_rule_errors.specs.declared.rule_error.RuleError.{RuleError}
 
 -- `of_int`, `of_text`: the scalars of an integer and of a text

@@ -6,9 +6,9 @@ ghost use Rattle.graphql_answers.specs.Texts as spec;
 ghost use Rattle.graphql_lines.specs.Json.{joined, json, json_text};
 
 use crate::places::push_location;
+use graphql_field_results::ExecutionError;
 use graphql_lines::{text_to_json, value_to_json};
 use graphql_output_values::Value;
-use graphql_resolve::ExecutionError;
 use graphql_scalars::ScalarValue;
 use graphql_text::Text;
 use std::alloc::AllocError;

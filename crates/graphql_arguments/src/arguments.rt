@@ -3,14 +3,14 @@
 ghost use Rattle.std.specs.Prelude.{◌≡◌, ◌↔◌, [], length, IsTrue};
 ghost use Rattle.std.specs.Option.{option_copied};
 ghost use Rattle.graphql_items.specs.Memory.{GivesBy};
-ghost use Rattle.graphql_argument_values.specs.FinalVariables.{value_in};
+ghost use Rattle.graphql_final_variables.specs.FinalVariables.{value_in};
 ghost use Rattle.graphql_arguments.specs.ArgumentValues.{argument_values, value_named};
 ghost use Rattle.graphql_arguments.specs.GivenValues.{arguments_told};
 ghost use Rattle.graphql_arguments.specs.Reading.{ReadsGiven};
 
 use crate::filling::{absent_defaults, written_values};
 use crate::given::GivenValue;
-use graphql_argument_values::FinalVariables;
+use graphql_final_variables::FinalVariables;
 use graphql_meta::Argument;
 use graphql_text::{Items, Spanning, TextRef};
 use graphql_values::{FromInputValue, InputValue, ScalarValue};

@@ -3,12 +3,12 @@
 ghost use Rattle.std.specs.Prelude.{◌≡◌};
 ghost use Rattle.std.specs.Option.{option_map};
 ghost use Rattle.graphql_items.specs.Memory.{GivesBy};
-ghost use Rattle.graphql_argument_values.specs.Filled.{filled};
-ghost use Rattle.graphql_argument_values.specs.FinalVariables.{value_in};
+ghost use Rattle.graphql_final_variables.specs.Filled.{filled};
+ghost use Rattle.graphql_final_variables.specs.FinalVariables.{value_in};
 ghost use Rattle.graphql_arguments.specs.GivenValues.{value_told};
 
 use crate::made_value::made_value;
-use graphql_argument_values::FinalVariables;
+use graphql_final_variables::FinalVariables;
 use graphql_values::{InputValue, ScalarValue};
 use std::alloc::{AllocError, Global};
 

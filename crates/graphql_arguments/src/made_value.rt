@@ -3,10 +3,10 @@
 ghost use Rattle.std.specs.Prelude.{map};
 ghost use Rattle.std.specs.List.{filter_map};
 ghost use Rattle.graphql_items.specs.Memory.{Gives};
-ghost use Rattle.graphql_argument_values.specs.Filled.{filled, filled_item, filled_pair};
-ghost use Rattle.graphql_argument_values.specs.FinalVariables.{value_in};
+ghost use Rattle.graphql_final_variables.specs.Filled.{filled, filled_item, filled_pair};
+ghost use Rattle.graphql_final_variables.specs.FinalVariables.{value_in};
 
-use graphql_argument_values::FinalVariables;
+use graphql_final_variables::FinalVariables;
 use graphql_text::{Items, Spanning, Text};
 use graphql_values::{InputValue, ScalarValue};
 use std::alloc::{AllocError, Global};

@@ -8,13 +8,13 @@ use Rattle.graphql_tree.specs.declared.selection.Field.{Field}
 use Rattle.graphql_tree.specs.declared.selection.Selection.{Selection}
 use Rattle.graphql_collect.specs.declared.request.Request.{Request}
 use Rattle.graphql_collect.specs.declared.grouping.Occurrence.{Occurrence}
-use Rattle.graphql_plain_tree.specs.Trees.{Directives, Tree, height}
+use Rattle.graphql_written_out.specs.Trees.{Directives, Tree, height}
 use Rattle.graphql_names.specs.Names.{Bytes}
-use Rattle.graphql_plain_tree.specs.Written.{one, written, write, spread_as, listed, fragment_meant}
-use Rattle.graphql_plain_tree.proofs.Layers.{deep, deep-Field, deep-Spread, deep-Inline, written-cons, written-nil, fields-written, height-one}
+use Rattle.graphql_written_out.specs.Written.{one, written, write, spread_as, listed, fragment_meant}
+use Rattle.graphql_written_out.proofs.Layers.{deep, deep-Field, deep-Spread, deep-Inline, written-cons, written-nil, fields-written, height-one}
 use Rattle.graphql_tree.specs.declared.document.Fragment.{Fragment}
 use Rattle.graphql_tree.proofs.SelectionInduction.{selection_ind}
-use Rattle.graphql_plain_tree.specs.Fields.{Found}
+use Rattle.graphql_written_out.specs.Fields.{Found}
 use Rattle.graphql_collect.specs.Requests.{drops_in, is_below_in, fragments_in, fields_in, found_at, written_in}
 use Rattle.graphql_collect.specs.Grouped.{Lent, all_found}
 use Rattle.graphql_collect.specs.Walks.{Walk, with_field}

@@ -10,7 +10,7 @@ use Rattle.graphql_tree.specs.Definitions.{fragment_in, fragments_of}
 use Rattle.graphql_tree.specs.declared.document.Definition.{Definition}
 use Rattle.graphql_tree.specs.declared.document.Fragment.{Fragment}
 use Rattle.graphql_values.specs.InputValues.{Placed}
-use Rattle.graphql_plain_tree.specs.Written.{fragment_meant}
+use Rattle.graphql_written_out.specs.Written.{fragment_meant}
 use Rattle.graphql_collect.specs.FragmentLists.{fragment_defined, fragments_listed}
 
 module _ {S : Type 0} where

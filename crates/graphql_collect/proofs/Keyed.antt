@@ -11,8 +11,8 @@ use Rattle.indexmap.specs.IndexSet.{insert_key}
 use Rattle.graphql_collect.specs.declared.grouping.Occurrence.{Occurrence}
 use Rattle.graphql_tree.specs.declared.document.Fragment.{Fragment}
 use Rattle.graphql_names.specs.Names.{Bytes}
-use Rattle.graphql_plain_tree.specs.Fields.{Found}
-use Rattle.graphql_plain_tree.specs.Groups.{keys_after, keys, under, groups}
+use Rattle.graphql_written_out.specs.Fields.{Found}
+use Rattle.graphql_written_out.specs.Groups.{keys_after, keys, under, groups}
 use Rattle.graphql_collect.specs.Occurrences.{found}
 use Rattle.graphql_collect.specs.Grouped.{Lent, Group, all_found, group_found, key_at, begun, takes, put}
 use Rattle.graphql_evaluation.proofs.GroupRepeats.{any-more, any-last}

@@ -1,8 +1,8 @@
 -- Steps of a walk over open sets.
 use Rattle.std.proofs.Common.{◌≡◌, sym, ap, subst, ◌≤◌, ◌<◌, arith, Bool, List, [], ◌∷◌, ◌++◌}
-use Rattle.graphql_plain_tree.specs.Trees.{Directives, Tree, height}
+use Rattle.graphql_written_out.specs.Trees.{Directives, Tree, height}
 use Rattle.graphql_names.specs.Names.{Bytes}
-use Rattle.graphql_plain_tree.specs.Fields.{Found, fields}
+use Rattle.graphql_written_out.specs.Fields.{Found, fields}
 use Rattle.graphql_collect.specs.Walks.{Walk, Meanings, marked}
 use Rattle.graphql_collect.specs.Walked.{Ready, Walked, Leads}
 use Rattle.graphql_collect.proofs.WalkLaws.{walked-none, walked-then, walked-inside, ready-after, ready-inside}

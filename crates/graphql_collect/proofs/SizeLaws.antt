@@ -16,10 +16,10 @@ use Rattle.graphql_tree.specs.declared.selection.Selection.TheVariants as select
 use Rattle.graphql_tree.proofs.SelectionEquations.{fold_field, fold_spread, fold_inline, fold_in_field, fold_in_inline}
 use Rattle.graphql_tree.proofs.CountEquations.{count_inline}
 use Rattle.graphql_tree.proofs.SelectionInduction.{selection_ind}
-use Rattle.graphql_plain_tree.specs.Trees.{Tree, none}
+use Rattle.graphql_written_out.specs.Trees.{Tree, none}
 use Rattle.graphql_names.specs.Names.{Bytes}
-use Rattle.graphql_plain_tree.specs.Written.{fragment_meant}
-use Rattle.graphql_plain_tree.specs.Written.{Before, chain, listed, selection_layer, field_layer, inline_layer}
+use Rattle.graphql_written_out.specs.Written.{fragment_meant}
+use Rattle.graphql_written_out.specs.Written.{Before, chain, listed, selection_layer, field_layer, inline_layer}
 use Rattle.indexmap.specs.IndexSet.{insert_key}
 use Rattle.graphql_collect.specs.OpenSets.{Open, rests}
 use Rattle.graphql_collect.specs.Sizes.{tree_size, bare, size, left_by, size_below, turns, selection_turns}

@@ -3,10 +3,10 @@ use Rattle.std.proofs.Common.{◌⊎◌, ◌≡◌, refl, sym, subst, ℕ, ◌�
 use Rattle.std.specs.List.{Contains, list_any}
 use Rattle.std.specs.Str.{bytes_eq}
 use Rattle.std.proofs.lemmas.Slice.Eq.{bytes_eq-Decides}
-use Rattle.graphql_plain_tree.specs.Trees.{Directives, height}
+use Rattle.graphql_written_out.specs.Trees.{Directives, height}
 use Rattle.graphql_names.specs.Names.{Bytes}
-use Rattle.graphql_plain_tree.specs.Fields.{Found, fields}
-use Rattle.graphql_plain_tree.specs.Repeats.{nothing, kept}
+use Rattle.graphql_written_out.specs.Fields.{Found, fields}
+use Rattle.graphql_written_out.specs.Repeats.{nothing, kept}
 use Rattle.graphql_collect.specs.Walks.{Walk, Meanings, is_visited, marked, with_field}
 use Rattle.graphql_collect.specs.Walked.{Ready, Complete, Walked}
 use Rattle.graphql_evaluation.proofs.RepeatLemmas.{adds-old, adds-new, adds-append, adds-none}

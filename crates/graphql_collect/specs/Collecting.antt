@@ -6,10 +6,10 @@ use Rattle.std.specs.Str.{bytes_eq}
 use Rattle.graphql_tree.specs.declared.document.Fragment.{Fragment}
 use Rattle.graphql_collect.specs.declared.request.Request.{Request}
 use Rattle.graphql_collect.specs.declared.grouping.Occurrence.{Occurrence}
-use Rattle.graphql_plain_tree.specs.Trees.{Tree, none, height}
+use Rattle.graphql_written_out.specs.Trees.{Tree, none, height}
 use Rattle.graphql_names.specs.Names.{Bytes}
-use Rattle.graphql_plain_tree.specs.Written.{fragment_meant}
-use Rattle.graphql_plain_tree.specs.Fields.{Found}
+use Rattle.graphql_written_out.specs.Written.{fragment_meant}
+use Rattle.graphql_written_out.specs.Fields.{Found}
 use Rattle.graphql_collect.specs.Requests.{drops_in, is_below_in, fragments_in, fields_in, written_in, found_at}
 use Rattle.graphql_collect.specs.Grouped.{Lent, all_found}
 use Rattle.graphql_collect.specs.declared.collecting.Brought.{Brought}

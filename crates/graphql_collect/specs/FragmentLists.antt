@@ -1,7 +1,7 @@
 -- The fragments of a document (GraphQL October 2021, 2.8 Fragments).
 use Rattle.std.specs.Prelude.{List, [], ◌∷◌, map, Option}
 use Rattle.graphql_names.specs.Names.{Bytes}
-use Rattle.graphql_plain_tree.specs.Written.{fragment_meant}
+use Rattle.graphql_written_out.specs.Written.{fragment_meant}
 use Rattle.graphql_tree.specs.Definitions.{fragments_of}
 use Rattle.graphql_tree.specs.declared.document.Definition.{Definition}
 use Rattle.graphql_tree.specs.declared.document.Fragment.{Fragment}

@@ -5,10 +5,10 @@ use Rattle.std.specs.Str.{bytes_eq}
 use Rattle.graphql_tree.specs.declared.document.Fragment.{Fragment}
 use Rattle.graphql_collect.specs.declared.grouping.Occurrence.{Occurrence}
 use Rattle.graphql_names.specs.Names.{Bytes}
-use Rattle.graphql_plain_tree.specs.Written.{response_key}
-use Rattle.graphql_plain_tree.specs.Fields.{Found}
+use Rattle.graphql_written_out.specs.Written.{response_key}
+use Rattle.graphql_written_out.specs.Fields.{Found}
 use Rattle.graphql_collect.specs.Occurrences.{found}
-use Rattle.graphql_plain_tree.specs.Groups.{groups}
+use Rattle.graphql_written_out.specs.Groups.{groups}
 
 -- fields of a document, lent
 abbrev pub Lent : Type 0 → Type 0

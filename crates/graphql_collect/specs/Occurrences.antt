@@ -3,8 +3,8 @@ use Rattle.std.specs.Prelude.{List}
 use Rattle.graphql_values.specs.InputValues.{Placed}
 use Rattle.graphql_tree.specs.declared.document.Fragment.{Fragment}
 use Rattle.graphql_tree.specs.declared.selection.Field.{Field}
-use Rattle.graphql_plain_tree.specs.Fields.{Found}
-use Rattle.graphql_plain_tree.specs.Written.{written, head_of, listed}
+use Rattle.graphql_written_out.specs.Fields.{Found}
+use Rattle.graphql_written_out.specs.Written.{written, head_of, listed}
 
 -- the field that stands at a place, its set with its fragments written out
 abbrev pub found : {S : Type 0} → List (Fragment S) → Placed (Field S) → Found S

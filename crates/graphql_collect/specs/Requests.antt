@@ -1,19 +1,19 @@
 -- What a request's selections ask of its schema, its fragments and its variables.
 use Rattle.graphql_scalars.specs.ScalarAnswers.{ScalarAnswer}
 use Rattle.std.specs.Prelude.{Bool, List}
-use Rattle.graphql_argument_values.specs.FinalVariables.{value_in}
+use Rattle.graphql_final_variables.specs.FinalVariables.{value_in}
 use Rattle.graphql_values.specs.InputValues.{Placed}
 use Rattle.graphql_tree.specs.declared.document.Fragment.{Fragment}
 use Rattle.graphql_tree.specs.declared.selection.Field.{Field}
 use Rattle.graphql_tree.specs.declared.selection.Selection.{Selection}
 use Rattle.graphql_schema.specs.Subtypes.{is_named_subtype}
 use Rattle.graphql_collect.specs.declared.request.Request.{Request}
-use Rattle.graphql_plain_tree.specs.Trees.{Directives, Tree}
+use Rattle.graphql_written_out.specs.Trees.{Directives, Tree}
 use Rattle.graphql_names.specs.Names.{Bytes}
-use Rattle.graphql_plain_tree.specs.Conditions.{left_out}
+use Rattle.graphql_written_out.specs.Conditions.{left_out}
 use Rattle.graphql_collect.specs.FragmentLists.{fragments_listed}
-use Rattle.graphql_plain_tree.specs.Written.{written}
-use Rattle.graphql_plain_tree.specs.Fields.{Found, fields}
+use Rattle.graphql_written_out.specs.Written.{written}
+use Rattle.graphql_written_out.specs.Fields.{Found, fields}
 use Rattle.graphql_collect.specs.Occurrences.{found}
 
 module _ {S C : Type 0} where

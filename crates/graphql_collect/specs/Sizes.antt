@@ -5,9 +5,9 @@ use Rattle.std.specs.Str.{bytes_eq}
 use Rattle.graphql_tree.specs.Counts.{selection_count, set_count}
 use Rattle.graphql_tree.specs.declared.document.Fragment.{Fragment}
 use Rattle.graphql_tree.specs.declared.selection.Selection.{Selection}
-use Rattle.graphql_plain_tree.specs.Trees.{Tree, none, field, inline}
+use Rattle.graphql_written_out.specs.Trees.{Tree, none, field, inline}
 use Rattle.graphql_names.specs.Names.{Bytes}
-use Rattle.graphql_plain_tree.specs.Written.{Before, chain, write_with, listed}
+use Rattle.graphql_written_out.specs.Written.{Before, chain, write_with, listed}
 use Rattle.graphql_collect.specs.Grouped.{Lent}
 use Rattle.graphql_collect.specs.OpenSets.{Open, rests}
 use Rattle.graphql_collect.specs.declared.collecting.Brought.{Brought}

@@ -1,10 +1,10 @@
 -- What a walk with visited fragments leaves behind.
 use Rattle.std.specs.Prelude.{◌≡◌, ◌≤◌, ◌⊎◌, ℕ, Bool, true, List, [], ◌∷◌}
 use Rattle.std.specs.List.{Contains}
-use Rattle.graphql_plain_tree.specs.Trees.{Directives, Tree, height}
+use Rattle.graphql_written_out.specs.Trees.{Directives, Tree, height}
 use Rattle.graphql_names.specs.Names.{Bytes}
-use Rattle.graphql_plain_tree.specs.Fields.{Found, fields}
-use Rattle.graphql_plain_tree.specs.Repeats.{Adds}
+use Rattle.graphql_written_out.specs.Fields.{Found, fields}
+use Rattle.graphql_written_out.specs.Repeats.{Adds}
 use Rattle.graphql_collect.specs.Walks.{Walk, Meanings, is_visited}
 
 module _ {S : Type 0} (drops : Directives S → Bool) (is_below : Bytes → Bool) (means : Meanings S) where

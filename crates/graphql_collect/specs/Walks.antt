@@ -3,8 +3,8 @@ use Rattle.std.specs.Prelude.{Bool, List, [], ◌∷◌, ◌++◌}
 use Rattle.std.specs.List.{list_any}
 use Rattle.std.specs.Str.{bytes_eq}
 use Rattle.graphql_names.specs.Names.{Bytes}
-use Rattle.graphql_plain_tree.specs.Fields.{Found}
-use Rattle.graphql_plain_tree.specs.Trees.{Tree}
+use Rattle.graphql_written_out.specs.Fields.{Found}
+use Rattle.graphql_written_out.specs.Trees.{Tree}
 
 -- the fragments that were entered, and the fields so far
 pub record Walk (S : Type 0) : Type 0 where

@@ -5,21 +5,21 @@ ghost use Rattle.std.specs.Option.{option_map};
 ghost use Rattle.std.specs.List.{flat_map, list_any};
 ghost use Rattle.std.specs.Str.{bytes_eq};
 ghost use Rattle.graphql_tree.specs.declared.selection.Selection.TheVariants as selection;
-ghost use Rattle.graphql_plain_tree.specs.Written.{listed, one, Settled};
-ghost use Rattle.graphql_plain_tree.specs.Trees.{height};
+ghost use Rattle.graphql_written_out.specs.Written.{listed, one, Settled};
+ghost use Rattle.graphql_written_out.specs.Trees.{height};
 ghost use Rattle.graphql_collect.specs.Requests.{drops_in, is_below_in, fields_in, written_in, fragments_in};
 ghost use Rattle.graphql_collect.specs.Grouped.{all_found};
-ghost use Rattle.graphql_plain_tree.specs.Fields.{applies};
-ghost use Rattle.graphql_plain_tree.specs.Repeats.{Repeats};
+ghost use Rattle.graphql_written_out.specs.Fields.{applies};
+ghost use Rattle.graphql_written_out.specs.Repeats.{Repeats};
 ghost use Rattle.graphql_collect.specs.Sizes.{IsSized, left_in, selection_turns, size, size_below, size_open, turns, turns_ahead};
 ghost use Rattle.graphql_collect.specs.Collecting.{Brings, CompleteIn, ReadyIn, Steps, WalkedIn, below_in, trees_in};
 
 use crate::grouping::Occurrence;
 use crate::request::Request;
 use graphql_meta::SchemaScalar;
-use graphql_plain_tree::left_out;
 use graphql_text::{Items, Spanning, TextRef};
 use graphql_tree::{Directive, Field, FragmentSpread, InlineFragment, Selection};
+use graphql_written_out::left_out;
 use indexmap::IndexSet;
 use std::alloc::{AllocError, Global};
 

@@ -1,7 +1,7 @@
 //! The fragments of a document, by their names.
 
 ghost use Rattle.std.specs.Prelude.{◌≡◌, ℕ, List};
-ghost use Rattle.graphql_plain_tree.specs.Written.{fragment_meant};
+ghost use Rattle.graphql_written_out.specs.Written.{fragment_meant};
 ghost use Rattle.graphql_rule_errors.specs.Found.{found};
 ghost use Rattle.graphql_collect.specs.FragmentLists.{fragments_listed};
 

@@ -3,9 +3,9 @@
 ghost use Rattle.std.specs.Prelude.{◌≡◌, map, IfOk, OnOk};
 ghost use Rattle.graphql_collect.specs.Grouped.{IsGrouped, key_at, put};
 
-use graphql_plain_tree::response_key;
 use graphql_text::{Items, Spanning, TextRef};
 use graphql_tree::Field;
+use graphql_written_out::response_key;
 use indexmap::IndexSet;
 use std::alloc::{AllocError, Global};
 

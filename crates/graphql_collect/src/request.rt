@@ -1,7 +1,7 @@
 //! What stays the same while a request runs.
 
 use crate::fragments::Fragments;
-use graphql_argument_values::FinalVariables;
+use graphql_final_variables::FinalVariables;
 use graphql_meta::SchemaScalar;
 use graphql_schema::SchemaType;
 

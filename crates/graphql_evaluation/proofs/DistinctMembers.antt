@@ -10,9 +10,9 @@ use Rattle.graphql_type_references.specs.declared.type_modifier.TypeModifier.{Ty
 use Rattle.graphql_output_values.specs.DistinctKeys.{HasDistinctKeysThroughout}
 use Rattle.graphql_output_values.specs.declared.value.Value.{Value}
 use Rattle.graphql_output_values.proofs.DistinctKeyLaws.{by_forms}
-use Rattle.graphql_plain_tree.specs.Trees.{Tree}
-use Rattle.graphql_plain_tree.specs.Fields.{Found}
-use Rattle.graphql_plain_tree.specs.Groups.{groups}
+use Rattle.graphql_written_out.specs.Trees.{Tree}
+use Rattle.graphql_written_out.specs.Fields.{Found}
+use Rattle.graphql_written_out.specs.Groups.{groups}
 use Rattle.graphql_evaluation.specs.Engines.{Engine}
 use Rattle.graphql_evaluation.specs.Completion.{Members, object_members}
 use Rattle.graphql_evaluation.specs.Evaluation.{Group, evaluate, found_in}

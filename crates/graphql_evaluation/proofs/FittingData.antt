@@ -8,13 +8,13 @@ use Rattle.graphql_type_references.specs.declared.type_modifier.TypeModifier.The
 use Rattle.graphql_meta.specs.Types.{TypeOf}
 use Rattle.graphql_output_values.specs.declared.value.Value.{Value}
 use Rattle.graphql_output_values.specs.declared.value.Value.TheVariants as value
-use Rattle.graphql_plain_tree.specs.Trees.{Tree}
-use Rattle.graphql_plain_tree.specs.Fields.{Found}
-use Rattle.graphql_plain_tree.specs.Groups.{keys, under, groups}
-use Rattle.graphql_resolve.specs.declared.execution_error.ExecutionError.{ExecutionError}
-use Rattle.graphql_resolve.specs.declared.field_error.FieldError.{FieldError}
-use Rattle.graphql_resolve.specs.declared.resolved.Resolved.{Resolved, out-Resolved}
-use Rattle.graphql_resolve.specs.declared.resolved.Resolved.TheOpen.{Resolved-F}
+use Rattle.graphql_written_out.specs.Trees.{Tree}
+use Rattle.graphql_written_out.specs.Fields.{Found}
+use Rattle.graphql_written_out.specs.Groups.{keys, under, groups}
+use Rattle.graphql_field_results.specs.declared.execution_error.ExecutionError.{ExecutionError}
+use Rattle.graphql_field_results.specs.declared.field_error.FieldError.{FieldError}
+use Rattle.graphql_field_results.specs.declared.resolved.Resolved.{Resolved, out-Resolved}
+use Rattle.graphql_field_results.specs.declared.resolved.Resolved.TheOpen.{Resolved-F}
 use Rattle.graphql_evaluation.specs.Engines.{Engine}
 use Rattle.graphql_evaluation.specs.Outcomes.{Outcome, both, outcome_map, show_place, shown, together}
 use Rattle.graphql_evaluation.specs.Completion.{Members, at_list, at_name, at_required, blame_at, complete, complete_result, is_required, leaf_if, object_members, run_if}

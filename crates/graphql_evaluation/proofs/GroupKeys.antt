@@ -6,8 +6,8 @@ use Rattle.std.specs.Cmp.Lexicographic.{nat_list_eq_equiv}
 use Rattle.std.proofs.lemmas.List.Elements.{All-nil, All-cons, filter-append}
 use Rattle.std.proofs.lemmas.Map.Keys.{IsDistinct-push}
 use Rattle.graphql_names.specs.Names.{Bytes}
-use Rattle.graphql_plain_tree.specs.Fields.{Found}
-use Rattle.graphql_plain_tree.specs.Groups.{keys, keys_after, under, groups}
+use Rattle.graphql_written_out.specs.Fields.{Found}
+use Rattle.graphql_written_out.specs.Groups.{keys, keys_after, under, groups}
 use Rattle.graphql_evaluation.specs.Evaluation.{Group}
 
 nothing-distinct : IsDistinct bytes_eq []

@@ -4,9 +4,9 @@ use Rattle.std.specs.List.{Contains, list_any}
 use Rattle.std.specs.Str.{bytes_eq}
 use Rattle.std.specs.Cmp.Lexicographic.{nat_list_eq_equiv}
 use Rattle.graphql_names.specs.Names.{Bytes}
-use Rattle.graphql_plain_tree.specs.Fields.{Found}
-use Rattle.graphql_plain_tree.specs.Groups.{keys_after}
-use Rattle.graphql_plain_tree.specs.Repeats.{Adds, nothing, kept, again}
+use Rattle.graphql_written_out.specs.Fields.{Found}
+use Rattle.graphql_written_out.specs.Groups.{keys_after}
+use Rattle.graphql_written_out.specs.Repeats.{Adds, nothing, kept, again}
 use Rattle.graphql_evaluation.proofs.Elements.{none-in, cons-cases}
 
 same_name : (k : Bytes) → bytes_eq k k ≡ true

@@ -4,9 +4,9 @@ use Rattle.std.specs.List.{flat_map}
 use Rattle.std.specs.Str.{bytes_eq}
 use Rattle.std.proofs.lemmas.List.{map-append}
 use Rattle.graphql_names.specs.Names.{Bytes}
-use Rattle.graphql_plain_tree.specs.Trees.{Directives, Tree, none, field, inline, height}
-use Rattle.graphql_plain_tree.specs.Fields.{Found, fields, applies}
-use Rattle.graphql_plain_tree.specs.Groups.{under}
+use Rattle.graphql_written_out.specs.Trees.{Directives, Tree, none, field, inline, height}
+use Rattle.graphql_written_out.specs.Fields.{Found, fields, applies}
+use Rattle.graphql_written_out.specs.Groups.{under}
 use Rattle.graphql_evaluation.specs.Evaluation.{highest, sets_below}
 
 module _ {S : Type 0} where

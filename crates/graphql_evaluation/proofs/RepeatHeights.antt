@@ -2,9 +2,9 @@
 use Rattle.std.proofs.Common.{◌⊎◌, ⊎_elim, ◌≡◌, refl, ap, ℕ, ◌≤◌, max, arith, List, [], ◌∷◌, ◌++◌, map}
 use Rattle.std.specs.List.{Contains}
 use Rattle.std.proofs.lemmas.List.{map-append}
-use Rattle.graphql_plain_tree.specs.Trees.{Tree, height}
-use Rattle.graphql_plain_tree.specs.Fields.{Found}
-use Rattle.graphql_plain_tree.specs.Repeats.{Adds, nothing, kept, again, Repeats}
+use Rattle.graphql_written_out.specs.Trees.{Tree, height}
+use Rattle.graphql_written_out.specs.Fields.{Found}
+use Rattle.graphql_written_out.specs.Repeats.{Adds, nothing, kept, again, Repeats}
 use Rattle.graphql_evaluation.specs.Evaluation.{highest, sets_below}
 use Rattle.graphql_evaluation.proofs.Elements.{none-in, cons-cases}
 use Rattle.graphql_evaluation.proofs.Heights.{highest-append, top, top-append}

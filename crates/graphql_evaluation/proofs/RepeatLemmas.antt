@@ -4,7 +4,7 @@ use Rattle.std.specs.List.{Contains, filter, flat_map}
 use Rattle.std.proofs.lemmas.List.{map-append}
 use Rattle.std.proofs.lemmas.Grind.{flat_map-append}
 use Rattle.std.proofs.lemmas.List.Elements.{filter-append, Contains-append_left, Contains-append_right, Contains-push, Contains-push_cases, Contains-append_cases}
-use Rattle.graphql_plain_tree.specs.Repeats.{Adds, nothing, kept, again, Repeats}
+use Rattle.graphql_written_out.specs.Repeats.{Adds, nothing, kept, again, Repeats}
 use Rattle.graphql_evaluation.proofs.Elements.{here, later, none-in, cons-cases}
 
 -- the first of a list

@@ -1,10 +1,10 @@
 -- What sets give that differ by repeats.
 use Rattle.std.proofs.Common.{◌≡◌, List, map}
 use Rattle.graphql_names.specs.Names.{Bytes}
-use Rattle.graphql_plain_tree.specs.Trees.{Tree}
-use Rattle.graphql_plain_tree.specs.Fields.{Found}
-use Rattle.graphql_plain_tree.specs.Groups.{groups}
-use Rattle.graphql_plain_tree.specs.Repeats.{Repeats}
+use Rattle.graphql_written_out.specs.Trees.{Tree}
+use Rattle.graphql_written_out.specs.Fields.{Found}
+use Rattle.graphql_written_out.specs.Groups.{groups}
+use Rattle.graphql_written_out.specs.Repeats.{Repeats}
 use Rattle.graphql_evaluation.specs.Engines.{Engine}
 use Rattle.graphql_evaluation.specs.Outcomes.{together}
 use Rattle.graphql_evaluation.specs.Evaluation.{evaluate, keyed, found_in}

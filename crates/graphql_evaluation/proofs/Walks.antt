@@ -5,10 +5,10 @@ use Rattle.std.proofs.lemmas.List.{map-append}
 use Rattle.std.proofs.lemmas.Grind.{flat_map-append}
 use Rattle.std.proofs.lemmas.List.Elements.{filter-append}
 use Rattle.graphql_names.specs.Names.{Bytes}
-use Rattle.graphql_plain_tree.specs.Trees.{Tree}
-use Rattle.graphql_plain_tree.specs.Fields.{Found, fields}
-use Rattle.graphql_plain_tree.specs.Groups.{keys, under, groups}
-use Rattle.graphql_plain_tree.specs.Repeats.{Adds, Repeats}
+use Rattle.graphql_written_out.specs.Trees.{Tree}
+use Rattle.graphql_written_out.specs.Fields.{Found, fields}
+use Rattle.graphql_written_out.specs.Groups.{keys, under, groups}
+use Rattle.graphql_written_out.specs.Repeats.{Adds, Repeats}
 use Rattle.graphql_evaluation.specs.Engines.{Engine}
 use Rattle.graphql_evaluation.specs.Evaluation.{Group, found_in, highest, sets_below}
 use Rattle.graphql_evaluation.proofs.GroupRepeats.{adds-keys}

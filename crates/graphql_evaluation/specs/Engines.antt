@@ -3,9 +3,9 @@ use Rattle.std.specs.Prelude.{Bool, Option, Result}
 use Rattle.graphql_names.specs.Names.{Bytes}
 use Rattle.graphql_arguments.specs.ArgumentValues.{Given}
 use Rattle.graphql_meta.specs.Types.{TypeOf}
-use Rattle.graphql_plain_tree.specs.Trees.{Directives, Head}
-use Rattle.graphql_resolve.specs.declared.field_error.FieldError.{FieldError}
-use Rattle.graphql_resolve.specs.declared.resolved.Resolved.{Resolved}
+use Rattle.graphql_written_out.specs.Trees.{Directives, Head}
+use Rattle.graphql_field_results.specs.declared.field_error.FieldError.{FieldError}
+use Rattle.graphql_field_results.specs.declared.resolved.Resolved.{Resolved}
 
 pub record Engine (S N : Type 0) : Type 0 where
   -- which directives leave a selection out

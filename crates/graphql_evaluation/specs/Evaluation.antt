@@ -5,12 +5,12 @@ use Rattle.graphql_names.specs.Names.{Bytes}
 use Rattle.graphql_output_values.specs.Objects.{Pair}
 use Rattle.graphql_output_values.specs.declared.value.Value.{Value}
 use Rattle.graphql_output_values.specs.declared.value.Value.TheVariants as value
-use Rattle.graphql_plain_tree.specs.Trees.{Head, Tree, height}
-use Rattle.graphql_plain_tree.specs.Fields.{Found, fields}
-use Rattle.graphql_plain_tree.specs.Groups.{groups}
-use Rattle.graphql_resolve.specs.declared.execution_error.ExecutionError.{ExecutionError}
-use Rattle.graphql_resolve.specs.declared.field_error.FieldError.{FieldError}
-use Rattle.graphql_resolve.specs.declared.resolved.Resolved.{Resolved}
+use Rattle.graphql_written_out.specs.Trees.{Head, Tree, height}
+use Rattle.graphql_written_out.specs.Fields.{Found, fields}
+use Rattle.graphql_written_out.specs.Groups.{groups}
+use Rattle.graphql_field_results.specs.declared.execution_error.ExecutionError.{ExecutionError}
+use Rattle.graphql_field_results.specs.declared.field_error.FieldError.{FieldError}
+use Rattle.graphql_field_results.specs.declared.resolved.Resolved.{Resolved}
 use Rattle.graphql_meta.specs.Types.{TypeOf}
 use Rattle.graphql_evaluation.specs.Engines.{Engine}
 use Rattle.graphql_evaluation.specs.Outcomes.{Outcome, no_value, gives, outcome_map, show_place, together}

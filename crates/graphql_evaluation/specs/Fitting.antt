@@ -5,9 +5,9 @@ use Rattle.graphql_type_references.specs.declared.type_modifier.TypeModifier.{Ty
 use Rattle.graphql_type_references.specs.declared.type_modifier.TypeModifier.TheVariants as modifier
 use Rattle.graphql_output_values.specs.declared.value.Value.{Value}
 use Rattle.graphql_output_values.specs.declared.value.Value.TheVariants as value
-use Rattle.graphql_plain_tree.specs.Trees.{Tree}
-use Rattle.graphql_plain_tree.specs.Fields.{Found}
-use Rattle.graphql_plain_tree.specs.Groups.{groups}
+use Rattle.graphql_written_out.specs.Trees.{Tree}
+use Rattle.graphql_written_out.specs.Fields.{Found}
+use Rattle.graphql_written_out.specs.Groups.{groups}
 use Rattle.graphql_meta.specs.Types.{TypeOf}
 use Rattle.graphql_evaluation.specs.Engines.{Engine}
 use Rattle.graphql_evaluation.specs.Completion.{Members, is_required, object_members}

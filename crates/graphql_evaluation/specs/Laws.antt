@@ -3,11 +3,11 @@ use Rattle.std.specs.Prelude.{◌≡◌, ◌↔◌, ℕ, ◌+◌, ◌≤◌, Lis
 use Rattle.std.specs.List.{Contains, sum}
 use Rattle.graphql_names.specs.Names.{Bytes}
 use Rattle.graphql_output_values.specs.DistinctKeys.{HasDistinctKeysThroughout}
-use Rattle.graphql_plain_tree.specs.Trees.{Tree}
-use Rattle.graphql_plain_tree.specs.Fields.{Found}
-use Rattle.graphql_plain_tree.specs.Groups.{groups}
-use Rattle.graphql_plain_tree.specs.Repeats.{Repeats}
-use Rattle.graphql_resolve.specs.declared.execution_error.ExecutionError.{ExecutionError}
+use Rattle.graphql_written_out.specs.Trees.{Tree}
+use Rattle.graphql_written_out.specs.Fields.{Found}
+use Rattle.graphql_written_out.specs.Groups.{groups}
+use Rattle.graphql_written_out.specs.Repeats.{Repeats}
+use Rattle.graphql_field_results.specs.declared.execution_error.ExecutionError.{ExecutionError}
 use Rattle.graphql_evaluation.specs.Engines.{Engine}
 use Rattle.graphql_evaluation.specs.Outcomes.{together}
 use Rattle.graphql_evaluation.specs.Completion.{object_members}

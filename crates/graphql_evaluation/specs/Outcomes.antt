@@ -3,7 +3,7 @@ use Rattle.std.specs.Prelude.{Bool, true, false, List, [], ◌∷◌, ◌++◌, 
 use Rattle.std.specs.Option.{option_map}
 use Rattle.graphql_output_values.specs.declared.value.Value.{Value}
 use Rattle.graphql_output_values.specs.declared.value.Value.TheVariants as value
-use Rattle.graphql_resolve.specs.declared.execution_error.ExecutionError.{ExecutionError}
+use Rattle.graphql_field_results.specs.declared.execution_error.ExecutionError.{ExecutionError}
 
 -- a value, or nothing for a null that goes on to the parent unless the place may show it; the failures in order
 pub record Outcome (S A : Type 0) : Type 0 where

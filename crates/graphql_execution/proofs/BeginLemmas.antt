@@ -6,13 +6,13 @@ use Rattle.graphql_text.specs.declared.position.SourcePosition.{SourcePosition}
 use Rattle.graphql_type_references.specs.declared.type_modifier.TypeModifier.{TypeModifier}
 use Rattle.graphql_type_references.specs.declared.type_modifier.TypeModifier.TheVariants as modifier
 use Rattle.graphql_output_values.specs.declared.value.Value.{Value}
-use Rattle.graphql_plain_tree.specs.Trees.{Tree}
-use Rattle.graphql_resolve.specs.declared.execution_error.ExecutionError.{ExecutionError}
-use Rattle.graphql_resolve.specs.declared.field_error.FieldError.{FieldError}
-use Rattle.graphql_resolve.specs.declared.field_fault.FieldFault.{FieldFault}
-use Rattle.graphql_resolve.specs.declared.field_fault.FieldFault.TheVariants as fault
-use Rattle.graphql_resolve.specs.declared.resolved.Resolved.{Resolved, out-Resolved}
-use Rattle.graphql_resolve.specs.declared.resolved.Resolved.TheOpen.{Resolved-F}
+use Rattle.graphql_written_out.specs.Trees.{Tree}
+use Rattle.graphql_field_results.specs.declared.execution_error.ExecutionError.{ExecutionError}
+use Rattle.graphql_field_results.specs.declared.field_error.FieldError.{FieldError}
+use Rattle.graphql_field_results.specs.declared.field_fault.FieldFault.{FieldFault}
+use Rattle.graphql_field_results.specs.declared.field_fault.FieldFault.TheVariants as fault
+use Rattle.graphql_field_results.specs.declared.resolved.Resolved.{Resolved, out-Resolved}
+use Rattle.graphql_field_results.specs.declared.resolved.Resolved.TheOpen.{Resolved-F}
 use Rattle.graphql_tree.specs.declared.document.Fragment.{Fragment}
 use Rattle.graphql_evaluation.specs.Completion.{Members, at_required, blame_at}
 use Rattle.graphql_evaluation.specs.Engines.{Engine}

@@ -5,7 +5,7 @@ use Rattle.graphql_scalars.specs.ScalarAnswers.{ScalarAnswer}
 use Rattle.graphql_names.specs.Names.{Bytes}
 use Rattle.graphql_collect.specs.declared.request.Request.{Request}
 use Rattle.graphql_collect.specs.Requests.{drops_in, fields_in, is_below_in}
-use Rattle.graphql_plain_tree.specs.Trees.{Tree}
+use Rattle.graphql_written_out.specs.Trees.{Tree}
 use Rattle.graphql_evaluation.specs.Engines.{Engine}
 use Rattle.graphql_evaluation.specs.Evaluation.{found_in}
 use Rattle.graphql_execution.specs.FieldDeclarations.{declared_type, is_leaf_named, is_possible_named}

@@ -11,27 +11,27 @@ use Rattle.graphql_output_values.specs.declared.value.Value.TheVariants as value
 use Rattle.graphql_type_references.specs.declared.type_modifier.TypeModifier.{TypeModifier}
 use Rattle.graphql_meta.specs.Types.{TypeOf}
 use Rattle.graphql_collect.specs.declared.grouping.Occurrence.{Occurrence}
-use Rattle.graphql_plain_tree.specs.Written.{head_of}
-use Rattle.graphql_resolve.specs.declared.field_error.FieldError.{FieldError}
-use Rattle.graphql_plain_tree.specs.Fields.{Found}
+use Rattle.graphql_written_out.specs.Written.{head_of}
+use Rattle.graphql_field_results.specs.declared.field_error.FieldError.{FieldError}
+use Rattle.graphql_written_out.specs.Fields.{Found}
 use Rattle.graphql_evaluation.proofs.GroupKeys.{distinct-groups}
 use Rattle.graphql_evaluation.proofs.RunRepeats.{evaluate-groups}
 use Rattle.graphql_execution.proofs.GroupLemmas.{nothing_first, group-is}
 use Rattle.graphql_collect.specs.Grouped.{Group, Lent, all_found, group_found}
-use Rattle.graphql_plain_tree.specs.Groups.{groups}
+use Rattle.graphql_written_out.specs.Groups.{groups}
 use Rattle.graphql_names.specs.Names.{Bytes}
-use Rattle.graphql_plain_tree.specs.Trees.{Head, Tree}
+use Rattle.graphql_written_out.specs.Trees.{Head, Tree}
 use Rattle.graphql_execution.specs.declared.frames.Frame.TheVariants as frame
 use Rattle.graphql_execution.specs.Frames.{FrameIn, IsTaught, KnownIn, ObjectFrameIn, ListFrameIn, known_at}
 use Rattle.graphql_execution.specs.Sets.{AreGroups, AreKnown, kept_sets}
 use Rattle.std.proofs.lemmas.Slice.Eq.{bytes_eq-Decides}
-use Rattle.graphql_resolve.specs.declared.execution_error.ExecutionError.{ExecutionError}
+use Rattle.graphql_field_results.specs.declared.execution_error.ExecutionError.{ExecutionError}
 use Rattle.graphql_execution.specs.declared.report.Report.{Report}
-use Rattle.graphql_resolve.specs.declared.resolved.Resolved.{Resolved}
+use Rattle.graphql_field_results.specs.declared.resolved.Resolved.{Resolved}
 use Rattle.graphql_evaluation.specs.Engines.{Engine}
 use Rattle.graphql_evaluation.specs.Completion.{Members, blame_at, complete_result, is_required, object_members}
 use Rattle.graphql_evaluation.specs.Evaluation.{evaluate, found_in, group, keyed, sets_below}
-use Rattle.graphql_plain_tree.specs.Repeats.{Repeats}
+use Rattle.graphql_written_out.specs.Repeats.{Repeats}
 use Rattle.graphql_execution.specs.Completed.{completed}
 use Rattle.graphql_execution.specs.Frames.{after, shows, more, groups_left, item_at, rest, close_group, close, down_group, down, resume, path_of, Leads, Steps, Fine, AllFine}
 use Rattle.graphql_execution.specs.Gives.{Gives}

@@ -2,7 +2,7 @@
 use Rattle.std.proofs.Common.{◌≡◌, refl, List, [], ◌∷◌, ◌++◌, Some, None, slice_get}
 use Rattle.graphql_names.specs.Names.{Bytes}
 use Rattle.graphql_tree.specs.declared.document.Fragment.{Fragment}
-use Rattle.graphql_plain_tree.specs.Written.{head_of}
+use Rattle.graphql_written_out.specs.Written.{head_of}
 use Rattle.graphql_collect.specs.Grouped.{Lent, all_found}
 use Rattle.graphql_collect.specs.declared.grouping.Occurrence.{Occurrence}
 use Rattle.graphql_evaluation.specs.Engines.{Engine}

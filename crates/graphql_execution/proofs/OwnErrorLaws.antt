@@ -4,10 +4,10 @@ use Rattle.graphql_names.specs.Names.{Bytes}
 use Rattle.graphql_output_values.specs.declared.value.Value.{Value}
 use Rattle.graphql_type_references.specs.declared.type_modifier.TypeModifier.{TypeModifier}
 use Rattle.graphql_type_references.specs.declared.type_modifier.TypeModifier.TheVariants as modifier
-use Rattle.graphql_resolve.specs.declared.execution_error.ExecutionError.{ExecutionError}
-use Rattle.graphql_resolve.specs.declared.field_error.FieldError.{FieldError}
-use Rattle.graphql_resolve.specs.declared.resolved.Resolved.{Resolved, out-Resolved}
-use Rattle.graphql_resolve.specs.declared.resolved.Resolved.TheOpen.{Resolved-F}
+use Rattle.graphql_field_results.specs.declared.execution_error.ExecutionError.{ExecutionError}
+use Rattle.graphql_field_results.specs.declared.field_error.FieldError.{FieldError}
+use Rattle.graphql_field_results.specs.declared.resolved.Resolved.{Resolved, out-Resolved}
+use Rattle.graphql_field_results.specs.declared.resolved.Resolved.TheOpen.{Resolved-F}
 use Rattle.graphql_evaluation.specs.Completion.{Members, at_list, at_name, at_required, complete, complete_result, leaf_if, run_if}
 use Rattle.graphql_evaluation.specs.Outcomes.{Outcome, fails}
 use Rattle.graphql_evaluation.specs.Turns.{turns_at, turns_at_list, turns_at_name, turns_at_required, turns_if, turns_of_result}

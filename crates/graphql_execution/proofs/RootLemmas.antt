@@ -9,8 +9,8 @@ use Rattle.graphql_names.specs.Names.{Bytes}
 use Rattle.graphql_tree.specs.declared.document.Fragment.{Fragment}
 use Rattle.graphql_output_values.specs.Objects.{HasDistinctKeys, Pair}
 use Rattle.graphql_output_values.specs.declared.value.Value.{Value}
-use Rattle.graphql_plain_tree.specs.Fields.{Found}
-use Rattle.graphql_plain_tree.specs.Groups.{groups}
+use Rattle.graphql_written_out.specs.Fields.{Found}
+use Rattle.graphql_written_out.specs.Groups.{groups}
 use Rattle.graphql_collect.specs.Grouped.{Group, all_found, group_found}
 use Rattle.graphql_evaluation.specs.Completion.{Members}
 use Rattle.graphql_evaluation.specs.Engines.{Engine}

@@ -2,9 +2,9 @@
 use Rattle.std.specs.Prelude.{◌≡◌, Bool, [], ◌∷◌, Result, Ok, Err}
 use Rattle.graphql_values.specs.SameValue.{SameValue}
 use Rattle.graphql_arguments.specs.ArgumentValues.{Given}
-use Rattle.graphql_resolve.specs.declared.field_error.FieldError.{FieldError}
-use Rattle.graphql_resolve.specs.declared.field_fault.FieldFault.{FieldFault}
-use Rattle.graphql_resolve.specs.declared.field_fault.FieldFault.TheVariants as fault
+use Rattle.graphql_field_results.specs.declared.field_error.FieldError.{FieldError}
+use Rattle.graphql_field_results.specs.declared.field_fault.FieldFault.{FieldFault}
+use Rattle.graphql_field_results.specs.declared.field_fault.FieldFault.TheVariants as fault
 
 -- the answer, or the error, is the wanted one; want of memory tells nothing
 abbrev pub Answered : {S A : Type 0} → Result A (FieldError S) → Result A (FieldFault S) → Type 0

@@ -3,9 +3,9 @@ use Rattle.std.specs.Prelude.{List}
 use Rattle.graphql_names.specs.Names.{Bytes}
 use Rattle.graphql_type_references.specs.declared.type_modifier.TypeModifier.{TypeModifier}
 use Rattle.graphql_output_values.specs.declared.value.Value.{Value}
-use Rattle.graphql_resolve.specs.declared.execution_error.ExecutionError.{ExecutionError}
-use Rattle.graphql_resolve.specs.declared.field_error.FieldError.{FieldError}
-use Rattle.graphql_resolve.specs.declared.resolved.Resolved.{Resolved}
+use Rattle.graphql_field_results.specs.declared.execution_error.ExecutionError.{ExecutionError}
+use Rattle.graphql_field_results.specs.declared.field_error.FieldError.{FieldError}
+use Rattle.graphql_field_results.specs.declared.resolved.Resolved.{Resolved}
 use Rattle.graphql_evaluation.specs.Engines.{Engine}
 use Rattle.graphql_evaluation.specs.Outcomes.{Outcome, show_place}
 use Rattle.graphql_evaluation.specs.Completion.{Members, complete, is_required}

@@ -1,8 +1,8 @@
 -- What an answer comes to where an executor stands (GraphQL October 2021, 6.4.3 Value Completion).
 use Rattle.std.specs.Prelude.{Option, Ok, reverse}
 use Rattle.graphql_output_values.specs.declared.value.Value.{Value}
-use Rattle.graphql_resolve.specs.declared.field_error.FieldError.{FieldError}
-use Rattle.graphql_resolve.specs.declared.resolved.Resolved.{Resolved}
+use Rattle.graphql_field_results.specs.declared.field_error.FieldError.{FieldError}
+use Rattle.graphql_field_results.specs.declared.resolved.Resolved.{Resolved}
 use Rattle.graphql_evaluation.specs.Engines.{Engine}
 use Rattle.graphql_evaluation.specs.Outcomes.{Outcome}
 use Rattle.graphql_execution.specs.Begins.{outcome_at, own_error_at}

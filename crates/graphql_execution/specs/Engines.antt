@@ -7,13 +7,13 @@ use Rattle.graphql_values.specs.declared.input_value.InputValue.{InputValue}
 use Rattle.graphql_meta.specs.declared.meta.MetaType.{MetaType}
 use Rattle.graphql_schema.specs.Subtypes.{is_named_subtype}
 use Rattle.graphql_arguments.specs.ArgumentValues.{Given, argument_values}
-use Rattle.graphql_argument_values.specs.FinalVariables.{value_in}
-use Rattle.graphql_plain_tree.specs.Conditions.{left_out}
-use Rattle.graphql_plain_tree.specs.Trees.{Head}
+use Rattle.graphql_final_variables.specs.FinalVariables.{value_in}
+use Rattle.graphql_written_out.specs.Conditions.{left_out}
+use Rattle.graphql_written_out.specs.Trees.{Head}
 use Rattle.graphql_collect.specs.declared.request.Request.{Request}
-use Rattle.graphql_resolve.specs.declared.field_error.FieldError.{FieldError}
-use Rattle.graphql_resolve.specs.declared.resolved.Resolved.{Resolved}
-use Rattle.graphql_resolve.specs.declared.resolved.Resolved.TheVariants as resolved
+use Rattle.graphql_field_results.specs.declared.field_error.FieldError.{FieldError}
+use Rattle.graphql_field_results.specs.declared.resolved.Resolved.{Resolved}
+use Rattle.graphql_field_results.specs.declared.resolved.Resolved.TheVariants as resolved
 use Rattle.graphql_evaluation.specs.Engines.{Engine}
 use Rattle.graphql_execution.specs.FieldDeclarations.{declared_type, declared_arguments, is_leaf_named, is_possible_named}
 

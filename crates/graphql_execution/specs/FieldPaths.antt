@@ -2,8 +2,8 @@
 use Rattle.std.specs.Prelude.{List, [], ◌∷◌, ◌++◌}
 use Rattle.graphql_names.specs.Names.{Bytes}
 use Rattle.graphql_text.specs.declared.position.SourcePosition.{SourcePosition}
-use Rattle.graphql_resolve.specs.declared.execution_error.ExecutionError.{ExecutionError}
-use Rattle.graphql_resolve.specs.declared.field_error.FieldError.{FieldError}
+use Rattle.graphql_field_results.specs.declared.execution_error.ExecutionError.{ExecutionError}
+use Rattle.graphql_field_results.specs.declared.field_error.FieldError.{FieldError}
 use Rattle.graphql_execution.specs.declared.field_path.FieldPath.{FieldPath, fold-FieldPath, out-FieldPath}
 use Rattle.graphql_execution.specs.declared.field_path.FieldPath.TheOpen.{FieldPath-F}
 

@@ -4,9 +4,9 @@ use Rattle.std.specs.List.{sum}
 use Rattle.graphql_names.specs.Names.{Bytes}
 use Rattle.graphql_tree.specs.declared.document.Fragment.{Fragment}
 use Rattle.graphql_type_references.specs.declared.type_modifier.TypeModifier.{TypeModifier}
-use Rattle.graphql_plain_tree.specs.Trees.{Tree}
+use Rattle.graphql_written_out.specs.Trees.{Tree}
 use Rattle.graphql_collect.specs.Grouped.{Group, all_found}
-use Rattle.graphql_resolve.specs.declared.resolved.Resolved.{Resolved}
+use Rattle.graphql_field_results.specs.declared.resolved.Resolved.{Resolved}
 use Rattle.graphql_evaluation.specs.Engines.{Engine}
 use Rattle.graphql_evaluation.specs.Turns.{all_turns, turns_at, turns_of_group}
 use Rattle.graphql_execution.specs.declared.frames.Begun.{Begun}

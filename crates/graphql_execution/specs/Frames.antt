@@ -17,9 +17,9 @@ use Rattle.graphql_execution.specs.declared.frames.Frame.TheVariants as frame
 use Rattle.graphql_execution.specs.declared.frames.ObjectFrame.{ObjectFrame}
 use Rattle.graphql_execution.specs.declared.frames.ListFrame.{ListFrame}
 use Rattle.graphql_execution.specs.declared.frames.Known.{Known}
-use Rattle.graphql_resolve.specs.declared.execution_error.ExecutionError.{ExecutionError}
+use Rattle.graphql_field_results.specs.declared.execution_error.ExecutionError.{ExecutionError}
 use Rattle.graphql_execution.specs.declared.report.Report.{Report}
-use Rattle.graphql_resolve.specs.declared.resolved.Resolved.{Resolved}
+use Rattle.graphql_field_results.specs.declared.resolved.Resolved.{Resolved}
 use Rattle.graphql_evaluation.specs.Engines.{Engine}
 use Rattle.graphql_evaluation.specs.Evaluation.{evaluate, found_in, keyed}
 use Rattle.graphql_evaluation.specs.Completion.{blame_at, is_required, object_members}

@@ -3,9 +3,9 @@ use Rattle.std.specs.Prelude.{Bool, true, false, List, [], ◌∷◌, Option, So
 use Rattle.graphql_names.specs.Names.{Bytes}
 use Rattle.graphql_type_references.specs.declared.type_modifier.TypeModifier.{TypeModifier}
 use Rattle.graphql_type_references.specs.declared.type_modifier.TypeModifier.TheVariants as modifier
-use Rattle.graphql_resolve.specs.declared.field_error.FieldError.{FieldError}
-use Rattle.graphql_resolve.specs.declared.resolved.Resolved.{Resolved, out-Resolved}
-use Rattle.graphql_resolve.specs.declared.resolved.Resolved.TheOpen.{Resolved-F}
+use Rattle.graphql_field_results.specs.declared.field_error.FieldError.{FieldError}
+use Rattle.graphql_field_results.specs.declared.resolved.Resolved.{Resolved, out-Resolved}
+use Rattle.graphql_field_results.specs.declared.resolved.Resolved.TheOpen.{Resolved-F}
 use Rattle.graphql_evaluation.specs.Completion.{misfit_error, own_null}
 
 -- of a type's name, whether it is a leaf and which nodes can stand there

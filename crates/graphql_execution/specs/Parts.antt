@@ -4,8 +4,8 @@ use Rattle.graphql_type_references.specs.declared.type_modifier.TypeModifier.{Ty
 use Rattle.graphql_type_references.specs.declared.type_modifier.TypeModifier.TheVariants as modifier
 use Rattle.graphql_execution.specs.declared.parts.Outer.{Outer}
 use Rattle.graphql_execution.specs.declared.parts.Outer.TheVariants as outer
-use Rattle.graphql_resolve.specs.declared.resolved.Resolved.{Resolved, out-Resolved}
-use Rattle.graphql_resolve.specs.declared.resolved.Resolved.TheOpen.{Resolved-F}
+use Rattle.graphql_field_results.specs.declared.resolved.Resolved.{Resolved, out-Resolved}
+use Rattle.graphql_field_results.specs.declared.resolved.Resolved.TheOpen.{Resolved-F}
 
 -- the outermost of these wraps is a list, around others; the innermost stands first
 abbrev pub IsListAround : List TypeModifier → List TypeModifier → Type 0

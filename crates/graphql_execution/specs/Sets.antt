@@ -9,11 +9,11 @@ use Rattle.graphql_collect.specs.declared.request.Request.{Request}
 use Rattle.graphql_collect.specs.Requests.{fields_in, fragments_in}
 use Rattle.graphql_collect.specs.Grouped.{Group, all_found, group_found}
 use Rattle.graphql_evaluation.specs.Evaluation.{sets_below}
-use Rattle.graphql_plain_tree.specs.Fields.{Found}
-use Rattle.graphql_plain_tree.specs.Groups.{groups}
-use Rattle.graphql_plain_tree.specs.Repeats.{Repeats}
-use Rattle.graphql_plain_tree.specs.Trees.{Tree}
-use Rattle.graphql_plain_tree.specs.Written.{written}
+use Rattle.graphql_written_out.specs.Fields.{Found}
+use Rattle.graphql_written_out.specs.Groups.{groups}
+use Rattle.graphql_written_out.specs.Repeats.{Repeats}
+use Rattle.graphql_written_out.specs.Trees.{Tree}
+use Rattle.graphql_written_out.specs.Written.{written}
 use Rattle.graphql_tree.specs.declared.document.Fragment.{Fragment}
 use Rattle.graphql_tree.specs.declared.selection.Selection.{Selection}
 use Rattle.graphql_meta.specs.Types.{TypeOf}

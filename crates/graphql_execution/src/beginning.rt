@@ -3,8 +3,8 @@
 ghost use Rattle.std.specs.Prelude.{[], List, Ok, reverse};
 ghost use Rattle.graphql_collect.specs.Requests.{fragments_in};
 ghost use Rattle.graphql_evaluation.specs.Evaluation.{found_in};
-ghost use Rattle.graphql_plain_tree.specs.Written.{Settled};
-ghost use Rattle.graphql_resolve.specs.declared.resolved.Resolved.TheVariants as resolved;
+ghost use Rattle.graphql_written_out.specs.Written.{Settled};
+ghost use Rattle.graphql_field_results.specs.declared.resolved.Resolved.TheVariants as resolved;
 ghost use Rattle.graphql_execution.specs.Begins.{Begins};
 ghost use Rattle.graphql_execution.specs.Engines.{engine_of};
 ghost use Rattle.graphql_execution.specs.Parts.{IsListAround};
@@ -19,10 +19,10 @@ use crate::graphql_value::GraphQLValue;
 use crate::groups::groups_selected;
 use crate::parts::{Outer, is_null, take_apart};
 use crate::selected::{KeptSelected, Selected};
+use graphql_field_results::{FieldFault, FieldResult, Resolved};
 use graphql_meta::SchemaScalar;
 use graphql_names::NameMap;
 use graphql_output_values::Value;
-use graphql_resolve::{FieldFault, FieldResult, Resolved};
 use graphql_text::{Items, SourcePosition, TextRef};
 use graphql_type_references::TypeModifier;
 

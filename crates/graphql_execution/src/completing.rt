@@ -3,7 +3,7 @@
 ghost use Rattle.std.specs.Prelude.{◌≡◌, ◌++◌, IfOk, Ok, OnErr, OnOk, reverse, unwrap_or};
 ghost use Rattle.graphql_output_values.specs.declared.value.Value.TheVariants as value;
 ghost use Rattle.graphql_collect.specs.Requests.{fragments_in};
-ghost use Rattle.graphql_plain_tree.specs.Written.{Settled};
+ghost use Rattle.graphql_written_out.specs.Written.{Settled};
 ghost use Rattle.graphql_execution.specs.Begins.{Begins, Completes};
 ghost use Rattle.graphql_execution.specs.Completions.{own_error_here, outcome_here};
 ghost use Rattle.graphql_execution.specs.Engines.{engine_of};
@@ -18,10 +18,10 @@ use crate::graphql_value::GraphQLValue;
 use crate::parts::or_null;
 use crate::report::Report;
 use crate::stack::drive;
+use graphql_field_results::{ExecutionError, ExecutionResult, FieldFault, FieldResult, Resolved};
 use graphql_meta::SchemaScalar;
 use graphql_names::NameMap;
 use graphql_output_values::Value;
-use graphql_resolve::{ExecutionError, ExecutionResult, FieldFault, FieldResult, Resolved};
 use graphql_text::{Items, TextRef};
 use std::alloc::AllocError;
 

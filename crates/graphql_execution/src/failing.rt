@@ -8,7 +8,7 @@ ghost use Rattle.graphql_execution.specs.Begins.{IsTold};
 
 use crate::frames::Begun;
 use crate::report::Report;
-use graphql_resolve::{FieldError, FieldFault, FieldResult};
+use graphql_field_results::{FieldError, FieldFault, FieldResult};
 use graphql_text::{SourcePosition, Text, TextRef};
 use graphql_type_references::{BorrowedType, Type, TypeModifier};
 use std::alloc::{AllocError, Global};

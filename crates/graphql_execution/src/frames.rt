@@ -3,9 +3,9 @@
 use crate::selected::KeptSelected;
 use crate::shared::Shared;
 use graphql_collect::Group;
+use graphql_field_results::Resolved;
 use graphql_names::{NameMap, Named};
 use graphql_output_values::Value;
-use graphql_resolve::Resolved;
 use graphql_text::{Items, SourcePosition, Text, TextRef};
 use graphql_type_references::TypeModifier;
 

@@ -2,8 +2,8 @@
 
 use crate::executor::Executor;
 use graphql_arguments::Arguments;
+use graphql_field_results::{FieldResult, Resolved};
 use graphql_meta::SchemaScalar;
-use graphql_resolve::{FieldResult, Resolved};
 
 /// What answers the fields of a schema's objects (GraphQL October 2021, 6.4.2 Value Resolution). An answer
 /// is a function of the context, the node, the field and the argument values, and depends on nothing
@@ -19,9 +19,9 @@ pub trait GraphQLValue<S: SchemaScalar> {
     ghost use Rattle.graphql_arguments.specs.ArgumentValues.{Given};
     ghost use Rattle.graphql_arguments.specs.GivenValues.{arguments_told};
     ghost use Rattle.graphql_collect.specs.Requests.{fragments_in};
-    ghost use Rattle.graphql_plain_tree.specs.Written.{Settled};
-    ghost use Rattle.graphql_resolve.specs.declared.resolved.Resolved.{Resolved};
-    ghost use Rattle.graphql_resolve.specs.declared.field_error.FieldError.{FieldError};
+    ghost use Rattle.graphql_written_out.specs.Written.{Settled};
+    ghost use Rattle.graphql_field_results.specs.declared.resolved.Resolved.{Resolved};
+    ghost use Rattle.graphql_field_results.specs.declared.field_error.FieldError.{FieldError};
     ghost use Rattle.graphql_execution.specs.Answered.{Answered, SameArguments};
 
     /// The node from which a query starts.

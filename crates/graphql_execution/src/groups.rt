@@ -3,8 +3,8 @@
 ghost use Rattle.std.specs.Prelude.{IfOk};
 ghost use Rattle.graphql_collect.specs.Grouped.{all_found};
 ghost use Rattle.graphql_collect.specs.Requests.{fragments_in};
-ghost use Rattle.graphql_plain_tree.specs.Repeats.{Repeats};
-ghost use Rattle.graphql_plain_tree.specs.Written.{Settled};
+ghost use Rattle.graphql_written_out.specs.Repeats.{Repeats};
+ghost use Rattle.graphql_written_out.specs.Written.{Settled};
 ghost use Rattle.graphql_execution.specs.Sets.{AreGroups, AreKnown, selected_in, sets_in};
 
 use crate::frames::{KnownGroups, SharedGroups};

@@ -7,8 +7,8 @@ ghost use Rattle.graphql_evaluation.specs.Completion.{is_required};
 ghost use Rattle.graphql_evaluation.specs.Outcomes.{shown, both};
 ghost use Rattle.graphql_execution.specs.Parts.{IsOuter, null_here};
 
+use graphql_field_results::Resolved;
 use graphql_output_values::Value;
-use graphql_resolve::Resolved;
 use graphql_text::{Items, Text, TextRef};
 use graphql_type_references::TypeModifier;
 use std::alloc::AllocError;

@@ -4,7 +4,7 @@ ghost use Rattle.std.specs.Prelude.{◌≡◌, ◌++◌, [], ◌∷◌, OnOk};
 ghost use Rattle.graphql_execution.specs.Paths.{up};
 
 use crate::field_path::copied_keys;
-use graphql_resolve::{ExecutionError, FieldError};
+use graphql_field_results::{ExecutionError, FieldError};
 use graphql_text::{Items, SourcePosition, TextRef};
 use std::alloc::{AllocError, Global};
 

@@ -5,7 +5,7 @@ ghost use Rattle.graphql_collect.specs.Requests.{fragments_in};
 ghost use Rattle.graphql_evaluation.specs.Completion.{object_members};
 ghost use Rattle.graphql_evaluation.specs.Evaluation.{evaluate};
 ghost use Rattle.graphql_evaluation.specs.Outcomes.{outcome_map};
-ghost use Rattle.graphql_plain_tree.specs.Written.{Settled};
+ghost use Rattle.graphql_written_out.specs.Written.{Settled};
 ghost use Rattle.graphql_execution.specs.Engines.{engine_of};
 ghost use Rattle.graphql_execution.specs.Gives.{Gives};
 ghost use Rattle.graphql_execution.specs.Sets.{sets_in};

@@ -5,7 +5,7 @@ ghost use Rattle.graphql_output_values.specs.declared.value.Value.TheVariants as
 ghost use Rattle.graphql_collect.specs.Grouped.{all_found};
 ghost use Rattle.graphql_collect.specs.Requests.{fragments_in};
 ghost use Rattle.graphql_names.specs.Names.{Bytes};
-ghost use Rattle.graphql_plain_tree.specs.Written.{Settled};
+ghost use Rattle.graphql_written_out.specs.Written.{Settled};
 ghost use Rattle.graphql_execution.specs.declared.frames.Frame.TheVariants as frame;
 ghost use Rattle.graphql_execution.specs.Engines.{engine_of};
 ghost use Rattle.graphql_evaluation.specs.Evaluation.{evaluate, group};

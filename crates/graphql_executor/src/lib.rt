@@ -7,11 +7,11 @@ mod validated;
 
 pub use graphql_arguments::Arguments;
 pub use graphql_execution::{Context, Executor, FieldPath, FromContext, GraphQLValue};
-pub use graphql_input_types::{ID, Nullable};
-pub use graphql_requests::{GraphQLError, get_operation};
-pub use graphql_resolve::{
+pub use graphql_field_results::{
     ExecutionError, ExecutionResult, FieldError, FieldFault, FieldResult, IntoFieldError, Resolved,
 };
+pub use graphql_input_types::{ID, Nullable};
+pub use graphql_requests::{GraphQLError, get_operation};
 pub use graphql_values::{FromInputValueArrayError, FromInputValueVecError};
 pub use query::{Response, execute_query};
 pub use request::execute_sync;

@@ -2,22 +2,22 @@
 
 ghost use Rattle.std.specs.Prelude.{[], ◌∷◌, IfOk};
 ghost use Rattle.std.specs.HashMap.{get_by_text};
-ghost use Rattle.graphql_argument_values.specs.FinalVariables.{value_in};
+ghost use Rattle.graphql_final_variables.specs.FinalVariables.{value_in};
 ghost use Rattle.graphql_collect.specs.FragmentLists.{fragments_listed};
 ghost use Rattle.graphql_collect.specs.Requests.{fragments_in, written_in};
 ghost use Rattle.graphql_evaluation.specs.Evaluation.{evaluate};
-ghost use Rattle.graphql_plain_tree.specs.Written.{Settled};
+ghost use Rattle.graphql_written_out.specs.Written.{Settled};
 ghost use Rattle.graphql_execution.specs.Engines.{engine_of};
 ghost use Rattle.graphql_executor.specs.Executed.{IsResponse, executed, executed_over};
 
-use graphql_argument_values::FinalVariables;
 use graphql_collect::{Fragments, Request};
 use graphql_execution::{
     Executor, GraphQLValue, Report, answer_selections, or_null, query_root_name,
 };
+use graphql_field_results::{ExecutionError, in_order};
+use graphql_final_variables::FinalVariables;
 use graphql_meta::SchemaScalar;
 use graphql_output_values::Value;
-use graphql_resolve::{ExecutionError, in_order};
 use graphql_schema::SchemaType;
 use graphql_text::{Items, SourcePosition, Spanning};
 use graphql_tree::{Definition, Operation, Selection};

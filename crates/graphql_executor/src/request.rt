@@ -9,9 +9,9 @@ ghost use Rattle.graphql_executor.specs.Executed.{executed};
 
 use crate::query::{Response, execute_query};
 use graphql_execution::GraphQLValue;
+use graphql_field_results::ExecutionError;
 use graphql_meta::SchemaScalar;
 use graphql_requests::{GraphQLError, chosen_operation, read_request};
-use graphql_resolve::ExecutionError;
 use graphql_rule_errors::RuleError;
 use graphql_schema::RootNode;
 use graphql_validation::laws::documents_without_a_fault_are_settled;

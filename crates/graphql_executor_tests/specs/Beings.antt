@@ -7,9 +7,9 @@ use Rattle.graphql_scalars.specs.declared.default_scalar.DefaultScalarValue.TheV
 use Rattle.graphql_values.specs.declared.input_value.InputValue.{InputValue}
 use Rattle.graphql_arguments.specs.ArgumentValues.{Given, value_named}
 use Rattle.graphql_evaluation.specs.Completion.{reason}
-use Rattle.graphql_resolve.specs.declared.field_error.FieldError.{FieldError}
-use Rattle.graphql_resolve.specs.declared.resolved.Resolved.{Resolved}
-use Rattle.graphql_resolve.specs.declared.resolved.Resolved.TheVariants as resolved
+use Rattle.graphql_field_results.specs.declared.field_error.FieldError.{FieldError}
+use Rattle.graphql_field_results.specs.declared.resolved.Resolved.{Resolved}
+use Rattle.graphql_field_results.specs.declared.resolved.Resolved.TheVariants as resolved
 use Rattle.graphql_executor_tests.specs.Kinds.{kind}
 use Rattle.graphql_executor_tests.specs.declared.beings.Being.{Being}
 use Rattle.graphql_executor_tests.specs.declared.beings.Being.TheVariants as being

@@ -2,15 +2,15 @@
 
 ghost use Rattle.std.specs.Prelude.{Ok};
 ghost use Rattle.graphql_collect.specs.Requests.{fragments_in};
-ghost use Rattle.graphql_plain_tree.specs.Written.{Settled};
-ghost use Rattle.graphql_resolve.specs.declared.resolved.Resolved.TheVariants as resolved;
+ghost use Rattle.graphql_written_out.specs.Written.{Settled};
+ghost use Rattle.graphql_field_results.specs.declared.resolved.Resolved.TheVariants as resolved;
 ghost use Rattle.graphql_execution.specs.Answered.{Answered};
 
 use crate::beings::{Answer, Being, null_if};
 use crate::kennel::Kennel;
 use crate::told::errors_told;
 use graphql_execution::{Executor, declared_type};
-use graphql_resolve::{ExecutionError, ExecutionResult, FieldFault, FieldResult, Resolved};
+use graphql_field_results::{ExecutionError, ExecutionResult, FieldFault, FieldResult, Resolved};
 use graphql_text::{Items, SourcePosition, TextRef};
 use graphql_tree::Selection;
 use graphql_values::DefaultScalarValue;

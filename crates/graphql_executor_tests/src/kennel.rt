@@ -5,7 +5,7 @@ ghost use Rattle.std.specs.Prelude.{◌≡◌};
 use crate::beings::{Answer, Being, of_being, own_name, type_name};
 use graphql_arguments::Arguments;
 use graphql_execution::{Executor, GraphQLValue};
-use graphql_resolve::FieldResult;
+use graphql_field_results::FieldResult;
 use graphql_values::DefaultScalarValue;
 
 /// Knows the beings, of which the root is one as the others.

@@ -1,6 +1,6 @@
 //! Errors of executions, as lines of text.
 
-use graphql_resolve::ExecutionError;
+use graphql_field_results::ExecutionError;
 use graphql_text::SourcePosition;
 use graphql_values::DefaultScalarValue;
 use std::alloc::{AllocError, Global};

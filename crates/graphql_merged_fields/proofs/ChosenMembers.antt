@@ -10,8 +10,8 @@ use Rattle.graphql_names.specs.Names.{Bytes}
 use Rattle.graphql_names.proofs.NameMaps.{found_is_in}
 use Rattle.graphql_meta.specs.declared.meta.MetaType.{MetaType}
 use Rattle.graphql_schema_faults.specs.Lookups.{own_name, type_named}
-use Rattle.graphql_plain_tree.specs.Trees.{Directives, Tree, none, field, inline}
-use Rattle.graphql_plain_tree.specs.Fields.{Found, applies, fields}
+use Rattle.graphql_written_out.specs.Trees.{Directives, Tree, none, field, inline}
+use Rattle.graphql_written_out.specs.Fields.{Found, applies, fields}
 use Rattle.graphql_merging.specs.Members.{Member, Scope, member, inside, members}
 use Rattle.graphql_merging.specs.Sets.{Set, members_of}
 use Rattle.graphql_merging.proofs.Nested.{one-only, in-nothing}

@@ -3,8 +3,8 @@ use Rattle.std.specs.Prelude.{◌≡◌, Bool, List, map, Some}
 use Rattle.std.specs.List.{All, Contains}
 use Rattle.graphql_names.specs.Names.{Bytes}
 use Rattle.graphql_meta.specs.declared.meta.MetaType.{MetaType}
-use Rattle.graphql_plain_tree.specs.Trees.{Directives, Tree}
-use Rattle.graphql_plain_tree.specs.Fields.{fields}
+use Rattle.graphql_written_out.specs.Trees.{Directives, Tree}
+use Rattle.graphql_written_out.specs.Fields.{fields}
 use Rattle.graphql_merging.specs.Members.{Member}
 use Rattle.graphql_merging.specs.Merging.{SameField, Merging}
 use Rattle.graphql_merging.specs.Sets.{Set}

@@ -3,7 +3,7 @@ use Rattle.std.proofs.Common.{◌≡◌, refl, sym, subst, ℕ, zero, suc, ◌<�
 use Rattle.std.specs.List.{Contains}
 use Rattle.std.proofs.lemmas.List.Elements.{Contains-get_or, Contains-append_left, Contains-append_right, Contains-append_cases}
 use Rattle.graphql_meta.specs.declared.meta.MetaType.{MetaType}
-use Rattle.graphql_plain_tree.specs.Trees.{Head, Tree, none, field, inline}
+use Rattle.graphql_written_out.specs.Trees.{Head, Tree, none, field, inline}
 use Rattle.graphql_merging.specs.Members.{Member, Scope, member, inside, members, members_below}
 use Rattle.graphql_merging.specs.Merging.{Merges, Merging}
 use Rattle.graphql_merging.specs.Sets.{Set, members_of, scope_of_field, sets_in, sets_of}

@@ -6,7 +6,7 @@ use Rattle.graphql_meta.specs.declared.meta.MetaType.{MetaType}
 use Rattle.graphql_meta.specs.Types.{TypeOf}
 use Rattle.graphql_schema_faults.specs.Lookups.{type_named}
 use Rattle.graphql_declarations.specs.Lookups.{field_in, field_type}
-use Rattle.graphql_plain_tree.specs.Trees.{Head, Tree, none, field, inline}
+use Rattle.graphql_written_out.specs.Trees.{Head, Tree, none, field, inline}
 
 -- a field of a set, and the innermost type around it: that of the nearest condition, else that whose set it is
 pub record Member (S C : Type 0) : Type 0 where

@@ -1,7 +1,7 @@
 -- Fields of a document as members of sets.
 use Rattle.std.specs.Prelude.{List}
 use Rattle.graphql_tree.specs.declared.document.Fragment.{Fragment}
-use Rattle.graphql_plain_tree.specs.Written.{listed, head_of, written}
+use Rattle.graphql_written_out.specs.Written.{listed, head_of, written}
 use Rattle.graphql_merging.specs.declared.selected.SelectedField.{SelectedField}
 use Rattle.graphql_merging.specs.Members.{Member}
 

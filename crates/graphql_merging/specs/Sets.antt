@@ -11,8 +11,8 @@ use Rattle.graphql_meta.specs.declared.meta.MetaType.{MetaType}
 use Rattle.graphql_schema.specs.Declarations.{Declarations}
 use Rattle.graphql_schema_faults.specs.Lookups.{type_named}
 use Rattle.graphql_declarations.specs.Lookups.{root_of}
-use Rattle.graphql_plain_tree.specs.Trees.{Tree, none, field, inline}
-use Rattle.graphql_plain_tree.specs.Written.{written}
+use Rattle.graphql_written_out.specs.Trees.{Tree, none, field, inline}
+use Rattle.graphql_written_out.specs.Written.{written}
 use Rattle.graphql_merging.specs.Members.{Member, Scope, member, inside, members, scope_of}
 
 -- a set, and the type that it selects from

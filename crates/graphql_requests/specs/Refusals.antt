@@ -15,7 +15,7 @@ use Rattle.graphql_schema.specs.Declarations.{Declarations}
 use Rattle.graphql_rule_errors.specs.Places.{places}
 use Rattle.graphql_rule_errors.specs.declared.rule_error.RuleError.{RuleError}
 use Rattle.graphql_language.specs.Texts.{IsDocument, IsRefused, OnlyDocument}
-use Rattle.graphql_variable_values.specs.Accepted.{AreAccepted, Refusals}
+use Rattle.graphql_variable_checks.specs.Accepted.{AreAccepted, Refusals}
 use Rattle.graphql_visitors.specs.Subjects.{Subject}
 use Rattle.graphql_validation.specs.AllRules.{IsValidAt, RequestTold}
 use Rattle.graphql_requests.specs.declared.graphql_error.GraphQLError.{GraphQLError}

@@ -19,7 +19,7 @@ use graphql_text::Spanning;
 use graphql_tree::{Definition, Operation, OperationType, OwnedDocument};
 use graphql_validation::request_errors;
 use graphql_values::Variables;
-use graphql_variable_values::validate_input_values;
+use graphql_variable_checks::validate_input_values;
 use std::alloc::Global;
 
 /// The document of a request's text, which is valid for the root node (GraphQL October 2021, 6.1

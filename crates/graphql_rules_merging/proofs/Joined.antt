@@ -6,8 +6,8 @@ use Rattle.std.proofs.lemmas.List.Elements.{Contains-get_or}
 use Rattle.graphql_values.specs.Laws.{SameAsItself}
 use Rattle.graphql_tree.specs.declared.document.Definition.{Definition}
 use Rattle.graphql_schema.specs.Declarations.{Declarations}
-use Rattle.graphql_plain_tree.specs.Trees.{none}
-use Rattle.graphql_plain_tree.specs.Written.{Settled}
+use Rattle.graphql_written_out.specs.Trees.{none}
+use Rattle.graphql_written_out.specs.Written.{Settled}
 use Rattle.graphql_merging.specs.declared.table.SetTable.{SetTable}
 use Rattle.graphql_merging.specs.Sets.{Set, members_of, fragments_in, set_of, definition_sets, document_sets}
 use Rattle.graphql_merging.specs.Pieces.{IsPieceOf}

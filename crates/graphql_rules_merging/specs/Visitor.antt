@@ -1,7 +1,7 @@
 -- What the rule that fields merge tells, and when a visitor of it tells so (GraphQL October 2021, 5.3.2 Field Selection Merging).
 use Rattle.std.specs.Prelude.{◌≡◌, Bool, true, false, []}
 use Rattle.graphql_rule_errors.specs.Places.{Places}
-use Rattle.graphql_plain_tree.specs.Written.{Settled}
+use Rattle.graphql_written_out.specs.Written.{Settled}
 use Rattle.graphql_merging.specs.Contract.{IsComplete, IsDirect, IsSound}
 use Rattle.graphql_merging.specs.Sets.{document_sets, fragments_in}
 use Rattle.graphql_visitors.specs.Runs.{Step}

@@ -13,10 +13,10 @@ use crate::progress::Progress;
 use graphql_merging::{
     Difference, SelectedField, SetTable, WrittenField, first_difference, is_excused,
 };
-use graphql_plain_tree::response_key;
 use graphql_rule_errors::{RuleError, report};
 use graphql_schema::SchemaType;
 use graphql_text::{Items, SourcePosition};
+use graphql_written_out::response_key;
 use std::alloc::{AllocError, Global};
 
 /// Two places, in the order of the text.

@@ -2,9 +2,9 @@
 
 use graphql_declarations::{TypeLiteral, field_of, type_of_field};
 use graphql_merging::{Difference, SelectedField};
-use graphql_plain_tree::response_key;
 use graphql_text::TextRef;
 use graphql_type_references::Type;
+use graphql_written_out::response_key;
 use std::alloc::{AllocError, Global};
 
 /// What the texts say of two fields of one response key.

@@ -3,7 +3,7 @@
 ghost use Rattle.std.specs.Prelude.{◌≡◌, List, IfOk, IsSorted};
 ghost use Rattle.graphql_merging.specs.Contract.{IsSound, IsDirect, IsComplete};
 ghost use Rattle.graphql_merging.specs.Sets.{document_sets, fragments_in};
-ghost use Rattle.graphql_plain_tree.specs.Written.{Settled};
+ghost use Rattle.graphql_written_out.specs.Written.{Settled};
 ghost use Rattle.graphql_rule_errors.specs.Places.{places};
 ghost use Rattle.graphql_schema.specs.Declarations.{declarations_of};
 ghost use Rattle.graphql_tree.specs.declared.document.Fragment.{Fragment};

@@ -5,8 +5,8 @@ use Rattle.std.specs.Str.{bytes_eq}
 use Rattle.graphql_names.specs.Names.{Bytes}
 use Rattle.graphql_scalars.specs.declared.default_scalar.DefaultScalarValue.{DefaultScalarValue}
 use Rattle.graphql_scalars.specs.declared.default_scalar.DefaultScalarValue.TheVariants as scalar
-use Rattle.graphql_resolve.specs.declared.resolved.Resolved.{Resolved}
-use Rattle.graphql_resolve.specs.declared.resolved.Resolved.TheVariants as resolved
+use Rattle.graphql_field_results.specs.declared.resolved.Resolved.{Resolved}
+use Rattle.graphql_field_results.specs.declared.resolved.Resolved.TheVariants as resolved
 use Rattle.graphql_sample.specs.declared.records.SampleRecord.{SampleRecord}
 use Rattle.graphql_sample.specs.declared.records.SampleRecords.{SampleRecords}
 use Rattle.graphql_sample.specs.declared.resolver.SampleNode.{SampleNode}

@@ -7,7 +7,7 @@ ghost use Rattle.graphql_sample.specs.Sample as spec;
 use crate::records::{SampleRecord, SampleRecords};
 use graphql_arguments::Arguments;
 use graphql_execution::{Executor, GraphQLValue};
-use graphql_resolve::{FieldResult, Resolved};
+use graphql_field_results::{FieldResult, Resolved};
 use graphql_text::Text;
 use graphql_values::DefaultScalarValue;
 use std::alloc::Global;

@@ -10,7 +10,7 @@ use Rattle.graphql_scalars.specs.ScalarAnswers.{ScalarAnswer}
 use Rattle.graphql_values.specs.declared.input_value.InputValue.{InputValue}
 use Rattle.graphql_output_values.specs.declared.value.Value.{Value}
 use Rattle.graphql_schema.specs.declared.schema.SchemaType.{SchemaType}
-use Rattle.graphql_resolve.specs.declared.execution_error.ExecutionError.{ExecutionError}
+use Rattle.graphql_field_results.specs.declared.execution_error.ExecutionError.{ExecutionError}
 use Rattle.graphql_rule_errors.specs.declared.rule_error.RuleError.{RuleError}
 use Rattle.graphql_requests.specs.declared.graphql_error.GraphQLError.{GraphQLError}
 use Rattle.graphql_requests.specs.declared.graphql_error.GraphQLError.TheVariants as request_error

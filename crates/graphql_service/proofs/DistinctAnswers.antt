@@ -12,15 +12,15 @@ use Rattle.graphql_scalars.specs.ScalarAnswers.{ScalarAnswer}
 use Rattle.graphql_type_references.specs.declared.type_modifier.TypeModifier.{TypeModifier}
 use Rattle.graphql_meta.specs.Types.{TypeOf}
 use Rattle.graphql_arguments.specs.ArgumentValues.{Given}
-use Rattle.graphql_plain_tree.specs.Trees.{Tree}
+use Rattle.graphql_written_out.specs.Trees.{Tree}
 use Rattle.graphql_output_values.specs.DistinctKeys.{HasDistinctKeysThroughout}
 use Rattle.graphql_output_values.specs.declared.value.Value.{Value}
 use Rattle.graphql_output_values.specs.declared.value.Value.TheVariants as value
 use Rattle.graphql_output_values.proofs.DistinctKeyLaws.{by_forms}
-use Rattle.graphql_resolve.specs.declared.execution_error.ExecutionError.{ExecutionError}
-use Rattle.graphql_resolve.specs.declared.field_error.FieldError.{FieldError}
-use Rattle.graphql_resolve.specs.declared.resolved.Resolved.{Resolved}
-use Rattle.graphql_resolve.specs.declared.resolved.Resolved.TheVariants as resolved
+use Rattle.graphql_field_results.specs.declared.execution_error.ExecutionError.{ExecutionError}
+use Rattle.graphql_field_results.specs.declared.field_error.FieldError.{FieldError}
+use Rattle.graphql_field_results.specs.declared.resolved.Resolved.{Resolved}
+use Rattle.graphql_field_results.specs.declared.resolved.Resolved.TheVariants as resolved
 use Rattle.graphql_evaluation.specs.Completion.{Members, object_members}
 use Rattle.graphql_meta.specs.declared.meta.MetaType.{MetaType}
 use Rattle.graphql_values.specs.declared.input_value.InputValue.{InputValue}

@@ -5,7 +5,7 @@ use Rattle.graphql_scalars.specs.ScalarAnswers.{ScalarAnswer}
 use Rattle.graphql_arguments.specs.ArgumentValues.{Given}
 use Rattle.graphql_output_values.specs.DistinctKeys.{HasDistinctKeysThroughout}
 use Rattle.graphql_output_values.specs.declared.value.Value.{Value}
-use Rattle.graphql_resolve.specs.declared.field_error.FieldError.{FieldError}
+use Rattle.graphql_field_results.specs.declared.field_error.FieldError.{FieldError}
 use Rattle.graphql_execution.specs.Engines.{Resolves}
 use Rattle.graphql_answers.specs.Lines.{line_of}
 

@@ -9,8 +9,8 @@ ghost use Rattle.graphql_service.specs.Laws.{IsLineOfDistinctKeys, TellsInDistin
 use graphql_answers::laws::answers_have_distinct_keys;
 use graphql_evaluation::laws::{data_have_distinct_keys, failures_are_exact};
 use graphql_executor::GraphQLValue;
+use graphql_field_results::ExecutionError;
 use graphql_meta::SchemaScalar;
-use graphql_resolve::ExecutionError;
 use graphql_rule_errors::RuleError;
 
 /// Each object in an answer line has distinct keys, however deep (GraphQL October 2021, 7.2.2 Serialized

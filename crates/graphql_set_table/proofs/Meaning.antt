@@ -8,8 +8,8 @@ use Rattle.graphql_tree.specs.declared.document.Definition.{Definition}
 use Rattle.graphql_tree.specs.declared.document.Definition.TheVariants as definition
 use Rattle.graphql_tree.specs.declared.document.Fragment.{Fragment}
 use Rattle.graphql_schema.specs.Declarations.{Declarations}
-use Rattle.graphql_plain_tree.specs.Trees.{height}
-use Rattle.graphql_plain_tree.specs.Written.{written, Settled}
+use Rattle.graphql_written_out.specs.Trees.{height}
+use Rattle.graphql_written_out.specs.Written.{written, Settled}
 use Rattle.graphql_merging.specs.Members.{Member, members_below}
 use Rattle.graphql_merging.specs.Sets as sets
 use Rattle.graphql_merging.specs.Sets.{Set, members_of, directs_of, sets_in, sets_of, fragments_in, definition_sets, document_sets}

@@ -14,7 +14,7 @@ use Rattle.graphql_tree.specs.declared.document.Definition.{Definition}
 use Rattle.graphql_tree.specs.declared.document.Definition.TheVariants as definition
 use Rattle.graphql_tree.specs.declared.document.Fragment.{Fragment}
 use Rattle.graphql_schema.specs.Declarations.{Declarations}
-use Rattle.graphql_plain_tree.specs.Written.{fragment_meant}
+use Rattle.graphql_written_out.specs.Written.{fragment_meant}
 use Rattle.graphql_merging.specs.Sets.{fragments_in}
 use Rattle.graphql_set_table.specs.FragmentNumbers.{defines_fragment, fragment_number}
 use Rattle.graphql_set_table.specs.Numbered.{IsNumberOf, DefinitionsFirst}

@@ -13,9 +13,9 @@ use Rattle.graphql_tree.specs.declared.selection.Selection.TheVariants as select
 use Rattle.graphql_tree.proofs.SelectionInduction.{selection_ind}
 use Rattle.graphql_meta.specs.declared.meta.MetaType.{MetaType}
 use Rattle.graphql_schema.specs.Declarations.{Declarations}
-use Rattle.graphql_plain_tree.specs.Trees.{Directives, Tree, none, field, inline}
-use Rattle.graphql_plain_tree.specs.Written.{listed, fragment_meant, head_of, condition_of, spread_as, write, written, Settled}
-use Rattle.graphql_plain_tree.proofs.Layers.{deep, deep-Field, deep-Spread, deep-Inline, written-cons, written-nil}
+use Rattle.graphql_written_out.specs.Trees.{Directives, Tree, none, field, inline}
+use Rattle.graphql_written_out.specs.Written.{listed, fragment_meant, head_of, condition_of, spread_as, write, written, Settled}
+use Rattle.graphql_written_out.proofs.Layers.{deep, deep-Field, deep-Spread, deep-Inline, written-cons, written-nil}
 use Rattle.graphql_merging.specs.Members.{Member, inside}
 use Rattle.graphql_merging.specs.Sets.{Set}
 use Rattle.graphql_merging.proofs.DirectFields.{In}

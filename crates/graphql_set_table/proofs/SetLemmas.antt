@@ -13,9 +13,9 @@ use Rattle.graphql_tree.specs.declared.selection.Selection.TheVariants as select
 use Rattle.graphql_tree.proofs.SelectionInduction.{selection_ind}
 use Rattle.graphql_meta.specs.declared.meta.MetaType.{MetaType}
 use Rattle.graphql_schema.specs.Declarations.{Declarations}
-use Rattle.graphql_plain_tree.specs.Trees.{Tree, none, field, inline, height}
-use Rattle.graphql_plain_tree.specs.Written.{listed, fragment_meant, written, one, Settled}
-use Rattle.graphql_plain_tree.proofs.Layers.{deep-Field, one-deep, height-one, height-of-Inline, height-of-Spread}
+use Rattle.graphql_written_out.specs.Trees.{Tree, none, field, inline, height}
+use Rattle.graphql_written_out.specs.Written.{listed, fragment_meant, written, one, Settled}
+use Rattle.graphql_written_out.proofs.Layers.{deep-Field, one-deep, height-one, height-of-Inline, height-of-Spread}
 use Rattle.graphql_merging.specs.Members.{Member, Scope, members}
 use Rattle.graphql_merging.specs.Sets.{Set, members_of, directs_in, directs_of, sets_in, sets_of}
 use Rattle.graphql_merging.proofs.DirectFields.{In, from-In}

@@ -14,7 +14,7 @@ use Rattle.graphql_meta.specs.declared.meta.MetaType.{MetaType}
 use Rattle.graphql_schema.specs.Declarations.{Declarations}
 use Rattle.graphql_schema_faults.specs.Lookups.{type_named}
 use Rattle.graphql_declarations.specs.Lookups.{root_of}
-use Rattle.graphql_plain_tree.specs.Written.{listed, fragment_meant, condition_of}
+use Rattle.graphql_written_out.specs.Written.{listed, fragment_meant, condition_of}
 use Rattle.graphql_merging.specs.Members.{Scope, inside, scope_of}
 
 -- a set as it is written, and the type that it selects from

@@ -4,7 +4,7 @@ ghost use Rattle.std.specs.Prelude.{◌≡◌, [], ◌∷◌, ◌++◌, Some, If
 ghost use Rattle.std.specs.List.{flat_map};
 ghost use Rattle.std.specs.Option.{option_to_list};
 ghost use Rattle.graphql_schema.specs.Declarations.{declarations_of};
-ghost use Rattle.graphql_plain_tree.specs.Written.{condition_of};
+ghost use Rattle.graphql_written_out.specs.Written.{condition_of};
 ghost use Rattle.graphql_merging.specs.Members.{inside};
 ghost use Rattle.graphql_merging.specs.Sets.{fragments_in};
 ghost use Rattle.graphql_set_table.specs.FragmentNumbers.{fragment_number};

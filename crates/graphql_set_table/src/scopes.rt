@@ -3,7 +3,7 @@
 ghost use Rattle.std.specs.Prelude.{◌≡◌, Some};
 ghost use Rattle.std.specs.Option.{option_copied};
 ghost use Rattle.graphql_schema.specs.Declarations.{declarations_of};
-ghost use Rattle.graphql_plain_tree.specs.Written.{condition_of, listed};
+ghost use Rattle.graphql_written_out.specs.Written.{condition_of, listed};
 ghost use Rattle.graphql_merging.specs.Members as spec;
 ghost use Rattle.graphql_set_table.specs.SetsAt.{definition_set, own_set};
 ghost use Rattle.graphql_set_table.specs.Reading.{set_at};

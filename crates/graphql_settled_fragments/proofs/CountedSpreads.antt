@@ -24,7 +24,7 @@ use Rattle.graphql_declarations.specs.Lookups.{field_arguments, field_in, field_
 use Rattle.graphql_occurrences.specs.Occurrences.{directives_parts, fragment_parts, given_parts, selection_parts, set_parts, under, type_inside}
 use Rattle.graphql_occurrences.specs.Parts.{Part, AField, ASpread, AnInline, Condition}
 use Rattle.graphql_occurrences.proofs.OccurrenceEquations.{parts_field, parts_spread, parts_inline}
-use Rattle.graphql_plain_tree.specs.Written.{listed}
+use Rattle.graphql_written_out.specs.Written.{listed}
 use Rattle.graphql_settled_fragments.specs.SpreadNames.{spread_names, names_in}
 use Rattle.graphql_settled_fragments.specs.Counted.{IsSpread, AreKnown, FieldTypesAreKnown}
 use Rattle.graphql_settled_fragments.proofs.ListItems.{nothing-in, only-one, all-first, all-after}

@@ -16,7 +16,7 @@ use Rattle.graphql_occurrences.specs.Occurrences.{definition_parts, fragment_par
 use Rattle.graphql_occurrences.specs.Parts.{Part, SpreadPart, ASpread}
 use Rattle.graphql_scopes.specs.Scopes.{FragmentScope, Spread, fragment_scope, fragment_scopes, spread_at}
 use Rattle.graphql_rules_document.specs.Ends.{EndsWithin}
-use Rattle.graphql_plain_tree.specs.Written.{fragment_meant, Settled}
+use Rattle.graphql_written_out.specs.Written.{fragment_meant, Settled}
 use Rattle.graphql_settled_fragments.specs.SpreadNames.{names_in, WrittenWithin}
 use Rattle.graphql_settled_fragments.specs.Counted.{AreKnown, FieldTypesAreKnown}
 use Rattle.graphql_settled_fragments.specs.Laws.{EndingFragmentsAreSettled}

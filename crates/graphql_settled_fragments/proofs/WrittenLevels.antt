@@ -12,8 +12,8 @@ use Rattle.graphql_tree.specs.declared.selection.Selection.{Selection}
 use Rattle.graphql_tree.specs.declared.selection.Selection.TheVariants as selection
 use Rattle.graphql_tree.proofs.SelectionEquations.{fold_field, fold_spread, fold_inline, fold_in_field, fold_in_inline}
 use Rattle.graphql_tree.proofs.SelectionInduction.{selection_ind}
-use Rattle.graphql_plain_tree.specs.Trees.{Directives, Tree, none, field, inline}
-use Rattle.graphql_plain_tree.specs.Written.{listed, head_of, condition_of, Before, chain, spread_as, fragment_meant, selection_layer, field_layer, inline_layer, write_with, write, written, Settled}
+use Rattle.graphql_written_out.specs.Trees.{Directives, Tree, none, field, inline}
+use Rattle.graphql_written_out.specs.Written.{listed, head_of, condition_of, Before, chain, spread_as, fragment_meant, selection_layer, field_layer, inline_layer, write_with, write, written, Settled}
 use Rattle.graphql_settled_fragments.specs.SpreadNames as names
 use Rattle.graphql_settled_fragments.specs.SpreadNames.{spread_names, names_in, WrittenWithin}
 use Rattle.graphql_settled_fragments.proofs.ListItems.{all-left, all-right, all-first, all-after}

@@ -7,7 +7,7 @@ use Rattle.graphql_schema.specs.Declarations.{Declarations}
 use Rattle.graphql_occurrences.specs.Occurrences.{occurrences}
 use Rattle.graphql_scopes.specs.Scopes.{fragment_scopes}
 use Rattle.graphql_rules_document.specs.Ends.{EndsWithin}
-use Rattle.graphql_plain_tree.specs.Written.{Settled}
+use Rattle.graphql_written_out.specs.Written.{Settled}
 use Rattle.graphql_settled_fragments.specs.Counted.{AreKnown}
 
 -- where fields are declared, conditions known, and what is spread ends

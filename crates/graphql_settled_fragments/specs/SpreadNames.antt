@@ -5,7 +5,7 @@ use Rattle.graphql_names.specs.Names.{Bytes}
 use Rattle.graphql_tree.specs.declared.document.Fragment.{Fragment}
 use Rattle.graphql_tree.specs.declared.selection.Selection.{Selection, fold-Selection}
 use Rattle.graphql_tree.specs.declared.selection.Selection.TheOpen.{Selection-F, Field-F, InlineFragment-F}
-use Rattle.graphql_plain_tree.specs.Written.{listed, fragment_meant}
+use Rattle.graphql_written_out.specs.Written.{listed, fragment_meant}
 
 module _ {S : Type 0} where
   abbrev pub selection_layer : Selection-F S (List Bytes) (List Bytes) (List Bytes) → List Bytes

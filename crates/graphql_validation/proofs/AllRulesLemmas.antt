@@ -12,7 +12,7 @@ use Rattle.graphql_rule_errors.proofs.NoFaultLemmas.{append_none}
 use Rattle.graphql_rule_errors.specs.Places.{Places, places}
 use Rattle.graphql_rule_errors.specs.declared.rule_error.RuleError.{RuleError}
 use Rattle.graphql_visitors.specs.Subjects.{Subject}
-use Rattle.graphql_plain_tree.specs.Written.{Settled}
+use Rattle.graphql_written_out.specs.Written.{Settled}
 use Rattle.graphql_merging.proofs.Standing.{together-merge}
 use Rattle.graphql_merging.specs.Contract.{IsComplete, IsConflict, IsDirect, IsSound}
 use Rattle.graphql_merging.specs.Members.{Member}

@@ -3,7 +3,7 @@
 
 ghost use Rattle.std.specs.Prelude.{List};
 ghost use Rattle.graphql_merging.specs.Sets.{fragments_in};
-ghost use Rattle.graphql_plain_tree.specs.Written.{Settled};
+ghost use Rattle.graphql_written_out.specs.Written.{Settled};
 ghost use Rattle.graphql_schema.specs.Declarations.{declarations_of};
 ghost use Rattle.graphql_tree.specs.declared.document.Definition.{Definition};
 ghost use Rattle.graphql_validation.specs.Valid.{HasNoFault};
@@ -51,7 +51,7 @@ pub use graphql_schema::laws::{
 };
 pub use graphql_scopes::laws::reached_is_least;
 pub use graphql_settled_fragments::laws::{ending_fragments_are_settled, field_types_are_known};
-pub use graphql_variable_values::laws::{
+pub use graphql_variable_checks::laws::{
     accepted_variables_are_not_told, definitions_of_distinct_names_are_found,
     final_values_are_given_or_defaults, given_values_conform, non_null_variables_have_values,
     told_of_variables_is_determined,

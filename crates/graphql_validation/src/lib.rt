@@ -34,7 +34,7 @@ pub mod rules;
 
 pub use all_rules::{request_errors, root_node_errors, validation_errors, visit_all_rules};
 pub use first_stage::{first_stage_errors, visit_first_stage, visit_introspection_rule};
-pub use graphql_argument_values::FinalVariables;
+pub use graphql_final_variables::FinalVariables;
 pub use graphql_literal_checks::{Source, validate_literal_value, validate_value};
 pub use graphql_meta::{
     Argument, Check, DeprecationStatus, DirectiveLocation, DirectiveType, EnumMeta, EnumValue,
@@ -47,7 +47,7 @@ pub use graphql_occurrences::{
 };
 pub use graphql_rule_errors::RuleError;
 pub use graphql_schema::{RootNode, SchemaError, SchemaType, TypeType};
-pub use graphql_variable_values::validate_input_values;
+pub use graphql_variable_checks::validate_input_values;
 pub use graphql_visitors::{
     Local, LocalRule, MultiVisitorCons, MultiVisitorNil, Relational, RelationalRule,
     ValidatorContext, Visitor, visit,

@@ -2,7 +2,7 @@
 
 ghost use Rattle.std.specs.Prelude.{◌≡◌, ℕ, List, Some, None, IfOk, OnOk, if◌then◌else◌};
 ghost use Rattle.std.specs.Option.{option_copied, option_or};
-ghost use Rattle.graphql_plain_tree.specs.Written.{fragment_meant};
+ghost use Rattle.graphql_written_out.specs.Written.{fragment_meant};
 ghost use Rattle.graphql_rule_errors.specs.Found.{found};
 ghost use Rattle.graphql_collect.specs.FragmentLists.{fragment_defined, fragments_listed};
 

@@ -1,4 +1,4 @@
-use Rattle.graphql_plain_tree.proofs.Layers.{written-nil}
+use Rattle.graphql_written_out.proofs.Layers.{written-nil}
 use Rattle.graphql_collect.proofs.CollectingLaws.{begins, ready-first}
 use Rattle.graphql_collect.proofs.collecting.collect_below.Goals as goal
 

@@ -1,5 +1,5 @@
 use Rattle.std.proofs.Common.{◌∙◌, ap, take_all}
-use Rattle.graphql_plain_tree.specs.Groups.{groups}
+use Rattle.graphql_written_out.specs.Groups.{groups}
 use Rattle.graphql_collect.specs.Grouped.{all_found}
 use Rattle.graphql_collect.proofs.Keyed.{grouped-more}
 use Rattle.graphql_collect.proofs.grouping.grouped.Goals as goal

@@ -1,6 +1,6 @@
 use Rattle.std.proofs.Common.{◌≡◌, List, map, take}
 use Rattle.graphql_tree.specs.declared.document.Fragment.{Fragment}
-use Rattle.graphql_plain_tree.specs.Groups.{groups}
+use Rattle.graphql_written_out.specs.Groups.{groups}
 use Rattle.graphql_collect.specs.Grouped.{all_found, group_found}
 use Rattle.graphql_collect.proofs.grouping.grouped.Given as goal
 

@@ -5,9 +5,9 @@ use Rattle.graphql_evaluation.specs.Evaluation.{evaluate, found_in}
 use Rattle.graphql_evaluation.specs.Outcomes.{outcome_map}
 use Rattle.graphql_evaluation.specs.Turns.{all_turns}
 use Rattle.graphql_names.specs.Names.{Bytes}
-use Rattle.graphql_plain_tree.specs.Fields.{Found}
-use Rattle.graphql_plain_tree.specs.Repeats.{Repeats}
-use Rattle.graphql_resolve.specs.declared.resolved.Resolved.TheVariants as resolved
+use Rattle.graphql_written_out.specs.Fields.{Found}
+use Rattle.graphql_written_out.specs.Repeats.{Repeats}
+use Rattle.graphql_field_results.specs.declared.resolved.Resolved.TheVariants as resolved
 use Rattle.graphql_execution.specs.Engines.{engine_of}
 use Rattle.graphql_execution.specs.FieldDeclarations.{is_possible_named}
 use Rattle.graphql_execution.proofs.EngineParts.{engine-concrete, engine-found, engine-is_possible}

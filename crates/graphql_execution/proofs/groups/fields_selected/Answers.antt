@@ -4,8 +4,8 @@ use Rattle.graphql_collect.specs.Grouped.{all_found}
 use Rattle.std.specs.List.{flat_map}
 use Rattle.std.proofs.lemmas.Simd.{map-map}
 use Rattle.graphql_collect.specs.Requests.{fields_in, found_at, fragments_in}
-use Rattle.graphql_plain_tree.specs.Fields.{Found}
-use Rattle.graphql_plain_tree.specs.Repeats.{Repeats}
+use Rattle.graphql_written_out.specs.Fields.{Found}
+use Rattle.graphql_written_out.specs.Repeats.{Repeats}
 use Rattle.graphql_execution.proofs.groups.fields_selected.Goals as goal
 
 pub returns-in-Below : goal.returns-in-Below

@@ -5,7 +5,7 @@ use Rattle.graphql_evaluation.specs.Completion.{object_members}
 use Rattle.graphql_evaluation.specs.Evaluation.{evaluate, found_in, group, keyed}
 use Rattle.graphql_evaluation.specs.Outcomes.{outcome_map, together}
 use Rattle.graphql_evaluation.proofs.RunRepeats.{evaluate-groups}
-use Rattle.graphql_plain_tree.specs.Repeats.{Repeats}
+use Rattle.graphql_written_out.specs.Repeats.{Repeats}
 use Rattle.graphql_execution.specs.Engines.{engine_of}
 use Rattle.graphql_execution.proofs.EngineParts.{engine-found}
 use Rattle.graphql_execution.specs.Gives.{Gives}

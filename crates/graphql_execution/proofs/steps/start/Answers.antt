@@ -3,7 +3,7 @@ use Rattle.graphql_collect.specs.Grouped.{all_found}
 use Rattle.graphql_collect.specs.Requests.{fragments_in}
 use Rattle.graphql_evaluation.specs.Evaluation.{sets_below}
 use Rattle.graphql_meta.specs.Types.{TypeOf}
-use Rattle.graphql_plain_tree.specs.Written.{head_of}
+use Rattle.graphql_written_out.specs.Written.{head_of}
 use Rattle.graphql_execution.specs.Begins.{outcome_at}
 use Rattle.graphql_execution.specs.Engines.{engine_of}
 use Rattle.graphql_execution.specs.FieldDeclarations.{declared_type}

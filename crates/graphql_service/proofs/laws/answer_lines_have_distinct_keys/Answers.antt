@@ -1,7 +1,7 @@
 use Rattle.std.proofs.Common.{[], ◌∷◌, sym, subst}
 use Rattle.graphql_tree.specs.Documents.{variables_in}
-use Rattle.graphql_argument_values.specs.FinalValues.{final_value}
-use Rattle.graphql_plain_tree.specs.Written.{written}
+use Rattle.graphql_final_variables.specs.FinalValues.{final_value}
+use Rattle.graphql_written_out.specs.Written.{written}
 use Rattle.graphql_collect.specs.FragmentLists.{fragments_listed}
 use Rattle.graphql_output_values.specs.DistinctKeys.{HasDistinctKeysThroughout}
 use Rattle.graphql_answers.specs.Responses.{refusal_of, response_of}

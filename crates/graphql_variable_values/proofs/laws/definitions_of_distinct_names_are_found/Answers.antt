@@ -1,5 +1,0 @@
-use Rattle.graphql_variable_values.proofs.LawLemmas.{distinct_found}
-use Rattle.graphql_variable_values.proofs.laws.definitions_of_distinct_names_are_found.Goals as goal
-
-pub returns : goal.returns
-returns g c = distinct_found

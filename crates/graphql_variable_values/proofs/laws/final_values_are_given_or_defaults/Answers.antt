@@ -1,5 +1,0 @@
-use Rattle.graphql_variable_values.proofs.LawLemmas.{given_or_default}
-use Rattle.graphql_variable_values.proofs.laws.final_values_are_given_or_defaults.Goals as goal
-
-pub returns : goal.returns
-returns g c = given_or_default
