@@ -1,6 +1,5 @@
 -- Values that may be null, where it is told apart whether null was given (GraphQL October 2021, 2.9.5 Null Value: "two semantically different ways to represent the lack of a value").
-use Rattle.std.specs.Prelude.{◌≡◌, ◌≢◌, ◌++◌, pos, Bool, true, false, Option, Some, None, IsSomeAnd}
-use Rattle.std.specs.Hash.{HashWrites, isize}
+use Rattle.std.specs.Prelude.{◌≡◌, ◌≢◌, Bool, true, false, Option, Some, None, IsSomeAnd}
 use Rattle.std.specs.declared.cmp.Ordering.{Ordering}
 use Rattle.std.specs.declared.cmp.Ordering.TheVariants.{Less, Equal, Greater}
 use Rattle.std.specs.Borrow.{Bor, MutBor}
@@ -75,12 +74,6 @@ order cmp nullable.ExplicitNull (nullable.Some y) = Less
 order cmp (nullable.Some x) nullable.ImplicitNull = Greater
 order cmp (nullable.Some x) nullable.ExplicitNull = Greater
 order cmp (nullable.Some x) (nullable.Some y) = cmp x y
-
--- which of the three it is, by its place among them, and then the value
-abbrev pub hashed : {T : Type 0} → (T → HashWrites) → Nullable T → HashWrites
-hashed writes nullable.ImplicitNull = isize (pos 0)
-hashed writes nullable.ExplicitNull = isize (pos 1)
-hashed writes (nullable.Some x) = isize (pos 2) ++ writes x
 
 -- a null that is given is one, and any other value is what it means where it may not be null (3.12 Non-Null)
 abbrev pub MeansNullable : {S T : Type 0} → (InputValue S → T → Type 0) → InputValue S → Nullable T → Type 0

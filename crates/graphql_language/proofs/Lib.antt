@@ -1,14 +1,7 @@
 pub mod SelectionDepth
 pub mod SelectionLaws
 pub mod DocumentLaws
-pub mod Calls
 pub mod TextLaws
-pub mod Lists
-pub mod NextTokens
-pub mod SpelledLists
-pub mod Leaves
-pub mod TypeFronts
-pub mod LiteralLaws
 pub mod DocumentPlaces
 pub mod AlikeTexts
 pub mod SelectionLevels

@@ -3,11 +3,6 @@ pub mod ReadHeads
 pub mod ReadDocuments
 pub mod Selections
 pub mod Documents
-pub mod Parser
 pub mod Texts
-pub mod Lists
-pub mod SpelledLists
-pub mod Leaves
-pub mod Literals
 pub mod Alike
 pub mod ReadDefinitions

@@ -9,10 +9,10 @@
 
 pub mod laws;
 mod parse;
-mod parser;
 mod source;
 
 pub use graphql_output_values::{IntoValue, Object, Value};
+pub use graphql_parser::{Parser, parse_type, parse_value_literal};
 pub use graphql_scalars::{
     CheckError, DefaultScalarValue, FromScalarValue, ParseScalarResult, ParseScalarValue, Scalar,
     ScalarValue, ToScalarValue, TryToPrimitive, WrongInputScalarTypeError,
@@ -30,5 +30,4 @@ pub use graphql_values::{
     IntoInputValue, Name, NameParseError, ToInputValue, Type, TypeModifier, TypeModifiers,
     Variables,
 };
-pub use parser::{Parser, parse_type, parse_value_literal};
 pub use source::parse_document_source;

@@ -13,7 +13,7 @@ ghost use Rattle.graphql_text.specs.Characters.{continues_name};
 ghost use Rattle.graphql_names.specs.declared.name.NameParseError.TheVariants.{Invalid, Memory};
 
 use graphql_text::{Text, continues_name, first_character};
-use std::alloc::{AllocError, Global};
+use std::alloc::{AllocError, AllocFailed, Global};
 use std::cmp::Ordering;
 use std::fmt;
 use std::hash::{Hash, Hasher};
@@ -36,6 +36,14 @@ impl From<AllocError> for NameParseError {
     ghost from_gives = { λ _ e. e ≡ Memory };
 
     fn from(_error: AllocError) -> NameParseError {
+        NameParseError::Memory
+    }
+}
+
+impl<T: Drop> From<AllocFailed<T>> for NameParseError {
+    ghost from_gives = { λ _ e. e ≡ Memory };
+
+    fn from(_error: AllocFailed<T>) -> NameParseError {
         NameParseError::Memory
     }
 }

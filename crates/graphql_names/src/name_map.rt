@@ -13,7 +13,7 @@ ghost use Rattle.graphql_names.specs.declared.name_map.NameMapError.TheVariants.
 
 use crate::named::Named;
 use graphql_text::{Items, Text};
-use std::alloc::{AllocError, Global};
+use std::alloc::{AllocError, AllocFailed, Global};
 use std::marker::Model;
 use thiserror::Error;
 
@@ -33,6 +33,14 @@ impl From<AllocError> for NameMapError {
     ghost from_gives = { λ _ e. e ≡ Memory };
 
     fn from(_error: AllocError) -> NameMapError {
+        NameMapError::Memory
+    }
+}
+
+impl<T: Drop> From<AllocFailed<T>> for NameMapError {
+    ghost from_gives = { λ _ e. e ≡ Memory };
+
+    fn from(_error: AllocFailed<T>) -> NameMapError {
         NameMapError::Memory
     }
 }

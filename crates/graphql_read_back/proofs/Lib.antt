@@ -7,4 +7,4 @@ pub mod PrintedWords
 pub mod Types
 pub mod ValueTextEquations
 pub mod WritableLemmas
-pub mod SamePlaces
+pub mod Rows

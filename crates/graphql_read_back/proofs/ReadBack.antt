@@ -18,8 +18,8 @@ use Rattle.graphql_grammar.specs.Relations.{end_of}
 use Rattle.graphql_grammar.specs.Cursor.{IsStart, IsLexical}
 use Rattle.graphql_grammar.specs.Faults.{Reading, Begins, FirstFaultyToken}
 use Rattle.graphql_grammar.proofs.FirstFaults.{one_tree}
-use Rattle.graphql_language.specs.Literals.{Values, NextValue}
-use Rattle.graphql_language.specs.Parser.{State, Rule, Fails, CallsFresh, Calls, RefusesAgain}
+use Rattle.graphql_parser.specs.Literals.{Values, NextValue}
+use Rattle.graphql_parser.specs.Parser.{State, Rule, Fails, CallsFresh, Calls, RefusesAgain}
 use Rattle.graphql_language.specs.Texts.{IsCut}
 use Rattle.graphql_value_syntax.specs.ReadValues.{value}
 use Rattle.graphql_value_syntax.proofs.ValueLaws.{law_value}

@@ -17,8 +17,8 @@ use Rattle.graphql_grammar.specs.Cursor.{IsStart}
 use Rattle.graphql_grammar.specs.Relations.{end_of, span_of}
 use Rattle.graphql_grammar.specs.Faults.{BadScalar, GoodScalar, Spelled}
 use Rattle.graphql_grammar.proofs.FirstFaults.{one_tree}
-use Rattle.graphql_language.specs.Literals.{Types, NextType}
-use Rattle.graphql_language.specs.Parser.{State, CallsFresh, RefusesAgain}
+use Rattle.graphql_parser.specs.Literals.{Types, NextType}
+use Rattle.graphql_parser.specs.Parser.{State, CallsFresh, RefusesAgain}
 use Rattle.graphql_language.specs.Texts.{IsCut}
 use Rattle.graphql_value_syntax.specs.ReadTypes.{TypeRef, type_ref}
 use Rattle.graphql_value_syntax.specs.Types.{NullableOf, of_name, of_list, TypeOf, of_nullable, of_non_null, no_scalar}

@@ -16,8 +16,8 @@ use Rattle.graphql_type_references.specs.TypeReference.{written}
 use Rattle.graphql_grammar.specs.Input.{At, Input, Fault, Outcome}
 use Rattle.graphql_grammar.specs.Cursor.{IsStart}
 use Rattle.graphql_grammar.specs.Faults.{Found, Sought}
-use Rattle.graphql_language.specs.Literals.{Values, Types, NextValue, NextType}
-use Rattle.graphql_language.specs.Parser.{State, Calls}
+use Rattle.graphql_parser.specs.Literals.{Values, Types, NextValue, NextType}
+use Rattle.graphql_parser.specs.Parser.{State, Calls}
 use Rattle.graphql_language.specs.Texts.{IsCut}
 use Rattle.graphql_value_syntax.specs.Values.{ValueOf}
 use Rattle.graphql_value_syntax.specs.ReadTypes.{TypeRef}

@@ -1,7 +1,7 @@
 -- What a scalar answers (GraphQL October 2021, 3.5.1 Int, 3.5.3 String, 3.5.4 Boolean).
 use Rattle.std.specs.Prelude.{ℕ, ℤ, Bool, Option, Some, None, List}
 
--- an integer of 32 bits, a boolean or the bytes of a text
+-- an integer, a boolean or the bytes of a text
 pub data ScalarAnswer : Type 0 where
   integer : ℤ → ScalarAnswer
   boolean : Bool → ScalarAnswer

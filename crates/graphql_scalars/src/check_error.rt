@@ -8,7 +8,7 @@ ghost use Rattle.graphql_scalars.specs.declared.check_error.CheckError.TheVarian
 use crate::lent_scalar::Scalar;
 use crate::scalar::ScalarValue;
 use graphql_text::{Text, TextRef};
-use std::alloc::{AllocError, Global};
+use std::alloc::{AllocError, AllocFailed, Global};
 use std::error::Error;
 use std::fmt;
 
@@ -50,6 +50,14 @@ impl From<AllocError> for CheckError {
     ghost from_gives = { λ _ e. e ≡ Memory };
 
     fn from(_error: AllocError) -> CheckError {
+        CheckError::Memory
+    }
+}
+
+impl<T: Drop> From<AllocFailed<T>> for CheckError {
+    ghost from_gives = { λ _ e. e ≡ Memory };
+
+    fn from(_error: AllocFailed<T>) -> CheckError {
         CheckError::Memory
     }
 }

@@ -122,9 +122,9 @@ impl ScalarValue for DefaultScalarValue {
 
     ghost bool_answers = { λ b. refl };
 
-    ghost int_answers = { λ n. refl };
+    ghost int_answers = { λ n fits. refl };
 
-    ghost text_answers = { λ text. refl };
+    ghost text_answers = { λ text utf8. refl };
 
     fn from_bool(value: bool) -> DefaultScalarValue {
         DefaultScalarValue::Boolean(value)

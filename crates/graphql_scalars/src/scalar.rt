@@ -1,7 +1,9 @@
 //! Scalars, how they are read from the tokens of a text, and what they answer.
 
-ghost use Rattle.std.specs.Prelude.{◌≡◌, ℤ, Result, Bool, List, ℕ, string_bytes, IfSome};
+ghost use mir.Syntax.{w32};
+ghost use Rattle.std.specs.Prelude.{◌≡◌, ℤ, Result, Bool, List, ℕ, string_bytes, FitsSigned, IfSome};
 ghost use Rattle.std.specs.Option.{option_map};
+ghost use Rattle.std.specs.Str.{IsUtf8};
 ghost use Rattle.graphql_text.specs.declared.token.ScalarToken.{ScalarToken};
 ghost use Rattle.graphql_text.specs.declared.parse_error.ParseError.{ParseError};
 ghost use Rattle.graphql_items.specs.Memory.{Answers, Gives, GivesBy, Meets};
@@ -38,7 +40,7 @@ pub trait ScalarValue: ParseScalarValue<Self> + Clone + Eq {
     /// The scalar of an integer of 32 bits.
     ghost of_int: { ℤ → Self };
 
-    /// The scalar of a text, by its bytes.
+    /// The scalar of a text, by its bytes, which are in UTF-8.
     ghost of_text: { List ℕ → Self };
 
     /// What a scalar answers: an integer, a boolean or a text.
@@ -125,9 +127,9 @@ pub trait ScalarValue: ParseScalarValue<Self> + Clone + Eq {
     /// The scalar of a boolean answers it.
     ghost bool_answers: { (b : Bool) → answer (of_bool b) ≡ boolean b };
 
-    /// The scalar of an integer answers it.
-    ghost int_answers: { (n : ℤ) → answer (of_int n) ≡ integer n };
+    /// The scalar of an integer of 32 bits answers it.
+    ghost int_answers: { (n : ℤ) → FitsSigned w32 n → answer (of_int n) ≡ integer n };
 
-    /// The scalar of a text answers it.
-    ghost text_answers: { (t : List ℕ) → answer (of_text t) ≡ text t };
+    /// The scalar of a text, which is in UTF-8, answers it.
+    ghost text_answers: { (t : List ℕ) → IsUtf8 t → answer (of_text t) ≡ text t };
 }

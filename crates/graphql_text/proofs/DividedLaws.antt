@@ -29,7 +29,8 @@ name_some : (cs : List ℕ) → IsName cs → 0 < length cs
 name_some [] n = absurd n
 name_some (c ∷ cs) n = omega arith
 
-spelled_some : (t : Token) (cs : List ℕ) → Spells t cs → is_end t ≡ false → 0 < length cs
+-- a token is spelled by some character, but for the end of the text
+pub spelled_some : (t : Token) (cs : List ℕ) → Spells t cs → is_end t ≡ false → 0 < length cs
 spelled_some (Name s) cs h e = name_some cs h.0
 spelled_some (Scalar (Int s)) cs h e = integer_some cs h.0
 spelled_some (Scalar (Float s)) cs h e =
@@ -70,14 +71,25 @@ order_more before rest (t ∷ ts) after behind others to (middle, more, h, goes,
     let start : t.span.start.index ≡ length (before ++ h.gap) = ap (λ p. p.index) h.start in
     let end : t.span.end.index ≡ length middle = ap (λ p. p.index) h.end in
     let P : ℕ → Type 0 = λ n. InOrder n (ts ++ others) to in
-    (omega (arith, length-append before h.gap), omega (arith, ap length h.after_is, length-append (before ++ h.gap) h.own), subst P (sym end) (order_more middle more ts after behind others to d o))
+    let wide = ap length h.after_is ∙ length-append (before ++ h.gap) h.own in (
+      omega (arith, length-append before h.gap),
+      omega (arith, wide),
+      λ goes_on. omega (arith, wide, spelled_some t.item h.own h.spells goes_on),
+      subst P (sym end) (order_more middle more ts after behind others to d o),
+    )
 
 pub spans_in_order : SpansInOrder
 spans_in_order text ts d =
     let h = d.heads in
     let start : d.last.span.start.index ≡ length (d.before ++ h.gap) = ap (λ p. p.index) h.start in
     let end : d.last.span.end.index ≡ length text = ap (λ p. p.index) h.end in
-    let last : InOrder (length d.before) (d.last ∷ []) (length text) = (omega (arith, length-append d.before h.gap), omega (arith, ap length h.after_is, length-append (d.before ++ h.gap) h.own), omega arith) in
+    let wide = ap length h.after_is ∙ length-append (d.before ++ h.gap) h.own in
+    let last : InOrder (length d.before) (d.last ∷ []) (length text) = (
+      omega (arith, length-append d.before h.gap),
+      omega (arith, wide),
+      λ goes_on. omega (arith, wide, spelled_some d.last.item h.own h.spells goes_on),
+      omega arith,
+    ) in
     let P : List Located → Type 0 = λ z. InOrder 0 z (length text) in
     subst P (sym d.is) (order_more [] text d.front d.before d.rest (d.last ∷ []) (length text) d.divides last)
 

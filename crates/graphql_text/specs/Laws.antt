@@ -40,10 +40,12 @@ EitherWay = (text : List ℕ) → ((ts : List Located) × IsDivided text ts) ⊎
 abbrev pub FewTokens : Type 0
 FewTokens = (text : List ℕ) (ts : List Located) → IsDivided text ts → length ts ≤ length text + 1
 
--- no token begins before this index, nor before the end of the one before it, and none ends behind that index
+-- no token begins before this index, nor before the end of the one before it, none ends behind that index, and each but the end of the text is wider than nothing
 abbrev pub InOrder : ℕ → List Located → ℕ → Type 0
 InOrder from [] to = from ≤ to
-InOrder from (t ∷ ts) to = (from ≤ t.span.start.index) × (t.span.start.index ≤ t.span.end.index) × InOrder t.span.end.index ts to
+InOrder from (t ∷ ts) to =
+    (from ≤ t.span.start.index) × (t.span.start.index ≤ t.span.end.index)
+    × (is_end t.item ≡ false → t.span.start.index < t.span.end.index) × InOrder t.span.end.index ts to
 
 abbrev pub SpansInOrder : Type 0
 SpansInOrder = (text : List ℕ) (ts : List Located) → IsDivided text ts → InOrder 0 ts (length text)

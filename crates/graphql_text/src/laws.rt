@@ -39,7 +39,7 @@ pub fn few_tokens()
     ensures { FewTokens }
 {}
 
-/// Spans come in order and do not overlap.
+/// Spans come in order and do not overlap, and each but that of the text's end is wider than nothing.
 pub fn spans_in_order()
     ensures { SpansInOrder }
 {}

@@ -5,12 +5,12 @@ ghost use Rattle.std.specs.Prelude.{◌≡◌, IfOk, Some};
 use crate::spanning::Spanning;
 use crate::token::{LexerError, Token};
 use graphql_items::Text;
-use std::alloc::{AllocError, Global};
+use std::alloc::{AllocError, AllocFailed, Global};
 use std::error::Error;
 use std::fmt;
 
 /// Why a text is not what was to be read from it, or want of memory.
-#[derive(Clone, Debug, Drop)]
+#[derive(Clone, Debug, Drop, PartialEq, Eq)]
 pub enum ParseError {
     /// A token that can't stand where it does, by its source text.
     UnexpectedToken(Text),
@@ -67,6 +67,16 @@ impl From<AllocError> for ParseError {
     ghost from_gives = { λ _ e. e ≡ Memory };
 
     fn from(_error: AllocError) -> ParseError {
+        ParseError::Memory
+    }
+}
+
+impl<T: Drop> From<AllocFailed<T>> for ParseError {
+    ghost use Rattle.graphql_text.specs.declared.parse_error.ParseError.TheVariants.{Memory};
+
+    ghost from_gives = { λ _ e. e ≡ Memory };
+
+    fn from(_error: AllocFailed<T>) -> ParseError {
         ParseError::Memory
     }
 }

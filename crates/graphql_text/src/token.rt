@@ -5,7 +5,7 @@ ghost use Rattle.std.specs.Prelude.{◌≡◌, Some};
 use crate::spanning::Spanning;
 use crate::text_ref::TextRef;
 use graphql_items::Text;
-use std::alloc::AllocError;
+use std::alloc::{AllocError, AllocFailed};
 use std::error::Error;
 use std::fmt;
 
@@ -156,7 +156,7 @@ impl fmt::Display for Token<'_> {
 }
 
 /// What is wrong with a text's characters, or want of memory.
-#[derive(Clone, Debug, Drop)]
+#[derive(Clone, Debug, Drop, PartialEq, Eq)]
 pub enum LexerError {
     /// A character that begins no token.
     UnknownCharacter(char),
@@ -215,6 +215,16 @@ impl From<AllocError> for LexerError {
     ghost from_gives = { λ _ e. e ≡ Memory };
 
     fn from(_error: AllocError) -> LexerError {
+        LexerError::Memory
+    }
+}
+
+impl<T: Drop> From<AllocFailed<T>> for LexerError {
+    ghost use Rattle.graphql_text.specs.declared.token.LexerError.TheVariants.{Memory};
+
+    ghost from_gives = { λ _ e. e ≡ Memory };
+
+    fn from(_error: AllocFailed<T>) -> LexerError {
         LexerError::Memory
     }
 }

@@ -17,3 +17,5 @@ pub mod InputOfOutputLemmas
 pub mod PartsLemmas
 pub mod VariableLaws
 pub mod CountEquations
+pub mod SamePlaces
+pub mod UnlocatedVariables

@@ -8,7 +8,7 @@ ghost use Rattle.graphql_values.specs.declared.conversions.arrays.FromInputValue
 use super::FromInputValue;
 use super::lists::FromInputValueVecError;
 use crate::input_value::InputValue;
-use std::alloc::{AllocError, Global};
+use std::alloc::{AllocError, AllocFailed, Global};
 use std::fmt;
 
 /// Why a value means no list of the wanted length, by its items' errors.
@@ -41,6 +41,14 @@ impl<S, T: FromInputValue<S>> From<AllocError> for FromInputValueArrayError<T, S
     ghost from_gives = { λ _ e. e ≡ array_error.Memory };
 
     fn from(_error: AllocError) -> FromInputValueArrayError<T, S> {
+        FromInputValueArrayError::Memory
+    }
+}
+
+impl<U: Drop, S, T: FromInputValue<S>> From<AllocFailed<U>> for FromInputValueArrayError<T, S> {
+    ghost from_gives = { λ _ e. e ≡ array_error.Memory };
+
+    fn from(_error: AllocFailed<U>) -> FromInputValueArrayError<T, S> {
         FromInputValueArrayError::Memory
     }
 }

@@ -1,4 +1,4 @@
-use Rattle.graphql_read_back.proofs.SamePlaces.{same_without_places}
+use Rattle.graphql_values.proofs.SamePlaces.{same_without_places}
 use Rattle.graphql_read_back.proofs.laws.same_without_places.Goals as goal
 
 pub returns : goal.returns

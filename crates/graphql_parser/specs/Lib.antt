@@ -1,0 +1,5 @@
+pub mod Parser
+pub mod Lists
+pub mod SpelledLists
+pub mod Leaves
+pub mod Literals
