@@ -1,5 +1,5 @@
 -- What it is for a value to conform, by its form.
-use Rattle.std.proofs.Common.{◌≡◌, ◌&&◌, inl, inr, ℕ, Bool, true, false, List, [], ◌∷◌, Option, Some, None, Ok, Bor, map, length, ap, sym, subst, refl, ◌∙◌, arith}
+use Rattle.std.proofs.Common.{◌≡◌, ◌&&◌, inl, inr, ℕ, Bool, true, false, List, [], ◌∷◌, Option, Some, None, Ok, Bor, length, ap, sym, subst, refl, ◌∙◌, arith}
 use Rattle.std.specs.List.{list_all, flat_map}
 use Rattle.std.proofs.lemmas.Bool.{false≢true}
 use Rattle.std.proofs.Math.Bool.{and-true}
@@ -26,7 +26,7 @@ use Rattle.graphql_meta.specs.Types.{TypeOf}
 use Rattle.graphql_names.specs.Names.{Bytes}
 use Rattle.graphql_schema_faults.specs.Lookups.{type_named}
 use Rattle.graphql_literal_checks.specs.declared.source.Source.{Source}
-use Rattle.graphql_literal_checks.specs.InputTypes.{allows, refuses_null, may_stand_alone, argument_named, none_missing}
+use Rattle.graphql_literal_checks.specs.InputTypes.{WholeFits, allows, refuses_null, may_stand_alone, argument_named}
 use Rattle.graphql_literal_checks.specs.Conforms.{Conforms, null, variable, scalar, enum, sent_enum, list, object, EachConforms, no_items, more_items, FieldsConform, no_fields, more_fields}
 use Rattle.graphql_literal_checks.specs.Judged.{IsListOf, Judged, Names, IsObject, ObjectFits, NamedFits, AloneFits, ListFits, FieldFits, lent, is_constant, are_constant, have_constants}
 
@@ -127,7 +127,7 @@ module _ {S C : Type 0} (answer : S → ScalarAnswer) (accepts : C → InputValu
   to_level _ _ (enum t m name alone there declared accepted) = subst (Level t) (sym (value.outs-Enum name)) tt
   to_level _ _ (sent_enum t m s name sent text alone there declared accepted) = subst (Level t) (sym (value.outs-Scalar s)) tt
   to_level _ _ (list t size within xs is allowed each) = subst (Level t) (sym (value.outs-List xs)) (size, within, is, allowed, each)
-  to_level _ _ (object t m ps alone there fields none accepted) = subst (Level t) (sym (value.outs-Object ps)) tt
+  to_level _ _ (object t m ps alone there fields whole) = subst (Level t) (sym (value.outs-Object ps)) tt
 
   level_of : (t : TypeOf) (v : InputValue S) (l : InputValue-F S (InputValue S)) → out v ≡ l → Fits t v → Level t l
   level_of t v l e h = subst (Level t) e (to_level t v h)
@@ -153,7 +153,7 @@ module _ {S C : Type 0} (answer : S → ScalarAnswer) (accepts : C → InputValu
   alone_of _ _ (sent_enum t m s name sent text alone there declared accepted) no_null no_variable no_list =
       named_at (Some (meta.Enum m)) t (value.Scalar s) there alone ((name, inr (sent, (s, refl, text)), declared), accepted)
   alone_of _ _ (list t size within xs is allowed each) no_null no_variable no_list = absurd (no_list xs refl)
-  alone_of _ _ (object t m ps alone there fields none accepted) no_null no_variable no_list = named_at (Some (meta.InputObject m)) t (value.Object ps) there alone (ps, refl, (fields, none, accepted))
+  alone_of _ _ (object t m ps alone there fields whole) no_null no_variable no_list = named_at (Some (meta.InputObject m)) t (value.Object ps) there alone (ps, refl, (fields, whole))
 
   from_named : (o : Option (MetaType S C)) (t : TypeOf) (v : InputValue S) → type_named types t.name ≡ o → may_stand_alone t ≡ true → Named o v → Fits t v
   from_named (Some (meta.Scalar m)) t v there alone fits =
@@ -163,7 +163,7 @@ module _ {S C : Type 0} (answer : S → ScalarAnswer) (accepts : C → InputValu
       from_name : Names answer source v fits.0.0 → Fits t v
       from_name (inl is) = subst (Fits t) (sym is) (enum t m fits.0.0 alone there fits.0.2 (subst (accepts m.check) is fits.1))
       from_name (inr w) = subst (Fits t) (sym w.1.1) (sent_enum t m w.1.0 fits.0.0 w.0 w.1.2 alone there fits.0.2 (subst (accepts m.check) w.1.1 fits.1))
-  from_named (Some (meta.InputObject m)) t v there alone fits = subst (Fits t) (sym fits.1) (object t m fits.0 alone there fits.2.0 fits.2.1 fits.2.2)
+  from_named (Some (meta.InputObject m)) t v there alone fits = subst (Fits t) (sym fits.1) (object t m fits.0 alone there fits.2.0 fits.2.1)
   from_named (Some (meta.Object m)) t v there alone fits = absurd fits
   from_named (Some (meta.Interface m)) t v there alone fits = absurd fits
   from_named (Some (meta.Union m)) t v there alone fits = absurd fits
@@ -247,18 +247,18 @@ module _ {S C : Type 0} (answer : S → ScalarAnswer) (accepts : C → InputValu
   pairs_within (InputValue-F.Object ps) = ps
   pairs_within _ = []
 
-  objects_same : (us ps : List (Pair (InputValue S))) → value.Object us ≡ value.Object ps → us ≡ ps
+  pub objects_same : (us ps : List (Pair (InputValue S))) → value.Object us ≡ value.Object ps → us ≡ ps
   objects_same us ps e = sym (ap pairs_within (value.outs-Object us)) ∙ ap (λ v. pairs_within (out v)) e ∙ ap pairs_within (value.outs-Object ps)
 
   -- the fields conform, none is missing, and the type accepts the object where no variable stands in it
   abbrev pub Whole : InputObjectMeta S C → InputValue S → List (Pair (InputValue S)) → Type 0
-  Whole m v ps = Fields m.input_fields ps × (none_missing m.input_fields (map (λ p. p.0.item) ps) ≡ true) × (have_constants ps ≡ true → accepts m.check v)
+  Whole m v ps = Fields m.input_fields ps × WholeFits accepts m v ps (have_constants ps ≡ true)
 
   pub object_fits : (m : InputObjectMeta S C) (v : InputValue S) (ps : List (Pair (InputValue S))) → v ≡ value.Object ps → Whole m v ps → IsObject (ObjectFits answer accepts types source m) v
-  object_fits m v ps is whole = (ps, is, (whole.0, whole.1, λ no_variable. subst (accepts m.check) is (whole.2 (constant_object ps ∙ constant_if (value.Object ps) no_variable))))
+  object_fits m v ps is whole = (ps, is, (whole.0, (whole.1.0, λ no_variable. subst (accepts m.check) is (whole.1.1 (constant_object ps ∙ constant_if (value.Object ps) no_variable)))))
 
   fits_whole : (m : InputObjectMeta S C) (v : InputValue S) (ps : List (Pair (InputValue S))) → v ≡ value.Object ps → ObjectFits answer accepts types source m ps → Whole m v ps
-  fits_whole m v ps is fits = (fits.0, fits.1, λ h. subst (accepts m.check) (sym is) (fits.2 (is_constant_if (value.Object ps) (sym (constant_object ps) ∙ h))))
+  fits_whole m v ps is fits = (fits.0, (fits.1.0, λ h. subst (accepts m.check) (sym is) (fits.1.1 (is_constant_if (value.Object ps) (sym (constant_object ps) ∙ h)))))
 
   pub fits_object : (m : InputObjectMeta S C) (v : InputValue S) (ps : List (Pair (InputValue S))) → v ≡ value.Object ps → IsObject (ObjectFits answer accepts types source m) v → Whole m v ps
   fits_object m v ps is fits = fits_whole m v ps is (subst (ObjectFits answer accepts types source m) (objects_same fits.0 ps (sym fits.1 ∙ is)) fits.2)

@@ -3,3 +3,4 @@ pub mod ConformsLemmas
 pub mod OpenLemmas
 pub mod OpenParts
 pub mod Rows
+pub mod UnlocatedLemmas

@@ -1,5 +1,5 @@
 -- What is asked of a list or an object once its next part was begun with, or where there is none.
-use Rattle.std.proofs.Common.{◌≡◌, ◌&&◌, Bool, true, List, [], ◌∷◌, ◌++◌, Some, Result, Bor, map, length, ap, sym, subst, refl, ◌∙◌}
+use Rattle.std.proofs.Common.{◌≡◌, ◌&&◌, Bool, true, List, [], ◌∷◌, ◌++◌, Some, Result, Bor, length, ap, sym, subst, refl, ◌∙◌}
 use Rattle.graphql_scalars.specs.ScalarAnswers.{ScalarAnswer}
 use Rattle.graphql_values.specs.declared.input_value.InputValue.{InputValue}
 use Rattle.graphql_values.specs.InputValues.{Placed, Pair}
@@ -15,7 +15,7 @@ use Rattle.graphql_literal_checks.specs.declared.open_values.OpenList.{OpenList}
 use Rattle.graphql_literal_checks.specs.declared.open_values.OpenObject.{OpenObject}
 use Rattle.graphql_literal_checks.specs.declared.source.Source.{Source}
 use Rattle.graphql_literal_checks.specs.Conforms.{Conforms}
-use Rattle.graphql_literal_checks.specs.InputTypes.{argument_named, none_missing}
+use Rattle.graphql_literal_checks.specs.InputTypes.{WholeFits, argument_named}
 use Rattle.graphql_literal_checks.specs.Judged.{FieldFits, Judged, lent, is_constant, are_constant, have_constants}
 use Rattle.graphql_literal_checks.specs.OpenValues.{ListOwes, ObjectOwes, Opens, list_constant, object_constant}
 use Rattle.graphql_literal_checks.proofs.ConformsLemmas.{first_field, first_item, fits_field, field_fits, no_field_varies, no_item, no_item_varies, no_pair, with_field, with_item}
@@ -52,15 +52,15 @@ module _ {S C : Type 0} (answer : S → ScalarAnswer) (accepts : C → InputValu
     declared = o.meta.now.input_fields
 
     -- what is asked of the object whose fields conform
-    abbrev pub WholeFits : Bool → Type 0
-    WholeFits constant = (none_missing declared (map (λ p. p.0.item) o.pairs.now) ≡ true) × (constant ≡ true → accepts o.meta.now.check o.value.now)
+    abbrev pub Whole : Bool → Type 0
+    Whole constant = WholeFits accepts o.meta.now o.value.now o.pairs.now (constant ≡ true)
 
-    pub object_ends : (r : Result Bool Misfit) (fs : List (Open S C)) → length o.rest.now ≡ 0 → Judged (WholeFits (o.constant && here)) (o.constant && here) r → Opened (ObjectOwes answer accepts types source here o) (object_constant here o) r fs fs
+    pub object_ends : (r : Result Bool Misfit) (fs : List (Open S C)) → length o.rest.now ≡ 0 → Judged (Whole (o.constant && here)) (o.constant && here) r → Opened (ObjectOwes answer accepts types source here o) (object_constant here o) r fs fs
     object_ends r fs none h =
         let same : (o.constant && here) ≡ object_constant here o = no_field_varies (o.constant && here) o.rest.now none in
-        opens_same answer accepts types source (WholeFits (o.constant && here)) (ObjectOwes answer accepts types source here o) (o.constant && here) (object_constant here o) r fs fs
-        (λ w. (no_pair answer accepts types source declared o.rest.now none, w.0, λ e. w.1 (same ∙ e))) (λ owes. (owes.1, λ e. owes.2 (sym same ∙ e))) same
-        (opens_none answer accepts types source (WholeFits (o.constant && here)) (o.constant && here) r fs h)
+        opens_same answer accepts types source (Whole (o.constant && here)) (ObjectOwes answer accepts types source here o) (o.constant && here) (object_constant here o) r fs fs
+        (λ w. (no_pair answer accepts types source declared o.rest.now none, (w.0, λ e. w.1 (same ∙ e)))) (λ owes. (owes.1.0, λ e. owes.1.1 (sym same ∙ e))) same
+        (opens_none answer accepts types source (Whole (o.constant && here)) (o.constant && here) r fs h)
 
     module _ (rest : Bor (List (Pair (InputValue S)))) (p : Pair (InputValue S)) (is : o.rest.now ≡ p ∷ rest.now) (r : Result Bool Misfit) (fs new : List (Open S C)) where
       -- the object without its first field
@@ -76,8 +76,8 @@ module _ {S C : Type 0} (answer : S → ScalarAnswer) (accepts : C → InputValu
           opens_same answer accepts types source
           (FieldFits answer accepts types source declared p.0.item p.1.item × ObjectOwes answer accepts types source (is_constant p.1.item) object_behind) (ObjectOwes answer accepts types source here o)
           (object_constant (is_constant p.1.item) object_behind) (object_constant here o) r fs new
-          (λ w. (with_field answer accepts types source declared o.rest.now p rest.now is w.0 w.1.0, w.1.1, λ e. w.1.2 (same ∙ e)))
-          (λ owes. let u = first_field answer accepts types source declared o.rest.now owes.0 p rest.now is in (u.0, (u.1, owes.1, λ e. owes.2 (sym same ∙ e)))) same h
+          (λ w. (with_field answer accepts types source declared o.rest.now p rest.now is w.0 w.1.0, (w.1.1.0, λ e. w.1.1.1 (same ∙ e))))
+          (λ owes. let u = first_field answer accepts types source declared o.rest.now owes.0 p rest.now is in (u.0, (u.1, (owes.1.0, λ e. owes.1.1 (sym same ∙ e))))) same h
 
     -- a field's value was begun with, whose type is declared
     module _ (name : Bytes) (v : InputValue S) (a : Argument S) (there : argument_named declared name ≡ Some a) (asked : «Type» Bytes (Bor (List TypeModifier))) (same : lent asked ≡ a.arg_type) (r : Result Bool Misfit) (fs gs new : List (Open S C)) where

@@ -87,4 +87,4 @@ pub one_point : Fits Literal (asked (codes "Point") []) (value.Object (unplaced_
 one_point =
     object (asked (codes "Point") []) point (unplaced_pair (codes "x", value.Scalar 1) ∷ []) refl refl
     (more_fields (x ∷ []) x (unplaced_pair (codes "x", value.Scalar 1)) [] refl (scalar (asked (codes "Int") (modifier.NonNull ∷ [])) int 1 refl refl tt) (no_fields (x ∷ [])))
-    refl (λ constant. tt)
+    (refl, λ constant. tt)

@@ -1,5 +1,5 @@
 -- Which values conform to a type (GraphQL October 2021, 5.6.1 Values of Correct Type; 3.5, 3.9, 3.10, 3.11, 3.12: input coercion).
-use Rattle.std.specs.Prelude.{◌≡◌, ◌++◌, ℕ, true, false, List, [], ◌∷◌, map, length, Option, Some}
+use Rattle.std.specs.Prelude.{◌≡◌, ◌++◌, ℕ, true, false, List, [], ◌∷◌, length, Option, Some}
 use Rattle.graphql_scalars.specs.ScalarAnswers.{ScalarAnswer, as_text}
 use Rattle.graphql_values.specs.declared.input_value.InputValue.{InputValue}
 use Rattle.graphql_values.specs.declared.input_value.InputValue.TheVariants as value
@@ -19,7 +19,7 @@ use Rattle.graphql_names.specs.Names.{Bytes}
 use Rattle.graphql_schema_faults.specs.Lookups.{type_named}
 use Rattle.graphql_literal_checks.specs.declared.source.Source.{Source}
 use Rattle.graphql_literal_checks.specs.declared.source.Source.TheVariants.{Sent}
-use Rattle.graphql_literal_checks.specs.InputTypes.{refuses_null, allows, may_stand_alone, declares, argument_named, none_missing}
+use Rattle.graphql_literal_checks.specs.InputTypes.{WholeFits, refuses_null, allows, may_stand_alone, declares, argument_named}
 
 -- by what a scalar answers, what the check of a type accepts, the types of a schema, and where the value comes from
 module _ {S C : Type 0} (answer : S → ScalarAnswer) (accepts : C → InputValue S → Type 0) (types : List (MetaType S C)) (source : Source) where
@@ -38,7 +38,7 @@ module _ {S C : Type 0} (answer : S → ScalarAnswer) (accepts : C → InputValu
           → EachConforms (record { name = t.name; modifiers = within }) items → Conforms t (value.List items)
       -- the check of an input object is asked where no variable stands in the value
       object : (t : TypeOf) (m : InputObjectMeta S C) (pairs : List (Pair (InputValue S))) → may_stand_alone t ≡ true → type_named types t.name ≡ Some (meta.InputObject m)
-          → FieldsConform m.input_fields pairs → none_missing m.input_fields (map (λ p. p.0.item) pairs) ≡ true → (IsConstant (value.Object pairs) → accepts m.check (value.Object pairs))
+          → FieldsConform m.input_fields pairs → WholeFits accepts m (value.Object pairs) pairs (IsConstant (value.Object pairs))
           → Conforms t (value.Object pairs)
 
     -- each item conforms

@@ -1,13 +1,16 @@
 -- What a type asks of the values that are given to it (GraphQL October 2021, 3.11 List, 3.12 Non-Null: input coercion; 3.9 Enums; 3.10 Input Objects).
-use Rattle.std.specs.Prelude.{◌||◌, ℕ, Bool, true, nat_eq, List, Option, Some, None}
+use Rattle.std.specs.Prelude.{◌≡◌, ◌||◌, ℕ, Bool, true, nat_eq, List, map, Option, Some, None}
 use Rattle.std.specs.List.{list_all, list_any}
 use Rattle.graphql_type_references.specs.TypeReference.{outermost, is_non_null}
 use Rattle.graphql_type_references.specs.declared.type_modifier.TypeModifier.{TypeModifier}
 use Rattle.graphql_type_references.specs.declared.type_modifier.TypeModifier.TheVariants as modifier
 use Rattle.graphql_meta.specs.declared.meta.argument.Argument.{Argument}
 use Rattle.graphql_meta.specs.declared.meta.enumeration.EnumMeta.{EnumMeta}
+use Rattle.graphql_meta.specs.declared.meta.input_object.InputObjectMeta.{InputObjectMeta}
 use Rattle.graphql_meta.specs.Types.{TypeOf}
 use Rattle.graphql_names.specs.Names.{Bytes, is_named, is_one_of}
+use Rattle.graphql_values.specs.declared.input_value.InputValue.{InputValue}
+use Rattle.graphql_values.specs.InputValues.{Pair}
 pub use Rattle.graphql_schema.specs.Declarations.{argument_named}
 pub use Rattle.graphql_schema.specs.Executable.{is_optional}
 
@@ -36,3 +39,12 @@ module _ {S : Type 0} where
   -- each declared field need not be given, or is among the names of those given
   abbrev pub none_missing : List (Argument S) → List Bytes → Bool
   none_missing declared given = list_all (λ a. is_optional a || is_one_of given a.name) declared
+
+module _ {S C : Type 0} where
+  -- as many fields are given as the input object asks for: each that has to be given is (3.10)
+  abbrev pub is_complete : InputObjectMeta S C → List (Pair (InputValue S)) → Bool
+  is_complete m pairs = none_missing m.input_fields (map (λ p. p.0.item) pairs)
+
+  -- what the input object asks of an object beside its fields: they are complete, and its check accepts it where no variable stands in it
+  abbrev pub WholeFits : (C → InputValue S → Type 0) → InputObjectMeta S C → InputValue S → List (Pair (InputValue S)) → Type 0 → Type 0
+  WholeFits accepts m v pairs NoVariable = (is_complete m pairs ≡ true) × (NoVariable → accepts m.check v)

@@ -1,5 +1,5 @@
 -- What is judged of a value at a type, by the kind of the type, and what an answer tells (GraphQL October 2021, 5.6.1 Values of Correct Type).
-use Rattle.std.specs.Prelude.{◌≡◌, ◌++◌, ◌⊎◌, ◌∷◌, ℕ, Bool, true, false, List, [], map, length, Option, Some, Result}
+use Rattle.std.specs.Prelude.{◌≡◌, ◌++◌, ◌⊎◌, ◌∷◌, ℕ, Bool, true, false, List, [], length, Option, Some, Result}
 use Rattle.std.specs.Borrow.{Bor}
 use Rattle.std.specs.List.{list_all}
 use Rattle.graphql_items.specs.Memory.{Answers}
@@ -26,7 +26,7 @@ use Rattle.graphql_literal_checks.specs.declared.source.Source.TheVariants.{Sent
 use Rattle.graphql_literal_checks.specs.declared.misfit.Misfit.{Misfit}
 use Rattle.graphql_literal_checks.specs.declared.misfit.Misfit.TheVariants as misfit
 use Rattle.graphql_literal_checks.specs.Conforms.{Conforms, FieldsConform, EachConforms}
-use Rattle.graphql_literal_checks.specs.InputTypes.{allows, argument_named, declares, may_stand_alone, none_missing}
+use Rattle.graphql_literal_checks.specs.InputTypes.{WholeFits, allows, argument_named, declares, may_stand_alone}
 
 -- a type that is lent
 abbrev pub lent : «Type» Bytes (Bor (List TypeModifier)) → TypeOf
@@ -79,9 +79,7 @@ module _ {S C : Type 0} (accepts : C → InputValue S → Type 0) where
 
 module _ {S C : Type 0} (answer : S → ScalarAnswer) (accepts : C → InputValue S → Type 0) (types : List (MetaType S C)) (source : Source) where
   abbrev pub ObjectFits : InputObjectMeta S C → List (Pair (InputValue S)) → Type 0
-  ObjectFits m pairs =
-      FieldsConform answer accepts types source m.input_fields pairs × (none_missing m.input_fields (map (λ p. p.0.item) pairs) ≡ true)
-      × (IsConstant (value.Object pairs) → accepts m.check (value.Object pairs))
+  ObjectFits m pairs = FieldsConform answer accepts types source m.input_fields pairs × WholeFits accepts m (value.Object pairs) pairs (IsConstant (value.Object pairs))
 
   -- the value fits the named type, of which this is known
   abbrev pub NamedFits : Option (MetaType S C) → InputValue S → Type 0

@@ -3,3 +3,4 @@ pub mod Conforms
 pub mod InputFields
 pub mod Judged
 pub mod OpenValues
+pub mod Laws

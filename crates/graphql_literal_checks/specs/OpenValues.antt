@@ -1,5 +1,5 @@
 -- What is still asked of the lists and objects around the part of a value that is being judged (GraphQL October 2021, 5.6.1 Values of Correct Type).
-use Rattle.std.specs.Prelude.{◌≡◌, ◌↔◌, ◌&&◌, ◌+◌, ◌*◌, ℕ, Bool, true, List, [], ◌∷◌, map, Result}
+use Rattle.std.specs.Prelude.{◌≡◌, ◌↔◌, ◌&&◌, ◌+◌, ◌*◌, ℕ, Bool, true, List, [], ◌∷◌, Result}
 use Rattle.std.specs.List.{sum_by}
 use Rattle.graphql_items.specs.Memory.{Answers}
 use Rattle.graphql_scalars.specs.ScalarAnswers.{ScalarAnswer}
@@ -14,7 +14,7 @@ use Rattle.graphql_literal_checks.specs.declared.open_values.OpenList.{OpenList}
 use Rattle.graphql_literal_checks.specs.declared.open_values.OpenObject.{OpenObject}
 use Rattle.graphql_literal_checks.specs.declared.source.Source.{Source}
 use Rattle.graphql_literal_checks.specs.Conforms.{EachConforms, FieldsConform}
-use Rattle.graphql_literal_checks.specs.InputTypes.{none_missing}
+use Rattle.graphql_literal_checks.specs.InputTypes.{WholeFits}
 use Rattle.graphql_literal_checks.specs.Judged.{IsMemory, lent, are_constant, have_constants}
 
 module _ {S : Type 0} where
@@ -57,9 +57,7 @@ module _ {S C : Type 0} (answer : S → ScalarAnswer) (accepts : C → InputValu
 
   -- the rest of the fields conform, none is missing, and the type accepts the object where no variable stands in it
   abbrev pub ObjectOwes : Bool → OpenObject S C → Type 0
-  ObjectOwes here o =
-      FieldsConform answer accepts types source o.meta.now.input_fields o.rest.now × (none_missing o.meta.now.input_fields (map (λ p. p.0.item) o.pairs.now) ≡ true)
-      × (object_constant here o ≡ true → accepts o.meta.now.check o.value.now)
+  ObjectOwes here o = FieldsConform answer accepts types source o.meta.now.input_fields o.rest.now × WholeFits accepts o.meta.now o.value.now o.pairs.now (object_constant here o ≡ true)
 
   abbrev pub Owes : Bool → Open S C → Type 0
   Owes here (around.List l) = ListOwes l

@@ -1,10 +1,11 @@
 //! Whether a value conforms to a named type, by the kind of the type.
 
-ghost use Rattle.std.specs.Prelude.{◌≡◌, ◌↔◌, ℕ, List, map, true, IsTrue, IfSome, MatchOption};
+ghost use Rattle.std.specs.Prelude.{◌≡◌, ◌↔◌, ℕ, List, true, IsTrue, IfSome, MatchOption};
+ghost use Rattle.graphql_items.specs.Memory.{Told};
 ghost use Rattle.std.specs.List.{list_any};
 ghost use Rattle.graphql_names.specs.Names.{is_named};
-ghost use Rattle.graphql_literal_checks.specs.InputTypes.{none_missing};
-ghost use Rattle.graphql_literal_checks.specs.Judged.{EnumFits, IsOfEnum, Judged, Names, ScalarFits, is_constant};
+ghost use Rattle.graphql_literal_checks.specs.InputTypes.{WholeFits, is_complete};
+ghost use Rattle.graphql_literal_checks.specs.Judged.{EnumFits, IsMemory, IsOfEnum, Judged, Names, ScalarFits, is_constant};
 
 use crate::input_fields::missing;
 use crate::misfit::Misfit;
@@ -94,6 +95,21 @@ pub(crate) fn judge_enum<S: SchemaScalar>(
     }
 }
 
+/// That as many fields are given as the input object asks for: `Ok` where they are.
+fn complete<S, C>(
+    alloc: Global,
+    meta: &InputObjectMeta<S, C>,
+    pairs: &[Pair<S>],
+) -> Result<(), Misfit>
+    ensures { Told IsMemory result (is_complete meta.now pairs.now ≡ true) }
+{
+    match missing(alloc, meta.input_fields.as_slice(), pairs) {
+        Ok(None) => Ok(()),
+        Ok(Some(field)) => Err(missing_field(alloc, field.name.as_str(), &field.arg_type)),
+        Err(_) => Err(Misfit::Memory),
+    }
+}
+
 /// What is asked of an object whose fields conform: no field is missing, and where no variable stands
 /// in it, the type accepts it.
 pub(crate) fn judge_whole<S: SchemaScalar>(
@@ -103,15 +119,9 @@ pub(crate) fn judge_whole<S: SchemaScalar>(
     value: &InputValue<S>,
     constant: bool,
 ) -> Result<bool, Misfit>
-    ensures { Judged ((none_missing meta.now.input_fields (map (λ p. p.0.item) pairs.now) ≡ true) × (constant ≡ true → S.Check.accepts meta.now.check value.now)) constant result }
+    ensures { Judged (WholeFits S.Check.accepts meta.now value.now pairs.now (constant ≡ true)) constant result }
 {
-    match missing(alloc, meta.input_fields.as_slice(), pairs) {
-        Ok(None) => {}
-        Ok(Some(field)) => {
-            return Err(missing_field(alloc, field.name.as_str(), &field.arg_type));
-        }
-        Err(_) => return Err(Misfit::Memory),
-    }
+    complete(alloc, meta, pairs)?;
     if !constant {
         return Ok(false);
     }

@@ -5,6 +5,7 @@
 mod conforming;
 mod input_fields;
 mod judging;
+pub mod laws;
 mod misfit;
 mod open_values;
 mod reasons;

@@ -1,5 +1,5 @@
 -- The members that apply to an object type, one by one.
-use Rattle.std.proofs.Common.{◌≡◌, refl, sym, ◌∙◌, ap, suc, arith, Bool, true, false, not, ◌||◌, List, [], ◌∷◌, ◌++◌, map, Option, Some, None, cond, inl, inr}
+use Rattle.std.proofs.Common.{◌≡◌, refl, ◌∙◌, ap, subst, suc, arith, Bool, true, false, not, ◌||◌, List, [], ◌∷◌, ◌++◌, map, Option, Some, None, cond, inl, inr}
 use Rattle.std.specs.Option.{IfSome, IsSome}
 use Rattle.std.specs.List.{All, Contains}
 use Rattle.std.proofs.lemmas.Slice.Eq.{bytes_eq-Decides}
@@ -15,7 +15,7 @@ use Rattle.graphql_written_out.specs.Fields.{Found, applies, fields}
 use Rattle.graphql_merging.specs.Members.{Member, Scope, member, inside, members}
 use Rattle.graphql_merging.specs.Sets.{Set, members_of}
 use Rattle.graphql_merging.proofs.Nested.{one-only, in-nothing}
-use Rattle.graphql_merged_fields.specs.Chosen.{found_of, members_of_all, ConditionsAreKnown, chosen, chosen_of, chosen_of_all, IsAbove}
+use Rattle.graphql_merged_fields.specs.Chosen.{found_of, members_of_all, ConditionsAreKnown, chosen, chosen_of, chosen_of_all, IsAbove, IsTypeAbove}
 
 module _ {S C : Type 0} (types : List (MetaType S C)) (drops : Directives S → Bool) (is_above : Bytes → Bool) where
   -- ---- as collected fields
@@ -43,7 +43,7 @@ module _ {S C : Type 0} (types : List (MetaType S C)) (drops : Directives S → 
   -- ---- as members
 
   Above : Scope S C → Type 0
-  Above scope = IfSome scope (λ m. is_above (own_name m) ≡ true)
+  Above scope = IfSome scope (IsTypeAbove types is_above)
 
   above-inside : (scope : Scope S C) (on : Option Bytes) → applies is_above on ≡ true → Above scope → Above (inside types scope on)
   unfolding Above
@@ -53,11 +53,13 @@ module _ {S C : Type 0} (types : List (MetaType S C)) (drops : Directives S → 
     where
       named : (o : Option (MetaType S C)) → type_named types on ≡ o → Above o
       named None f = tt
-      named (Some m) f = ap is_above ((bytes_eq-Decides (own_name m) on).0 (found_is_in own_name types on m f).0) ∙ e
+      named (Some m) f =
+          let own : own_name m ≡ on = (bytes_eq-Decides (own_name m) on).0 (found_is_in own_name types on m f).0 in
+          (ap (type_named types) own ∙ f, ap is_above own ∙ e)
 
   -- each of the one list is of the other, and its parent is above the object type
   FromAbove : List (Member S C) → List (Member S C) → Type 0
-  FromAbove xs ys = (m : Member S C) → Contains xs m → Contains ys m × (is_above (own_name m.parent) ≡ true)
+  FromAbove xs ys = (m : Member S C) → Contains xs m → Contains ys m × IsTypeAbove types is_above m.parent
 
   from-both : (xs ys us vs : List (Member S C)) → FromAbove xs us → FromAbove ys vs → FromAbove (xs ++ ys) (us ++ vs)
   unfolding FromAbove
@@ -73,7 +75,7 @@ module _ {S C : Type 0} (types : List (MetaType S C)) (drops : Directives S → 
   from-member : (scope : Scope S C) (head : _) (below : Tree S) → Above scope → FromAbove (member scope head below) (member scope head below)
   unfolding Above FromAbove
   from-member None head below h m i = in-nothing m i
-  from-member (Some parent) head below h m i = (i, ap (λ (n : Member S C). is_above (own_name n.parent)) (sym (one-only _ m i)) ∙ h)
+  from-member (Some parent) head below h m i = (i, subst (λ (n : Member S C). IsTypeAbove types is_above n.parent) (one-only _ m i) h)
 
   from-field : (q : Bool) (xs ys us vs : List (Member S C)) → FromAbove xs us → FromAbove ys vs → FromAbove (cond q ys (xs ++ ys)) (us ++ vs)
   from-field true xs ys us vs f g = from-right ys us vs g
@@ -99,9 +101,9 @@ module _ {S C : Type 0} (types : List (MetaType S C)) (drops : Directives S → 
   tail-of P x xs h = λ k d within. h (suc k) d (omega (arith, within))
 
   -- what is chosen of sets above the object type is of their members, and stands under a type above it
-  pub from-sets : (sets : List (Set S C)) → All (IsAbove is_above) sets → (m : Member S C) → Contains (chosen_of_all types drops is_above sets) m
-      → Contains (members_of_all types sets) m × (is_above (own_name m.parent) ≡ true)
+  pub from-sets : (sets : List (Set S C)) → All (IsAbove types is_above) sets → (m : Member S C) → Contains (chosen_of_all types drops is_above sets) m
+      → Contains (members_of_all types sets) m × IsTypeAbove types is_above m.parent
   unfolding Above FromAbove
   from-sets [] h = λ m i. in-nothing m i
   from-sets (set ∷ sets) h = from-both (chosen_of types drops is_above set) (chosen_of_all types drops is_above sets) (members_of types set) (members_of_all types sets)
-      (from-tree set.scope set.tree (head-of (IsAbove is_above) set sets h)) (from-sets sets (tail-of (IsAbove is_above) set sets h))
+      (from-tree set.scope set.tree (head-of (IsAbove types is_above) set sets h)) (from-sets sets (tail-of (IsAbove types is_above) set sets h))

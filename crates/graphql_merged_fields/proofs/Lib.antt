@@ -1,2 +1,3 @@
 pub mod ChosenMembers
 pub mod OneObject
+pub mod Rows

@@ -49,10 +49,14 @@ module _ {S C : Type 0} (types : List (MetaType S C)) where
     abbrev pub chosen_of_all : List (Set S C) → List (Member S C)
     chosen_of_all = flat_map chosen_of
 
--- the type that a set selects from is above the object type
-abbrev pub IsAbove : {S C : Type 0} → (Bytes → Bool) → Set S C → Type 0
-IsAbove is_above set = IfSome set.scope (λ m. is_above (own_name m) ≡ true)
+-- one of the types, that of its name, and above the object type
+abbrev pub IsTypeAbove : {S C : Type 0} → List (MetaType S C) → (Bytes → Bool) → MetaType S C → Type 0
+IsTypeAbove types is_above m = (type_named types (own_name m) ≡ Some m) × (is_above (own_name m) ≡ true)
 
--- of object types, the object type alone is above itself
-abbrev pub OneObject : (S C : Type 0) → (Bytes → Bool) → Bytes → Type 0
-OneObject S C is_above object = (m : MetaType S C) → is_above (own_name m) ≡ true → is_object m ≡ true → own_name m ≡ object
+-- the type that a set selects from is above the object type
+abbrev pub IsAbove : {S C : Type 0} → List (MetaType S C) → (Bytes → Bool) → Set S C → Type 0
+IsAbove types is_above set = IfSome set.scope (IsTypeAbove types is_above)
+
+-- of the object types among the types, the object type alone is above itself
+abbrev pub OneObject : {S C : Type 0} → List (MetaType S C) → (Bytes → Bool) → Bytes → Type 0
+OneObject {S} {C} types is_above object = (m : MetaType S C) → IsTypeAbove types is_above m → is_object m ≡ true → own_name m ≡ object

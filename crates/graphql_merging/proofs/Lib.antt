@@ -7,3 +7,5 @@ pub mod Settled
 pub mod DirectFields
 pub mod Meeting
 pub mod Contracts
+pub mod NodeEquations
+pub mod Rows

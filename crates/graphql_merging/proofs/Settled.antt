@@ -1,11 +1,10 @@
 -- Where nothing is left to compare, all merges.
-use Rattle.std.proofs.Common.{◌≡◌, ap, sym, subst, ◌∙◌, ℕ, Bool, true, false, ◌||◌, List}
+use Rattle.std.proofs.Common.{◌≡◌, ap, sym, subst, ◌∙◌, ℕ, Bool, false, ◌||◌, List}
 use Rattle.std.specs.List.{Contains}
 use Rattle.graphql_meta.specs.declared.meta.MetaType.{MetaType}
 use Rattle.graphql_merging.specs.Members.{Member, members_below}
 use Rattle.graphql_merging.specs.Merging.{Agree, Merging, Together, in_set, in_sets, apart}
 use Rattle.graphql_merging.specs.Pieces.{Pieces, PieceField, StandsIn, directly, in_fragment, IsPieceOf, HasOwnPieces, IsSettled}
-use Rattle.graphql_merging.specs.Laws.{SettledMerges}
 use Rattle.graphql_merging.proofs.Standing.{merging-from}
 
 module _ {S C : Type 0} (eq : S → S → Bool) (types : List (MetaType S C)) (t : Pieces S C) (Begun : ℕ → ℕ → Bool → Type 0)
@@ -71,6 +70,3 @@ module _ {S C : Type 0} (eq : S → S → Bool) (types : List (MetaType S C)) (t
 
     pub settled-piece : Merging eq types ms
     settled-piece = merging-from eq types ms all-agree
-
-pub settled-merges : (S C : Type 0) (eq : S → S → Bool) → SettledMerges S C eq
-settled-merges S C eq types t begun owns settled p ms itself piece = settled-piece eq types t (λ i j x. begun i j x ≡ true) owns settled p ms itself piece

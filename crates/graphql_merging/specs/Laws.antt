@@ -6,7 +6,7 @@ use Rattle.graphql_rule_errors.specs.Places.{Places}
 use Rattle.graphql_merging.specs.Members.{Member}
 use Rattle.graphql_merging.specs.Merging.{SameField, Agree, Merge, Merging, Together, apart}
 use Rattle.graphql_merging.specs.Sets.{Set, members_of, directs_of, sets_of}
-use Rattle.graphql_merging.specs.Pieces.{Pieces, PieceField, IsPieceOf, HasOwnPieces, IsSettled, Meets}
+use Rattle.graphql_merging.specs.Pieces.{Pieces, PieceField, IsPieceOf, HasOwnPieces, Meets}
 use Rattle.graphql_merging.specs.Told.{Names, Tells, Fits, later_pairs}
 use Rattle.graphql_merging.specs.Contract.{IsSound}
 
@@ -36,11 +36,6 @@ module _ (S C : Type 0) (eq : S → S → Bool) where
   abbrev pub NestedSetsFollow : Type 0
   NestedSetsFollow = (types : List (MetaType S C)) (set : Set S C) → Merging eq types (members_of types set)
       → All (λ inner. Merging eq types (members_of types inner)) (sets_of types set)
-
-  -- where nothing is left to compare of the pairs that were begun, each set that is a piece begun with itself merges
-  abbrev pub SettledMerges : Type 0
-  SettledMerges = (types : List (MetaType S C)) (t : Pieces S C) (begun : ℕ → ℕ → Bool → Bool) → HasOwnPieces t eq types → IsSettled t eq types (λ p q x. begun p q x ≡ true)
-      → (p : ℕ) (ms : List (Member S C)) → begun p p false ≡ true → IsPieceOf t p ms → Merging eq types ms
 
   -- what is told of the fields that stand directly in a set names each two of one response key that differ in names or arguments
   abbrev pub DirectConflictsAreNamed : Type 0

@@ -8,3 +8,4 @@ pub mod Pieces
 pub mod Done
 pub mod Tables
 pub mod Laws
+pub mod FieldNodes

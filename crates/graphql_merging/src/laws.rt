@@ -1,7 +1,6 @@
 //! Laws of the definitions: each function's contract is a law, and its body does nothing.
 
-ghost use Rattle.graphql_merging.specs.Done.{DoneMeetsContract};
-ghost use Rattle.graphql_merging.specs.Laws.{AgreementIsMutual, AgreesWithItself, DisagreementIsConflict, MergingIsAgreement, MergingIsMutual, NestedSetsFollow, SettledMerges, DirectConflictsAreNamed, DirectConflictsAreConflicts, NothingToldFits, PairsStayTogether};
+ghost use Rattle.graphql_merging.specs.Laws.{AgreementIsMutual, AgreesWithItself, DisagreementIsConflict, MergingIsAgreement, MergingIsMutual, DirectConflictsAreNamed, DirectConflictsAreConflicts};
 
 /// A set merges exactly where each two fields that stand together in it agree; so one such pair
 /// that does not agree is a conflict.
@@ -21,35 +20,9 @@ pub fn fields_agree_with_themselves<S: Eq, C>()
     ensures { AgreesWithItself S C S.eq }
 {}
 
-/// It is enough to ask the sets of operations and fragments: the sets in them follow.
-pub fn nested_sets_follow<S: PartialEq, C>()
-    ensures { NestedSetsFollow S C S.eq }
-{}
-
-/// Where nothing is left to compare, each set that is a piece merges.
-pub fn settled_merges<S: PartialEq, C>()
-    ensures { SettledMerges S C S.eq }
-{}
-
 /// What is told of the fields that stand directly in a set: all of them that differ in names or
 /// arguments, and conflicts alone.
 pub fn direct_conflicts_are_right<S: PartialEq, C>()
     ensures named { DirectConflictsAreNamed S C S.eq }
     ensures conflicts { DirectConflictsAreConflicts S C S.eq }
-{}
-
-/// Pairs of pieces whose fields stand together lead to such pairs.
-pub fn pairs_stay_together<S: PartialEq, C>()
-    ensures { PairsStayTogether S C S.eq }
-{}
-
-/// Where nothing is told of pairs, each of them fits.
-pub fn nothing_told_fits<S: PartialEq, C>()
-    ensures { NothingToldFits S C S.eq }
-{}
-
-/// Where the rule ends, its errors are as it promises, whatever pairs it compared and in which
-/// order.
-pub fn done_meets_contract<S: PartialEq, C>()
-    ensures { DoneMeetsContract S C S.eq }
 {}

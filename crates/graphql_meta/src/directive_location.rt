@@ -44,23 +44,30 @@ pub enum DirectiveLocation {
     EnumValue,
 }
 
+/// The place in words, in lower case.
+fn in_words(location: DirectiveLocation) -> &'static str
+    ensures { result.now ≡ words location }
+{
+    match location {
+        DirectiveLocation::Query => "query",
+        DirectiveLocation::Mutation => "mutation",
+        DirectiveLocation::Subscription => "subscription",
+        DirectiveLocation::Field => "field",
+        DirectiveLocation::Scalar => "scalar",
+        DirectiveLocation::FragmentDefinition => "fragment definition",
+        DirectiveLocation::FieldDefinition => "field definition",
+        DirectiveLocation::VariableDefinition => "variable definition",
+        DirectiveLocation::FragmentSpread => "fragment spread",
+        DirectiveLocation::InlineFragment => "inline fragment",
+        DirectiveLocation::EnumValue => "enum value",
+    }
+}
+
 /// Writes the place in words, in lower case.
 impl fmt::Display for DirectiveLocation {
     ghost output = { λ location. Some (words location) };
 
     fn fmt<W: fmt::Write>(&self, f: &mut fmt::Formatter<W>) -> fmt::Result {
-        match self {
-            DirectiveLocation::Query => write!(f, "query"),
-            DirectiveLocation::Mutation => write!(f, "mutation"),
-            DirectiveLocation::Subscription => write!(f, "subscription"),
-            DirectiveLocation::Field => write!(f, "field"),
-            DirectiveLocation::Scalar => write!(f, "scalar"),
-            DirectiveLocation::FragmentDefinition => write!(f, "fragment definition"),
-            DirectiveLocation::FieldDefinition => write!(f, "field definition"),
-            DirectiveLocation::VariableDefinition => write!(f, "variable definition"),
-            DirectiveLocation::FragmentSpread => write!(f, "fragment spread"),
-            DirectiveLocation::InlineFragment => write!(f, "inline fragment"),
-            DirectiveLocation::EnumValue => write!(f, "enum value"),
-        }
+        f.write_str(in_words(*self))
     }
 }

@@ -9,10 +9,27 @@ ghost use Rattle.graphql_scalars.specs.declared.check_error.CheckError.TheVarian
 ghost use Rattle.graphql_items.specs.Memory.{Told};
 ghost use Rattle.graphql_meta.specs.ScalarChecks.{IsInt, IsString, IsBoolean, IsId, SaysWhy};
 
+use crate::check::TypeCheck;
 use graphql_scalars::{CheckError, Scalar, WrongInputScalarTypeError};
 use graphql_text::TextRef;
 use graphql_values::{DefaultScalarValue, InputValue, no_scalar};
 use std::alloc::Global;
+
+/// The checks of the built-in scalars, made of closures that call the functions of this module (GraphQL October 2021, 3.5 Scalars).
+#[derive(Drop)]
+pub struct StandardChecks {
+    /// Which values `Int` accepts.
+    pub int: TypeCheck,
+
+    /// Which values `String` accepts.
+    pub string: TypeCheck,
+
+    /// Which values `Boolean` accepts.
+    pub boolean: TypeCheck,
+
+    /// Which values `ID` accepts.
+    pub id: TypeCheck,
+}
 
 /// Why a value is none of the type of this name, or want of memory.
 fn refusal(alloc: Global, type_name: &str, value: &InputValue<DefaultScalarValue>) -> CheckError

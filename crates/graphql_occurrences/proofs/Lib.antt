@@ -1,9 +1,9 @@
 pub mod OccurrenceEquations
 pub mod ValueEvents
 pub mod SelectionEvents
-pub mod PendingLemmas
 pub mod Tells
 pub mod TellsValues
 pub mod TellsSelections
 pub mod TellsDefinitions
 pub mod Rows
+pub mod UnlocatedParts

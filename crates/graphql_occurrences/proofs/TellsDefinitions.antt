@@ -1,5 +1,5 @@
 -- What the events of a document tell of its parts.
-use Rattle.std.proofs.Common.{◌≡◌, false, List, [], ◌∷◌, ◌++◌, Option, Some, None, refl, sym, ap, ◌∙◌, append-nil}
+use Rattle.std.proofs.Common.{◌≡◌, List, [], ◌∷◌, ◌++◌, Option, Some, None, refl, sym, ap, ◌∙◌, append-nil}
 use Rattle.std.specs.Prelude.{unwrap_or}
 use Rattle.std.specs.Option.{option_map, option_and_then, option_to_list}
 use Rattle.std.specs.List.{flat_map}
@@ -19,7 +19,7 @@ use Rattle.graphql_tree.specs.declared.document.Operation.{Operation}
 use Rattle.graphql_tree.specs.declared.document.Fragment.{Fragment}
 use Rattle.graphql_tree.specs.declared.document.Definition.{Definition}
 use Rattle.graphql_tree.specs.declared.document.Definition.TheVariants as definition
-use Rattle.graphql_occurrences.specs.Lookups.{location_of, referred, root_of}
+use Rattle.graphql_occurrences.specs.Lookups.{bare_place, location_of, referred, root_of}
 use Rattle.graphql_tree.specs.Documents.{variables_in}
 use Rattle.graphql_occurrences.specs.Parts.{InputPlace, Part, Condition}
 use Rattle.graphql_occurrences.specs.Occurrences.{placed_parts, directives_parts, set_parts, variable_parts, operation_parts, definition_parts, occurrences}
@@ -39,7 +39,7 @@ module _ {S C : Type 0} (schema : Declarations S C) where
 
   variable_tells : (around : Around S C) (v : Variable S) → Tells (walk.variable_events schema v around) (variable_parts schema v)
   variable_tells around v =
-      let place : InputPlace = record { asked = v.1.var_type.item; has_default = false } in
+      let place = bare_place v.1.var_type.item in
       let inside = asked around (Some place) in
       tells_it (AtVariableDefinition v) _ inside _ (tells_append _ _ _ _ (default_tells place around v.1.default_value) (directives_tell schema location.VariableDefinition inside v.1.directives))
 

@@ -5,4 +5,5 @@ pub mod Nodes
 pub mod Events
 pub mod PartsOf
 pub mod Lent
-pub mod Pending
+pub mod Unlocated
+pub mod Laws

@@ -1,10 +1,13 @@
 -- Where the values of a document stand, and its directives (GraphQL October 2021, 2.9 Input Values, 3.10 Input Objects, 3.13 Directives).
-use Rattle.std.specs.Prelude.{false, List, [], Option}
-use Rattle.std.specs.Option.{option_map, option_map_or, option_and_then, is_some}
+use Rattle.std.specs.Prelude.{false, List, Option, Some, None}
+use Rattle.std.specs.Option.{option_map, option_and_then, is_some}
 use Rattle.graphql_meta.specs.declared.directive_location.DirectiveLocation.{DirectiveLocation}
 use Rattle.graphql_meta.specs.declared.directive_location.DirectiveLocation.TheVariants as location
 use Rattle.graphql_meta.specs.declared.meta.argument.Argument.{Argument}
-use Rattle.graphql_meta.specs.Types.{TypeOf, input_fields_of}
+use Rattle.graphql_meta.specs.declared.meta.input_object.InputObjectMeta.{InputObjectMeta}
+use Rattle.graphql_meta.specs.declared.meta.MetaType.{MetaType}
+use Rattle.graphql_meta.specs.declared.meta.MetaType.TheVariants as meta
+use Rattle.graphql_meta.specs.Types.{TypeOf}
 use Rattle.graphql_names.specs.Names.{Bytes}
 use Rattle.graphql_schema.specs.Declarations.{Declarations}
 pub use Rattle.graphql_declarations.specs.Lookups.{argument_named, item_type, typename_field, field_arguments, field_type, directive_arguments, field_in, field_of, known, referred, root_of}
@@ -35,11 +38,20 @@ module _ {S : Type 0} where
   abbrev pub argument_place : Option (List (Argument S)) → Bytes → Option InputPlace
   argument_place declared name = option_map place_of (option_and_then (λ ds. argument_named ds name) declared)
 
+module _ {S C : Type 0} where
+  abbrev pub input_object : MetaType S C → Option (InputObjectMeta S C)
+  input_object (meta.InputObject m) = Some m
+  input_object _ = None
+
+  -- the place of the value of the field of a name of an input object, where it is declared
+  abbrev pub place_within : Bytes → InputObjectMeta S C → Option InputPlace
+  place_within name m = option_map place_of (argument_named m.input_fields name)
+
 module _ {S C : Type 0} (schema : Declarations S C) where
-  -- the fields of the input object within every wrap of a reference, where there is one (3.10 Input Objects)
-  abbrev pub input_fields_within : TypeOf → List (Argument S)
-  input_fields_within t = option_map_or input_fields_of (known schema t.name) []
+  -- the input object within every wrap of a reference, where there is one (3.10 Input Objects)
+  abbrev pub input_object_within : TypeOf → Option (InputObjectMeta S C)
+  input_object_within t = option_and_then input_object (known schema t.name)
 
   -- the place of a field of the object that stands here, or that is the one item of the list here
   abbrev pub field_place : Option InputPlace → Bytes → Option InputPlace
-  field_place here name = option_map place_of (option_and_then (λ p. argument_named (input_fields_within p.asked) name) here)
+  field_place here name = option_and_then (place_within name) (option_and_then (λ p. input_object_within p.asked) here)

@@ -42,7 +42,7 @@ impl<'a, S, C> Around<'a, S, C> {
     }
 
     /// The types around a definition, by the name of its type.
-    pub(crate) fn top(name: Option<&'a str>) -> Around<'a, S, C>
+    pub fn top(name: Option<&'a str>) -> Around<'a, S, C>
         ensures { around_of result ≡ around_top (option_map (λ n. n.now) name.entry) }
     {
         let current = match name {
@@ -57,7 +57,7 @@ impl<'a, S, C> Around<'a, S, C> {
     }
 
     /// The same, and what is selected is of this type.
-    pub(crate) fn selecting(self, current: Option<TypeLiteral<'a>>) -> Around<'a, S, C>
+    pub fn selecting(self, current: Option<TypeLiteral<'a>>) -> Around<'a, S, C>
         ensures { around_of result ≡ around_selecting (around_of self.entry) (option_map literal_of current.entry) }
     {
         Around {
@@ -68,7 +68,7 @@ impl<'a, S, C> Around<'a, S, C> {
     }
 
     /// The same, and a value stands here.
-    pub(crate) fn asking(self, input: Option<InputPlace<'a>>) -> Around<'a, S, C>
+    pub fn asking(self, input: Option<InputPlace<'a>>) -> Around<'a, S, C>
         ensures { around_of result ≡ asked (around_of self.entry) (option_map input_of input.entry) }
     {
         Around {
@@ -79,10 +79,7 @@ impl<'a, S, C> Around<'a, S, C> {
     }
 
     /// The types inside a fragment with this condition, or the same without one.
-    pub(crate) fn inside_condition(
-        self,
-        condition: &'a Option<Spanning<TextRef<'_>>>,
-    ) -> Around<'a, S, C>
+    pub fn inside_condition(self, condition: &'a Option<Spanning<TextRef<'_>>>) -> Around<'a, S, C>
         ensures { around_of result ≡ condition_around (around_of self.entry) condition.now }
     {
         match condition {
@@ -92,7 +89,7 @@ impl<'a, S, C> Around<'a, S, C> {
     }
 
     /// The types inside a selection set.
-    pub(crate) fn inside_set(self, schema: &'a SchemaType<S, C>) -> Around<'a, S, C>
+    pub fn inside_set(self, schema: &'a SchemaType<S, C>) -> Around<'a, S, C>
         ensures { around_of result ≡ set_around (declarations_of schema.now) (around_of self.entry) }
     {
         Around {

@@ -1,13 +1,13 @@
 //! Where values stand.
 
 ghost use Rattle.std.specs.Prelude.{◌≡◌};
-ghost use Rattle.std.specs.Option.{option_copied, option_map};
+ghost use Rattle.std.specs.Option.{option_and_then, option_copied, option_map};
 ghost use Rattle.graphql_schema.specs.Declarations.{declarations_of};
 ghost use Rattle.graphql_occurrences.specs.Lookups as spec;
 ghost use Rattle.graphql_occurrences.specs.Lent.{arguments_lent, input_of, literal_of};
 
 use graphql_declarations::{DeclaredArguments, TypeLiteral};
-use graphql_meta::Argument;
+use graphql_meta::{Argument, InputObjectMeta, MetaType};
 use graphql_schema::SchemaType;
 
 /// Where a value stands: in an argument, in a list, in an input object, or as the default of a
@@ -19,6 +19,18 @@ pub struct InputPlace<'a> {
 
     /// Whether the place has a default, which stands where no value is given.
     pub has_default: bool,
+}
+
+impl<'a> InputPlace<'a> {
+    /// A place for values of this type, without a default.
+    pub fn bare(asked: TypeLiteral<'a>) -> InputPlace<'a>
+        ensures { input_of result ≡ spec.bare_place (literal_of asked.entry) }
+    {
+        InputPlace {
+            asked,
+            has_default: false,
+        }
+    }
 }
 
 /// Where the value of an argument, or of a field of an input object, stands.
@@ -42,7 +54,7 @@ fn place_in_some<'a, S>(argument: Option<&'a Argument<S>>) -> Option<InputPlace<
 }
 
 /// Where the value of the argument of this name stands, if the argument is declared.
-pub(crate) fn place_of_argument<'a, S>(
+pub fn place_of_argument<'a, S>(
     declared: Option<DeclaredArguments<'a, S>>,
     name: &str,
 ) -> Option<InputPlace<'a>>
@@ -59,16 +71,13 @@ fn place_in_list<'a>(literal: TypeLiteral<'a>) -> Option<InputPlace<'a>>
     ensures { option_map input_of result ≡ option_map spec.bare_place (spec.item_type (literal_of literal.entry)) }
 {
     match literal.items() {
-        Some(asked) => Some(InputPlace {
-            asked,
-            has_default: false,
-        }),
+        Some(asked) => Some(InputPlace::bare(asked)),
         None => None,
     }
 }
 
 /// Where the items of a list stand, if a list is asked for.
-pub(crate) fn place_of_items<'a>(input: Option<InputPlace<'a>>) -> Option<InputPlace<'a>>
+pub fn place_of_items<'a>(input: Option<InputPlace<'a>>) -> Option<InputPlace<'a>>
     ensures { option_map input_of result ≡ spec.item_place (option_map input_of input.entry) }
 {
     match input {
@@ -77,22 +86,41 @@ pub(crate) fn place_of_items<'a>(input: Option<InputPlace<'a>>) -> Option<InputP
     }
 }
 
-/// The field of this name of the input object within every wrap of a reference.
-fn input_field<'a, S, C>(
+/// The input object within every wrap of a reference.
+fn input_object<'a, S, C>(
     schema: &'a SchemaType<S, C>,
     asked: TypeLiteral<'a>,
-    name: &str,
-) -> Option<&'a Argument<S>>
-    ensures { option_copied result ≡ spec.argument_named (spec.input_fields_within (declarations_of schema.now) (literal_of asked.entry)) name.now }
+) -> Option<&'a InputObjectMeta<S, C>>
+    ensures { option_copied result ≡ spec.input_object_within (declarations_of schema.now) (literal_of asked.entry) }
 {
     match schema.concrete_type_by_name(asked.name) {
-        Some(meta) => meta.input_field_by_name(name),
+        Some(MetaType::InputObject(meta)) => Some(meta),
+        _ => None,
+    }
+}
+
+/// Where the value of the field of this name of an input object stands, if the field is declared.
+fn place_within<'a, S, C>(meta: &'a InputObjectMeta<S, C>, name: &str) -> Option<InputPlace<'a>>
+    ensures { option_map input_of result ≡ spec.place_within name.now meta.now }
+{
+    place_in_some(meta.input_fields.get(name))
+}
+
+/// The same, where there is one.
+fn place_within_some<'a, S, C>(
+    meta: Option<&'a InputObjectMeta<S, C>>,
+    name: &str,
+) -> Option<InputPlace<'a>>
+    ensures { option_map input_of result ≡ option_and_then (spec.place_within name.now) (option_copied meta.entry) }
+{
+    match meta {
+        Some(meta) => place_within(meta, name),
         None => None,
     }
 }
 
 /// Where the value of a field of an input object stands, if the object and the field are known.
-pub(crate) fn place_of_field<'a, S, C>(
+pub fn place_of_field<'a, S, C>(
     schema: &'a SchemaType<S, C>,
     input: Option<InputPlace<'a>>,
     name: &str,
@@ -100,7 +128,7 @@ pub(crate) fn place_of_field<'a, S, C>(
     ensures { option_map input_of result ≡ spec.field_place (declarations_of schema.now) (option_map input_of input.entry) name.now }
 {
     match input {
-        Some(place) => place_in_some(input_field(schema, place.asked, name)),
+        Some(place) => place_within_some(input_object(schema, place.asked), name),
         None => None,
     }
 }

@@ -1,5 +1,5 @@
 -- The places that errors name.
-use Rattle.std.specs.Prelude.{◌≡◌, List, [], ◌∷◌, ◌++◌, Bool, map, if◌then◌else◌}
+use Rattle.std.specs.Prelude.{◌≡◌, List, [], ◌∷◌, ◌++◌, Bool, length, map, take, if◌then◌else◌}
 use Rattle.graphql_text.specs.declared.position.SourcePosition.{SourcePosition}
 use Rattle.graphql_rule_errors.specs.declared.rule_error.RuleError.{RuleError}
 
@@ -14,6 +14,7 @@ places errors = map (λ e. e.locations) errors
 abbrev pub error_if : Bool → List SourcePosition → Places
 error_if wrong at = if wrong then at ∷ [] else []
 
--- errors at these places come behind the others
-abbrev pub Reports : Places → List RuleError → List RuleError → Type 0
-Reports told old new = places new ≡ places old ++ told
+-- the errors before stay as they are, and errors at these places come behind them
+pub record Reports (told : Places) (old new : List RuleError) : Type 0 where
+  pub kept : take (length old) new ≡ old
+  pub at : places new ≡ places old ++ told

@@ -1,6 +1,6 @@
 //! Names that are mentioned more than once.
 
-ghost use Rattle.std.specs.Prelude.{◌≡◌, ◌∷◌, [], ℕ, List, map, IfOk, OnOk, Some, None, if◌then◌else◌};
+ghost use Rattle.std.specs.Prelude.{◌≡◌, ◌∷◌, ◌++◌, [], ℕ, List, map, IfOk, OnOk, Some, None, if◌then◌else◌, string_bytes};
 ghost use Rattle.std.specs.Option.{option_copied, option_map, option_or};
 ghost use Rattle.std.specs.Str.{bytes_eq};
 ghost use Rattle.graphql_rule_errors.specs.Found.{found};
@@ -20,7 +20,8 @@ pub fn report(
     message: String,
     places: &[SourcePosition],
 ) -> Result<(), AllocError>
-    ensures { OnOk result (Reports (places.now ∷ []) errors.old errors.new) }
+    ensures places { OnOk result (Reports (places.now ∷ []) errors.old errors.new) }
+    ensures error { OnOk result (errors.new ≡ errors.old ++ record { locations = places.now; message = string_bytes message } ∷ []) }
 {
     let error = RuleError::at(alloc, Text::from_string(message), places)?;
     errors.push(error)?;

@@ -7,3 +7,4 @@ pub mod NameLemmas
 pub mod CycleLaws
 pub mod RuleLaws
 pub mod Rows
+pub mod OnceLemmas

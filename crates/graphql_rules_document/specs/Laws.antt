@@ -1,5 +1,5 @@
 -- What holds of operations and fragments exactly where a rule finds no fault, and laws of what is reached and of what ends.
-use Rattle.std.specs.Prelude.{◌≡◌, ◌↔◌, ◌⊎◌, ℕ, ◌≤◌, true, List, [], length, map, None, IfSome}
+use Rattle.std.specs.Prelude.{◌≡◌, ◌↔◌, ◌⊎◌, ℕ, true, List, [], length, map, None, IfSome}
 use Rattle.std.specs.List.{All, Contains, IsDistinct, filter_map, flat_map}
 use Rattle.std.specs.Str.{bytes_eq}
 use Rattle.graphql_names.specs.Names.{Bytes, named}
@@ -27,10 +27,6 @@ FragmentsAreRanked = (fragments : List FragmentScope) → (fragment_cycles fragm
 -- the same: what is spread ends within as many levels as there are fragments
 abbrev pub FragmentsEnd : Type 0
 FragmentsEnd = (fragments : List FragmentScope) → (fragment_cycles fragments ≡ []) ↔ ((name : Bytes) → EndsWithin fragments (length fragments) name)
-
--- what ends within some levels ends within more
-abbrev pub EndsWithinMore : Type 0
-EndsWithinMore = (fragments : List FragmentScope) (n m : ℕ) (name : Bytes) → n ≤ m → EndsWithin fragments n name → EndsWithin fragments m name
 
 -- 5.5.1.1 Fragment Name Uniqueness
 abbrev pub FragmentNamesAreDistinct : Type 0

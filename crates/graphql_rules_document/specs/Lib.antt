@@ -10,3 +10,4 @@ pub mod VariablesInAllowedPosition
 pub mod AllRules
 pub mod Ends
 pub mod Laws
+pub mod Once

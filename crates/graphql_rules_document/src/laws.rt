@@ -1,7 +1,17 @@
-//! Laws of the rules: what holds exactly where a rule finds no fault, which uses are reached, and what
-//! ends. Each function's contract is a law, and its body does nothing.
+//! Laws of the rules: what holds exactly where a rule finds no fault, which uses are reached, what ends,
+//! and what a rule tells as a visitor. Each function's contract is a law, and its body does nothing.
 
-ghost use Rattle.graphql_rules_document.specs.Laws.{NoneReachesItself, FragmentsAreRanked, FragmentsEnd, EndsWithinMore, FragmentNamesAreDistinct, OperationNamesAreDistinct, VariableNamesAreDistinct, AnonymousStandsAlone, AllAreReached, UsesAreReached, UsesAreDefined, VariablesAreUsed, UsesAreAllowed};
+ghost use Rattle.std.specs.Prelude.{◌≡◌, false, List};
+ghost use Rattle.graphql_occurrences.specs.Events.{events};
+ghost use Rattle.graphql_rule_errors.specs.Places.{Places};
+ghost use Rattle.graphql_rules_document.specs.Laws.{NoneReachesItself, FragmentsAreRanked, FragmentsEnd, FragmentNamesAreDistinct, OperationNamesAreDistinct, VariableNamesAreDistinct, AnonymousStandsAlone, AllAreReached, UsesAreReached, UsesAreDefined, VariablesAreUsed, UsesAreAllowed};
+ghost use Rattle.graphql_rules_document.specs.Once.{once, said_of};
+ghost use Rattle.graphql_rules_document.specs.declared.once.Once.{Once};
+ghost use Rattle.graphql_visitors.specs.Runs.{Runs, joined};
+ghost use Rattle.graphql_visitors.specs.Subjects.{Subject};
+
+use crate::document_rule::DocumentRule;
+use graphql_meta::SchemaScalar;
 
 /// There is no cycle exactly where no fragment reaches itself by its spreads.
 pub fn fragments_without_cycles_never_reach_themselves()
@@ -18,11 +28,6 @@ pub fn fragments_without_cycles_are_ranked()
 /// there are fragments.
 pub fn fragments_without_cycles_end()
     ensures { FragmentsEnd }
-{}
-
-/// What ends within some levels when it is written out ends within more.
-pub fn ends_within_more_levels()
-    ensures { EndsWithinMore }
 {}
 
 /// No fragment repeats a name exactly where the names of fragments are distinct.
@@ -72,4 +77,12 @@ pub fn used_variables_have_uses<S>()
 /// known and of a variable that the operation defines.
 pub fn uses_in_allowed_position_are_allowed<S, C>()
     ensures { UsesAreAllowed S C }
+{}
+
+/// Over the events of a document, the visitor of a rule that has not been asked yet tells just what the
+/// rule says of the document.
+pub fn document_rules_tell_of_documents<S: SchemaScalar, R: DocumentRule<S>>()
+    ensures { (subject : Subject S S.Check) → (v w : Once R) → (told : List Places) → v.is_asked ≡ false
+        → Runs (once R.says) subject v (events subject.schema subject.document) w told
+        → joined told ≡ said_of R.says subject }
 {}

@@ -1,24 +1,33 @@
 //! The rules for the definitions of a document: what operations and fragments may be named, and what
-//! they use and spread (GraphQL October 2021, 5 Validation).
+//! they use and spread (GraphQL October 2021, 5 Validation). A rule a module: its type, its `factory`,
+//! which makes it as a visitor, and a function of its name, which adds its errors to a list.
 #![tactic(auto)]
 
 mod all_rules;
-mod anonymous_operations;
-mod cycles;
+mod document_rule;
 mod first_variables;
 pub mod laws;
+pub mod lone_anonymous_operation;
 mod names;
-mod undefined_variables;
-mod unique_names;
-mod unused_fragments;
-mod unused_variables;
-mod variable_positions;
+pub mod no_fragment_cycles;
+pub mod no_undefined_variables;
+pub mod no_unused_fragments;
+pub mod no_unused_variables;
+mod once;
+pub mod unique_fragment_names;
+pub mod unique_operation_names;
+pub mod unique_variable_names;
+pub mod variables_in_allowed_position;
 
 pub use all_rules::{document_errors, scope_errors};
-pub use anonymous_operations::lone_anonymous_operation;
-pub use cycles::no_fragment_cycles;
-pub use undefined_variables::no_undefined_variables;
-pub use unique_names::{unique_fragment_names, unique_operation_names, unique_variable_names};
-pub use unused_fragments::no_unused_fragments;
-pub use unused_variables::no_unused_variables;
-pub use variable_positions::variables_in_allowed_position;
+pub use document_rule::DocumentRule;
+pub use lone_anonymous_operation::LoneAnonymousOperation;
+pub use no_fragment_cycles::NoFragmentCycles;
+pub use no_undefined_variables::NoUndefinedVariables;
+pub use no_unused_fragments::NoUnusedFragments;
+pub use no_unused_variables::NoUnusedVariables;
+pub use once::Once;
+pub use unique_fragment_names::UniqueFragmentNames;
+pub use unique_operation_names::UniqueOperationNames;
+pub use unique_variable_names::UniqueVariableNames;
+pub use variables_in_allowed_position::VariablesInAllowedPosition;

@@ -15,21 +15,28 @@ use graphql_merging::{
 };
 use graphql_rule_errors::{RuleError, report};
 use graphql_schema::SchemaType;
-use graphql_text::{Items, SourcePosition};
+use graphql_text::Items;
 use graphql_written_out::response_key;
 use std::alloc::{AllocError, Global};
 
-/// Two places, in the order of the text.
-fn in_order(one: SourcePosition, other: SourcePosition) -> [SourcePosition; 2]
-    ensures { result ≡ in_order one other }
+/// Tells that two fields of one response key, the first of them first in the text, do not agree. An
+/// error of the call is want of memory.
+fn tell_in_order<S, C>(
+    alloc: Global,
+    difference: Difference,
+    first: &SelectedField<'_, '_, S, C>,
+    second: &SelectedField<'_, '_, S, C>,
+    told: &mut Items<RuleError>,
+) -> Result<(), AllocError>
+    ensures { OnOk result (Reports ((first.now.field.now.span.start ∷ second.now.field.now.span.start ∷ []) ∷ []) told.old told.new) }
 {
-    if other.index() < one.index() {
-        return [other, one];
-    }
-    [one, other]
+    let message = message_of(alloc, difference, first, second)?;
+    let places = [first.field.span.start, second.field.span.start];
+    report(alloc, told, message, &places)
 }
 
-/// Tells that two fields of one response key do not agree. An error of the call is want of memory.
+/// Tells that two fields of one response key do not agree: their places and what the text says of them
+/// come in the order of the text. An error of the call is want of memory.
 fn tell<S, C>(
     alloc: Global,
     difference: Difference,
@@ -39,9 +46,10 @@ fn tell<S, C>(
 ) -> Result<(), AllocError>
     ensures { OnOk result (Reports (in_order left.now.field.now.span.start right.now.field.now.span.start ∷ []) told.old told.new) }
 {
-    let message = message_of(alloc, difference, left, right)?;
-    let places = in_order(left.field.span.start, right.field.span.start);
-    report(alloc, told, message, &places)
+    if right.field.span.start.index() < left.field.span.start.index() {
+        return tell_in_order(alloc, difference, right, left, told);
+    }
+    tell_in_order(alloc, difference, left, right, told)
 }
 
 /// Compares two fields: where they have one response key, an error is told of them, or their own sets

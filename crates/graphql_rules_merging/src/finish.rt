@@ -24,7 +24,10 @@ fn begin_definitions<S, C>(
     agenda: &mut Agenda,
     definitions: usize,
 ) -> Result<(), AllocError>
-    ensures { OnOk result ((fragments : List (Fragment S)) → Begins (pieces_of fragments table.now) (λ pair. (k : ℕ) × (k < definitions) × (pair ≡ pair_of k k false)) (λ pair. (k : ℕ) × (k < definitions) × (pair ≡ pair_of k k false)) (listed_of agenda.old) (listed_of agenda.new)) }
+    ensures { OnOk result ((fragments : List (Fragment S)) → Begins (pieces_of fragments table.now)
+        (λ pair. (k : ℕ) × (k < definitions) × (pair ≡ pair_of k k false))
+        (λ pair. (k : ℕ) × (k < definitions) × (pair ≡ pair_of k k false))
+        (listed_of agenda.old) (listed_of agenda.new)) }
 {
     for definition in 0..definitions {
         begin_sets(table, agenda, definition, definition, false)?;
@@ -34,13 +37,15 @@ fn begin_definitions<S, C>(
 
 /// The errors of the fields that do not merge, in the order in which they are found. The sets below
 /// `definitions` are those of the document's definitions. An error of the call is want of memory.
-pub fn merge_errors<S: PartialEq, C>(
+pub(crate) fn merge_errors<S: PartialEq, C>(
     alloc: Global,
     schema: &SchemaType<S, C>,
     table: &SetTable<'_, '_, S, C>,
     definitions: usize,
 ) -> Result<Items<RuleError>, AllocError>
-    ensures { IfOk result (λ errors. (fragments : List (Fragment S)) → (stage : Stage) × (stage.told ≡ places errors) × IsFinished S.eq schema.now.types (pieces_of fragments table.now) definitions stage) }
+    ensures { IfOk result (λ errors. (fragments : List (Fragment S)) → (stage : Stage)
+        × (stage.told ≡ places errors)
+        × IsFinished S.eq schema.now.types (pieces_of fragments table.now) definitions stage) }
 {
     let mut progress = Progress {
         told: Items::new(alloc),

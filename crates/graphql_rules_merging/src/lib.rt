@@ -15,6 +15,5 @@ mod queue;
 mod sets;
 pub mod visitor;
 
-pub use finish::merge_errors;
 pub use overlapping_fields::overlapping_fields_can_be_merged;
 pub use visitor::{OverlappingFieldsCanBeMerged, report_overlapping_fields};

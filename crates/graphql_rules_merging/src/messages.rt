@@ -7,7 +7,7 @@ use graphql_type_references::Type;
 use graphql_written_out::response_key;
 use std::alloc::{AllocError, Global};
 
-/// What the texts say of two fields of one response key.
+/// What the texts say of two fields of one response key, in the order in which they are handed in.
 pub(crate) fn message_of<S, C>(
     alloc: Global,
     difference: Difference,

@@ -28,7 +28,9 @@ fn errors_of_table<'d, 'a, S: PartialEq, C>(
     table: SetTable<'d, 'a, S, C>,
     definitions: usize,
 ) -> Result<Items<RuleError>, AllocError>
-    ensures { IfOk result (λ errors. (fragments : List (Fragment S)) → (stage : Stage) × (stage.told ≡ places errors) × IsFinished S.eq schema.now.types (pieces_of fragments table.entry) definitions stage) }
+    ensures { IfOk result (λ errors. (fragments : List (Fragment S)) → (stage : Stage)
+        × (stage.told ≡ places errors)
+        × IsFinished S.eq schema.now.types (pieces_of fragments table.entry) definitions stage) }
 {
     let outcome = merge_errors(alloc, schema, &table, definitions);
     let_go(table);
@@ -36,15 +38,20 @@ fn errors_of_table<'d, 'a, S: PartialEq, C>(
 }
 
 /// The errors of the fields of a document that do not merge, in order: by their places, and those of
-/// the same places by their messages. Each names where two fields begin that stand together in a
-/// selection set and do not merge there; without errors each set merges. Ends on every document, also on
-/// one whose fragments lead to themselves. An error of the call is want of memory.
+/// the same places by their messages. Where no fragment leads to itself (5.5.2.2 Fragment Spreads Must
+/// Not Form Cycles) each names where two fields begin that stand together in a selection set and do not
+/// merge there, each two that stand directly in one set and differ in name or arguments are named, and
+/// without errors each set merges. On other documents it ends too, and of the errors nothing is promised
+/// but their order. An error of the call is want of memory.
 pub fn overlapping_fields_can_be_merged<S: Eq, C>(
     alloc: Global,
     schema: &SchemaType<S, C>,
     document: &[Definition<'_, S>],
 ) -> Result<Items<RuleError>, AllocError>
-    ensures merging { IfOk result (λ errors. Settled (fragments_in document.now) → IsSound S.eq schema.now.types (document_sets (declarations_of schema.now) document.now) (places errors) × IsDirect S.eq schema.now.types (document_sets (declarations_of schema.now) document.now) (places errors) × IsComplete S.eq schema.now.types (document_sets (declarations_of schema.now) document.now) (places errors)) }
+    ensures merging { let types = schema.now.types in
+        let sets = document_sets (declarations_of schema.now) document.now in
+        IfOk result (λ errors. Settled (fragments_in document.now) → IsSound S.eq types sets (places errors)
+        × IsDirect S.eq types sets (places errors) × IsComplete S.eq types sets (places errors)) }
     ensures sorted { IfOk result (IsSorted ⟦<RuleError as Ord>⟧.cmp) }
 {
     let table = numbered_sets(alloc, schema, document)?;

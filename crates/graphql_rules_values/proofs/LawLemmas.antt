@@ -31,7 +31,7 @@ module _ {X : Type 0} (Says : X → Places → Type 0) where
   parts_empty (t ∷ ts) us h = absurd (omega (arith, ap length h))
 
   -- nothing may be told exactly where nothing may be told of any item
-  tell_none : (xs : List X) → Tell Says xs [] ↔ Each (λ x. Says x []) xs
+  pub tell_none : (xs : List X) → Tell Says xs [] ↔ Each (λ x. Says x []) xs
   tell_none [] = (λ h. tt, λ h. refl)
   tell_none (x ∷ xs) = (
     λ h. let parts = parts_empty h.0 h.1 h.2 in (subst (Says x) parts.0 h.3, (tell_none xs).0 (subst (Tell Says xs) parts.1 h.4)),
@@ -45,7 +45,7 @@ module _ {A : Type 0} (P : A → Type 0) where
     λ h. recursion_from_All P xs (λ k d within. h _ (Contains-get_or xs k d within)),
   )
 
-  each_append : (xs ys : List A) → Each P (xs ++ ys) ↔ (Each P xs × Each P ys)
+  pub each_append : (xs ys : List A) → Each P (xs ++ ys) ↔ (Each P xs × Each P ys)
   each_append [] ys = (λ h. (tt, h), λ h. h.1)
   each_append (x ∷ xs) ys = (λ h. let rest = (each_append xs ys).0 h.1 in ((h.0, rest.0), rest.1), λ h. (h.0.0, (each_append xs ys).1 (h.0.1, h.1)))
 
@@ -72,7 +72,7 @@ module _ {S C : Type 0} (answer : S → ScalarAnswer) (accepts : C → InputValu
   judged_fits a (inl h) = h.0
   judged_fits a (inr h) = absurd (omega (arith, ap length h.1))
 
-  fits_each : (asked : List (Asked S)) → Misfits answer accepts types asked [] ↔ Each (Fits answer accepts types) asked
+  pub fits_each : (asked : List (Asked S)) → Misfits answer accepts types asked [] ↔ Each (Fits answer accepts types) asked
   fits_each [] = (λ h. tt, λ h. refl)
   fits_each (a ∷ asked) = (
     λ h. let each = (tell_none (Judged answer accepts types) (a ∷ asked)).0 h in (judged_fits a each.0, (fits_each asked).0 ((tell_none (Judged answer accepts types) asked).1 each.1)),

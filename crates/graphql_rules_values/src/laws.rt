@@ -2,28 +2,15 @@
 
 ghost use Rattle.std.specs.Prelude.{◌≡◌, ◌↔◌, [], List};
 ghost use Rattle.std.specs.List.{Contains};
-ghost use Rattle.graphql_meta.specs.declared.meta.MetaType.{MetaType};
 ghost use Rattle.graphql_occurrences.specs.Parts.{GivenPart, Part, VariablePart, Given, VariableDefined};
 ghost use Rattle.graphql_rule_errors.specs.Places.{Places};
 ghost use Rattle.graphql_rules_values.specs.ArgumentsOfCorrectType.{arguments_of_correct_type};
 ghost use Rattle.graphql_rules_values.specs.DefaultValuesOfCorrectType.{default_values_of_correct_type};
 ghost use Rattle.graphql_rules_values.specs.Laws.{ArgumentsFit, DefaultFits};
-ghost use Rattle.graphql_rules_values.specs.Literals.{Asked, Fits, Misfits};
 ghost use Rattle.graphql_visitors.specs.Rules.{Tell};
 ghost use Rattle.graphql_visitors.specs.Subjects.{Subject};
 
 use graphql_meta::SchemaScalar;
-
-/// Nothing is told of literals exactly where each of them conforms to the type that is asked for
-/// (GraphQL October 2021, 5.6.1 Values of Correct Type).
-pub fn literals_conform<S: SchemaScalar>()
-    ensures { (types : List (MetaType S S.Check)) → (asked : List (Asked S)) → Misfits S.answer S.Check.accepts types asked [] ↔ ((a : Asked S) → Contains asked a → Fits S.answer S.Check.accepts types a) }
-{}
-
-/// What is told of literals is determined, whatever the checks of types answer.
-pub fn misfits_are_determined<S: SchemaScalar>()
-    ensures { (types : List (MetaType S S.Check)) → (asked : List (Asked S)) → (told other : Places) → Misfits S.answer S.Check.accepts types asked told → Misfits S.answer S.Check.accepts types asked other → told ≡ other }
-{}
 
 /// `ArgumentsOfCorrectType` tells nothing exactly where the value of each argument that is declared
 /// conforms to the type that is declared.

@@ -6,7 +6,7 @@ ghost use Rattle.graphql_schema_faults.specs.declared.error.SchemaError.TheVaria
 
 use graphql_names::NameMapError;
 use graphql_text::Text;
-use std::alloc::AllocError;
+use std::alloc::{AllocError, AllocFailed};
 use thiserror::Error;
 
 /// Why metadata make no schema, in the order in which faults are told, each with a name at which it
@@ -51,6 +51,14 @@ impl From<AllocError> for SchemaError {
     ghost from_gives = { λ _ e. e ≡ Memory };
 
     fn from(_error: AllocError) -> SchemaError {
+        SchemaError::Memory
+    }
+}
+
+impl<T: Drop> From<AllocFailed<T>> for SchemaError {
+    ghost from_gives = { λ _ e. e ≡ Memory };
+
+    fn from(_error: AllocFailed<T>) -> SchemaError {
         SchemaError::Memory
     }
 }

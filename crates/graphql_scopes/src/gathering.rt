@@ -8,12 +8,13 @@ ghost use Rattle.graphql_occurrences.specs.Events.{seen};
 ghost use Rattle.graphql_occurrences.specs.Lent.{around_of, event_of, node_of};
 ghost use Rattle.graphql_occurrences.specs.Nodes.{AtFragment, AtFragmentSpread, AtOperation, AtValue, Enter, Leave, fragment_head, operation_head, placed_as, spread_head, value_head};
 ghost use Rattle.graphql_occurrences.specs.PartsOf.{parts_at, parts_of_event};
-ghost use Rattle.graphql_occurrences.specs.Pending.{ahead};
+ghost use Rattle.graphql_document_walk.specs.Pending.{ahead};
 ghost use Rattle.graphql_scopes.specs.Gathered.{closed, gathered, noted, nothing, scopes_gathered, with_event};
 ghost use Rattle.graphql_scopes.specs.Lent.{scopes_told};
 
 use crate::scopes::{FragmentScope, OperationScope, Scopes, Spread, Use};
-use graphql_occurrences::{Around, Event, Node, Walk};
+use graphql_document_walk::Walk;
+use graphql_occurrences::{Around, Event, Node};
 use graphql_text::{Items, Spanning, TextRef};
 use graphql_tree::{Fragment, FragmentSpread, Operation, VariableDefinition, VariableDefinitions};
 use graphql_values::InputValue;

@@ -7,7 +7,8 @@ ghost use Rattle.graphql_scopes.specs.Lent.{scopes_told};
 ghost use Rattle.graphql_scopes.specs.Scopes.{scopes_in};
 
 use crate::gathering::gather;
-use graphql_occurrences::{InputPlace, Walk};
+use graphql_document_walk::Walk;
+use graphql_occurrences::InputPlace;
 use graphql_schema::SchemaType;
 use graphql_text::{Items, SourcePosition, Spanning, TextRef};
 use graphql_tree::{Definition, VariableDefinition};

@@ -1,9 +1,10 @@
 //! The table of a document's selection sets.
 
-ghost use Rattle.std.specs.Prelude.{◌≡◌, List, [], IfOk, OnOk, map};
+ghost use Rattle.std.specs.Prelude.{◌≡◌, ◌+◌, ◌≤◌, List, [], IfOk, OnOk, map};
+ghost use Rattle.graphql_merging.specs.FieldNodes.{document_nodes, fields_written, set_nodes};
 ghost use Rattle.graphql_schema.specs.Declarations.{declarations_of};
 ghost use Rattle.graphql_set_table.specs.Numbered.{DefinitionsFirst, IsTable};
-ghost use Rattle.graphql_set_table.specs.Reading.{AddsSet, Extends, set_at, sets_at};
+ghost use Rattle.graphql_set_table.specs.Reading.{AddsSet, Extends, nodes_in, set_at, sets_at};
 ghost use Rattle.graphql_set_table.specs.SetsAt.{SetAt, definition_set};
 
 use crate::fragment_numbers::FragmentNumbers;
@@ -31,8 +32,8 @@ fn sets_of_definitions<'d, 'a, S, C>(
     Ok(sets)
 }
 
-/// Adds a set to the table. The sets that stand directly in it have numbers from then on. An error is
-/// want of memory.
+/// Adds a set to the table. The sets that stand directly in it have numbers from then on, and each of
+/// its fields is taken up once: there, or in one of these. An error is want of memory.
 fn add_set<'d, 'a, S, C>(
     alloc: Global,
     schema: &'d SchemaType<S, C>,
@@ -43,7 +44,10 @@ fn add_set<'d, 'a, S, C>(
 ) -> Result<(), AllocError>
     requires { DefinitionsFirst (declarations_of schema.now) fragments.now.document.now (sets_at ahead.old) }
     ensures numbered { OnOk result (Extends (sets_at ahead.old) (sets_at ahead.new)) }
-    ensures added { OnOk result (AddsSet (declarations_of schema.now) fragments.now.document.now (sets_at ahead.new) table.old.sets table.new.sets (set_at set.entry)) }
+    ensures added { let document = fragments.now.document.now in
+        let most = nodes_in (sets_at ahead.old) + set_nodes set.entry.selections.now in
+        OnOk result (AddsSet (declarations_of schema.now) document (sets_at ahead.new)
+        table.old.sets table.new.sets (set_at set.entry) most) }
 {
     let written = read_set(alloc, schema, fragments, set, ahead)?;
     match table.sets.push(written) {
@@ -66,7 +70,9 @@ fn add_sets<'d, 'a, S, C>(
 ) -> Result<(), AllocError>
     requires first { DefinitionsFirst (declarations_of schema.now) fragments.now.document.now (sets_at ahead) }
     requires none { table.old.sets ≡ [] }
-    ensures { OnOk result ((all : List (SetAt S C)) × IsTable (declarations_of schema.now) fragments.now.document.now all table.new.sets) }
+    ensures numbered { let document = fragments.now.document.now in
+        OnOk result ((all : List (SetAt S C)) × IsTable (declarations_of schema.now) document all table.new.sets) }
+    ensures once { OnOk result (fields_written table.new.sets ≤ nodes_in (sets_at ahead.entry)) }
 {
     'sets: while let Some(set) = ahead.get(table.sets.len()).copied() {
         add_set(alloc, schema, fragments, set, &mut ahead, table)?;
@@ -84,15 +90,18 @@ pub fn let_go<'d, 'a, S, C>(table: SetTable<'d, 'a, S, C>) {
 
 /// The selection sets of a document by numbers from zero (GraphQL October 2021, 2.4 Selection Sets):
 /// first those of its definitions, in order, then those of its fields and of its inline fragments. A
-/// spread has the number of the first fragment of its name (5.5.2.1 Fragment Spread Target Defined). A
-/// set that selects from an unknown type is empty. Takes time and memory in proportion to the document,
-/// and no more stack however deep it is. An error is want of memory.
+/// spread has the number of the first fragment of its name (5.5.2.1 Fragment Spread Target Defined), so
+/// that the fields of the sets are at most those that the document writes. A set that selects from an
+/// unknown type is empty. Takes time and memory in proportion to the document, and no more stack however
+/// deep it is. An error is want of memory.
 pub fn numbered_sets<'d, 'a, S, C>(
     alloc: Global,
     schema: &'d SchemaType<S, C>,
     document: &'d [Definition<'a, S>],
 ) -> Result<SetTable<'d, 'a, S, C>, AllocError>
-    ensures { IfOk result (λ table. (all : List (SetAt S C)) × IsTable (declarations_of schema.now) document.now all table.sets) }
+    ensures numbered { let declarations = declarations_of schema.now in
+        IfOk result (λ table. (all : List (SetAt S C)) × IsTable declarations document.now all table.sets) }
+    ensures once { IfOk result (λ table. fields_written table.sets ≤ document_nodes document.now) }
 {
     let fragments = FragmentNumbers::new(alloc, document)?;
     let ahead = sets_of_definitions(alloc, schema, document)?;

@@ -1,14 +1,17 @@
 -- Where fields are declared and conditions known, each spread that is written counts.
 use Rattle.std.proofs.Common.{◌≡◌, refl, sym, ◌∙◌, ap, subst, arith, List, [], ◌∷◌, ◌++◌, map, get_or, Option, Some, None, inl, inr}
-use Rattle.std.specs.Option.{IfSome, IsSome, is_some, option_map, option_to_list, unwrap_or}
-use Rattle.std.specs.List.{All, Contains}
+use Rattle.std.specs.Option.{IfSome, IsSome, is_some, option_and_then, option_map, option_to_list, unwrap_or}
+use Rattle.std.specs.List.{All, Contains, flat_map}
 use Rattle.std.proofs.lemmas.Bool.{false≢true}
 use Rattle.std.proofs.lemmas.List.Elements.{Contains-append_left, Contains-append_right, Contains-append_cases}
 use Rattle.graphql_names.specs.Names.{Bytes}
 use Rattle.graphql_names.proofs.NameMaps.{found_is_in}
 use Rattle.graphql_values.specs.InputValues.{Placed}
-use Rattle.graphql_tree.specs.Documents.{arguments_in}
+use Rattle.graphql_tree.specs.Documents.{arguments_in, variables_in}
 use Rattle.graphql_tree.specs.declared.document.Fragment.{Fragment}
+use Rattle.graphql_tree.specs.declared.document.Operation.{Operation}
+use Rattle.graphql_tree.specs.declared.document.OperationType.{OperationType}
+use Rattle.graphql_tree.specs.declared.document.OperationType.TheVariants as operation
 use Rattle.graphql_tree.specs.declared.selection.Field.{Field}
 use Rattle.graphql_tree.specs.declared.selection.FragmentSpread.{FragmentSpread}
 use Rattle.graphql_tree.specs.declared.selection.InlineFragment.{InlineFragment}
@@ -20,8 +23,9 @@ use Rattle.graphql_meta.specs.declared.meta.field.Field as declared
 use Rattle.graphql_meta.specs.declared.meta.MetaType.{MetaType}
 use Rattle.graphql_schema.specs.Declarations.{Declarations}
 use Rattle.graphql_schema_faults.specs.Lookups.{own_name}
-use Rattle.graphql_declarations.specs.Lookups.{field_arguments, field_in, field_type, known, referred}
-use Rattle.graphql_occurrences.specs.Occurrences.{directives_parts, fragment_parts, given_parts, selection_parts, set_parts, under, type_inside}
+use Rattle.graphql_declarations.specs.Lookups.{field_arguments, field_in, field_type, known, referred, root_of}
+use Rattle.graphql_occurrences.specs.Lookups.{location_of}
+use Rattle.graphql_occurrences.specs.Occurrences.{directives_parts, fragment_parts, given_parts, operation_parts, selection_parts, set_parts, under, type_inside, variable_parts}
 use Rattle.graphql_occurrences.specs.Parts.{Part, AField, ASpread, AnInline, Condition}
 use Rattle.graphql_occurrences.proofs.OccurrenceEquations.{parts_field, parts_spread, parts_inline}
 use Rattle.graphql_written_out.specs.Written.{listed}
@@ -50,7 +54,7 @@ module _ {S C : Type 0} (schema : Declarations S C) where
     conditions = λ n i. k.conditions n (Contains-append_right ps qs (Condition n) i);
   }
 
-  spread-left : (ps qs : List (Part S C)) (name : Bytes) → IsSpread ps name → IsSpread (ps ++ qs) name
+  pub spread-left : (ps qs : List (Part S C)) (name : Bytes) → IsSpread ps name → IsSpread (ps ++ qs) name
   spread-left ps qs name s = (s.0, Contains-append_left ps qs (ASpread s.0) s.1, s.2)
 
   pub spread-right : (ps qs : List (Part S C)) (name : Bytes) → IsSpread qs name → IsSpread (ps ++ qs) name
@@ -59,6 +63,17 @@ module _ {S C : Type 0} (schema : Declarations S C) where
   -- a type that is known is one of the types
   pub among-types : (name : Bytes) (m : MetaType S C) → known schema name ≡ Some m → Contains schema.types m
   among-types name m e = (found_is_in own_name schema.types name m e).1
+
+  named-among : (name : Option Bytes) (m : MetaType S C) → option_and_then (known schema) name ≡ Some m
+      → Contains schema.types m
+  named-among (Some name) m e = among-types name m e
+  named-among None m e = cc
+
+  -- the root of an operation is one of the types
+  pub root-among : (type : OperationType) (m : MetaType S C) → root_of schema type ≡ Some m → Contains schema.types m
+  root-among operation.Query m e = among-types schema.roots.query m e
+  root-among operation.Mutation m e = named-among schema.roots.mutation m e
+  root-among operation.Subscription m e = named-among schema.roots.subscription m e
 
   module _ (closed : FieldTypesAreKnown schema) where
     abbrev Counted : Selection S → Type 0
@@ -77,7 +92,7 @@ module _ {S C : Type 0} (schema : Declarations S C) where
         ]
 
     -- a set under a type that is known by a reference
-    under-known : (o : Option (MetaType S C)) (m : MetaType S C) → o ≡ Some m → Contains schema.types m → (xs : List (Selection S)) → All Counted xs → AreKnown schema (set_parts schema o xs)
+    pub under-known : (o : Option (MetaType S C)) (m : MetaType S C) → o ≡ Some m → Contains schema.types m → (xs : List (Selection S)) → All Counted xs → AreKnown schema (set_parts schema o xs)
         → (name : Bytes) → Contains (names_in xs) name → IsSpread (set_parts schema o xs) name
     under-known o m e inside xs each k name i =
         subst (λ o. IsSpread (set_parts schema o xs) name) (sym e) (set-counted xs each m inside (subst (λ o. AreKnown schema (set_parts schema o xs)) e k) name i)
@@ -171,7 +186,7 @@ module _ {S C : Type 0} (schema : Declarations S C) where
         (subst (λ ns. Contains ns name) (names-inline x) i) in
         subst (λ ps. IsSpread ps name) (sym (inline-split x parent)) (spread-right (front-inline x parent) (inside-parts x parent) name below)
 
-    selection-counted : (x : Selection S) → Counted x
+    pub selection-counted : (x : Selection S) → Counted x
     selection-counted = selection_ind Counted counted-Field counted-Spread counted-Inline
 
     front-fragment : Fragment S → List (Part S C)
@@ -186,3 +201,22 @@ module _ {S C : Type 0} (schema : Declarations S C) where
         spread-right (front-fragment f) below name
         (under-known (known schema f.type_condition.item) m.0 m.1 (among-types f.type_condition.item m.0 m.1) f.selection_set (λ j d within. selection-counted (get_or f.selection_set j d))
         (known-right (front-fragment f) below k) name i)
+
+    front-operation : Operation S → List (Part S C)
+    front-operation o =
+        flat_map (variable_parts schema) (variables_in o.variable_definitions)
+        ++ directives_parts schema (location_of o.operation_type) o.directives
+
+    -- each name that an operation spreads, at every depth, is spread by its parts
+    pub operation-counted : (o : Operation S) → IsSome (root_of schema o.operation_type)
+        → AreKnown schema (operation_parts schema o)
+        → (name : Bytes) → Contains (names_in o.selection_set) name → IsSpread (operation_parts schema o) name
+    unfolding front-operation
+    operation-counted o has_root k name i =
+        let root = root_of schema o.operation_type in
+        let below = set_parts schema root o.selection_set in
+        let m = value-of root has_root in
+        spread-right (front-operation o) below name
+        (under-known root m.0 m.1 (root-among o.operation_type m.0 m.1) o.selection_set
+        (λ j d within. selection-counted (get_or o.selection_set j d))
+        (known-right (front-operation o) below k) name i)

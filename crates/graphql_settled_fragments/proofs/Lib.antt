@@ -3,3 +3,4 @@ pub mod WrittenLevels
 pub mod CountedSpreads
 pub mod KnownFieldTypes
 pub mod SettledFragments
+pub mod Rows

@@ -67,7 +67,7 @@ module _ {S C : Type 0} (schema : Declarations S C) where
     known-fragment f i = known-in document f i known
 
     -- the fragment of a name, as it stands in the document
-    meant : (name : Bytes) (f : Fragment S) → fragment_meant fragments name ≡ Some f → (p : Placed (Fragment S)) × Contains (fragments_of document) p × (p.item ≡ f) × (f.name.item ≡ name)
+    pub meant : (name : Bytes) (f : Fragment S) → fragment_meant fragments name ≡ Some f → (p : Placed (Fragment S)) × Contains (fragments_of document) p × (p.item ≡ f) × (f.name.item ≡ name)
     meant name f e =
         let found = found_is_in (λ (g : Fragment S). g.name.item) fragments name f e in
         let p = image-of (λ (g : Placed (Fragment S)). g.item) (fragments_of document) f found.1 in
@@ -83,7 +83,7 @@ module _ {S C : Type 0} (schema : Declarations S C) where
         let t = spread-among (fragment_parts schema p.0.item) s.0 s.1 in
         subst (EndsWithin scopes n) (t.2 ∙ s.2) (all-of (λ (u : Spread). EndsWithin scopes n u.name) (fragment_scope schema p.0).spreads spreads t.0 t.1)
 
-    within : (n : ℕ) (name : Bytes) → EndsWithin scopes n name → WrittenWithin fragments n name
+    pub within : (n : ℕ) (name : Bytes) → EndsWithin scopes n name → WrittenWithin fragments n name
     within zero name ends = none-meant (fragment_meant fragments name) refl
       where
         none-meant : (o : Option (Fragment S)) → fragment_meant fragments name ≡ o → o ≡ None
@@ -93,7 +93,7 @@ module _ {S C : Type 0} (schema : Declarations S C) where
             absurd (all-of (λ (g : FragmentScope). g.name ≡ name → ⊥) scopes ends (fragment_scope schema p.0) (contains-map (fragment_scope schema) (fragments_of document) p.0 p.1) (ap (λ (g : Fragment S). g.name.item) p.2 ∙ p.3))
     within (suc n) name ends = λ f e. all-from (WrittenWithin fragments n) (names_in f.selection_set) (λ m i. within n m (below n name ends f e m i))
 
-    as-many : length scopes ≡ length fragments
+    pub as-many : length scopes ≡ length fragments
     as-many = length-map (fragments_of document) (fragment_scope schema) ∙ sym (length-map (fragments_of document) (λ (f : Placed (Fragment S)). f.item))
 
     pub settled : ((name : Bytes) → EndsWithin scopes (length scopes) name) → Settled fragments

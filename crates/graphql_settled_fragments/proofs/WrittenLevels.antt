@@ -1,6 +1,6 @@
 -- What ends within some levels is written out by as many.
 use Rattle.std.proofs.Common.{◌≡◌, refl, sym, ◌∙◌, ap, subst, ℕ, zero, suc, ◌≤◌, arith, List, [], ◌∷◌, ◌++◌, map, length, get_or, Option, Some, None}
-use Rattle.std.specs.Option.{option_map, IfSome}
+use Rattle.std.specs.Option.{IfSome}
 use Rattle.std.specs.List.{All, flat_map}
 use Rattle.graphql_names.specs.Names.{Bytes}
 use Rattle.graphql_values.specs.InputValues.{Placed}
@@ -13,7 +13,8 @@ use Rattle.graphql_tree.specs.declared.selection.Selection.TheVariants as select
 use Rattle.graphql_tree.proofs.SelectionEquations.{fold_field, fold_spread, fold_inline, fold_in_field, fold_in_inline}
 use Rattle.graphql_tree.proofs.SelectionInduction.{selection_ind}
 use Rattle.graphql_written_out.specs.Trees.{Directives, Tree, none, field, inline}
-use Rattle.graphql_written_out.specs.Written.{listed, head_of, condition_of, Before, chain, spread_as, fragment_meant, selection_layer, field_layer, inline_layer, write_with, write, written, Settled}
+use Rattle.graphql_written_out.specs.Written.{listed, head_of, condition_of, Before, chain, spread_as, fragment_meant, write_with, write, written, Settled}
+use Rattle.graphql_written_out.proofs.WrittenEquations.{listed-map, write_field, write_spread, write_inline}
 use Rattle.graphql_settled_fragments.specs.SpreadNames as names
 use Rattle.graphql_settled_fragments.specs.SpreadNames.{spread_names, names_in, WrittenWithin}
 use Rattle.graphql_settled_fragments.proofs.ListItems.{all-left, all-right, all-first, all-after}
@@ -23,10 +24,6 @@ use Rattle.graphql_settled_fragments.proofs.ListItems.{all-left, all-right, all-
 flat-map-map : {A : Type 0} (f : A → List Bytes) (xs : List A) → flat_map (λ ns. ns) (map f xs) ≡ flat_map f xs
 flat-map-map f [] = refl
 flat-map-map f (x ∷ xs) = ap (λ rest. f x ++ rest) (flat-map-map f xs)
-
-listed-map : {A B : Type 0} (f : A → B) (set : Option (List A)) → listed (option_map (map f) set) ≡ map f (listed set)
-listed-map f None = refl
-listed-map f (Some xs) = refl
 
 module _ {S : Type 0} where
   pub names-field : (x : Placed (Field S)) → spread_names (selection.Field x) ≡ names_in (listed x.item.selection_set)
@@ -57,22 +54,6 @@ module _ {S : Type 0} where
         ap (write_with s x) (chain-same xs (all-after Same x xs each) (all-right P (spread_names x) (names_in xs) ends) rest)
         ∙ all-first Same x xs each (all-left P (spread_names x) (names_in xs) ends) (chain (map (write_with t) xs) rest)
 
-    with-Field : (r : FragmentSpread S → Before S) (x : Placed (Field S)) (rest : Tree S)
-        → write_with r (selection.Field x) rest ≡ field (head_of x) (listed x.item.directives) (chain (map (write_with r) (listed x.item.selection_set)) none) rest
-    with-Field r x rest =
-        ap (λ (f : Before S). f rest) (fold_field (selection_layer r) (field_layer r) (inline_layer r) x)
-        ∙ ap (λ f. f x.span.start rest) (fold_in_field (selection_layer r) (field_layer r) (inline_layer r) x.item)
-        ∙ ap (λ set. field (head_of x) (listed x.item.directives) (chain set none) rest) (listed-map (write_with r) x.item.selection_set)
-
-    with-Spread : (r : FragmentSpread S → Before S) (x : Placed (FragmentSpread S)) (rest : Tree S) → write_with r (selection.FragmentSpread x) rest ≡ r x.item rest
-    with-Spread r x rest = ap (λ (f : Before S). f rest) (fold_spread (selection_layer r) (field_layer r) (inline_layer r) x)
-
-    with-Inline : (r : FragmentSpread S → Before S) (x : Placed (InlineFragment S)) (rest : Tree S)
-        → write_with r (selection.InlineFragment x) rest ≡ inline (condition_of x.item) (listed x.item.directives) (chain (map (write_with r) x.item.selection_set) none) rest
-    with-Inline r x rest =
-        ap (λ (f : Before S). f rest) (fold_inline (selection_layer r) (field_layer r) (inline_layer r) x)
-        ∙ ap (λ (f : Before S). f rest) (fold_in_inline (selection_layer r) (field_layer r) (inline_layer r) x.item)
-
     none-all : All Same []
     none-all = λ k d within. absurd (omega (arith, within))
 
@@ -82,14 +63,14 @@ module _ {S : Type 0} where
 
     selection-same : (x : Selection S) → Same x
     selection-same = selection_ind Same
-        (λ x h ends rest. with-Field s x rest
+        (λ x h ends rest. write_field s x rest
         ∙ ap (λ below. field (head_of x) (listed x.item.directives) below rest)
         (chain-same (listed x.item.selection_set) (held x.item.selection_set h) (subst (All P) (names-field x) ends) none)
-        ∙ sym (with-Field t x rest))
-        (λ x ends rest. with-Spread s x rest ∙ same x.item (all-first P _ [] (subst (All P) (names-spread x) ends)) rest ∙ sym (with-Spread t x rest))
-        (λ x h ends rest. with-Inline s x rest
+        ∙ sym (write_field t x rest))
+        (λ x ends rest. write_spread s x rest ∙ same x.item (all-first P _ [] (subst (All P) (names-spread x) ends)) rest ∙ sym (write_spread t x rest))
+        (λ x h ends rest. write_inline s x rest
         ∙ ap (λ below. inline (condition_of x.item) (listed x.item.directives) below rest) (chain-same x.item.selection_set h (subst (All P) (names-inline x) ends) none)
-        ∙ sym (with-Inline t x rest))
+        ∙ sym (write_inline t x rest))
 
     pub set-same : (xs : List (Selection S)) → All P (names_in xs) → chain (map (write_with s) xs) none ≡ chain (map (write_with t) xs) none
     set-same xs ends = chain-same xs (λ k d within. selection-same (get_or xs k d)) ends none
@@ -98,11 +79,11 @@ module _ {S : Type 0} where
 
   module _ (fragments : List (Fragment S)) where
     -- what a spread becomes at a depth
-    abbrev spread_at : ℕ → FragmentSpread S → Before S
+    abbrev pub spread_at : ℕ → FragmentSpread S → Before S
     spread_at zero = λ x rest. rest
     spread_at (suc n) = λ x rest. spread_as (write n fragments) (listed x.directives) rest (fragment_meant fragments x.name.item)
 
-    write-is : (n : ℕ) (xs : List (Selection S)) → write n fragments xs ≡ chain (map (write_with (spread_at n)) xs) none
+    pub write-is : (n : ℕ) (xs : List (Selection S)) → write n fragments xs ≡ chain (map (write_with (spread_at n)) xs) none
     write-is zero xs = refl
     write-is (suc n) xs = refl
 

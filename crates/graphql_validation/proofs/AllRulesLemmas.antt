@@ -1,16 +1,17 @@
 -- What all rules tell, and of which documents nothing.
-use Rattle.std.proofs.Common.{◌≡◌, ◌↔◌, refl, sym, ap, subst, ◌∙◌, Bool, true, false, List, [], ◌∷◌, ◌++◌, length, Option, Some, arith, Result, Ok, Err, IfOk}
+use Rattle.std.proofs.Common.{◌≡◌, ◌↔◌, refl, sym, ap, subst, ◌∙◌, Bool, true, false, List, [], ◌∷◌, ◌++◌, length, Option, Some, append-nil, arith, Result, Ok, Err, IfOk}
 use Rattle.std.specs.Prelude.{IsPermutation}
 use Rattle.std.specs.List.{All, Contains}
 use Rattle.std.specs.Option.{IsSome}
 use Rattle.std.proofs.lemmas.Bool.{false≢true}
-use Rattle.std.proofs.lemmas.List.{nil_from_length}
-use Rattle.std.proofs.lemmas.List.Sorted.{All-permutation, Contains-permutation, IsPermutation-trans, length_permutation}
+use Rattle.std.proofs.lemmas.List.{map-append, nil_from_length}
+use Rattle.std.proofs.lemmas.List.Sorted.{All-permutation, Contains-permutation, IsPermutation-map, length_permutation}
 use Rattle.graphql_values.specs.declared.input_value.InputValue.{InputValue}
 use Rattle.graphql_scalars.specs.ScalarAnswers.{ScalarAnswer}
 use Rattle.graphql_rule_errors.proofs.NoFaultLemmas.{append_none}
 use Rattle.graphql_rule_errors.specs.Places.{Places, places}
 use Rattle.graphql_rule_errors.specs.declared.rule_error.RuleError.{RuleError}
+use Rattle.graphql_text.specs.declared.position.SourcePosition.{SourcePosition}
 use Rattle.graphql_visitors.specs.Subjects.{Subject}
 use Rattle.graphql_written_out.specs.Written.{Settled}
 use Rattle.graphql_merging.proofs.Standing.{together-merge}
@@ -24,6 +25,7 @@ use Rattle.graphql_rules_merging.specs.Visitor.{MergingTold}
 use Rattle.graphql_settled_fragments.specs.Laws.{EndingFragmentsAreSettled}
 use Rattle.graphql_validation.proofs.ValidLemmas.{first_none, first_permuted, first_then}
 use Rattle.graphql_validation.specs.AllRules.{AllRules, of_first_stage, of_merging, FieldsMerge, IsValid, IsValidAt, RequestTold}
+use Rattle.graphql_validation.specs.Apart.{asked_places}
 use Rattle.graphql_validation.specs.FirstStage.{FirstStage, introspection_places, parts}
 use Rattle.graphql_validation.specs.WellFormed.{IsWellFormed}
 
@@ -35,6 +37,10 @@ none-before xs ys p h = nil_from_length xs (sym (length_permutation xs ys p) ∙
 
 none-after : {A : Type 0} (xs ys : List A) → IsPermutation xs ys → xs ≡ [] → ys ≡ []
 none-after xs ys p h = nil_from_length ys (length_permutation xs ys p ∙ ap length h)
+
+pub some_places : (errors : List RuleError) → (errors ≡ [] → ⊥) → places errors ≡ [] → ⊥
+some_places [] some none = some refl
+some_places (e ∷ errors) some none = absurd (omega (arith, ap length none))
 
 some-of : {A : Type 0} (o : Option A) (a : A) → o ≡ Some a → IsSome o
 some-of o a e = subst IsSome (sym e) refl
@@ -78,11 +84,6 @@ module _ {S C : Type 0} (eq : S → S → Bool) (answer : S → ScalarAnswer) (a
   all_permuted told other p (of_first_stage first some) = of_first_stage (first_permuted answer accepts subject told other p first) (λ e. some (none-before told other p e))
   all_permuted told other p (of_merging first merging) = of_merging first (merging_permuted eq subject told other p merging)
 
-  -- the same of a request to a root node
-  pub root_permuted : (is_disabled : Bool) (told other : Places) → IsPermutation told other → RequestTold eq answer accepts subject is_disabled told → RequestTold eq answer accepts subject is_disabled other
-  root_permuted true told other p h = record { of_rules = h.of_rules; rules_told = h.rules_told; all = IsPermutation-trans (h.of_rules ++ introspection_places subject) told other h.all p }
-  root_permuted false told other p h = all_permuted told other p h
-
   pub root_exactly : (is_disabled : Bool) (told : Places) → RequestTold eq answer accepts subject is_disabled told → (told ≡ []) ↔ IsValidAt eq answer accepts subject is_disabled
   root_exactly false told h = let all = all-exactly told h in (λ e. record { valid = all.0 e; introspects_nothing = λ t. absurd (false≢true t) }, λ v. all.1 v.valid)
   root_exactly true told h =
@@ -91,6 +92,21 @@ module _ {S C : Type 0} (eq : S → S → Bool) (answer : S → ScalarAnswer) (a
         λ e. let both = append_none h.of_rules (introspection_places subject) (none-before (h.of_rules ++ introspection_places subject) told h.all e) in record { valid = all.0 both.0; introspects_nothing = λ t. nothing.0 both.1 },
         λ v. none-after (h.of_rules ++ introspection_places subject) told h.all (λ i. all.1 v.valid i ++ nothing.1 (v.introspects_nothing refl) i),
       )
+
+  -- what all rules tell, and beside it what the rule against introspection tells where it is asked
+  pub told_beside : {E : Type 0} (is_disabled : Bool) (rules kept : List RuleError) (r : Result (List RuleError) E) → AllRules eq answer accepts subject (places rules) → places kept ≡ asked_places is_disabled subject
+      → IfOk r (IsPermutation (rules ++ kept)) → IfOk r (λ es. RequestTold eq answer accepts subject is_disabled (places es))
+  told_beside is_disabled rules kept (Err e) all is moved = tt
+  told_beside is_disabled rules kept (Ok es) all is moved = at is_disabled is
+    where
+      together : IsPermutation (places rules ++ places kept) (places es)
+      together =
+          subst (λ ps. IsPermutation ps (places es)) (map-append (λ (e : RuleError). e.locations) rules kept)
+          (IsPermutation-map {P = RuleError} {X = List SourcePosition} (λ e. e.locations) (rules ++ kept) es moved)
+
+      at : (q : Bool) → places kept ≡ asked_places q subject → RequestTold eq answer accepts subject q (places es)
+      at true is = record { of_rules = places rules; rules_told = all; all = subst (λ ps. IsPermutation (places rules ++ ps) (places es)) is together }
+      at false is = all_permuted (places rules) (places es) (subst (λ ps. IsPermutation ps (places es)) (ap (λ ps. places rules ++ ps) is ∙ append-nil (places rules)) together) all
 
   -- errors of the rule that fields merge, where the first stage told nothing
   pub merged : {E : Type 0} (r : Result (List RuleError) E) → FirstStage answer accepts subject [] → Settled (fragments_in subject.document)

@@ -4,4 +4,4 @@ pub mod ReportedLemmas
 pub mod ValidLemmas
 pub mod WellFormedLemmas
 pub mod AllRulesLemmas
-pub mod AllReportedLemmas
+pub mod ApartLemmas

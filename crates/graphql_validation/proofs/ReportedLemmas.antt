@@ -29,7 +29,7 @@ module _ {S C : Type 0} where
   errors_told P a d (Err e) none h ok p permuted = tt
   errors_told P a d (Ok es) none h ok p permuted =
       let r = h.reported ok in
-      let told : places d.errors ≡ r.0 = (r.2).errors ∙ ap (λ x. places x ++ r.0) none in
+      let told : places d.errors ≡ r.0 = (r.2).errors.at ∙ ap (λ x. places x ++ r.0) none in
       permuted r.0 (places es) (subst (λ x. IsPermutation x (places es)) told (IsPermutation-map (λ e. e.locations) d.errors es p)) r.1
 
   module _ (answer : S → ScalarAnswer) (accepts : C → InputValue S → Type 0) where

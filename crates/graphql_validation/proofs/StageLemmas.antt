@@ -1,5 +1,5 @@
 -- What the rules of the first stage tell in one pass.
-use Rattle.std.proofs.Common.{◌≡◌, List, [], ◌++◌, sym, ap, subst, ◌∙◌}
+use Rattle.std.proofs.Common.{◌≡◌, Bool, List, [], ◌++◌, sym, ap, subst, ◌∙◌}
 use Rattle.std.specs.Prelude.{IsPermutation}
 use Rattle.std.specs.List.{flat_map}
 use Rattle.std.proofs.lemmas.List.Sorted.{IsPermutation-append_right, IsPermutation-refl, IsPermutation-trans}
@@ -8,7 +8,7 @@ use Rattle.graphql_scalars.specs.ScalarAnswers.{ScalarAnswer}
 use Rattle.graphql_occurrences.proofs.TellsDefinitions.{events_told}
 use Rattle.graphql_occurrences.specs.Events.{events}
 use Rattle.graphql_occurrences.specs.Nodes.{Seen}
-use Rattle.graphql_rule_errors.specs.Places.{Places}
+use Rattle.graphql_rule_errors.specs.Places.{Places, places}
 use Rattle.graphql_visitors.proofs.RuleLemmas.{runs_both, runs_local, runs_locally, runs_silent}
 use Rattle.graphql_visitors.specs.Rules.{Relation, Rule, Tell, both, local, locally, silent}
 use Rattle.graphql_visitors.specs.Runs.{Step, Runs, joined}
@@ -33,6 +33,9 @@ use Rattle.graphql_rules_local.specs.UniqueInputFieldNames.{unique_input_field_n
 use Rattle.graphql_rules_local.specs.VariablesAreInputTypes.{no_input_type}
 use Rattle.graphql_rules_values.specs.ArgumentsOfCorrectType.{arguments_of_correct_type}
 use Rattle.graphql_rules_values.specs.DefaultValuesOfCorrectType.{default_values_of_correct_type}
+use Rattle.graphql_validation.proofs.ApartLemmas.{apart_silent, kept_of_document}
+use Rattle.graphql_validation.specs.Apart.{keeps_apart, asked_places}
+use Rattle.graphql_validation.specs.declared.introspection.Introspection.{Introspection}
 use Rattle.graphql_validation.specs.FirstStage.{PartsTold, local_places, parts, places_of}
 
 module _ {S C : Type 0} (subject : Subject S C) where
@@ -128,3 +131,25 @@ module _ {S C : Type 0} (subject : Subject S C) where
                 two.4))
                 one.4;
           }
+
+      -- the same, where the rule against introspection keeps its errors apart before them
+      pub parts_told_beside : (v w : MultiVisitorCons Introspection (MultiVisitorCons A (MultiVisitorCons B LocalVisitors))) (ts : List Places) → IsMadeFor (spreads_among v.second.second.second)
+          → Runs (both keeps_apart first_step) subject v document_events w ts → PartsTold answer accepts subject (joined ts)
+      parts_told_beside v w ts made runs =
+          let split = runs_both keeps_apart first_step subject v w document_events ts runs in
+          let told = parts_told v.second w.second split.1 made split.3 in
+          record {
+            arguments = told.arguments;
+            arguments_told = told.arguments_told;
+            defaults = told.defaults;
+            defaults_told = told.defaults_told;
+            all = IsPermutation-trans (told.arguments ++ (told.defaults ++ local_places subject)) (joined split.1) (joined ts) told.all
+                (subst (λ x. IsPermutation (x ++ joined split.1) (joined ts)) (apart_silent subject v.first w.first document_events split.0 split.2) split.4);
+          }
+
+      -- and what that rule keeps is what it tells of the document
+      pub kept_beside : (q : Bool) (v w : MultiVisitorCons Introspection (MultiVisitorCons A (MultiVisitorCons B LocalVisitors))) (ts : List Places) → v.first ≡ record { is_asked = q; errors = [] }
+          → Runs (both keeps_apart first_step) subject v document_events w ts → places w.first.errors ≡ asked_places q subject
+      kept_beside q v w ts made runs =
+          let split = runs_both keeps_apart first_step subject v w document_events ts runs in
+          kept_of_document subject q v.first w.first split.0 made split.2

@@ -7,12 +7,15 @@ ghost use Rattle.graphql_rule_errors.specs.declared.rule_error.RuleError.{RuleEr
 ghost use Rattle.graphql_rules_document.specs.AllRules.{document_places};
 ghost use Rattle.graphql_schema.specs.Declarations.{declarations_of};
 ghost use Rattle.graphql_scopes.specs.Lent.{scopes_told};
+ghost use Rattle.graphql_validation.specs.Apart.{asked_places};
 ghost use Rattle.graphql_validation.specs.FirstStage.{FirstStage, PartsTold, introspection_places, scopes as scopes_held};
 ghost use Rattle.graphql_validation.specs.Valid.{HasNoFault};
 ghost use Rattle.graphql_visitors.specs.Reports.{Reports, ReportsBy};
 ghost use Rattle.graphql_visitors.specs.Subjects.{subject_of};
 
+use crate::introspection::Introspection;
 use crate::one_walk::visit_and_gather;
+use graphql_document_walk::visit;
 use graphql_meta::SchemaScalar;
 use graphql_rule_errors::RuleError;
 use graphql_rules_document::scope_errors;
@@ -27,7 +30,7 @@ use graphql_schema::SchemaType;
 use graphql_scopes::Scopes;
 use graphql_text::Items;
 use graphql_tree::Definition;
-use graphql_visitors::{MultiVisitorNil, ValidatorContext, visit};
+use graphql_visitors::{MultiVisitorNil, ValidatorContext};
 use std::alloc::{AllocError, Global};
 
 /// Asks the rules of the first stage over the context's document: each but the one that fields merge
@@ -36,18 +39,42 @@ use std::alloc::{AllocError, Global};
 pub fn visit_first_stage<'a, 't, S: SchemaScalar>(context: &mut ValidatorContext<'a, 't, S>)
     ensures { ReportsBy (FirstStage S.answer S.Check.accepts (subject_of context.old)) context.old context.new }
 {
-    let scopes = visit_parts(context);
-    report_scopes(context, &scopes);
+    let _introspection = visit_stage(context, false);
 }
 
-/// Asks the rules that look at one part at a time, and gathers what operations and fragments hold.
+/// The same. In that walk the rule against introspection is asked too, where `introspection_disabled`:
+/// its errors stand apart from those of the context, in the order of the text.
+fn visit_stage<'a, 't, S: SchemaScalar>(
+    context: &mut ValidatorContext<'a, 't, S>,
+    introspection_disabled: bool,
+) -> Items<RuleError>
+    ensures reports { ReportsBy (FirstStage S.answer S.Check.accepts (subject_of context.old)) context.old context.new }
+    ensures introspection { context.new.failed ≡ false → places result ≡ asked_places introspection_disabled (subject_of context.old) }
+{
+    let walked = visit_parts(context, introspection_disabled);
+    report_scopes(context, &walked.scopes);
+    walked.introspection
+}
+
+/// What a walk over a document brings beside what is reported.
+#[derive(Drop)]
+struct Walked<'a, 't, S> {
+    scopes: Scopes<'a, 't, S>,
+    introspection: Items<RuleError>,
+}
+
+/// Asks the rules that look at one part at a time, and gathers what operations and fragments hold, and
+/// what the rule against introspection tells where it is asked.
 fn visit_parts<'a, 't, S: SchemaScalar>(
     context: &mut ValidatorContext<'a, 't, S>,
-) -> Scopes<'a, 't, S>
+    introspection_disabled: bool,
+) -> Walked<'a, 't, S>
     ensures reports { ReportsBy (PartsTold S.answer S.Check.accepts (subject_of context.old)) context.old context.new }
-    ensures gathered { context.new.failed ≡ false → scopes_told result ≡ scopes_held (subject_of context.old) }
+    ensures gathered { context.new.failed ≡ false → scopes_told result.scopes ≡ scopes_held (subject_of context.old) }
+    ensures introspection { context.new.failed ≡ false → places result.introspection ≡ asked_places introspection_disabled (subject_of context.old) }
 {
     let spreads = possible_fragment_spreads::factory(context.alloc(), context.schema());
+    let introspection = Introspection::new(context.alloc(), introspection_disabled);
     let mut rules = MultiVisitorNil
         .with(unique_input_field_names::factory())
         .with(unique_argument_names::factory())
@@ -62,8 +89,14 @@ fn visit_parts<'a, 't, S: SchemaScalar>(
         .with(scalar_leafs::factory())
         .with(fields_on_correct_type::factory())
         .with(default_values_of_correct_type::factory())
-        .with(arguments_of_correct_type::factory());
-    visit_and_gather(&mut rules, context)
+        .with(arguments_of_correct_type::factory())
+        .with(introspection);
+    let scopes = visit_and_gather(&mut rules, context);
+    let introspection = rules.into_first().into_errors();
+    Walked {
+        scopes,
+        introspection,
+    }
 }
 
 /// Reports what the rules for operations and fragments have against these.
@@ -100,7 +133,39 @@ pub fn first_stage_errors<'a, 't, S: SchemaScalar>(
     ensures none { IfOk result (λ errors. (errors ≡ []) ↔ HasNoFault S.answer S.Check.accepts (record { schema = declarations_of schema.now; document = document.now })) }
     ensures sorted { IfOk result (IsSorted ⟦<RuleError as Ord>⟧.cmp) }
 {
+    let found = stage_errors(alloc, schema, document, false)?;
+    Ok(found.stage)
+}
+
+/// The errors of all rules of the first stage, and those of the rule against introspection.
+#[derive(Drop)]
+pub(crate) struct StageErrors {
+    /// Those of the first stage, in order.
+    pub(crate) stage: Items<RuleError>,
+
+    /// Those of the rule against introspection, in the order of the text.
+    pub(crate) introspection: Items<RuleError>,
+}
+
+/// The errors of all rules of the first stage for a document, in order, and from the same walk, where
+/// `introspection_disabled`, those of the rule against introspection. An error of the call is want of
+/// memory.
+pub(crate) fn stage_errors<'a, 't, S: SchemaScalar>(
+    alloc: Global,
+    schema: &'a SchemaType<S>,
+    document: &'a [Definition<'t, S>],
+    introspection_disabled: bool,
+) -> Result<StageErrors, AllocError>
+    ensures told { IfOk result (λ found. FirstStage S.answer S.Check.accepts (record { schema = declarations_of schema.now; document = document.now }) (places found.stage)) }
+    ensures none { IfOk result (λ found. (found.stage ≡ []) ↔ HasNoFault S.answer S.Check.accepts (record { schema = declarations_of schema.now; document = document.now })) }
+    ensures sorted { IfOk result (λ found. IsSorted ⟦<RuleError as Ord>⟧.cmp found.stage) }
+    ensures introspection { IfOk result (λ found. places found.introspection ≡ asked_places introspection_disabled (record { schema = declarations_of schema.now; document = document.now })) }
+{
     let mut context = ValidatorContext::new(alloc, schema, document)?;
-    visit_first_stage(&mut context);
-    context.into_errors()
+    let introspection = visit_stage(&mut context, introspection_disabled);
+    let stage = context.into_errors()?;
+    Ok(StageErrors {
+        stage,
+        introspection,
+    })
 }

@@ -11,12 +11,12 @@ ghost use Rattle.graphql_validation.specs.WellFormed.{IsWellFormed};
 ghost use Rattle.graphql_visitors.specs.Subjects.{Subject};
 
 pub use graphql_merged_fields::laws::{
-    chosen_members_are_collected, one_field_for_a_key, own_sets_merge,
+    chosen_members_are_collected, one_field_for_a_key, one_field_of_an_object, one_object_type,
+    own_sets_merge,
 };
 pub use graphql_merging::laws::{
-    direct_conflicts_are_right, done_meets_contract, fields_agree_with_themselves,
-    merging_is_agreement, merging_is_mutual, nested_sets_follow, nothing_told_fits,
-    pairs_stay_together, settled_merges,
+    direct_conflicts_are_right, fields_agree_with_themselves, merging_is_agreement,
+    merging_is_mutual,
 };
 use graphql_meta::SchemaScalar;
 pub use graphql_occurrences::laws::events_tell_occurrences;
@@ -24,12 +24,12 @@ pub use graphql_rule_errors::laws::{
     distinct_names_have_no_repeats, errors_stand_by_places_and_messages,
 };
 pub use graphql_rules_document::laws::{
-    defined_uses_have_definitions, ends_within_more_levels, fragments_without_cycles_are_ranked,
-    fragments_without_cycles_end, fragments_without_cycles_never_reach_themselves,
-    lone_anonymous_operation_stands_alone, reached_uses_stand_in_what_is_reached,
-    unique_fragments_have_distinct_names, unique_operations_have_distinct_names,
-    unique_variables_have_distinct_names, used_fragments_are_reached, used_variables_have_uses,
-    uses_in_allowed_position_are_allowed,
+    defined_uses_have_definitions, document_rules_tell_of_documents,
+    fragments_without_cycles_are_ranked, fragments_without_cycles_end,
+    fragments_without_cycles_never_reach_themselves, lone_anonymous_operation_stands_alone,
+    reached_uses_stand_in_what_is_reached, unique_fragments_have_distinct_names,
+    unique_operations_have_distinct_names, unique_variables_have_distinct_names,
+    used_fragments_are_reached, used_variables_have_uses, uses_in_allowed_position_are_allowed,
 };
 pub use graphql_rules_local::laws::{
     arguments_are_declared, arguments_are_distinct, arguments_are_provided,
@@ -41,8 +41,8 @@ pub use graphql_rules_local::laws::{
 };
 pub use graphql_rules_merging::laws::visitor_tells_of_document;
 pub use graphql_rules_values::laws::{
-    declared_arguments_conform, defaults_conform, literals_conform, misfits_are_determined,
-    told_of_arguments_is_determined, told_of_defaults_is_determined,
+    declared_arguments_conform, defaults_conform, told_of_arguments_is_determined,
+    told_of_defaults_is_determined,
 };
 use graphql_schema::SchemaType;
 pub use graphql_schema::laws::{

@@ -28,12 +28,14 @@
 
 mod all_rules;
 mod first_stage;
+mod introspection;
 pub mod laws;
 mod one_walk;
 pub mod rules;
 
 pub use all_rules::{request_errors, root_node_errors, validation_errors, visit_all_rules};
 pub use first_stage::{first_stage_errors, visit_first_stage, visit_introspection_rule};
+pub use graphql_document_walk::{Walk, visit};
 pub use graphql_final_variables::FinalVariables;
 pub use graphql_literal_checks::{Source, validate_literal_value, validate_value};
 pub use graphql_meta::{
@@ -43,12 +45,12 @@ pub use graphql_meta::{
 };
 pub use graphql_names::NamedItems;
 pub use graphql_occurrences::{
-    Around, DeclaredArguments, Event, InputPlace, KnownField, Node, Owner, Seen, TypeLiteral, Walk,
+    Around, DeclaredArguments, Event, InputPlace, KnownField, Node, Owner, Seen, TypeLiteral,
 };
 pub use graphql_rule_errors::RuleError;
 pub use graphql_schema::{RootNode, SchemaError, SchemaType, TypeType};
 pub use graphql_variable_checks::validate_input_values;
 pub use graphql_visitors::{
     Local, LocalRule, MultiVisitorCons, MultiVisitorNil, Relational, RelationalRule,
-    ValidatorContext, Visitor, visit,
+    ValidatorContext, Visitor,
 };

@@ -2,15 +2,15 @@
 
 ghost use Rattle.std.specs.Prelude.{◌≡◌, false, fold};
 ghost use Rattle.graphql_occurrences.specs.Events.{events};
-ghost use Rattle.graphql_occurrences.specs.Pending.{ahead};
+ghost use Rattle.graphql_document_walk.specs.Pending.{ahead};
 ghost use Rattle.graphql_scopes.specs.Gathered.{gathered, with_event};
 ghost use Rattle.graphql_scopes.specs.Lent.{scopes_told};
 ghost use Rattle.graphql_scopes.specs.Scopes.{scopes_in};
 ghost use Rattle.graphql_visitors.specs.Runs.{Visited};
 ghost use Rattle.graphql_visitors.specs.Subjects.{subject_of};
 
+use graphql_document_walk::Walk;
 use graphql_meta::SchemaScalar;
-use graphql_occurrences::Walk;
 use graphql_scopes::{Gathering, Scopes};
 use graphql_visitors::{ValidatorContext, Visitor};
 

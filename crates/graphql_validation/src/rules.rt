@@ -1,14 +1,18 @@
 //! The rules for documents, by name (GraphQL October 2021, 5 Validation).
 //!
-//! Those that look at one part of a document at a time, or judge literals, are visitors, a module each,
-//! with its `factory`. Those over all operations and fragments of a document are functions, which add to
-//! a list of errors. The rule that fields merge is a function, and as a visitor the module
-//! `overlapping_fields`, with its `factory`.
+//! Each is a type in a module of its own, whose `factory` makes it as a visitor: so one list of visitors
+//! can hold all of them. Those over all operations and fragments of a document are functions too, of their
+//! modules' names, which add to a list of errors; what they ask is gathered once for all by
+//! `document_errors`. The rule that fields merge is the function `overlapping_fields_can_be_merged`, and as
+//! a visitor the module `overlapping_fields`.
 
 pub use graphql_rules_document::{
-    document_errors, lone_anonymous_operation, no_fragment_cycles, no_undefined_variables,
-    no_unused_fragments, no_unused_variables, scope_errors, unique_fragment_names,
-    unique_operation_names, unique_variable_names, variables_in_allowed_position,
+    DocumentRule, LoneAnonymousOperation, NoFragmentCycles, NoUndefinedVariables,
+    NoUnusedFragments, NoUnusedVariables, Once, UniqueFragmentNames, UniqueOperationNames,
+    UniqueVariableNames, VariablesInAllowedPosition, document_errors, lone_anonymous_operation,
+    no_fragment_cycles, no_undefined_variables, no_unused_fragments, no_unused_variables,
+    scope_errors, unique_fragment_names, unique_operation_names, unique_variable_names,
+    variables_in_allowed_position,
 };
 pub use graphql_rules_local::{
     DisableIntrospection, FieldsOnCorrectType, FragmentsOnCompositeTypes, KnownArgumentNames,

@@ -1,3 +1,5 @@
 pub mod RefusalLemmas
 pub mod JudgedLemmas
 pub mod LawLemmas
+pub mod Sorted
+pub mod Rows

@@ -40,7 +40,7 @@ module _ {S C : Type 0} (answer : S → ScalarAnswer) (accepts : C → InputValu
     told_accepted same accepted = subst (λ errors. Told (take (i + 1) vs) (places errors)) (sym same) (subst (λ ws. Told ws (places old)) one_more (push_accepted (take i vs) v (places old) before accepted))
 
     pub told_refused : (reported : List RuleError) → new ≡ reported → Reports ((variable_place v ∷ []) ∷ []) old reported → (Accepted v → ⊥) → Told (take (i + 1) vs) (places new)
-    told_refused reported same added refused = subst (Told (take (i + 1) vs)) (sym (ap places same ∙ added)) (subst (λ ws. Told ws (places old ++ (variable_place v ∷ []) ∷ [])) one_more (push_refused (take i vs) v (places old) before refused))
+    told_refused reported same added refused = subst (Told (take (i + 1) vs)) (sym (ap places same ∙ added.at)) (subst (λ ws. Told ws (places old ++ (variable_place v ∷ []) ∷ [])) one_more (push_refused (take i vs) v (places old) before refused))
 
   -- what is told is determined
   pub told_one : (vs : List (Variable S)) (ts us : Places) → Told vs ts → Told vs us → ts ≡ us

@@ -1,5 +1,5 @@
 -- Which values of a request's variables an operation accepts (GraphQL October 2021, 6.1.2 Coercing Variable Values).
-use Rattle.std.specs.Prelude.{◌≡◌, ◌⊎◌, ◌||◌, not, true, Bool, List, [], ◌∷◌, Option, Some, None}
+use Rattle.std.specs.Prelude.{◌≡◌, ◌⊎◌, ◌||◌, not, true, Bool, List, [], ◌∷◌, Option, Some, None, IsPermutation}
 use Rattle.std.specs.List.{Contains}
 use Rattle.std.specs.Option.{IsSome, is_some}
 use Rattle.graphql_final_variables.specs.FinalValues.{variable_name}
@@ -53,3 +53,7 @@ module _ {S C : Type 0} (answer : S → ScalarAnswer) (accepts : C → InputValu
     abbrev pub Refusals : List (Variable S) → Places → Type 0
     Refusals [] told = told ≡ []
     Refusals (v ∷ vs) told = (IsAccepted v × Refusals vs told) ⊎ ((IsAccepted v → ⊥) × ((rest : Places) × (told ≡ (variable_place v ∷ []) ∷ rest) × Refusals vs rest))
+
+    -- the same errors, in whatever order
+    abbrev pub ValuesTold : List (Variable S) → Places → Type 0
+    ValuesTold definitions told = (in_text : Places) × Refusals definitions in_text × IsPermutation in_text told

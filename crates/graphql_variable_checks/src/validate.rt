@@ -2,6 +2,7 @@
 
 ghost use Rattle.std.specs.Prelude.{◌≡◌, ◌↔◌, [], IfOk, MatchOption, true};
 ghost use Rattle.std.specs.HashMap.{get_by_text};
+ghost use Rattle.std.specs.List.Sorted.{IsSorted};
 ghost use Rattle.graphql_literal_checks.specs.Conforms.{Conforms};
 ghost use Rattle.graphql_literal_checks.specs.declared.source.Source.TheVariants.{Sent};
 ghost use Rattle.graphql_rule_errors.specs.Places.{places};
@@ -20,8 +21,8 @@ use std::alloc::{AllocError, Global};
 
 /// The errors of the values that a request gives for the variables of an operation (GraphQL October
 /// 2021, 6.1.2 Coercing Variable Values): one for each definition that does not accept what is given for
-/// its name, at the start of the definition, in the order of the text. There is none exactly where each
-/// definition accepts what is given.
+/// its name, at the start of the definition. There is none exactly where each definition accepts what is
+/// given. They stand in order: by their places, then by their messages.
 ///
 /// A value that is given is accepted where it conforms to the variable's type; a text names an enum's
 /// value there. A `null` is a value that is given, so a type without `null` refuses it, also where a
@@ -36,8 +37,25 @@ use std::alloc::{AllocError, Global};
 /// reason: r`, with the type as it is written, and the reason that `validate_value` gives.
 ///
 /// Takes time in proportion to the definitions, to the look-ups of their types by name and to what
-/// `validate_value` takes for the values. An error of the call is want of memory.
+/// `validate_value` takes for the values, and sorts the errors. An error of the call is want of memory.
 pub fn validate_input_values<'t, S: SchemaScalar>(
+    alloc: Global,
+    variables: &Variables<S>,
+    operation: &Spanning<Operation<'t, S>>,
+    schema: &SchemaType<S>,
+) -> Result<Items<RuleError>, AllocError>
+    ensures told { IfOk result (λ errors. spec.ValuesTold S.answer S.Check.accepts schema.now.types (get_by_text variables.now) (variables_in operation.now.item.variable_definitions) (places errors)) }
+    ensures none { IfOk result (λ errors. (errors ≡ []) ↔ spec.AreAccepted S.answer S.Check.accepts schema.now.types (get_by_text variables.now) (variables_in operation.now.item.variable_definitions)) }
+    ensures sorted { IfOk result (IsSorted ⟦<RuleError as Ord>⟧.cmp) }
+{
+    let found = errors_of_definitions(alloc, variables, operation, schema)?;
+    let mut errors = found.into_vec();
+    errors.sort_unstable();
+    Ok(Items::from_vec(errors))
+}
+
+/// The same errors in the order of the definitions.
+fn errors_of_definitions<'t, S: SchemaScalar>(
     alloc: Global,
     variables: &Variables<S>,
     operation: &Spanning<Operation<'t, S>>,

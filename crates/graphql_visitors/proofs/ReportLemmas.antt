@@ -2,9 +2,10 @@
 use Rattle.std.proofs.Common.{◌≡◌, ℕ, ◌+◌, ◌<◌, List, [], ◌∷◌, ◌++◌, true, false, length, get_or, take, refl, sym, ap, subst, ◌∙◌, append-nil}
 use Rattle.std.specs.List.{flat_map}
 use Rattle.std.proofs.lemmas.Grind.{flat_map-append}
-use Rattle.std.proofs.lemmas.List.{take_more, map-append}
+use Rattle.std.proofs.lemmas.List.{take_more}
 use Rattle.graphql_rule_errors.specs.Places.{Places, places}
 use Rattle.graphql_rule_errors.specs.declared.rule_error.RuleError.{RuleError}
+use Rattle.graphql_rule_errors.proofs.ReportLemmas.{reports_behind}
 use Rattle.graphql_visitors.specs.Reports.{Adds, Reports}
 use Rattle.graphql_visitors.specs.declared.context.ValidatorContext.{ValidatorContext}
 use Rattle.graphql_visitors.proofs.RunLemmas.{as_before_after, reported_after, reported_none}
@@ -38,5 +39,5 @@ module _ {S C : Type 0} where
   pub reports_added : (errors : List RuleError) (told : Places) (a b : ValidatorContext S C) → places errors ≡ told → Adds errors a b → Reports told a b
   reports_added errors told a b is h = record {
     as_before = h.as_before;
-    reported = λ m. record { memory = h.memory m; errors = ap places (h.added m) ∙ map-append (λ e. e.locations) a.errors errors ∙ ap (λ ts. places a.errors ++ ts) is };
+    reported = λ m. record { memory = h.memory m; errors = reports_behind told errors a.errors b.errors (h.added m) is };
   }

@@ -1,7 +1,9 @@
 -- Reports and runs, one after the other.
-use Rattle.std.proofs.Common.{◌≡◌, List, [], ◌∷◌, ◌++◌, true, false, refl, sym, ap, subst, ◌∙◌, append-nil, append_assoc}
+use Rattle.std.proofs.Common.{◌≡◌, List, [], ◌∷◌, ◌++◌, true, false, refl, sym, ap, subst, ◌∙◌}
 use Rattle.graphql_occurrences.specs.Nodes.{Seen}
-use Rattle.graphql_rule_errors.specs.Places.{Places, places}
+use Rattle.graphql_rule_errors.specs.Places as of_errors
+use Rattle.graphql_rule_errors.specs.Places.{Places}
+use Rattle.graphql_rule_errors.proofs.ReportLemmas as of_errors_lemma
 use Rattle.graphql_visitors.specs.Reports.{IsAsBefore, Reported, ReportsBy}
 use Rattle.graphql_visitors.specs.Runs.{Step, Runs, Did, Visited, joined}
 use Rattle.graphql_visitors.specs.Subjects.{subject_of, seen_in}
@@ -10,10 +12,13 @@ use Rattle.graphql_occurrences.specs.declared.event.Event.{Event}
 
 module _ {S C : Type 0} where
   pub reported_none : (c : ValidatorContext S C) → c.failed ≡ false → Reported [] c c
-  reported_none c h = record { memory = h; errors = sym (append-nil (places c.errors)) }
+  reported_none c h = record { memory = h; errors = of_errors_lemma.reports_none c.errors }
 
   pub reported_after : (ts us : Places) (a b c : ValidatorContext S C) → Reported ts a b → Reported us b c → Reported (ts ++ us) a c
-  reported_after ts us a b c h k = record { memory = h.memory; errors = k.errors ∙ ap (λ x. x ++ us) h.errors ∙ append_assoc (places a.errors) ts us }
+  reported_after ts us a b c h k = record {
+    memory = h.memory;
+    errors = of_errors_lemma.reports_more ts us a.errors b.errors c.errors h.errors k.errors;
+  }
 
   pub as_before_after : (a b c : ValidatorContext S C) → IsAsBefore a b → IsAsBefore b c → IsAsBefore a c
   as_before_after a b c h k = k ∙ ap {A = ValidatorContext S C} (λ x. record x { errors = c.errors; failed = c.failed }) h
@@ -56,6 +61,9 @@ module _ {V S C : Type 0} (step : Step V S C) where
             record {
               told = one.0 ∷ last.told;
               runs = (v, subst (λ s. step s u (seen_in a e) v one.0) (ap subject_of there) one.1, subst (λ s. Runs step s v es w last.told) same last.runs);
-              reported = record { memory = sym (ap {A = ValidatorContext S C} (λ x. x.failed) there) ∙ all.memory; errors = all.errors ∙ ap {A = ValidatorContext S C} (λ x. places x.errors ++ (one.0 ++ joined last.told)) there };
+              reported = record {
+                memory = sym (ap {A = ValidatorContext S C} (λ x. x.failed) there) ∙ all.memory;
+                errors = subst (λ es. of_errors.Reports (one.0 ++ joined last.told) es d.errors) (ap {A = ValidatorContext S C} (λ x. x.errors) there) all.errors;
+              };
             };
       }

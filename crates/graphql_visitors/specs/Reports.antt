@@ -1,6 +1,7 @@
 -- What is added to the errors of a context.
 use Rattle.std.specs.Prelude.{◌≡◌, ◌++◌, false, List}
-use Rattle.graphql_rule_errors.specs.Places.{Places, places}
+use Rattle.graphql_rule_errors.specs.Places as of_errors
+use Rattle.graphql_rule_errors.specs.Places.{Places}
 use Rattle.graphql_rule_errors.specs.declared.rule_error.RuleError.{RuleError}
 use Rattle.graphql_visitors.specs.declared.context.ValidatorContext.{ValidatorContext}
 
@@ -15,10 +16,10 @@ module _ {S C : Type 0} where
     pub memory : d.failed ≡ false → c.failed ≡ false
     pub added : d.failed ≡ false → d.errors ≡ c.errors ++ errors
 
-  -- errors at these places come behind the others
+  -- errors at these places come behind the others, which stay as they are
   pub record Reported (told : Places) (c d : ValidatorContext S C) : Type 0 where
     pub memory : c.failed ≡ false
-    pub errors : places d.errors ≡ places c.errors ++ told
+    pub errors : of_errors.Reports told c.errors d.errors
 
   -- the same, unless memory ran out
   pub record Reports (told : Places) (c d : ValidatorContext S C) : Type 0 where

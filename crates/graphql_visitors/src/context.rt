@@ -19,6 +19,7 @@ use graphql_schema::SchemaType;
 use graphql_text::{Items, SourcePosition, Spanning, Text, TextRef};
 use graphql_tree::Definition;
 use std::alloc::{AllocError, Global};
+use std::mem;
 
 /// What is validated, the types around the node that is visited, and the errors that have been
 /// reported so far (GraphQL October 2021, 5 Validation).
@@ -119,6 +120,7 @@ impl<'a, 't, S, C> ValidatorContext<'a, 't, S, C> {
 
     /// Reports an error: what is said, and the places that it names. Where there was no memory to say
     /// it, or there is none to keep it, the context has failed.
+    #[tactic(auto, using(crate::proofs::ReportLemmas::reports_added))]
     pub fn report_error(&mut self, message: Result<Text, AllocError>, locations: &[SourcePosition])
         ensures places { Reports (locations.now ∷ []) self.old self.new }
         ensures error { self.new.failed ≡ false → (text : _) × (message ≡ Ok text) × (self.new.errors ≡ self.old.errors ++ record { locations = locations.now; message = text } ∷ []) }
@@ -146,6 +148,14 @@ impl<'a, 't, S, C> ValidatorContext<'a, 't, S, C> {
         if self.errors.append(&mut errors).is_err() {
             self.failed = true;
         }
+    }
+
+    /// Exchanges the errors that have been reported for those of the list. Takes no memory.
+    pub fn swap_errors(&mut self, errors: &mut Items<RuleError>)
+        ensures context { self.new ≡ record self.old { errors = errors.old } }
+        ensures errors { errors.new ≡ self.old.errors }
+    {
+        mem::swap(&mut self.errors, errors);
     }
 
     /// Tells that memory ran out: from here on the context has failed.

@@ -6,13 +6,11 @@ mod context;
 mod fragments;
 pub mod laws;
 mod multi;
-mod one_pass;
 mod pushed;
 mod rules;
 mod visitor;
 
 pub use context::ValidatorContext;
 pub use multi::{MultiVisitorCons, MultiVisitorNil};
-pub use one_pass::visit;
 pub use rules::{Local, LocalRule, Relational, RelationalRule};
 pub use visitor::Visitor;

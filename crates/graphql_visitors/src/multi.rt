@@ -44,6 +44,15 @@ impl<A, B> MultiVisitorCons<A, B> {
     }
 }
 
+impl<A, B: Drop> MultiVisitorCons<A, B> {
+    /// The first visitor, without the others.
+    pub fn into_first(self) -> A
+        ensures { result ≡ self.first }
+    {
+        self.first
+    }
+}
+
 impl<S: SchemaScalar> Visitor<S> for MultiVisitorNil {
     ghost use Rattle.graphql_visitors.specs.Rules.{silent};
     ghost use Rattle.graphql_visitors.specs.Runs.{Did};

@@ -1,6 +1,5 @@
 -- One level of what is written out.
-use Rattle.std.proofs.Common.{◌≡◌, refl, sym, ◌∙◌, ap, ℕ, zero, suc, ◌+◌, ◌<◌, ◌≤◌, max, arith, Bool, true, false, not, ◌||◌, List, [], ◌∷◌, ◌++◌, map, length, append-nil, get_or, Option, Some, None, cond}
-use Rattle.std.specs.Option.{option_map}
+use Rattle.std.proofs.Common.{◌≡◌, refl, sym, ◌∙◌, ap, ℕ, zero, suc, ◌+◌, ◌<◌, ◌≤◌, max, arith, Bool, true, false, not, ◌||◌, List, [], ◌∷◌, ◌++◌, length, append-nil, get_or, Option, Some, None, cond}
 use Rattle.std.specs.List.{flat_map}
 use Rattle.graphql_values.specs.InputValues.{Placed}
 use Rattle.graphql_tree.specs.declared.document.Fragment.{Fragment}
@@ -9,12 +8,12 @@ use Rattle.graphql_tree.specs.declared.selection.FragmentSpread.{FragmentSpread}
 use Rattle.graphql_tree.specs.declared.selection.InlineFragment.{InlineFragment}
 use Rattle.graphql_tree.specs.declared.selection.Selection.{Selection}
 use Rattle.graphql_tree.specs.declared.selection.Selection.TheVariants as selection
-use Rattle.graphql_tree.proofs.SelectionEquations.{fold_field, fold_spread, fold_inline, fold_in_field, fold_in_inline}
 use Rattle.graphql_tree.proofs.SelectionInduction.{selection_ind}
 use Rattle.graphql_names.specs.Names.{Bytes}
-use Rattle.graphql_written_out.specs.Trees.{Directives, Head, Tree, none, field, inline, height}
-use Rattle.graphql_written_out.specs.Written.{listed, fragment_meant, head_of, condition_of, Before, chain, spread_as, selection_layer, field_layer, inline_layer, write_with, write_one, write, written, one, Settled}
+use Rattle.graphql_written_out.specs.Trees.{Directives, Tree, none, field, inline, height}
+use Rattle.graphql_written_out.specs.Written.{listed, fragment_meant, head_of, condition_of, spread_as, write_one, write, written, one, Settled}
 use Rattle.graphql_written_out.specs.Fields.{Found, fields, applies}
+use Rattle.graphql_written_out.proofs.WrittenEquations.{write_field, write_spread, write_inline}
 
 module _ {S : Type 0} (fragments : List (Fragment S)) where
   -- a selection before what follows it
@@ -24,26 +23,17 @@ module _ {S : Type 0} (fragments : List (Fragment S)) where
   abbrev pub spread_in : FragmentSpread S → Tree S → Tree S
   spread_in x rest = spread_as (write (length fragments) fragments) (listed x.directives) rest (fragment_meant fragments x.name.item)
 
-  listed-map : {A B : Type 0} (f : A → B) (set : Option (List A)) → listed (option_map (map f) set) ≡ map f (listed set)
-  listed-map f None = refl
-  listed-map f (Some xs) = refl
-
   pub deep-Field : (x : Placed (Field S)) (rest : Tree S) → deep (selection.Field x) rest ≡ field (head_of x) (listed x.item.directives) (written fragments (listed x.item.selection_set)) rest
   unfolding deep written
-  deep-Field x rest =
-      ap (λ (f : Before S). f rest) (fold_field (selection_layer spread_in) (field_layer spread_in) (inline_layer spread_in) x)
-      ∙ ap (λ f. f x.span.start rest) (fold_in_field (selection_layer spread_in) (field_layer spread_in) (inline_layer spread_in) x.item)
-      ∙ ap (λ set. field (head_of x) (listed x.item.directives) (chain set none) rest) (listed-map (write_with spread_in) x.item.selection_set)
+  deep-Field = write_field spread_in
 
   pub deep-Spread : (x : Placed (FragmentSpread S)) (rest : Tree S) → deep (selection.FragmentSpread x) rest ≡ spread_in x.item rest
   unfolding deep
-  deep-Spread x rest = ap (λ (f : Before S). f rest) (fold_spread (selection_layer spread_in) (field_layer spread_in) (inline_layer spread_in) x)
+  deep-Spread = write_spread spread_in
 
   pub deep-Inline : (x : Placed (InlineFragment S)) (rest : Tree S) → deep (selection.InlineFragment x) rest ≡ inline (condition_of x.item) (listed x.item.directives) (written fragments x.item.selection_set) rest
   unfolding deep written
-  deep-Inline x rest =
-      ap (λ (f : Before S). f rest) (fold_inline (selection_layer spread_in) (field_layer spread_in) (inline_layer spread_in) x)
-      ∙ ap (λ (f : Before S). f rest) (fold_in_inline (selection_layer spread_in) (field_layer spread_in) (inline_layer spread_in) x.item)
+  deep-Inline = write_inline spread_in
 
   pub written-cons : (x : Selection S) (xs : List (Selection S)) → written fragments (x ∷ xs) ≡ deep x (written fragments xs)
   unfolding deep written

@@ -1,1 +1,2 @@
+pub mod WrittenEquations
 pub mod Layers

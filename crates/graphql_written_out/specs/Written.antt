@@ -1,6 +1,6 @@
 -- Selection sets with their spreads written out (GraphQL October 2021, 2.7 Field Alias, 2.8 Fragments).
 use Rattle.std.specs.Prelude.{◌≡◌, ℕ, zero, suc, List, [], ◌∷◌, map, length, Option, Some, None}
-use Rattle.std.specs.Option.{option_map}
+use Rattle.std.specs.Option.{option_map, is_some}
 use Rattle.graphql_names.specs.Names.{Bytes, named}
 use Rattle.graphql_text.specs.declared.position.SourcePosition.{SourcePosition}
 use Rattle.graphql_values.specs.InputValues.{Placed}
@@ -29,7 +29,14 @@ response_key None name = name.item
 
 -- what is written of a field, which begins where its span does
 abbrev pub head_of : {S : Type 0} → Placed (Field S) → Head S
-head_of x = record { key = response_key x.item.alias x.item.name; name = x.item.name.item; arguments = arguments_in x.item.arguments; place = x.span.start }
+head_of x = record {
+  key = response_key x.item.alias x.item.name;
+  name = x.item.name.item;
+  is_aliased = is_some x.item.alias;
+  arguments = arguments_in x.item.arguments;
+  has_set = is_some x.item.selection_set;
+  place = x.span.start;
+}
 
 -- the type to which an inline fragment applies, if it names one
 abbrev pub condition_of : {S : Type 0} → InlineFragment S → Option Bytes
@@ -57,7 +64,15 @@ module _ {S : Type 0} where
 
     abbrev pub field_layer : Field-F S (Before S) (SourcePosition → Before S) (Before S) → SourcePosition → Before S
     field_layer f place =
-        field (record { key = response_key f.alias f.name; name = f.name.item; arguments = arguments_in f.arguments; place = place }) (listed f.directives) (chain (listed f.selection_set) none)
+        let head : Head S = record {
+          key = response_key f.alias f.name;
+          name = f.name.item;
+          is_aliased = is_some f.alias;
+          arguments = arguments_in f.arguments;
+          has_set = is_some f.selection_set;
+          place = place;
+        } in
+        field head (listed f.directives) (chain (listed f.selection_set) none)
 
     abbrev pub inline_layer : InlineFragment-F S (Before S) (SourcePosition → Before S) (Before S) → Before S
     inline_layer i = inline (option_map (λ on. on.item) i.type_condition) (listed i.directives) (chain i.selection_set none)

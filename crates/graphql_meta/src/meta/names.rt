@@ -15,11 +15,11 @@ pub fn is_builtin_type(name: &str) -> bool
     ensures { result ≡ spec.is_builtin_type name.now }
 {
     is_reserved(name)
-        || name == "Int"
-        || name == "Float"
-        || name == "String"
-        || name == "Boolean"
-        || name == "ID"
-        || name == "_EmptyMutation"
-        || name == "_EmptySubscription"
+        | (name == "Int")
+        | (name == "Float")
+        | (name == "String")
+        | (name == "Boolean")
+        | (name == "ID")
+        | (name == "_EmptyMutation")
+        | (name == "_EmptySubscription")
 }

@@ -49,6 +49,17 @@ impl<S, C> SchemaType<S, C> {
         }
     }
 
+    /// The name of the mutation root, if the schema has one (GraphQL October 2021, 3.3.1 Root Operation
+    /// Types).
+    pub fn mutation_name(&self) -> Option<&str>
+        ensures { option_map (λ name. name.now) result ≡ self.now.mutation }
+    {
+        match &self.mutation {
+            Some(name) => Some(name.as_str()),
+            None => None,
+        }
+    }
+
     /// The metadata of the mutation root, an object, if the schema has one.
     pub fn concrete_mutation_type(&self) -> Option<&MetaType<S, C>>
         ensures root { option_copied result ≡ option_and_then (type_named self.now.types) self.now.mutation }

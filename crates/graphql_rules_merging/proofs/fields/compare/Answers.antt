@@ -29,7 +29,7 @@ returns-in-Some g c =
     (differing g.S.PartialEq.eq c.args.schema.now.types c.args.around (seen fragments c.args.left.now.selected) (seen fragments c.args.right.now.selected) c.in-Some.difference
     (subst (Differs g.S.PartialEq.eq c.args.schema.now.types c.args.around (seen fragments c.args.left.now.selected) (seen fragments c.args.right.now.selected)) c.in-Some.is
     (c.in_ok-difference.ensures fragments)))
-    refl told refl)
+    refl told.at refl)
     c.tell.ensures
 
 pub returns-in-None : goal.returns-in-None

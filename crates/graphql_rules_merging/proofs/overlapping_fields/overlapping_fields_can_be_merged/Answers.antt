@@ -13,7 +13,11 @@ returns-clause-merging g c = λ settled.
     let schema = declarations_of c.args.schema.now in
     let document = c.args.document.now in
     let end = c.in_ok-found.ensures (fragments_in document) in
+    let table = c.in_ok-table.ensures.numbered in
     promised_reordered eq schema.types (document_sets schema document) c.in_ok-found.found c.from_vec.result
-    (subst (IsPermutation c.in_ok-found.found) (sym c.from_vec.ensures) (subst (λ old. IsPermutation old c.sort_unstable.new.self.items) c.into_vec-errors.ensures c.sort_unstable.ensures.permutation))
+    (subst (IsPermutation c.in_ok-found.found) (sym c.from_vec.ensures)
+    (subst (λ old. IsPermutation old c.sort_unstable.new.self.items) c.into_vec-errors.ensures
+    c.sort_unstable.ensures.permutation))
     (subst (Promised eq schema.types (document_sets schema document)) end.1
-    (promised eq schema document c.in_ok-table.ensures.0 c.in_ok-table.table c.in_ok-table.ensures.1 settled end.0 end.2 (same_as_itself eq g.met.S.Eq.laws)))
+    (promised eq schema document table.0 c.in_ok-table.table table.1 settled end.0 end.2
+    (same_as_itself eq g.met.S.Eq.laws)))

@@ -1,5 +1,5 @@
 use Rattle.std.proofs.Common.{◌∙◌, ap, fold}
-use Rattle.graphql_occurrences.specs.Pending.{ahead}
+use Rattle.graphql_document_walk.specs.Pending.{ahead}
 use Rattle.graphql_scopes.specs.Gathered.{scopes_gathered, with_event}
 use Rattle.graphql_scopes.proofs.gathering.gather.Goals as goal
 

@@ -6,4 +6,5 @@ use Rattle.graphql_set_table.proofs.table.sets_of_definitions.Given as goal
 
 -- the sets of the definitions so far
 abbrev pub invariant-definitions : goal.invariant-definitions
-invariant-definitions g l = sets_at l.sets ≡ map (definition_set (declarations_of l.schema)) (take l.definition-index l.document)
+invariant-definitions g l =
+    sets_at l.sets ≡ map (definition_set (declarations_of l.schema)) (take l.definition-index l.document)

@@ -2,7 +2,7 @@ use Rattle.std.proofs.Common.{◌≡◌, false, fold, [], ◌∷◌, refl, sym, 
 use Rattle.std.specs.Prelude.{MatchOption}
 use Rattle.std.specs.Result.{is_err}
 use Rattle.graphql_occurrences.specs.Lent.{seen_of}
-use Rattle.graphql_occurrences.specs.Pending.{ahead}
+use Rattle.graphql_document_walk.specs.Pending.{ahead}
 use Rattle.graphql_scopes.specs.Gathered.{gathered, with_event}
 use Rattle.graphql_visitors.specs.Runs.{Did, Visited}
 use Rattle.graphql_visitors.proofs.RunLemmas.{visited_after, visited_failed, visited_none}

@@ -1,5 +1,5 @@
 use Rattle.std.proofs.Common.{◌≡◌, false, fold, sym, ap, ◌∙◌}
-use Rattle.graphql_occurrences.specs.Pending.{ahead}
+use Rattle.graphql_document_walk.specs.Pending.{ahead}
 use Rattle.graphql_schema.specs.Declarations.{declarations_of}
 use Rattle.graphql_scopes.proofs.GatheredLemmas.{gathered_is}
 use Rattle.graphql_scopes.specs.Gathered.{gathered, nothing, scopes_gathered, with_event}

@@ -1,30 +1,19 @@
-use Rattle.std.proofs.Common.{arith}
-use Rattle.std.proofs.lemmas.Option.{MatchOption-at_none, MatchOption-at_some}
+use Rattle.std.proofs.Common.{◌↔◌, [], sym, subst}
 use Rattle.std.specs.HashMap.{get_by_text}
-use Rattle.graphql_variable_checks.specs.Accepted.{IsAccepted}
-use Rattle.graphql_variable_checks.proofs.RefusalLemmas.{error_free, told_accepted, told_refused}
-use Rattle.graphql_variable_checks.proofs.validate.validate_input_values.Goals.{in-Some+in_ok-report, in_default}
+use Rattle.std.specs.List.Sorted.{IsPermutation}
+use Rattle.graphql_tree.specs.Documents.{variables_in}
+use Rattle.graphql_variable_checks.proofs.Sorted.{none_moved, told_sorted}
 use Rattle.graphql_variable_checks.proofs.validate.validate_input_values.Goals as goal
 
-pub definitions-preserved : goal.definitions-preserved
-definitions-preserved g c =
-    let answer = g.S.ScalarValue.answer in
-    let accepts = g.S.Check.Check.accepts in
-    let types = c.args.schema.now.types in
-    let given = get_by_text c.args.variables.now in
-    let vs = c.definitions_of-definitions.result.now in
-    let v = c.variable-item.result in
-    let accepted = IsAccepted answer accepts types given v in
-    elim c.match-branch-2.branch [
-      | in-Some+in_ok-report w ↦
-          told_refused answer accepts types given vs c.definitions.variable-index v c.definitions-test.true c.variable-item.is c.definitions.errors c.match-branch-2.errors c.definitions.invariant
-          _ w.errors-is w.in_ok-report.ensures (MatchOption-at_some accepted (λ _. accepted → ⊥) w.in-Some.message w.in-Some.is c.in_ok-message.ensures)
-      | in_default w ↦
-          told_accepted answer accepts types given vs c.definitions.variable-index v c.definitions-test.true c.variable-item.is c.definitions.errors c.match-branch-2.errors c.definitions.invariant
-          w.errors-is (MatchOption-at_none accepted (λ _. accepted → ⊥) w.in_default.is c.in_ok-message.ensures)
-    ]
+pub returns-clause-told : goal.returns-clause-told
+returns-clause-told g c =
+    told_sorted g.S.ScalarValue.answer g.S.Check.Check.accepts c.args.schema.now.types (get_by_text c.args.variables.now) (variables_in c.args.operation.now.item.variable_definitions)
+    c.in_ok-found.found c.from_vec.result
+    (subst (IsPermutation c.in_ok-found.found) (sym c.from_vec.ensures) (subst (λ old. IsPermutation old c.sort_unstable.new.self.items) c.into_vec-errors.ensures c.sort_unstable.ensures.permutation))
+    c.in_ok-found.ensures.told
 
 pub returns-clause-none : goal.returns-clause-none
 returns-clause-none g c =
-    error_free g.S.ScalarValue.answer g.S.Check.Check.accepts c.args.schema.now.types (get_by_text c.args.variables.now) c.definitions_of-definitions.result.now _ c.definitions.variable-index c.definitions.errors (omega arith)
-    c.definitions_of-definitions.ensures c.definitions.invariant
+    let moved = none_moved c.in_ok-found.found c.from_vec.result
+    (subst (IsPermutation c.in_ok-found.found) (sym c.from_vec.ensures) (subst (λ old. IsPermutation old c.sort_unstable.new.self.items) c.into_vec-errors.ensures c.sort_unstable.ensures.permutation)) in
+    (λ none. c.in_ok-found.ensures.none.0 (moved.1 none), λ accepted. moved.0 (c.in_ok-found.ensures.none.1 accepted))

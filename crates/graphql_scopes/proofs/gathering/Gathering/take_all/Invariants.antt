@@ -1,5 +1,5 @@
 use Rattle.std.proofs.Common.{◌≡◌, fold, length}
-use Rattle.graphql_occurrences.specs.Pending.{ahead}
+use Rattle.graphql_document_walk.specs.Pending.{ahead}
 use Rattle.graphql_scopes.specs.Gathered.{gathered, with_event}
 use Rattle.graphql_scopes.proofs.gathering.Gathering.take_all.Given as goal
 

@@ -1,0 +1,257 @@
+//! What a walk tells of selections and directives.
+
+ghost use Rattle.std.specs.Prelude.{◌≡◌, [], OnOk};
+ghost use Rattle.std.specs.Option.{unwrap_or};
+ghost use Rattle.graphql_schema.specs.Declarations.{declarations_of};
+ghost use Rattle.graphql_occurrences.specs.Events.{directive_events, directives_events, each, field_events, inline_events, optional_set, selection_events, set_events, spread_events};
+ghost use Rattle.graphql_occurrences.specs.Lent.{around_of};
+ghost use Rattle.graphql_document_walk.specs.Pending.{Adds, Opened, OpenedAny};
+
+use super::tasks::{Task, Work, add, enter};
+use graphql_declarations::{arguments_of_field, declared_by_directive, field_of, type_of_field};
+use graphql_meta::DirectiveLocation;
+use graphql_occurrences::{Around, Node, Owner, Seen, arguments_in};
+use graphql_schema::SchemaType;
+use graphql_text::{Items, Spanning};
+use graphql_tree::{Directive, Field, FragmentSpread, InlineFragment, Selection};
+use std::alloc::AllocError;
+
+/// The directives, if there are any.
+pub(crate) fn directives_in<'b, 't, S>(
+    directives: &'b Option<Items<Spanning<Directive<'t, S>>>>,
+) -> &'b [Spanning<Directive<'t, S>>]
+    ensures { result.now ≡ unwrap_or directives.now [] }
+{
+    match directives {
+        Some(directives) => directives.as_slice(),
+        None => &[],
+    }
+}
+
+/// A directive is entered.
+fn open_directive<'a, 't, S, C>(
+    schema: &'a SchemaType<S, C>,
+    tasks: &mut Items<Task<'a, 't, S, C>>,
+    around: Around<'a, S, C>,
+    place: DirectiveLocation,
+    directive: &'a Spanning<Directive<'t, S>>,
+) -> Result<Seen<'a, 't, S, C>, AllocError>
+    ensures { Opened (declarations_of schema.now) (directive_events (declarations_of schema.now) place directive.now (around_of around.entry)) result tasks.old tasks.new }
+{
+    let name = directive.item.name.item.as_str();
+    let declared = schema.directive_by_name(name);
+    add(
+        schema,
+        tasks,
+        around,
+        Work::Leave(Node::Directive(place, declared, directive)),
+    )?;
+    add(
+        schema,
+        tasks,
+        around,
+        Work::Arguments(
+            Owner::Directive(name),
+            declared_by_directive(declared),
+            arguments_in(&directive.item.arguments),
+        ),
+    )?;
+    Ok(enter(around, Node::Directive(place, declared, directive)))
+}
+
+/// The next directive is entered, if there is one.
+pub(crate) fn open_directives<'a, 't, S, C>(
+    schema: &'a SchemaType<S, C>,
+    tasks: &mut Items<Task<'a, 't, S, C>>,
+    around: Around<'a, S, C>,
+    place: DirectiveLocation,
+    directives: &'a [Spanning<Directive<'t, S>>],
+) -> Result<Option<Seen<'a, 't, S, C>>, AllocError>
+    ensures { OpenedAny (declarations_of schema.now) (directives_events (declarations_of schema.now) place directives.now (around_of around.entry)) result tasks.old tasks.new }
+{
+    match directives.split_first() {
+        None => Ok(None),
+        Some((first, rest)) => {
+            add(schema, tasks, around, Work::Directives(place, rest))?;
+            let event = open_directive(schema, tasks, around, place, first)?;
+            Ok(Some(event))
+        }
+    }
+}
+
+/// A selection set is entered, if its type is known.
+pub(crate) fn open_set<'a, 't, S, C>(
+    schema: &'a SchemaType<S, C>,
+    tasks: &mut Items<Task<'a, 't, S, C>>,
+    around: Around<'a, S, C>,
+    selections: &'a [Selection<'t, S>],
+) -> Result<Option<Seen<'a, 't, S, C>>, AllocError>
+    ensures { OpenedAny (declarations_of schema.now) (set_events (declarations_of schema.now) selections.now (around_of around.entry)) result tasks.old tasks.new }
+{
+    let inside = around.inside_set(schema);
+    match inside.parent {
+        None => Ok(None),
+        Some(_) => {
+            add(
+                schema,
+                tasks,
+                inside,
+                Work::Leave(Node::SelectionSet(selections)),
+            )?;
+            add(schema, tasks, inside, Work::Selections(selections))?;
+            Ok(Some(enter(inside, Node::SelectionSet(selections))))
+        }
+    }
+}
+
+/// The set of a field, if there is one, is ahead.
+fn add_optional_set<'a, 't, S, C>(
+    schema: &'a SchemaType<S, C>,
+    tasks: &mut Items<Task<'a, 't, S, C>>,
+    around: Around<'a, S, C>,
+    set: &'a Option<Items<Selection<'t, S>>>,
+) -> Result<(), AllocError>
+    ensures { OnOk result (Adds (declarations_of schema.now) (optional_set (declarations_of schema.now) set.now (around_of around.entry)) tasks.old tasks.new) }
+{
+    match set {
+        Some(selections) => add(schema, tasks, around, Work::Set(selections.as_slice())),
+        None => Ok(()),
+    }
+}
+
+/// A field is entered.
+fn open_field<'a, 't, S, C>(
+    schema: &'a SchemaType<S, C>,
+    tasks: &mut Items<Task<'a, 't, S, C>>,
+    outer: Around<'a, S, C>,
+    field: &'a Spanning<Field<'t, S>>,
+) -> Result<Seen<'a, 't, S, C>, AllocError>
+    ensures { Opened (declarations_of schema.now) (field_events (declarations_of schema.now) field.now (around_of outer.entry)) result tasks.old tasks.new }
+{
+    let name = field.item.name.item.as_str();
+    let definition = field_of(outer.parent, name);
+    let inside = outer.selecting(type_of_field(definition));
+    add(
+        schema,
+        tasks,
+        inside,
+        Work::Leave(Node::Field(definition, field)),
+    )?;
+    add_optional_set(schema, tasks, inside, &field.item.selection_set)?;
+    add(
+        schema,
+        tasks,
+        inside,
+        Work::Directives(
+            DirectiveLocation::Field,
+            directives_in(&field.item.directives),
+        ),
+    )?;
+    add(
+        schema,
+        tasks,
+        inside,
+        Work::Arguments(
+            Owner::Field(name),
+            arguments_of_field(definition),
+            arguments_in(&field.item.arguments),
+        ),
+    )?;
+    Ok(enter(inside, Node::Field(definition, field)))
+}
+
+/// A spread of a fragment is entered.
+fn open_spread<'a, 't, S, C>(
+    schema: &'a SchemaType<S, C>,
+    tasks: &mut Items<Task<'a, 't, S, C>>,
+    around: Around<'a, S, C>,
+    spread: &'a Spanning<FragmentSpread<'t, S>>,
+) -> Result<Seen<'a, 't, S, C>, AllocError>
+    ensures { Opened (declarations_of schema.now) (spread_events (declarations_of schema.now) spread.now (around_of around.entry)) result tasks.old tasks.new }
+{
+    add(
+        schema,
+        tasks,
+        around,
+        Work::Leave(Node::FragmentSpread(spread)),
+    )?;
+    add(
+        schema,
+        tasks,
+        around,
+        Work::Directives(
+            DirectiveLocation::FragmentSpread,
+            directives_in(&spread.item.directives),
+        ),
+    )?;
+    Ok(enter(around, Node::FragmentSpread(spread)))
+}
+
+/// An inline fragment is entered.
+fn open_inline<'a, 't, S, C>(
+    schema: &'a SchemaType<S, C>,
+    tasks: &mut Items<Task<'a, 't, S, C>>,
+    outer: Around<'a, S, C>,
+    inline: &'a Spanning<InlineFragment<'t, S>>,
+) -> Result<Seen<'a, 't, S, C>, AllocError>
+    ensures { Opened (declarations_of schema.now) (inline_events (declarations_of schema.now) inline.now (around_of outer.entry)) result tasks.old tasks.new }
+{
+    let inside = outer.inside_condition(&inline.item.type_condition);
+    add(
+        schema,
+        tasks,
+        inside,
+        Work::Leave(Node::InlineFragment(inline)),
+    )?;
+    add(
+        schema,
+        tasks,
+        inside,
+        Work::Set(inline.item.selection_set.as_slice()),
+    )?;
+    add(
+        schema,
+        tasks,
+        inside,
+        Work::Directives(
+            DirectiveLocation::InlineFragment,
+            directives_in(&inline.item.directives),
+        ),
+    )?;
+    Ok(enter(inside, Node::InlineFragment(inline)))
+}
+
+/// A selection is entered.
+fn open_selection<'a, 't, S, C>(
+    schema: &'a SchemaType<S, C>,
+    tasks: &mut Items<Task<'a, 't, S, C>>,
+    around: Around<'a, S, C>,
+    selection: &'a Selection<'t, S>,
+) -> Result<Seen<'a, 't, S, C>, AllocError>
+    ensures { Opened (declarations_of schema.now) (selection_events (declarations_of schema.now) selection.now (around_of around.entry)) result tasks.old tasks.new }
+{
+    match selection {
+        Selection::Field(field) => open_field(schema, tasks, around, field),
+        Selection::FragmentSpread(spread) => open_spread(schema, tasks, around, spread),
+        Selection::InlineFragment(inline) => open_inline(schema, tasks, around, inline),
+    }
+}
+
+/// The next selection is entered, if there is one.
+pub(crate) fn open_selections<'a, 't, S, C>(
+    schema: &'a SchemaType<S, C>,
+    tasks: &mut Items<Task<'a, 't, S, C>>,
+    around: Around<'a, S, C>,
+    selections: &'a [Selection<'t, S>],
+) -> Result<Option<Seen<'a, 't, S, C>>, AllocError>
+    ensures { OpenedAny (declarations_of schema.now) (each (selection_events (declarations_of schema.now)) selections.now (around_of around.entry)) result tasks.old tasks.new }
+{
+    match selections.split_first() {
+        None => Ok(None),
+        Some((first, rest)) => {
+            add(schema, tasks, around, Work::Selections(rest))?;
+            let event = open_selection(schema, tasks, around, first)?;
+            Ok(Some(event))
+        }
+    }
+}

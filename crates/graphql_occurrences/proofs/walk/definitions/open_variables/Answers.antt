@@ -1,9 +1,0 @@
-use Rattle.graphql_schema.specs.Declarations.{declarations_of}
-use Rattle.graphql_occurrences.specs.Events.{variable_events}
-use Rattle.graphql_occurrences.specs.Lent.{around_of}
-use Rattle.graphql_occurrences.proofs.PendingLemmas.{opens_first}
-use Rattle.graphql_occurrences.proofs.walk.definitions.open_variables.Goals as goal
-
-pub returns-in_ok-event-in-Some : goal.returns-in_ok-event-in-Some
-returns-in_ok-event-in-Some g c =
-    opens_first (λ v. variable_events (declarations_of c.args.schema.now) v (around_of c.args.around)) _ _ _ _ _ _ _ c.in-Some.ensures.cases.0 c.in_ok-add-in-Some.ensures c.in_ok-event-in-Some.ensures

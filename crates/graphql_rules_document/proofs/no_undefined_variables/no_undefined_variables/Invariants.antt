@@ -1,0 +1,9 @@
+use Rattle.std.proofs.Common.{map, take}
+use Rattle.std.specs.List.{flat_map}
+use Rattle.graphql_scopes.specs.Lent.{fragment_of, operation_of}
+use Rattle.graphql_rules_document.specs.NoUndefinedVariables.{undefined_in}
+use Rattle.graphql_rule_errors.specs.Places.{Reports}
+use Rattle.graphql_rules_document.proofs.no_undefined_variables.no_undefined_variables.Given as goal
+
+abbrev pub invariant-operations : goal.invariant-operations
+invariant-operations g l = Reports (flat_map (undefined_in (map fragment_of l.index.fragments.now)) (map operation_of (take l.operation-index l.operations))) l.initial.errors l.errors
