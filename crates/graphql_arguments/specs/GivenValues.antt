@@ -1,4 +1,5 @@
 -- The input value that a given value is, lent or made.
+use Rattle.std.specs.Borrow.{Bor}
 use Rattle.std.specs.Prelude.{List, map}
 use Rattle.graphql_names.specs.Names.{Bytes}
 use Rattle.graphql_values.specs.InputValues.{Placed}
@@ -23,3 +24,10 @@ module _ {S : Type 0} where
   -- what is held of a field's arguments
   abbrev pub arguments_told : Arguments S → Given S
   arguments_told arguments = values_told arguments.held
+
+  -- a name with its value, at no place
+  abbrev pub named_value : Value S → Bytes × InputValue S
+  named_value v = (v.0, v.1.item)
+
+  abbrev pub named_lent : Bor Bytes × Bor (InputValue S) → Bytes × InputValue S
+  named_lent v = (v.0.now, v.1.now)

@@ -1,3 +1,4 @@
 pub mod ArgumentValues
 pub mod GivenValues
 pub mod Reading
+pub mod SameArguments

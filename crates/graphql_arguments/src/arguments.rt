@@ -1,11 +1,11 @@
 //! The argument values of a field.
 
-ghost use Rattle.std.specs.Prelude.{◌≡◌, ◌↔◌, [], length, IsTrue};
-ghost use Rattle.std.specs.Option.{option_copied};
+ghost use Rattle.std.specs.Prelude.{◌≡◌, ◌↔◌, [], length, slice_get, IsTrue};
+ghost use Rattle.std.specs.Option.{option_copied, option_map};
 ghost use Rattle.graphql_items.specs.Memory.{GivesBy};
 ghost use Rattle.graphql_final_variables.specs.FinalVariables.{value_in};
 ghost use Rattle.graphql_arguments.specs.ArgumentValues.{argument_values, value_named};
-ghost use Rattle.graphql_arguments.specs.GivenValues.{arguments_told};
+ghost use Rattle.graphql_arguments.specs.GivenValues.{arguments_told, named_lent, named_value};
 ghost use Rattle.graphql_arguments.specs.Reading.{ReadsGiven};
 
 use crate::filling::{absent_defaults, written_values};
@@ -60,6 +60,16 @@ impl<'a, S> Arguments<'a, S> {
         ensures { IsTrue result ↔ (arguments_told self.now ≡ []) }
     {
         self.held.is_empty()
+    }
+
+    /// The argument at a place, from zero: its name and its value; `None` past the end.
+    pub fn get_index(&self, index: usize) -> Option<(&str, &InputValue<S>)>
+        ensures { option_map named_lent result ≡ option_map named_value (slice_get (arguments_told self.now) index) }
+    {
+        match self.held.get(index) {
+            Some(pair) => Some((pair.0.as_str(), pair.1.item.value())),
+            None => None,
+        }
     }
 
     /// The value of the argument of this name, or `None` where it has none; of several of one name, which

@@ -1,13 +1,13 @@
 -- Steps of a walk over a document.
 use Rattle.graphql_scalars.specs.ScalarAnswers.{ScalarAnswer}
-use Rattle.std.proofs.Common.{◌≡◌, ◌⊎◌, ⊎_elim, sym, ◌∙◌, ap, subst, ℕ, ◌+◌, ◌<◌, ◌≤◌, arith, List, [], ◌∷◌, ◌++◌, map, length, take, get_or, Option, Some, None, Bor}
+use Rattle.std.proofs.Common.{◌≡◌, ◌⊎◌, ⊎_elim, sym, ◌∙◌, ap, subst, ℕ, ◌+◌, ◌<◌, ◌≤◌, arith, List, [], ◌∷◌, ◌++◌, map, length, take, get_or, Option, Some, None}
 use Rattle.std.specs.List.{flat_map}
 use Rattle.std.proofs.lemmas.List.{take_more, map-append}
 use Rattle.graphql_values.specs.InputValues.{Placed}
 use Rattle.graphql_tree.specs.declared.selection.Field.{Field}
 use Rattle.graphql_tree.specs.declared.selection.Selection.{Selection}
 use Rattle.graphql_collect.specs.declared.request.Request.{Request}
-use Rattle.graphql_collect.specs.declared.grouping.Occurrence.{Occurrence}
+use Rattle.graphql_collect.specs.declared.collected_field.CollectedField.{CollectedField}
 use Rattle.graphql_written_out.specs.Trees.{Directives, Tree, height}
 use Rattle.graphql_names.specs.Names.{Bytes}
 use Rattle.graphql_written_out.specs.Written.{one, written, write, spread_as, listed, fragment_meant}
@@ -18,7 +18,8 @@ use Rattle.graphql_written_out.specs.Fields.{Found}
 use Rattle.graphql_collect.specs.Requests.{drops_in, is_below_in, fragments_in, fields_in, found_at, written_in}
 use Rattle.graphql_collect.specs.Grouped.{Lent, all_found}
 use Rattle.graphql_collect.specs.Walks.{Walk, with_field}
-use Rattle.graphql_collect.specs.OpenSets.{Open}
+use Rattle.graphql_collect.specs.declared.open_set.OpenSet.{OpenSet}
+use Rattle.graphql_collect.specs.OpenSets.{Open, rest_of}
 use Rattle.graphql_collect.specs.Walked.{Ready, Walked, Leads}
 use Rattle.graphql_collect.specs.Collecting.{means_in, state, trees_in, ReadyIn, CompleteIn, WalkedIn, LeadsIn, Steps, Entered, Stands, Enters, below_in}
 use Rattle.graphql_evaluation.proofs.RepeatLemmas.{flat-last}
@@ -66,11 +67,11 @@ module _ {S C : Type 0} (answer : S → ScalarAnswer) (request : Request S C) (o
       (λ e. subst (λ zs. W zs (state request v f) (state request v f)) (sym e) (begins v f))
       (λ (w : Entered answer request object v t). walked-visited (drops_in answer request) (is_below_in request object) (means_in request) w.name (F t) h (state request v f) r w.is_visited w.applies (let less = w.lower in omega arith) w.same)
 
-  brought-field : (t : Tree S) (x : Placed (Field S)) (v : List Bytes) (f f2 : Lent S) (o : Occurrence S) → F t ≡ found_at request x ∷ [] → f2 ≡ f ++ o ∷ [] → o.field.now ≡ x
+  brought-field : (t : Tree S) (x : Placed (Field S)) (v : List Bytes) (f f2 : Lent S) (o : CollectedField S) → F t ≡ found_at request x ∷ [] → f2 ≡ f ++ o ∷ [] → o.field.now ≡ x
       → WalkedIn answer request object (F t) v f v f2
   brought-field t x v f f2 o is grown same =
       let there : all_found (fragments_in request) f2 ≡ all_found (fragments_in request) f ++ found_at request x ∷ [] =
-      ap (all_found (fragments_in request)) grown ∙ map-append (λ (y : Occurrence S). found_at request y.field.now) f (o ∷ [])
+      ap (all_found (fragments_in request)) grown ∙ map-append (λ (y : CollectedField S). found_at request y.field.now) f (o ∷ [])
       ∙ ap (λ y. all_found (fragments_in request) f ++ found_at request y ∷ []) same in
       let kept_one : W (found_at request x ∷ []) (state request v f) (with_field (found_at request x) (state request v f)) =
       walked-field (drops_in answer request) (is_below_in request object) (means_in request) (found_at request x) [] (state request v f) (with_field (found_at request x) (state request v f))
@@ -89,38 +90,38 @@ module _ {S C : Type 0} (answer : S → ScalarAnswer) (request : Request S C) (o
       leads-walked (drops_in answer request) (is_below_in request object) (means_in request) xs start ts (state request v f) t (state request v f)
       (brought-nothing (height t) t v f (omega arith) l.0 e) l
 
-  pub enters-field : (t : Tree S) (ts : List (Tree S)) (x : Placed (Field S)) (v : List Bytes) (f f2 : Lent S) (o : Occurrence S) → F t ≡ found_at request x ∷ []
+  pub enters-field : (t : Tree S) (ts : List (Tree S)) (x : Placed (Field S)) (v : List Bytes) (f f2 : Lent S) (o : CollectedField S) → F t ≡ found_at request x ∷ []
       → f2 ≡ f ++ o ∷ [] → o.field.now ≡ x → Goes (t ∷ ts) v f ts v f2
   enters-field t ts x v f f2 o is grown same = λ xs start l.
       leads-walked (drops_in answer request) (is_below_in request object) (means_in request) xs start ts (state request v f) t (state request v f2)
       (brought-field t x v f f2 o is grown same) l
 
-  module _ (sets more_sets : Open S) (inner : Bor (List (Selection S))) (pushed : more_sets ≡ sets ++ inner ∷ []) where
-    trees-push : trees_in request more_sets ≡ written_in request inner.now ∷ trees_in request sets
+  module _ (sets more_sets : Open S) (inner : OpenSet S) (pushed : more_sets ≡ sets ++ inner ∷ []) where
+    trees-push : trees_in request more_sets ≡ written_in request (rest_of inner) ∷ trees_in request sets
     trees-push = ap (map (written_in request)) (rests-push sets more_sets inner pushed)
 
-    pub enters-set : (t : Tree S) (v : List Bytes) (f : Lent S) → Stands answer request object t (written_in request inner.now)
+    pub enters-set : (t : Tree S) (v : List Bytes) (f : Lent S) → Stands answer request object t (written_in request (rest_of inner))
         → Goes (t ∷ trees_in request sets) v f (trees_in request more_sets) v f
     enters-set t v f s = λ xs start l.
         subst (λ ts. Leading xs start ts (state request v f)) (sym trees-push)
-        (leads-set (drops_in answer request) (is_below_in request object) (means_in request) xs start (trees_in request sets) (state request v f) t (written_in request inner.now) s.same s.lower l)
+        (leads-set (drops_in answer request) (is_below_in request object) (means_in request) xs start (trees_in request sets) (state request v f) t (written_in request (rest_of inner)) s.same s.lower l)
 
-    pub enters-fragment : (t : Tree S) (name : Bytes) (v v2 : List Bytes) (f : Lent S) → Enters answer request object v t (written_in request inner.now) name
+    pub enters-fragment : (t : Tree S) (name : Bytes) (v v2 : List Bytes) (f : Lent S) → Enters answer request object v t (written_in request (rest_of inner)) name
         → v2 ≡ v ++ name ∷ [] → Goes (t ∷ trees_in request sets) v f (trees_in request more_sets) v2 f
     enters-fragment t name v v2 f e grown = λ xs start l.
         subst (λ ts. Leading xs start ts (state request v2 f)) (sym trees-push)
-        (subst (λ (z : List Bytes). Leading xs start (written_in request inner.now ∷ trees_in request sets) (state request z f)) (sym grown)
-        (leads-fragment (drops_in answer request) (is_below_in request object) (means_in request) xs start (trees_in request sets) (state request v f) name t (written_in request inner.now)
+        (subst (λ (z : List Bytes). Leading xs start (written_in request (rest_of inner) ∷ trees_in request sets) (state request z f)) (sym grown)
+        (leads-fragment (drops_in answer request) (is_below_in request object) (means_in request) xs start (trees_in request sets) (state request v f) name t (written_in request (rest_of inner))
         e.stands.same e.stands.lower e.means l))
 
     -- the first of what is left of a set, before the others
-    pub goes-on : (x : Selection S) (rest : List (Selection S)) (v : List Bytes) (f : Lent S) → rest ≡ x ∷ inner.now
+    pub goes-on : (x : Selection S) (rest : List (Selection S)) (v : List Bytes) (f : Lent S) → rest ≡ x ∷ rest_of inner
         → Goes (written_in request rest ∷ trees_in request sets) v f (one (fragments_in request) x ∷ trees_in request more_sets) v f
     goes-on x rest v f is = λ xs start l.
         subst (λ ts. Leading xs start (one (fragments_in request) x ∷ ts) (state request v f)) (sym trees-push)
         (leads-apart (drops_in answer request) (is_below_in request object) (means_in request) xs start (trees_in request sets) (state request v f)
-        (written_in request (x ∷ inner.now)) (one (fragments_in request) x) (written_in request inner.now)
-        (fields-apart x inner.now) (height-one (fragments_in request) (x ∷ inner.now) 0 x (omega arith)) (height-others (fragments_in request) x inner.now)
+        (written_in request (x ∷ rest_of inner)) (one (fragments_in request) x) (written_in request (rest_of inner))
+        (fields-apart x (rest_of inner)) (height-one (fragments_in request) (x ∷ rest_of inner) 0 x (omega arith)) (height-others (fragments_in request) x (rest_of inner))
         (subst (λ zs. Leading xs start (written_in request zs ∷ trees_in request sets) (state request v f)) is l))
       where
         fields-apart : (y : Selection S) (ys : List (Selection S)) → F (written_in request (y ∷ ys)) ≡ F (one (fragments_in request) y) ++ F (written_in request ys)
@@ -130,23 +131,21 @@ module _ {S C : Type 0} (answer : S → ScalarAnswer) (request : Request S C) (o
 
     -- a set that is gone into is the innermost
     pub goes-back : (xs : List (Found S)) (start : Walk S) (v : List Bytes) (f : Lent S) → LeadsIn answer request object xs start (trees_in request more_sets) v f
-        → LeadsIn answer request object xs start (written_in request inner.now ∷ trees_in request sets) v f
+        → LeadsIn answer request object xs start (written_in request (rest_of inner) ∷ trees_in request sets) v f
     goes-back xs start v f l = subst (λ ts. Leading xs start ts (state request v f)) trees-push l
 
-  pub ends-set : (rest : List (Selection S)) (ts : List (Tree S)) (v : List Bytes) (f : Lent S) → length rest ≡ 0 → Goes (written_in request rest ∷ ts) v f ts v f
+  pub ends-set : (rest : List (Selection S)) (ts : List (Tree S)) (v : List Bytes) (f : Lent S) → rest ≡ [] → Goes (written_in request rest ∷ ts) v f ts v f
   ends-set rest ts v f none = λ xs start l.
-      leads-end (drops_in answer request) (is_below_in request object) (means_in request) xs start ts (state request v f) (written_in request rest) (empty rest none) l
-    where
-      empty : (ys : List (Selection S)) → length ys ≡ 0 → F (written_in request ys) ≡ []
-      empty [] e = ap F (written-nil (fragments_in request))
-      empty (y ∷ ys) e = absurd (omega (arith, e))
+      leads-end (drops_in answer request) (is_below_in request object) (means_in request) xs start ts (state request v f) (written_in request rest)
+      (ap (λ zs. F (written_in request zs)) none ∙ ap F (written-nil (fragments_in request))) l
 
-  pub leads-now : (set : Bor (List (Selection S))) (none_open sets : Open S) (v : List Bytes) (f : Lent S) → none_open ≡ [] → sets ≡ none_open ++ set ∷ []
-      → ReadyIn answer request object (height (written_in request set.now)) v f
-      → LeadsIn answer request object (F (written_in request set.now)) (state request v f) (trees_in request sets) v f
+  pub leads-now : (set : OpenSet S) (none_open sets : Open S) (v : List Bytes) (f : Lent S) → none_open ≡ [] → sets ≡ none_open ++ set ∷ []
+      → ReadyIn answer request object (height (written_in request (rest_of set))) v f
+      → LeadsIn answer request object (F (written_in request (rest_of set))) (state request v f) (trees_in request sets) v f
   leads-now set none_open sets v f none pushed r =
-      subst (λ (zs : Open S). Leading (F (written_in request set.now)) (state request v f) (trees_in request zs) (state request v f)) (sym (pushed ∙ ap (λ zs. zs ++ set ∷ []) none))
-      (leads-first (drops_in answer request) (is_below_in request object) (means_in request) (written_in request set.now) (state request v f) r)
+      subst (λ (zs : Open S). Leading (F (written_in request (rest_of set))) (state request v f) (trees_in request zs) (state request v f))
+      (sym (pushed ∙ ap (λ zs. zs ++ set ∷ []) none))
+      (leads-first (drops_in answer request) (is_below_in request object) (means_in request) (written_in request (rest_of set)) (state request v f) r)
 
   pub leads-last : (xs : List (Found S)) (v : List Bytes) (f : Lent S) (sets : Open S) (v2 : List Bytes) (f2 : Lent S) → sets ≡ []
       → LeadsIn answer request object xs (state request v f) (trees_in request sets) v2 f2 → WalkedIn answer request object xs v f v2 f2
@@ -162,7 +161,7 @@ module _ {S C : Type 0} (answer : S → ScalarAnswer) (request : Request S C) (o
   pub complete-first : CompleteIn answer request object [] []
   complete-first name is a = cc
 
-  pub more-below : (xs : Lent S) (i : ℕ) (x : Occurrence S) (v : List Bytes) (f : Lent S) (v1 : List Bytes) (f1 : Lent S) (v2 : List Bytes) (f2 : Lent S)
+  pub more-below : (xs : Lent S) (i : ℕ) (x : CollectedField S) (v : List Bytes) (f : Lent S) (v1 : List Bytes) (f1 : Lent S) (v2 : List Bytes) (f2 : Lent S)
       → i < length xs → x ≡ get_or xs i x → WalkedIn answer request object (flat_map F (map (below_in request) (take i xs))) v f v1 f1
       → WalkedIn answer request object (F (below_in request x)) v1 f1 v2 f2
       → WalkedIn answer request object (flat_map F (map (below_in request) (take (i + 1) xs))) v f v2 f2

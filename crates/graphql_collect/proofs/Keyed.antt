@@ -8,7 +8,7 @@ use Rattle.std.proofs.lemmas.List.Elements.{filter-append}
 use Rattle.std.proofs.lemmas.Map.Keys.{IsDistinct-head, IsDistinct-tail}
 use Rattle.std.proofs.lemmas.Slice.Eq.{bytes_eq-Decides}
 use Rattle.indexmap.specs.IndexSet.{insert_key}
-use Rattle.graphql_collect.specs.declared.grouping.Occurrence.{Occurrence}
+use Rattle.graphql_collect.specs.declared.collected_field.CollectedField.{CollectedField}
 use Rattle.graphql_tree.specs.declared.document.Fragment.{Fragment}
 use Rattle.graphql_names.specs.Names.{Bytes}
 use Rattle.graphql_written_out.specs.Fields.{Found}
@@ -103,7 +103,7 @@ module _ {S : Type 0} where
             ∙ joins-all xs (keys xs ++ y.head.key ∷ [])
 
 -- a field is put to its group
-module _ {S : Type 0} (x : Occurrence S) where
+module _ {S : Type 0} (x : CollectedField S) where
   module _ (keys : List Bytes) (gs more : List (Group S)) (are : keys ≡ map (λ g. g.0) gs) where
     pub begun-new : true ≡ not (list_any (bytes_eq (key_at x)) keys) → more ≡ gs ++ (key_at x, []) ∷ [] → more ≡ begun x gs
     begun-new t e = e ∙ cases (list_any (bytes_eq (key_at x)) (map (λ g. g.0) gs)) (t ∙ ap (λ ks. not (list_any (bytes_eq (key_at x)) ks)) are)
@@ -191,7 +191,7 @@ module _ {S : Type 0} (x : Occurrence S) where
       length-names (h ∷ hs) = ap suc (length-names hs)
 
 -- the same of what is found
-module _ {S : Type 0} (fragments : List (Fragment S)) (x : Occurrence S) where
+module _ {S : Type 0} (fragments : List (Fragment S)) (x : CollectedField S) where
   abbrev it : Found S
   it = found fragments x.field.now
 
@@ -213,7 +213,7 @@ module _ {S : Type 0} (fragments : List (Fragment S)) (x : Occurrence S) where
   joins-found (g ∷ gs) = λ j. one (bytes_eq (key_at x) g.0) j ∷ joins-found gs j
     where
       one : (q : Bool) → group_found fragments (cond q (g.0, g.1 ++ x ∷ []) g) ≡ cond q (g.0, all_found fragments g.1 ++ it ∷ []) (group_found fragments g)
-      one true = λ j. (g.0, map-append (λ (y : Occurrence S). found fragments y.field.now) g.1 (x ∷ []) j)
+      one true = λ j. (g.0, map-append (λ (y : CollectedField S). found fragments y.field.now) g.1 (x ∷ []) j)
       one false = refl
 
   -- one field more
@@ -222,4 +222,4 @@ module _ {S : Type 0} (fragments : List (Fragment S)) (x : Occurrence S) where
   grouped-more xs i gs more within is h e =
       ap (map (group_found fragments)) e ∙ joins-found (begun x gs) ∙ ap (map (joins it)) (opens-found gs) ∙ ap (λ hs. map (joins it) (opened it hs)) h
       ∙ groups-last it (all_found fragments (take i xs))
-      ∙ ap groups (sym (ap (all_found fragments) (take_more xs i x within ∙ ap (λ z. take i xs ++ z ∷ []) (sym is)) ∙ map-append (λ (y : Occurrence S). found fragments y.field.now) (take i xs) (x ∷ [])))
+      ∙ ap groups (sym (ap (all_found fragments) (take_more xs i x within ∙ ap (λ z. take i xs ++ z ∷ []) (sym is)) ∙ map-append (λ (y : CollectedField S). found fragments y.field.now) (take i xs) (x ∷ [])))

@@ -1,8 +1,8 @@
 -- Sizes of sets and fragments, and the turns through them, step by step.
-use Rattle.std.proofs.Common.{◌≡◌, refl, sym, ◌∙◌, ap, subst, ℕ, ◌+◌, ◌<◌, ◌≤◌, arith, Bool, true, false, List, [], ◌∷◌, ◌++◌, map, length, take, get_or, Some, cond, Bor}
+use Rattle.std.proofs.Common.{◌≡◌, refl, sym, ◌∙◌, ap, subst, ℕ, ◌+◌, ◌<◌, ◌≤◌, arith, Bool, true, false, List, [], ◌∷◌, ◌++◌, map, length, take, drop, get_or, Some, cond}
 use Rattle.std.specs.List.{list_any, find, sum_by}
 use Rattle.std.specs.Str.{bytes_eq}
-use Rattle.std.proofs.lemmas.List.{take_more, reverse-append}
+use Rattle.std.proofs.lemmas.List.{take_more, drop_more, drop_all, reverse-append}
 use Rattle.std.proofs.lemmas.List.Sums.{sum_by-cons}
 use Rattle.std.proofs.lemmas.Slice.Eq.{bytes_eq-Decides}
 use Rattle.graphql_values.specs.InputValues.{Placed}
@@ -21,9 +21,10 @@ use Rattle.graphql_names.specs.Names.{Bytes}
 use Rattle.graphql_written_out.specs.Written.{fragment_meant}
 use Rattle.graphql_written_out.specs.Written.{Before, chain, listed, selection_layer, field_layer, inline_layer}
 use Rattle.indexmap.specs.IndexSet.{insert_key}
-use Rattle.graphql_collect.specs.OpenSets.{Open, rests}
+use Rattle.graphql_collect.specs.declared.open_set.OpenSet.{OpenSet}
+use Rattle.graphql_collect.specs.OpenSets.{Open, rest_of, rests}
 use Rattle.graphql_collect.specs.Sizes.{tree_size, bare, size, left_by, size_below, turns, selection_turns}
-use Rattle.graphql_collect.specs.declared.grouping.Occurrence.{Occurrence}
+use Rattle.graphql_collect.specs.declared.collected_field.CollectedField.{CollectedField}
 use Rattle.graphql_collect.specs.Grouped.{Lent}
 use Rattle.graphql_evaluation.proofs.GroupRepeats.{any-more, any-last}
 
@@ -103,11 +104,23 @@ module _ {S : Type 0} where
   turns-cons x xs = omega (arith, sum_by-cons selection_count x xs)
 
   -- one set more
-  pub rests-push : (sets more : Open S) (r : Bor (List (Selection S))) → more ≡ sets ++ r ∷ [] → rests more ≡ r.now ∷ rests sets
-  rests-push sets more r e = ap rests e ∙ ap (map (λ o. o.now)) (reverse-append sets (r ∷ []))
+  pub rests-push : (sets more : Open S) (set : OpenSet S) → more ≡ sets ++ set ∷ [] → rests more ≡ rest_of set ∷ rests sets
+  rests-push sets more set e = ap rests e ∙ ap (map rest_of) (reverse-append sets (set ∷ []))
 
-  pub open-push : (measure : List (Selection S) → ℕ) (sets more : Open S) (r : Bor (List (Selection S))) → more ≡ sets ++ r ∷ [] → sum_by measure (rests more) ≡ measure r.now + sum_by measure (rests sets)
-  open-push measure sets more r e = ap (sum_by measure) (rests-push sets more r e) ∙ sum_by-cons measure r.now (rests sets)
+  pub open-push : (measure : List (Selection S) → ℕ) (sets more : Open S) (set : OpenSet S) → more ≡ sets ++ set ∷ []
+      → sum_by measure (rests more) ≡ measure (rest_of set) + sum_by measure (rests sets)
+  open-push measure sets more set e =
+      ap (sum_by measure) (rests-push sets more set e) ∙ sum_by-cons measure (rest_of set) (rests sets)
+
+  -- what is left of a set: its next selection, before the others
+  pub rest-next : (set : OpenSet S) (x : Selection S) → set.next < length set.among.now → x ≡ get_or set.among.now set.next x
+      → rest_of set ≡ x ∷ drop (set.next + 1) set.among.now
+  rest-next set x within is =
+      drop_more set.among.now set.next x within ∙ ap (λ y. y ∷ drop (set.next + 1) set.among.now) (sym is)
+
+  -- of a set at its end nothing is left
+  pub rest-none : (set : OpenSet S) → length set.among.now ≤ set.next → rest_of set ≡ []
+  rest-none set at_end = drop_all set.next set.among.now at_end
 
   module _ (measure : List (Selection S) → ℕ) where
     left-less : (fs : List (Fragment S)) (visited : List Bytes) (name : Bytes) → left_by measure (visited ++ name ∷ []) fs ≤ left_by measure visited fs
@@ -131,9 +144,9 @@ module _ {S : Type 0} where
             rw (gone, there) (omega (arith, left-less gs visited name, ap (λ (h : Fragment S). measure h.selection_set) same))
         cases ih false t is = omega (arith, ih is new, less-one g.name.item name visited (measure g.selection_set))
 
-  below-last : (x : Occurrence S) (xs : Lent S) → size_below (xs ++ x ∷ []) ≡ size_below xs + size (listed x.field.now.item.selection_set)
+  below-last : (x : CollectedField S) (xs : Lent S) → size_below (xs ++ x ∷ []) ≡ size_below xs + size (listed x.field.now.item.selection_set)
   below-last x [] = omega arith
   below-last x (y ∷ ys) = omega (arith, below-last x ys)
 
-  pub below-more : (xs : Lent S) (i : ℕ) (x : Occurrence S) → i < length xs → x ≡ get_or xs i x → size_below (take (i + 1) xs) ≡ size_below (take i xs) + size (listed x.field.now.item.selection_set)
+  pub below-more : (xs : Lent S) (i : ℕ) (x : CollectedField S) → i < length xs → x ≡ get_or xs i x → size_below (take (i + 1) xs) ≡ size_below (take i xs) + size (listed x.field.now.item.selection_set)
   below-more xs i x within is = ap size_below (take_more xs i x within ∙ ap (λ z. take i xs ++ z ∷ []) (sym is)) ∙ below-last x (take i xs)

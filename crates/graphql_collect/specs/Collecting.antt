@@ -4,8 +4,10 @@ use Rattle.std.specs.Prelude.{◌≡◌, ◌⊎◌, ◌<◌, ℕ, true, false, L
 use Rattle.std.specs.List.{list_any}
 use Rattle.std.specs.Str.{bytes_eq}
 use Rattle.graphql_tree.specs.declared.document.Fragment.{Fragment}
+use Rattle.graphql_tree.specs.declared.selection.Selection.{Selection}
+use Rattle.graphql_tree.specs.declared.selection.Selection.TheVariants as selection
 use Rattle.graphql_collect.specs.declared.request.Request.{Request}
-use Rattle.graphql_collect.specs.declared.grouping.Occurrence.{Occurrence}
+use Rattle.graphql_collect.specs.declared.collected_field.CollectedField.{CollectedField}
 use Rattle.graphql_written_out.specs.Trees.{Tree, none, height}
 use Rattle.graphql_names.specs.Names.{Bytes}
 use Rattle.graphql_written_out.specs.Written.{fragment_meant}
@@ -18,6 +20,13 @@ use Rattle.graphql_collect.specs.Walks.{Walk, Meanings}
 use Rattle.graphql_collect.specs.Walked.{Ready, Complete, Walked, Leads}
 use Rattle.graphql_collect.specs.OpenSets.{Open, rests}
 
+-- a field that is brought is the selection itself
+abbrev pub IsItself : {S : Type 0} → Selection S → Brought S → Type 0
+IsItself x brought.Nothing = Unit {0}
+IsItself x (brought.Field field) = x ≡ selection.Field field.now
+IsItself x (brought.Set set) = Unit {0}
+IsItself x (brought.Fragment spread set) = Unit {0}
+
 module _ {S C : Type 0} where
   abbrev pub meaning_of : Request S C → Option (Fragment S) → Bytes × Tree S
   meaning_of request None = ([], none)
@@ -28,7 +37,7 @@ module _ {S C : Type 0} where
   means_in request name = meaning_of request (fragment_meant (fragments_in request) name)
 
   -- the set of a field
-  abbrev pub below_in : Request S C → Occurrence S → Tree S
+  abbrev pub below_in : Request S C → CollectedField S → Tree S
   below_in request x = (found_at request x.field.now).below
 
   abbrev pub state : Request S C → List Bytes → Lent S → Walk S

@@ -3,7 +3,7 @@ use Rattle.std.specs.Prelude.{◌≡◌, List, [], ◌∷◌, ◌++◌, map, if�
 use Rattle.std.specs.List.{list_any}
 use Rattle.std.specs.Str.{bytes_eq}
 use Rattle.graphql_tree.specs.declared.document.Fragment.{Fragment}
-use Rattle.graphql_collect.specs.declared.grouping.Occurrence.{Occurrence}
+use Rattle.graphql_collect.specs.declared.collected_field.CollectedField.{CollectedField}
 use Rattle.graphql_names.specs.Names.{Bytes}
 use Rattle.graphql_written_out.specs.Written.{response_key}
 use Rattle.graphql_written_out.specs.Fields.{Found}
@@ -12,7 +12,7 @@ use Rattle.graphql_written_out.specs.Groups.{groups}
 
 -- fields of a document, lent
 abbrev pub Lent : Type 0 → Type 0
-Lent S = List (Occurrence S)
+Lent S = List (CollectedField S)
 
 -- a key, and its fields
 abbrev pub Group : Type 0 → Type 0
@@ -26,19 +26,19 @@ module _ {S : Type 0} where
   group_found fragments g = (g.0, all_found fragments g.1)
 
   -- the response key of a field
-  abbrev pub key_at : Occurrence S → Bytes
+  abbrev pub key_at : CollectedField S → Bytes
   key_at x = response_key x.field.now.item.alias x.field.now.item.name
 
   -- the groups, with an empty one for the field's key if it has none
-  abbrev pub begun : Occurrence S → List (Group S) → List (Group S)
+  abbrev pub begun : CollectedField S → List (Group S) → List (Group S)
   begun x gs = if list_any (bytes_eq (key_at x)) (map (λ g. g.0) gs) then gs else gs ++ (key_at x, []) ∷ []
 
   -- a group takes the field of its key
-  abbrev pub takes : Occurrence S → Group S → Group S
+  abbrev pub takes : CollectedField S → Group S → Group S
   takes x g = if bytes_eq (key_at x) g.0 then (g.0, g.1 ++ x ∷ []) else g
 
   -- the groups with the field
-  abbrev pub put : Occurrence S → List (Group S) → List (Group S)
+  abbrev pub put : CollectedField S → List (Group S) → List (Group S)
   put x gs = map (takes x) (begun x gs)
 
   abbrev pub IsGrouped : Lent S → List (Group S) → Type 0

@@ -1,6 +1,6 @@
 //! The fields of selection sets for an object type, each fragment entered once.
 
-ghost use Rattle.std.specs.Prelude.{◌≡◌, ◌≤◌, ◌<◌, ◌+◌, ℕ, List, [], ◌∷◌, length, OnOk, IfOk, map};
+ghost use Rattle.std.specs.Prelude.{◌≡◌, ◌≤◌, ◌<◌, ◌+◌, ℕ, List, [], ◌∷◌, Some, length, slice_get, OnOk, IfOk, map};
 ghost use Rattle.std.specs.Option.{option_map};
 ghost use Rattle.std.specs.List.{flat_map, list_any};
 ghost use Rattle.std.specs.Str.{bytes_eq};
@@ -12,9 +12,11 @@ ghost use Rattle.graphql_collect.specs.Grouped.{all_found};
 ghost use Rattle.graphql_written_out.specs.Fields.{applies};
 ghost use Rattle.graphql_written_out.specs.Repeats.{Repeats};
 ghost use Rattle.graphql_collect.specs.Sizes.{IsSized, left_in, selection_turns, size, size_below, size_open, turns, turns_ahead};
-ghost use Rattle.graphql_collect.specs.Collecting.{Brings, CompleteIn, ReadyIn, Steps, WalkedIn, below_in, trees_in};
+ghost use Rattle.graphql_collect.specs.OpenSets.{rest_of};
+ghost use Rattle.graphql_collect.specs.Collecting.{Brings, CompleteIn, IsItself, ReadyIn, Steps, WalkedIn, below_in, trees_in};
 
-use crate::grouping::Occurrence;
+use crate::collected_field::CollectedField;
+use crate::open_set::OpenSet;
 use crate::request::Request;
 use graphql_meta::SchemaScalar;
 use graphql_text::{Items, Spanning, TextRef};
@@ -82,6 +84,7 @@ fn bring_field<'d, 'a, S: SchemaScalar>(
     field: &'d Spanning<Field<'a, S>>,
 ) -> Brought<'d, 'a, S>
     ensures brings { (object : List ℕ) (visited : List (List ℕ)) → Brings S.answer request.now object visited (one (fragments_in request.now) (selection.Field field.now)) result }
+    ensures itself { IsItself (selection.Field field.now) result }
     ensures sized { (visited : List (List ℕ)) → IsSized (fragments_in request.now) visited (selection.Field field.now) result }
 {
     if drops(request, &field.item.directives) {
@@ -97,6 +100,7 @@ fn bring_inline<'d, 'a, S: SchemaScalar>(
     inline: &'d Spanning<InlineFragment<'a, S>>,
 ) -> Brought<'d, 'a, S>
     ensures brings { (visited : List (List ℕ)) → Brings S.answer request.now object.now visited (one (fragments_in request.now) (selection.InlineFragment inline.now)) result }
+    ensures itself { IsItself (selection.InlineFragment inline.now) result }
     ensures sized { (visited : List (List ℕ)) → IsSized (fragments_in request.now) visited (selection.InlineFragment inline.now) result }
 {
     if drops(request, &inline.item.directives) {
@@ -118,6 +122,7 @@ fn bring_fragment<'d, 'a, S: SchemaScalar>(
 ) -> Brought<'d, 'a, S>
     requires { Settled (fragments_in request.now) }
     ensures brings { Brings S.answer request.now object.now visited.now.keys (one (fragments_in request.now) (selection.FragmentSpread spread.now)) result }
+    ensures itself { IsItself (selection.FragmentSpread spread.now) result }
     ensures sized { IsSized (fragments_in request.now) visited.now.keys (selection.FragmentSpread spread.now) result }
 {
     if drops(request, &spread.item.directives) {
@@ -146,6 +151,7 @@ fn bring<'d, 'a, S: SchemaScalar>(
 ) -> Brought<'d, 'a, S>
     requires { Settled (fragments_in request.now) }
     ensures brings { Brings S.answer request.now object.now visited.now.keys (one (fragments_in request.now) selection.now) result }
+    ensures itself { IsItself selection.now result }
     ensures sized { IsSized (fragments_in request.now) visited.now.keys selection.now result }
 {
     match selection {
@@ -155,57 +161,79 @@ fn bring<'d, 'a, S: SchemaScalar>(
     }
 }
 
-/// Adds the field that a selection brings, or opens the set that it brings. An error is want of memory.
+/// Adds the field that the next selection of a set brings, or opens the set that it brings. An error is
+/// want of memory.
 fn enter<'d, 'a, S: SchemaScalar>(
     request: &Request<'d, 'a, S>,
     object: &str,
+    set: &OpenSet<'d, 'a, S>,
     selection: &'d Selection<'a, S>,
-    sets: &mut Items<&'d [Selection<'a, S>]>,
+    sets: &mut Items<OpenSet<'d, 'a, S>>,
     visited: &mut IndexSet<TextRef<'a>>,
-    found: &mut Items<Occurrence<'d, 'a, S>>,
+    found: &mut Items<CollectedField<'d, 'a, S>>,
 ) -> Result<(), AllocError>
-    requires { Settled (fragments_in request.now) }
-    ensures steps { OnOk result (Steps S.answer request.now object.now (one (fragments_in request.now) selection.now ∷ trees_in request.now sets.old) visited.old.keys found.old (trees_in request.now sets.new) visited.new.keys found.new) }
-    ensures sized { OnOk result (length found.new + left_in visited.new.keys (fragments_in request.now) + size_open sets.new ≤ length found.old + left_in visited.old.keys (fragments_in request.now) + size (selection.now ∷ []) + size_open sets.old) }
-    ensures turns { OnOk result (turns_ahead (fragments_in request.now) sets.new visited.new.keys < selection_turns selection.now + turns_ahead (fragments_in request.now) sets.old visited.old.keys) }
+    requires settled { Settled (fragments_in request.now) }
+    requires stands { slice_get set.now.among.now set.now.next ≡ Some selection.now }
+    ensures steps { OnOk result (Steps S.answer request.now object.now
+        (one (fragments_in request.now) selection.now ∷ trees_in request.now sets.old) visited.old.keys found.old
+        (trees_in request.now sets.new) visited.new.keys found.new) }
+    ensures sized { OnOk result (
+        length found.new + left_in visited.new.keys (fragments_in request.now) + size_open sets.new
+        ≤ length found.old + left_in visited.old.keys (fragments_in request.now) + size (selection.now ∷ []) + size_open sets.old) }
+    ensures turns { OnOk result (
+        turns_ahead (fragments_in request.now) sets.new visited.new.keys
+        < selection_turns selection.now + turns_ahead (fragments_in request.now) sets.old visited.old.keys) }
 {
     match bring(request, object, selection, visited) {
         Brought::Nothing => Ok(()),
         Brought::Field(field) => {
-            found.push(Occurrence { field })?;
+            found.push(CollectedField {
+                field,
+                among: set.among,
+                place: set.next,
+            })?;
             Ok(())
         }
-        Brought::Set(inner) => {
-            sets.push(inner)?;
+        Brought::Set(among) => {
+            sets.push(OpenSet { among, next: 0 })?;
             Ok(())
         }
-        Brought::Fragment(spread, inner) => {
+        Brought::Fragment(spread, among) => {
             visited.insert(spread.item.name.item.copied())?;
-            sets.push(inner)?;
+            sets.push(OpenSet { among, next: 0 })?;
             Ok(())
         }
     }
 }
 
-/// Goes on with what is left of a set: with its first selection, if there is one. An error is want of memory.
+/// Goes on with a set: with its next selection, if there is one. An error is want of memory.
 fn advance<'d, 'a, S: SchemaScalar>(
     request: &Request<'d, 'a, S>,
     object: &str,
-    rest: &'d [Selection<'a, S>],
-    sets: &mut Items<&'d [Selection<'a, S>]>,
+    set: &OpenSet<'d, 'a, S>,
+    sets: &mut Items<OpenSet<'d, 'a, S>>,
     visited: &mut IndexSet<TextRef<'a>>,
-    found: &mut Items<Occurrence<'d, 'a, S>>,
+    found: &mut Items<CollectedField<'d, 'a, S>>,
 ) -> Result<(), AllocError>
     requires { Settled (fragments_in request.now) }
-    ensures steps { OnOk result (Steps S.answer request.now object.now (written_in request.now rest.now ∷ trees_in request.now sets.old) visited.old.keys found.old (trees_in request.now sets.new) visited.new.keys found.new) }
-    ensures sized { OnOk result (length found.new + left_in visited.new.keys (fragments_in request.now) + size_open sets.new ≤ length found.old + left_in visited.old.keys (fragments_in request.now) + size rest.now + size_open sets.old) }
-    ensures turns { OnOk result (turns_ahead (fragments_in request.now) sets.new visited.new.keys < turns rest.now + turns_ahead (fragments_in request.now) sets.old visited.old.keys) }
+    ensures steps { OnOk result (Steps S.answer request.now object.now
+        (written_in request.now (rest_of set.now) ∷ trees_in request.now sets.old) visited.old.keys found.old
+        (trees_in request.now sets.new) visited.new.keys found.new) }
+    ensures sized { OnOk result (
+        length found.new + left_in visited.new.keys (fragments_in request.now) + size_open sets.new
+        ≤ length found.old + left_in visited.old.keys (fragments_in request.now) + size (rest_of set.now) + size_open sets.old) }
+    ensures turns { OnOk result (
+        turns_ahead (fragments_in request.now) sets.new visited.new.keys
+        < turns (rest_of set.now) + turns_ahead (fragments_in request.now) sets.old visited.old.keys) }
 {
-    match rest.split_first() {
+    match set.among.get(set.next) {
         None => Ok(()),
-        Some((selection, behind)) => {
-            sets.push(behind)?;
-            enter(request, object, selection, sets, visited, found)?;
+        Some(selection) => {
+            sets.push(OpenSet {
+                among: set.among,
+                next: set.next + 1,
+            })?;
+            enter(request, object, set, selection, sets, visited, found)?;
             Ok(())
         }
     }
@@ -220,7 +248,7 @@ fn collect<'d, 'a, S: SchemaScalar>(
     object: &str,
     set: &'d [Selection<'a, S>],
     visited: &mut IndexSet<TextRef<'a>>,
-    found: &mut Items<Occurrence<'d, 'a, S>>,
+    found: &mut Items<CollectedField<'d, 'a, S>>,
 ) -> Result<(), AllocError>
     requires settled { Settled (fragments_in request.now) }
     requires ready { ReadyIn S.answer request.now object.now (height (written_in request.now set.now)) visited.old.keys found.old }
@@ -228,9 +256,12 @@ fn collect<'d, 'a, S: SchemaScalar>(
     ensures sized { OnOk result (length found.new + left_in visited.new.keys (fragments_in request.now) ≤ length found.old + size set.now + left_in visited.old.keys (fragments_in request.now)) }
 {
     let mut sets = Items::new(alloc);
-    sets.push(set)?;
-    'sets: while let Some(rest) = sets.pop() {
-        advance(request, object, rest, &mut sets, visited, found)?;
+    sets.push(OpenSet {
+        among: set,
+        next: 0,
+    })?;
+    'sets: while let Some(innermost) = sets.pop() {
+        advance(request, object, &innermost, &mut sets, visited, found)?;
     }
     Ok(())
 }
@@ -240,9 +271,9 @@ fn collect_below<'d, 'a, S: SchemaScalar>(
     alloc: Global,
     request: &Request<'d, 'a, S>,
     object: &str,
-    occurrence: &Occurrence<'d, 'a, S>,
+    occurrence: &CollectedField<'d, 'a, S>,
     visited: &mut IndexSet<TextRef<'a>>,
-    found: &mut Items<Occurrence<'d, 'a, S>>,
+    found: &mut Items<CollectedField<'d, 'a, S>>,
 ) -> Result<(), AllocError>
     requires settled { Settled (fragments_in request.now) }
     requires complete { CompleteIn S.answer request.now object.now visited.old.keys found.old }
@@ -267,7 +298,7 @@ pub fn fields_of_set<'d, 'a, S: SchemaScalar>(
     request: &Request<'d, 'a, S>,
     object: &str,
     set: &'d [Selection<'a, S>],
-) -> Result<Items<Occurrence<'d, 'a, S>>, AllocError>
+) -> Result<Items<CollectedField<'d, 'a, S>>, AllocError>
     requires { Settled (fragments_in request.now) }
     ensures fields { IfOk result (λ found. Repeats (all_found (fragments_in request.now) found) (fields_in S.answer request.now object.now (written_in request.now set.now))) }
     ensures few { IfOk result (λ found. length found ≤ size set.now + left_in [] (fragments_in request.now)) }
@@ -284,8 +315,8 @@ pub fn fields_below<'d, 'a, S: SchemaScalar>(
     alloc: Global,
     request: &Request<'d, 'a, S>,
     object: &str,
-    group: &[Occurrence<'d, 'a, S>],
-) -> Result<Items<Occurrence<'d, 'a, S>>, AllocError>
+    group: &[CollectedField<'d, 'a, S>],
+) -> Result<Items<CollectedField<'d, 'a, S>>, AllocError>
     requires { Settled (fragments_in request.now) }
     ensures fields { IfOk result (λ found. Repeats (all_found (fragments_in request.now) found) (flat_map (fields_in S.answer request.now object.now) (map (below_in request.now) group.now))) }
     ensures few { IfOk result (λ found. length found ≤ size_below group.now + left_in [] (fragments_in request.now)) }

@@ -3,24 +3,17 @@
 ghost use Rattle.std.specs.Prelude.{◌≡◌, map, IfOk, OnOk};
 ghost use Rattle.graphql_collect.specs.Grouped.{IsGrouped, key_at, put};
 
-use graphql_text::{Items, Spanning, TextRef};
-use graphql_tree::Field;
+use crate::collected_field::CollectedField;
+use graphql_text::{Items, TextRef};
 use graphql_written_out::response_key;
 use indexmap::IndexSet;
 use std::alloc::{AllocError, Global};
 
-/// A field of a document, lent, where it applies.
-#[derive(Drop)]
-pub struct Occurrence<'d, 'a, S> {
-    /// The field.
-    pub field: &'d Spanning<Field<'a, S>>,
-}
-
 /// A response key, and its fields, the first of them first.
-pub type Group<'d, 'a, S> = (TextRef<'d>, Items<Occurrence<'d, 'a, S>>);
+pub type Group<'d, 'a, S> = (TextRef<'d>, Items<CollectedField<'d, 'a, S>>);
 
 /// The response key of the field.
-fn key_of<'d, S>(occurrence: &Occurrence<'d, '_, S>) -> TextRef<'d>
+fn key_of<'d, S>(occurrence: &CollectedField<'d, '_, S>) -> TextRef<'d>
     ensures { result ≡ key_at occurrence.now }
 {
     TextRef::new(response_key(&occurrence.field.item))
@@ -30,7 +23,7 @@ fn key_of<'d, S>(occurrence: &Occurrence<'d, '_, S>) -> TextRef<'d>
 /// is want of memory.
 fn put<'d, 'a, S>(
     alloc: Global,
-    occurrence: &Occurrence<'d, 'a, S>,
+    occurrence: &CollectedField<'d, 'a, S>,
     keys: &mut IndexSet<TextRef<'d>>,
     groups: &mut Items<Group<'d, 'a, S>>,
 ) -> Result<(), AllocError>
@@ -42,9 +35,7 @@ fn put<'d, 'a, S>(
     if added {
         groups.push((key_of(occurrence), Items::new(alloc)))?;
     }
-    groups[place].1.push(Occurrence {
-        field: occurrence.field,
-    })?;
+    groups[place].1.push(*occurrence)?;
     Ok(())
 }
 
@@ -52,7 +43,7 @@ fn put<'d, 'a, S>(
 /// Collection). Takes time and memory in proportion to the fields. An error is want of memory.
 pub fn grouped<'d, 'a, S>(
     alloc: Global,
-    found: &[Occurrence<'d, 'a, S>],
+    found: &[CollectedField<'d, 'a, S>],
 ) -> Result<Items<Group<'d, 'a, S>>, AllocError>
     ensures { IfOk result (IsGrouped found.now) }
 {

@@ -2,12 +2,15 @@
 //! 6.3.2 Field Collection).
 #![tactic(auto)]
 
+mod collected_field;
 mod collecting;
 mod fragments;
 mod grouping;
+mod open_set;
 mod request;
 
+pub use collected_field::CollectedField;
 pub use collecting::{fields_below, fields_of_set};
 pub use fragments::Fragments;
-pub use grouping::{Group, Occurrence, grouped};
+pub use grouping::{Group, grouped};
 pub use request::Request;

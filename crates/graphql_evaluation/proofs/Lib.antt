@@ -4,7 +4,7 @@ pub mod RepeatLemmas
 pub mod GroupRepeats
 mod RepeatHeights
 mod Walks
-mod Depths
+pub mod Depths
 pub mod GroupKeys
 mod FittingData
 mod DistinctMembers
@@ -12,3 +12,4 @@ mod Failures
 mod ExactFailures
 pub mod RunRepeats
 pub mod TurnLaws
+pub mod Rows

@@ -10,7 +10,7 @@ use Rattle.graphql_output_values.specs.declared.value.Value.{Value}
 use Rattle.graphql_output_values.specs.declared.value.Value.TheVariants as value
 use Rattle.graphql_type_references.specs.declared.type_modifier.TypeModifier.{TypeModifier}
 use Rattle.graphql_meta.specs.Types.{TypeOf}
-use Rattle.graphql_collect.specs.declared.grouping.Occurrence.{Occurrence}
+use Rattle.graphql_collect.specs.declared.collected_field.CollectedField.{CollectedField}
 use Rattle.graphql_written_out.specs.Written.{head_of}
 use Rattle.graphql_field_results.specs.declared.field_error.FieldError.{FieldError}
 use Rattle.graphql_written_out.specs.Fields.{Found}
@@ -34,7 +34,7 @@ use Rattle.graphql_evaluation.specs.Evaluation.{evaluate, found_in, group, keyed
 use Rattle.graphql_written_out.specs.Repeats.{Repeats}
 use Rattle.graphql_execution.specs.Completed.{completed}
 use Rattle.graphql_execution.specs.Frames.{after, shows, more, groups_left, item_at, rest, close_group, close, down_group, down, resume, path_of, Leads, Steps, Fine, AllFine}
-use Rattle.graphql_execution.specs.Gives.{Gives}
+use Rattle.graphql_execution.specs.GivesOutcome.{GivesOutcome}
 use Rattle.graphql_evaluation.specs.Outcomes.{Outcome, no_value, gives, both, together, outcome_map, show_place, shown}
 use Rattle.graphql_execution.specs.Paths.{up}
 use Rattle.graphql_execution.proofs.OutcomeLemmas.{last, up-last}
@@ -85,11 +85,11 @@ module _ {S A : Type 0} where
   pub leads-now : (o : Outcome S A) (old : Report S) → Leads o old o old
   leads-now o old = record { told = []; is = refl; errors = sym (append-nil old.errors) }
 
-  pub leads-value : (o : Outcome S A) (v : Option A) (old new : Report S) → Gives o old v new → Leads o old (shows v) new
+  pub leads-value : (o : Outcome S A) (v : Option A) (old new : Report S) → GivesOutcome o old v new → Leads o old (shows v) new
   leads-value o v old new g = record { told = o.failures; is = λ i. record { value = sym g.is i; failures = sym (append-nil o.failures) i }; errors = g.errors }
 
   -- at the end
-  pub leads-end : (o : Outcome S A) (v : Option A) (old new : Report S) → new.path ≡ old.path → Leads o old (shows v) new → Gives o old v new
+  pub leads-end : (o : Outcome S A) (v : Option A) (old new : Report S) → new.path ≡ old.path → Leads o old (shows v) new → GivesOutcome o old v new
   leads-end o v old new p l = record {
     is = sym (ap (λ (q : Outcome S A). q.value) l.is);
     path = p;
@@ -238,7 +238,7 @@ module _ {S N : Type 0} (fragments : List (Fragment S)) (e : Engine S N) (path :
       → Leads (group e (evaluate e) path object node key (all_found fragments fields)) old (show_place true (shows {S = S} None)) new
   none-leads old new p same = rw (nothing_first fields p) (leads-same no_value (shows None) old new refl same)
 
-  module _ (x : Occurrence S) (first : Some x ≡ slice_get fields 0) where
+  module _ (x : CollectedField S) (first : Some x ≡ slice_get fields 0) where
     abbrev head : Head S
     head = head_of x.field.now
 
@@ -326,8 +326,8 @@ module _ {S : Type 0} (fragments : List (Fragment S)) (selected : Bytes → List
   known-taught old new (Some k) t are h = λ object.
       subst (IsKnown object) (sym (t object)) (taught-at k (known_at old object) object (bytes_eq k.object object) (λ p. (bytes_eq-Decides k.object object).0 p) are (h object))
 
-pub answer-gives : {S : Type 0} (key : Bytes) (needed : Bool) (o q : Outcome S (Value S)) (old mid below new : Report S) (v : Option (Value S)) → Leads o old (show_place needed q) mid → Gives q mid v below
-    → mid.path ≡ old.path ++ key ∷ [] → new.path ≡ up below.path → new.errors ≡ below.errors → Gives o old (shown needed v) new
+pub answer-gives : {S : Type 0} (key : Bytes) (needed : Bool) (o q : Outcome S (Value S)) (old mid below new : Report S) (v : Option (Value S)) → Leads o old (show_place needed q) mid → GivesOutcome q mid v below
+    → mid.path ≡ old.path ++ key ∷ [] → new.path ≡ up below.path → new.errors ≡ below.errors → GivesOutcome o old (shown needed v) new
 answer-gives key needed o q old mid below new v l g at back kept = record {
   is = ap (shown needed) g.is ∙ sym (ap (λ (r : Outcome _ (Value _)). r.value) l.is);
   path = back ∙ ap up (g.path ∙ at) ∙ up-last old.path key;

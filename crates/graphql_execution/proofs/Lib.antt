@@ -1,6 +1,7 @@
 pub mod EngineParts
 pub mod OutcomeLemmas
 pub mod GroupLemmas
+pub mod KeyLemmas
 pub mod FrameLemmas
 pub mod RootLemmas
 pub mod TurnLemmas

@@ -5,7 +5,7 @@ use Rattle.graphql_output_values.specs.declared.value.Value.{Value}
 use Rattle.graphql_execution.specs.declared.report.Report.{Report}
 use Rattle.graphql_execution.specs.Paths.{up}
 use Rattle.graphql_evaluation.specs.Outcomes.{Outcome, both, together, outcome_map, show_place, shown}
-use Rattle.graphql_execution.specs.Gives.{Gives}
+use Rattle.graphql_execution.specs.GivesOutcome.{GivesOutcome}
 
 abbrev pub first : {A : Type 0} → Option A → Option (List A) → Option (List A)
 first = both (λ x xs. x ∷ xs)
@@ -42,11 +42,11 @@ module _ {S A : Type 0} where
         failures = (ap (λ (q : Outcome S (List A)). p.failures ++ q.failures) ih ∙ sym (append_assoc p.failures (together os).failures o.failures)) i;
       }
 
-  pub gives-nothing : (old : Report S) → Gives {S = S} {A = List A} (together []) old (Some []) old
+  pub gives-nothing : (old : Report S) → GivesOutcome {S = S} {A = List A} (together []) old (Some []) old
   gives-nothing old = record { is = refl; path = refl; errors = sym (append-nil old.errors) }
 
   pub gives-last : (os : List (Outcome S A)) (o : Outcome S A) (old mid new : Report S) (values : Option (List A)) (one : Option A) (more : Option (List A))
-      → Gives (together os) old values mid → Gives o mid one new → more ≡ last values one → Gives (together (os ++ o ∷ [])) old more new
+      → GivesOutcome (together os) old values mid → GivesOutcome o mid one new → more ≡ last values one → GivesOutcome (together (os ++ o ∷ [])) old more new
   gives-last os o old mid new values one more g h p =
       let grown : together (os ++ o ∷ []) ≡ longer os o = together-last os o in
       record {
@@ -55,17 +55,17 @@ module _ {S A : Type 0} where
         errors = h.errors ∙ ap (λ es. es ++ o.failures) g.errors ∙ append_assoc old.errors (together os).failures o.failures ∙ sym (ap (λ (q : Outcome S (List A)). old.errors ++ q.failures) grown);
       }
 
-  pub gives-map : {B : Type 0} (f : A → B) (o : Outcome S A) (old new : Report S) (value : Option A) → Gives o old value new → Gives (outcome_map f o) old (option_map f value) new
+  pub gives-map : {B : Type 0} (f : A → B) (o : Outcome S A) (old new : Report S) (value : Option A) → GivesOutcome o old value new → GivesOutcome (outcome_map f o) old (option_map f value) new
   gives-map f o old new value g = record { is = ap (option_map f) g.is; path = g.path; errors = g.errors }
 
   -- what is given below a key, where the report goes down and up again
   pub gives-below : (key : List ℕ) (o : Outcome S A) (old mid below new : Report S) (value : Option A) → mid.path ≡ old.path ++ key ∷ [] → mid.errors ≡ old.errors
-      → Gives o mid value below → new.path ≡ up below.path → new.errors ≡ below.errors → Gives o old value new
+      → GivesOutcome o mid value below → new.path ≡ up below.path → new.errors ≡ below.errors → GivesOutcome o old value new
   gives-below key o old mid below new value down same g back kept = record {
     is = g.is;
     path = back ∙ ap up (g.path ∙ down) ∙ up-last old.path key;
     errors = kept ∙ g.errors ∙ ap (λ es. es ++ o.failures) same;
   }
 
-pub gives-shown : {S : Type 0} (needed : Bool) (o : Outcome S (Value S)) (old new : Report S) (value : Option (Value S)) → Gives o old value new → Gives (show_place needed o) old (shown needed value) new
+pub gives-shown : {S : Type 0} (needed : Bool) (o : Outcome S (Value S)) (old new : Report S) (value : Option (Value S)) → GivesOutcome o old value new → GivesOutcome (show_place needed o) old (shown needed value) new
 gives-shown needed o old new value g = record { is = ap (shown needed) g.is; path = g.path; errors = g.errors }

@@ -18,7 +18,7 @@ use Rattle.graphql_evaluation.specs.Evaluation.{evaluate, group, keyed}
 use Rattle.graphql_evaluation.specs.Outcomes.{Outcome, both, together}
 use Rattle.graphql_evaluation.proofs.GroupKeys.{distinct-groups}
 use Rattle.graphql_execution.specs.declared.report.Report.{Report}
-use Rattle.graphql_execution.specs.Gives.{Gives}
+use Rattle.graphql_execution.specs.GivesOutcome.{GivesOutcome}
 use Rattle.graphql_execution.proofs.OutcomeLemmas.{gives-last, gives-map}
 
 both-keyed : {S : Type 0} (k : Bytes) (m : Option (Members S)) (v : Option (Value S)) → both (λ xs x. xs ++ (k, x) ∷ []) m v ≡ both (λ xs y. xs ++ y ∷ []) m (option_map (λ x. (k, x)) v)
@@ -44,16 +44,16 @@ module _ {S N : Type 0} (fragments : List (Fragment S)) (e : Engine S N) (path :
   by_groups gs = together (map one_group (map (group_found fragments) gs))
 
   pub groups-more : (items : List (Group S)) (i : ℕ) (x : Group S) (old mid new : Report S) (members : Option (Members S)) (value : Option (Value S)) (more : Option (Members S))
-      → Gives (by_groups (take i items)) old members mid → i < length items → x ≡ get_or items i x
-      → Gives (group e (evaluate e) path object node x.0 (all_found fragments x.1)) mid value new
+      → GivesOutcome (by_groups (take i items)) old members mid → i < length items → x ≡ get_or items i x
+      → GivesOutcome (group e (evaluate e) path object node x.0 (all_found fragments x.1)) mid value new
       → more ≡ both (λ xs y. xs ++ (x.0, y) ∷ []) members value
-      → Gives (by_groups (take (i + 1) items)) old more new
+      → GivesOutcome (by_groups (take (i + 1) items)) old more new
   groups-more items i x old mid new members value more g h same one grown =
       let taken : take (i + 1) items ≡ take i items ++ x ∷ [] = take_more items i x h ∙ ap (λ y. take i items ++ y ∷ []) (sym same) in
       let mapped : map one_group (map (group_found fragments) (take (i + 1) items)) ≡ map one_group (map (group_found fragments) (take i items)) ++ one_group (group_found fragments x) ∷ [] =
       ap (λ ys. map one_group (map (group_found fragments) ys)) taken ∙ ap (map one_group) (map-append (group_found fragments) (take i items) (x ∷ []))
       ∙ map-append one_group (map (group_found fragments) (take i items)) (group_found fragments x ∷ []) in
-      subst (λ os. Gives (together os) old more new) (sym mapped)
+      subst (λ os. GivesOutcome (together os) old more new) (sym mapped)
       (gives-last (map one_group (map (group_found fragments) (take i items))) (one_group (group_found fragments x)) old mid new members (option_map (λ y. (x.0, y)) value) more g
       (gives-map (λ y. (x.0, y)) (group e (evaluate e) path object node x.0 (all_found fragments x.1)) mid new value one)
       (grown ∙ both-keyed x.0 members value))

@@ -1,10 +1,9 @@
 -- What an answer comes to where it is completed (GraphQL October 2021, 6.4.3 Value Completion, 6.4.4 Handling Field Errors).
-use Rattle.std.specs.Prelude.{◌≡◌, IfSome, ℕ, ◌++◌, [], ◌∷◌, List, Option, None, Some, Result, Ok, Err, unwrap_or}
+use Rattle.std.specs.Prelude.{◌≡◌, IfSome, ℕ, ◌++◌, [], ◌∷◌, List, Option, None, Some, Result, Ok, Err}
 use Rattle.graphql_names.specs.Names.{Bytes}
 use Rattle.graphql_text.specs.declared.position.SourcePosition.{SourcePosition}
 use Rattle.graphql_type_references.specs.declared.type_modifier.TypeModifier.{TypeModifier}
 use Rattle.graphql_output_values.specs.declared.value.Value.{Value}
-use Rattle.graphql_output_values.specs.declared.value.Value.TheVariants as value
 use Rattle.graphql_written_out.specs.Trees.{Tree}
 use Rattle.graphql_field_results.specs.declared.execution_error.ExecutionError.{ExecutionError}
 use Rattle.graphql_field_results.specs.declared.field_error.FieldError.{FieldError}
@@ -62,8 +61,8 @@ IsTold location (Ok b) old now new = (now ≡ b) × (new.path ≡ old.path) × (
 IsTold location (Err (fault.Error x)) old now new = (now ≡ begun.Value None) × (new.path ≡ old.path) × (new.errors ≡ old.errors ++ blame_at old.path location x ∷ [])
 IsTold location (Err fault.Memory) old now new = ⊥
 
--- the value of an outcome, null where it has none, with its failures told; the error of the place itself, if there is one, in place of both; want of memory tells nothing
-abbrev pub Completes : {S : Type 0} → Option (FieldError S) → Outcome S (Value S) → List (ExecutionError S) → Result (Value S) (FieldFault S) → List (ExecutionError S) → Type 0
-Completes own o old (Ok v) new = (own ≡ None) × (v ≡ unwrap_or o.value value.Null) × (new ≡ old ++ o.failures)
+-- the value of an outcome, if it has one, with its failures told; the error of the place itself, if there is one, in place of both; want of memory tells nothing
+abbrev pub Completes : {S : Type 0} → Option (FieldError S) → Outcome S (Value S) → List (ExecutionError S) → Result (Option (Value S)) (FieldFault S) → List (ExecutionError S) → Type 0
+Completes own o old (Ok v) new = (own ≡ None) × (v ≡ o.value) × (new ≡ old ++ o.failures)
 Completes own o old (Err (fault.Error e)) new = (own ≡ Some e) × (new ≡ old)
 Completes own o old (Err fault.Memory) new = new ≡ old

@@ -21,9 +21,13 @@ use Rattle.graphql_execution.specs.FieldDeclarations.{declared_type, declared_ar
 abbrev pub Resolves : Type 0 → Type 0 → Type 0
 Resolves S N = N → Bytes → Given S → Result (Resolved S N) (FieldError S)
 
--- the name of an object's type is told of each object, and no resolver is asked (4.1 Type Name Introspection)
+-- what each object of a type tells of itself, the name of its type (4.1 Type Name Introspection), else what is answered for the field of this name
+abbrev pub of_itself_or : {S N : Type 0} → (Bytes → S) → Bytes → Bytes → Result (Resolved S N) (FieldError S) → Result (Resolved S N) (FieldError S)
+of_itself_or of_text object name answer = if bytes_eq name (codes "__typename") then Ok (resolved.Scalar (of_text object)) else answer
+
+-- of what an object tells of itself no resolver is asked
 abbrev pub with_typename : {S N : Type 0} → (Bytes → S) → Resolves S N → N → Bytes → Bytes → Given S → Result (Resolved S N) (FieldError S)
-with_typename of_text resolves node object name given = if bytes_eq name (codes "__typename") then Ok (resolved.Scalar (of_text object)) else resolves node name given
+with_typename of_text resolves node object name given = of_itself_or of_text object name (resolves node name given)
 
 module _ {S C : Type 0} where
   -- the argument values of an object type's field; `given`: the final values of variables

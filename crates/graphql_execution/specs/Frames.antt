@@ -1,5 +1,5 @@
 -- What the whole gives where the innermost place gives an outcome.
-use Rattle.std.specs.List.{IsDistinct}
+use Rattle.std.specs.List.{All, IsDistinct}
 use Rattle.std.specs.Map.{keys_of}
 use Rattle.std.specs.Str.{bytes_eq}
 use Rattle.std.specs.Prelude.{◌≡◌, IfSome, cond, List, [], ◌∷◌, ◌++◌, map, drop, reverse, Option, Some, None}
@@ -24,7 +24,7 @@ use Rattle.graphql_evaluation.specs.Engines.{Engine}
 use Rattle.graphql_evaluation.specs.Evaluation.{evaluate, found_in, keyed}
 use Rattle.graphql_evaluation.specs.Completion.{blame_at, is_required, object_members}
 use Rattle.graphql_execution.specs.Completed.{completed_item}
-use Rattle.graphql_execution.specs.Sets.{AreKnown, kept_sets}
+use Rattle.graphql_execution.specs.Sets.{AreKnown, HasKey, kept_sets}
 use Rattle.graphql_execution.specs.declared.selected.KeptSelected.{KeptSelected}
 use Rattle.graphql_evaluation.specs.Outcomes.{Outcome, both, together, outcome_map, show_place}
 
@@ -131,9 +131,9 @@ module _ {S N : Type 0} where
   learns f known = record { name = f.name; selected = f.selected; location = f.location; wraps = f.wraps; items = f.items; values = f.values; known = known }
 
 module _ {S N : Type 0} (e : Engine S N) (fragments : List (Fragment S)) where
-  -- no key stands twice among an object's members so far and the groups that are left; what a list knows of a type are the groups of what is selected from it
+  -- an object's type is that of its node, its groups have their keys, and no key stands twice among its members so far and the groups that are left; what a list knows of a type are the groups of what is selected from it
   abbrev pub Fine : FrameIn S N → Type 0
-  Fine (frame.Object f) = IfSome f.members (λ ms. IsDistinct bytes_eq (keys_of ms ++ map (λ g. g.0) (drop f.next f.groups)))
+  Fine (frame.Object f) = (f.object ≡ e.concrete f.node) × All HasKey f.groups × IfSome f.members (λ ms. IsDistinct bytes_eq (keys_of ms ++ map (λ g. g.0) (drop f.next f.groups)))
   Fine (frame.List f) = AreKnown fragments (λ o. found_in e o (kept_sets fragments f.selected)) f.known
 
   abbrev pub AllFine : List (FrameIn S N) → Type 0

@@ -2,9 +2,10 @@ pub mod Answered
 pub mod FieldDeclarations
 pub mod FieldPaths
 pub mod Engines
+pub mod EngineAt
 pub mod Paths
 pub mod Completed
-pub mod Gives
+pub mod GivesOutcome
 pub mod Parts
 pub mod Sets
 pub mod Frames
@@ -12,3 +13,4 @@ pub mod FrameTurns
 pub mod OwnErrors
 pub mod Begins
 pub mod Completions
+pub mod Standing

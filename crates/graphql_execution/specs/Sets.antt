@@ -2,12 +2,12 @@
 use Rattle.std.specs.Prelude.{◌≡◌, List, [], ◌∷◌, map, Option, Some, None, IfSome, unwrap_or}
 use Rattle.std.specs.Borrow.{Bor}
 use Rattle.std.specs.Option.{option_map}
-use Rattle.std.specs.List.{flat_map}
+use Rattle.std.specs.List.{All, flat_map}
 use Rattle.graphql_scalars.specs.ScalarAnswers.{ScalarAnswer}
 use Rattle.graphql_names.specs.Names.{Bytes, named}
 use Rattle.graphql_collect.specs.declared.request.Request.{Request}
 use Rattle.graphql_collect.specs.Requests.{fields_in, fragments_in}
-use Rattle.graphql_collect.specs.Grouped.{Group, all_found, group_found}
+use Rattle.graphql_collect.specs.Grouped.{Group, all_found, group_found, key_at}
 use Rattle.graphql_evaluation.specs.Evaluation.{sets_below}
 use Rattle.graphql_written_out.specs.Fields.{Found}
 use Rattle.graphql_written_out.specs.Groups.{groups}
@@ -50,6 +50,10 @@ module _ {S C : Type 0} where
   -- what the sets select from an object type
   abbrev pub selected_in : (S → ScalarAnswer) → Request S C → List (Tree S) → Bytes → List (Found S)
   selected_in answer request sets object = flat_map (fields_in answer request object) sets
+
+-- each field of a group has the response key of the group
+abbrev pub HasKey : {S : Type 0} → Group S → Type 0
+HasKey g = All (λ x. key_at x ≡ g.0) g.1
 
 module _ {S : Type 0} (fragments : List (Fragment S)) where
   -- the groups of what is selected, where repeats may be left out

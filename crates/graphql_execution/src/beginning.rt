@@ -6,7 +6,7 @@ ghost use Rattle.graphql_evaluation.specs.Evaluation.{found_in};
 ghost use Rattle.graphql_written_out.specs.Written.{Settled};
 ghost use Rattle.graphql_field_results.specs.declared.resolved.Resolved.TheVariants as resolved;
 ghost use Rattle.graphql_execution.specs.Begins.{Begins};
-ghost use Rattle.graphql_execution.specs.Engines.{engine_of};
+ghost use Rattle.graphql_execution.specs.EngineAt.{engine_at};
 ghost use Rattle.graphql_execution.specs.Parts.{IsListAround};
 ghost use Rattle.graphql_execution.specs.Sets.{AreKnown, sets_in};
 
@@ -28,7 +28,7 @@ use graphql_type_references::TypeModifier;
 
 /// Where an answer is completed: at a type, but for its wraps.
 #[derive(Drop)]
-pub struct Spot<'p, 'd, 'a, S> {
+pub(crate) struct Spot<'p, 'd, 'a, S> {
     /// The type's name.
     pub name: &'p TextRef<'d>,
 
@@ -45,14 +45,14 @@ pub struct Spot<'p, 'd, 'a, S> {
 /// What a node comes to at a type without wraps.
 fn begin_node<'d, 'a, S: SchemaScalar + Drop, R: GraphQLValue<S>>(
     resolver: &R,
-    executor: &Executor<'d, 'a, R::Context, S>,
+    executor: &Executor<'_, 'd, 'a, R::Context, S>,
     spot: &Spot<'_, 'd, 'a, S>,
     node: R::Node,
 ) -> FieldResult<Begun<'d, 'a, S, R::Node>, S>
     requires settled { Settled (fragments_in executor.now.request.now) }
-    requires known { let e = engine_of S.of_text S.answer executor.now.request.now (R.type_of resolver.now executor.now.context.now) (R.answer resolver.now executor.now.context.now) in
+    requires known { let e = engine_at S.of_text S.answer (R.type_of resolver.now) (R.answer resolver.now) executor.now in
         AreKnown (fragments_in executor.now.request.now) (λ o. found_in e o (sets_in executor.now.request.now spot.now.selected)) spot.now.known.now }
-    ensures { let e = engine_of S.of_text S.answer executor.now.request.now (R.type_of resolver.now executor.now.context.now) (R.answer resolver.now executor.now.context.now) in
+    ensures { let e = engine_at S.of_text S.answer (R.type_of resolver.now) (R.answer resolver.now) executor.now in
         Begins e (sets_in executor.now.request.now spot.now.selected) spot.now.name.now (fragments_in executor.now.request.now) spot.now.location [] (Ok (resolved.Node node)) result }
 {
     let Some(object) = possible_name(
@@ -84,14 +84,14 @@ fn begin_node<'d, 'a, S: SchemaScalar + Drop, R: GraphQLValue<S>>(
 /// What an answer comes to at a type without wraps.
 fn begin_named<'d, 'a, S: SchemaScalar + Drop, R: GraphQLValue<S>>(
     resolver: &R,
-    executor: &Executor<'d, 'a, R::Context, S>,
+    executor: &Executor<'_, 'd, 'a, R::Context, S>,
     spot: &Spot<'_, 'd, 'a, S>,
     answer: Resolved<S, R::Node>,
 ) -> FieldResult<Begun<'d, 'a, S, R::Node>, S>
     requires settled { Settled (fragments_in executor.now.request.now) }
-    requires known { let e = engine_of S.of_text S.answer executor.now.request.now (R.type_of resolver.now executor.now.context.now) (R.answer resolver.now executor.now.context.now) in
+    requires known { let e = engine_at S.of_text S.answer (R.type_of resolver.now) (R.answer resolver.now) executor.now in
         AreKnown (fragments_in executor.now.request.now) (λ o. found_in e o (sets_in executor.now.request.now spot.now.selected)) spot.now.known.now }
-    ensures { let e = engine_of S.of_text S.answer executor.now.request.now (R.type_of resolver.now executor.now.context.now) (R.answer resolver.now executor.now.context.now) in
+    ensures { let e = engine_at S.of_text S.answer (R.type_of resolver.now) (R.answer resolver.now) executor.now in
         Begins e (sets_in executor.now.request.now spot.now.selected) spot.now.name.now (fragments_in executor.now.request.now) spot.now.location [] (Ok answer) result }
 {
     let name = spot.name.as_str();
@@ -112,14 +112,14 @@ fn begin_named<'d, 'a, S: SchemaScalar + Drop, R: GraphQLValue<S>>(
 /// innermost first.
 fn begin_list<'d, 'a, S: SchemaScalar + Drop, R: GraphQLValue<S>>(
     resolver: &R,
-    executor: &Executor<'d, 'a, R::Context, S>,
+    executor: &Executor<'_, 'd, 'a, R::Context, S>,
     spot: &Spot<'_, 'd, 'a, S>,
     whole: &[TypeModifier],
     wraps: &'d [TypeModifier],
     answer: Resolved<S, R::Node>,
 ) -> FieldResult<Begun<'d, 'a, S, R::Node>, S>
     requires { IsListAround whole.now wraps.now }
-    ensures { let e = engine_of S.of_text S.answer executor.now.request.now (R.type_of resolver.now executor.now.context.now) (R.answer resolver.now executor.now.context.now) in
+    ensures { let e = engine_at S.of_text S.answer (R.type_of resolver.now) (R.answer resolver.now) executor.now in
         Begins e (sets_in executor.now.request.now spot.now.selected) spot.now.name.now (fragments_in executor.now.request.now) spot.now.location (reverse whole.now) (Ok answer) result }
 {
     let name = spot.name.as_str();
@@ -146,17 +146,17 @@ fn begin_list<'d, 'a, S: SchemaScalar + Drop, R: GraphQLValue<S>>(
 
 /// What an answer comes to at a type, by its wraps, which have the innermost first: its value, or what is in
 /// progress there. An error is that of the place itself, whatever would fail below it, or want of memory.
-pub fn begin<'d, 'a, S: SchemaScalar + Drop, R: GraphQLValue<S>>(
+pub(crate) fn begin<'d, 'a, S: SchemaScalar + Drop, R: GraphQLValue<S>>(
     resolver: &R,
-    executor: &Executor<'d, 'a, R::Context, S>,
+    executor: &Executor<'_, 'd, 'a, R::Context, S>,
     spot: &Spot<'_, 'd, 'a, S>,
     wraps: &'d [TypeModifier],
     answer: Resolved<S, R::Node>,
 ) -> FieldResult<Begun<'d, 'a, S, R::Node>, S>
     requires settled { Settled (fragments_in executor.now.request.now) }
-    requires known { let e = engine_of S.of_text S.answer executor.now.request.now (R.type_of resolver.now executor.now.context.now) (R.answer resolver.now executor.now.context.now) in
+    requires known { let e = engine_at S.of_text S.answer (R.type_of resolver.now) (R.answer resolver.now) executor.now in
         AreKnown (fragments_in executor.now.request.now) (λ o. found_in e o (sets_in executor.now.request.now spot.now.selected)) spot.now.known.now }
-    ensures { let e = engine_of S.of_text S.answer executor.now.request.now (R.type_of resolver.now executor.now.context.now) (R.answer resolver.now executor.now.context.now) in
+    ensures { let e = engine_at S.of_text S.answer (R.type_of resolver.now) (R.answer resolver.now) executor.now in
         Begins e (sets_in executor.now.request.now spot.now.selected) spot.now.name.now (fragments_in executor.now.request.now) spot.now.location (reverse wraps.now) (Ok answer) result }
 {
     match take_apart(wraps) {

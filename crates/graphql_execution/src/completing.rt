@@ -6,6 +6,7 @@ ghost use Rattle.graphql_collect.specs.Requests.{fragments_in};
 ghost use Rattle.graphql_written_out.specs.Written.{Settled};
 ghost use Rattle.graphql_execution.specs.Begins.{Begins, Completes};
 ghost use Rattle.graphql_execution.specs.Completions.{own_error_here, outcome_here};
+ghost use Rattle.graphql_execution.specs.EngineAt.{engine_at};
 ghost use Rattle.graphql_execution.specs.Engines.{engine_of};
 ghost use Rattle.graphql_execution.specs.FieldPaths.{place_of};
 ghost use Rattle.graphql_execution.specs.Sets.{sets_in};
@@ -18,7 +19,7 @@ use crate::graphql_value::GraphQLValue;
 use crate::parts::or_null;
 use crate::report::Report;
 use crate::stack::drive;
-use graphql_field_results::{ExecutionError, ExecutionResult, FieldFault, FieldResult, Resolved};
+use graphql_field_results::{ExecutionError, FieldFault, FieldResult, Resolved};
 use graphql_meta::SchemaScalar;
 use graphql_names::NameMap;
 use graphql_output_values::Value;
@@ -28,11 +29,11 @@ use std::alloc::AllocError;
 /// What an answer comes to at the type at which an executor stands.
 fn begin_here<'d, 'a, S: SchemaScalar + Drop, R: GraphQLValue<S>>(
     resolver: &R,
-    executor: &Executor<'d, 'a, R::Context, S>,
+    executor: &Executor<'_, 'd, 'a, R::Context, S>,
     answer: Resolved<S, R::Node>,
 ) -> FieldResult<Begun<'d, 'a, S, R::Node>, S>
     requires { Settled (fragments_in executor.now.request.now) }
-    ensures { let e = engine_of S.of_text S.answer executor.now.request.now (R.type_of resolver.now executor.now.context.now) (R.answer resolver.now executor.now.context.now) in
+    ensures { let e = engine_at S.of_text S.answer (R.type_of resolver.now) (R.answer resolver.now) executor.now in
         Begins e (sets_in executor.now.request.now executor.now.selected) executor.now.current_type.name.now (fragments_in executor.now.request.now) (place_of executor.now.path) (reverse executor.now.current_type.modifiers.now) (Ok answer) result }
 {
     let name = TextRef::new(executor.current_type.name);
@@ -52,11 +53,11 @@ fn begin_here<'d, 'a, S: SchemaScalar + Drop, R: GraphQLValue<S>>(
     )
 }
 
-impl<'d, 'a, Context, S: SchemaScalar + Drop> Executor<'d, 'a, Context, S> {
+impl<'c, 'd, 'a, Context, S: SchemaScalar + Drop> Executor<'c, 'd, 'a, Context, S> {
     /// The value of an answer at the current type (GraphQL October 2021, 6.4.3 Value Completion), with what
     /// is selected from its objects. What fails below the place of the answer is told, behind the errors that
-    /// were told, and where that leaves the place without a value it is `null`, also at a type that lets no
-    /// `null` stand.
+    /// were told, and may leave the place without a value. A place without one is `null` where its type lets
+    /// `null` stand; else the place around it has none either.
     ///
     /// An error is that of the place itself: the answer does not fit the type, or is a `null` that may not
     /// stand there. Nothing is told then, nor where memory runs out.
@@ -65,9 +66,9 @@ impl<'d, 'a, Context, S: SchemaScalar + Drop> Executor<'d, 'a, Context, S> {
         resolver: &R,
         answer: Resolved<S, R::Node>,
         errors: &mut Items<ExecutionError<S>>,
-    ) -> ExecutionResult<S>
+    ) -> FieldResult<Option<Value<S>>, S>
         requires { Settled (fragments_in self.now.request.now) }
-        ensures { let e = engine_of S.of_text S.answer self.now.request.now (R.type_of resolver.now self.now.context.now) (R.answer resolver.now self.now.context.now) in
+        ensures { let e = engine_at S.of_text S.answer (R.type_of resolver.now) (R.answer resolver.now) self.now in
             Completes (own_error_here e self.now answer) (outcome_here e self.now answer) errors.old result errors.new }
     {
         let begun = begin_here(resolver, self, answer)?;
@@ -77,19 +78,19 @@ impl<'d, 'a, Context, S: SchemaScalar + Drop> Executor<'d, 'a, Context, S> {
         };
         let value = drive(resolver, self, begun, &mut report)?;
         errors.append(&mut report.errors)?;
-        Ok(or_null(value))
+        Ok(value)
     }
 
     /// The same, over a context within this one.
     pub fn resolve_with_ctx<
-        Within: FromContext<Context> + 'd,
+        Within: FromContext<Context> + 'c,
         R: GraphQLValue<S, Context = Within>,
     >(
         &self,
         resolver: &R,
         answer: Resolved<S, R::Node>,
         errors: &mut Items<ExecutionError<S>>,
-    ) -> ExecutionResult<S>
+    ) -> FieldResult<Option<Value<S>>, S>
         requires { Settled (fragments_in self.now.request.now) }
         ensures { let context = Within.within self.now.context.now in
             let e = engine_of S.of_text S.answer self.now.request.now (R.type_of resolver.now context) (R.answer resolver.now context) in
@@ -109,14 +110,14 @@ impl<'d, 'a, Context, S: SchemaScalar + Drop> Executor<'d, 'a, Context, S> {
         errors: &mut Items<ExecutionError<S>>,
     ) -> Result<Value<S>, AllocError>
         requires { Settled (fragments_in self.now.request.now) }
-        ensures value { let e = engine_of S.of_text S.answer self.now.request.now (R.type_of resolver.now self.now.context.now) (R.answer resolver.now self.now.context.now) in
+        ensures value { let e = engine_at S.of_text S.answer (R.type_of resolver.now) (R.answer resolver.now) self.now in
             IfOk result (λ v. v ≡ unwrap_or (outcome_here e self.now answer).value value.Null) }
-        ensures told { let e = engine_of S.of_text S.answer self.now.request.now (R.type_of resolver.now self.now.context.now) (R.answer resolver.now self.now.context.now) in
+        ensures told { let e = engine_at S.of_text S.answer (R.type_of resolver.now) (R.answer resolver.now) self.now in
             OnOk result (errors.new ≡ errors.old ++ (outcome_here e self.now answer).failures) }
         ensures kept { OnErr result (errors.new ≡ errors.old) }
     {
         match self.resolve(resolver, answer, errors) {
-            Ok(value) => Ok(value),
+            Ok(value) => Ok(or_null(value)),
             Err(FieldFault::Error(error)) => {
                 self.push_error(error, errors)?;
                 Ok(Value::Null)

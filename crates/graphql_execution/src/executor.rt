@@ -24,9 +24,10 @@ use graphql_tree::{Fragment, Selection};
 use std::alloc::{AllocError, Global};
 
 /// The request that is executed, the context over which it is, and the field that is answered (GraphQL
-/// October 2021, 6 Execution).
+/// October 2021, 6 Execution). The context is lent for a time of its own, so that it can be written between
+/// the fields of one request.
 #[derive(Drop)]
-pub struct Executor<'d, 'a, Context, S, C = <S as SchemaScalar>::Check> {
+pub struct Executor<'c, 'd, 'a, Context, S, C = <S as SchemaScalar>::Check> {
     /// Where memory is taken.
     pub alloc: Global,
 
@@ -34,7 +35,7 @@ pub struct Executor<'d, 'a, Context, S, C = <S as SchemaScalar>::Check> {
     pub request: &'d Request<'d, 'a, S, C>,
 
     /// What resolvers answer from.
-    pub context: &'d Context,
+    pub context: &'c Context,
 
     /// Where the field stands that is answered.
     pub path: FieldPath<'d>,
@@ -46,17 +47,17 @@ pub struct Executor<'d, 'a, Context, S, C = <S as SchemaScalar>::Check> {
     pub selected: Selected<'d, 'd, 'a, S>,
 }
 
-impl<'d, 'a, Context, S, C> Executor<'d, 'a, Context, S, C> {
+impl<'c, 'd, 'a, Context, S, C> Executor<'c, 'd, 'a, Context, S, C> {
     /// The executor of an operation that starts at this place of the request's text and has this selection
     /// set, at the root, which is an object of the type of this name.
     pub fn at_root(
         alloc: Global,
         request: &'d Request<'d, 'a, S, C>,
-        context: &'d Context,
+        context: &'c Context,
         object: &'d str,
         start: SourcePosition,
         set: &'d [Selection<'a, S>],
-    ) -> Executor<'d, 'a, Context, S, C>
+    ) -> Executor<'c, 'd, 'a, Context, S, C>
         ensures request { result.request.now ≡ request.now }
         ensures context { result.context.now ≡ context.now }
         ensures location { place_of result.path ≡ start }
@@ -85,7 +86,7 @@ impl<'d, 'a, Context, S, C> Executor<'d, 'a, Context, S, C> {
         start: SourcePosition,
         declared: TypeLiteral<'p>,
         selected: Selected<'p, 'p, 'a, S>,
-    ) -> Executor<'p, 'a, Context, S, C>
+    ) -> Executor<'c, 'p, 'a, Context, S, C>
         ensures request { result.request.now ≡ self.now.request.now }
         ensures context { result.context.now ≡ self.now.context.now }
         ensures location { place_of result.path ≡ start }
@@ -113,7 +114,7 @@ impl<'d, 'a, Context, S, C> Executor<'d, 'a, Context, S, C> {
         name: &str,
         location: SourcePosition,
         set: Option<&'p [Selection<'a, S>]>,
-    ) -> Executor<'p, 'a, Context, S, C>
+    ) -> Executor<'c, 'p, 'a, Context, S, C>
         requires { IsSome (declared_type self.now.request.now.schema.now.types self.now.current_type.name.now name.now) }
         ensures request { result.request.now ≡ self.now.request.now }
         ensures context { result.context.now ≡ self.now.context.now }
@@ -136,7 +137,7 @@ impl<'d, 'a, Context, S, C> Executor<'d, 'a, Context, S, C> {
         &self,
         type_name: Option<&'d str>,
         set: Option<&'d [Selection<'a, S>]>,
-    ) -> Executor<'d, 'a, Context, S, C>
+    ) -> Executor<'c, 'd, 'a, Context, S, C>
         ensures request { result.request.now ≡ self.now.request.now }
         ensures context { result.context.now ≡ self.now.context.now }
         ensures path { result.path ≡ self.now.path }
@@ -161,7 +162,10 @@ impl<'d, 'a, Context, S, C> Executor<'d, 'a, Context, S, C> {
     }
 
     /// The executor of the same field over another context.
-    pub fn replaced_context<Other>(&self, context: &'d Other) -> Executor<'d, 'a, Other, S, C>
+    pub fn replaced_context<'o, Other>(
+        &self,
+        context: &'o Other,
+    ) -> Executor<'o, 'd, 'a, Other, S, C>
         ensures request { result.request.now ≡ self.now.request.now }
         ensures context { result.context.now ≡ context.now }
         ensures path { result.path ≡ self.now.path }
@@ -184,7 +188,7 @@ impl<'d, 'a, Context, S, C> Executor<'d, 'a, Context, S, C> {
     }
 
     /// What resolvers answer from.
-    pub fn context(&self) -> &'d Context
+    pub fn context(&self) -> &'c Context
         ensures { result.now ≡ self.now.context.now }
     {
         self.context

@@ -14,7 +14,7 @@ use graphql_type_references::{BorrowedType, Type, TypeModifier};
 use std::alloc::{AllocError, Global};
 
 /// The resolver's own `null` may not stand there. An error is want of memory.
-pub fn own_null<S>(alloc: Global) -> Result<FieldError<S>, AllocError>
+pub(crate) fn own_null<S>(alloc: Global) -> Result<FieldError<S>, AllocError>
     ensures { Gives result own_null }
 {
     let message = Text::from_str(alloc, "Null at a non-null place")?;
@@ -23,7 +23,7 @@ pub fn own_null<S>(alloc: Global) -> Result<FieldError<S>, AllocError>
 
 /// The answer does not fit a type of this name within these wraps, the innermost first. An error is want of
 /// memory.
-pub fn misfit<S>(
+pub(crate) fn misfit<S>(
     alloc: Global,
     name: &str,
     wraps: &[TypeModifier],
@@ -48,7 +48,7 @@ fn misfit_message(alloc: Global, name: &str, wraps: &[TypeModifier]) -> Result<T
 
 /// What has begun at the place of a field that starts there; nothing where the place itself fails, which is
 /// told. An error is want of memory.
-pub fn begun_or_told<'d, 'a, S: Drop, N>(
+pub(crate) fn begun_or_told<'d, 'a, S: Drop, N>(
     alloc: Global,
     location: SourcePosition,
     begins: FieldResult<Begun<'d, 'a, S, N>, S>,

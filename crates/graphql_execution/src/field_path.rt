@@ -70,7 +70,7 @@ fn keys_again<'p>(alloc: Global, keys: &[TextRef<'p>]) -> Result<Items<TextRef<'
 }
 
 /// The keys, as texts of their own. An error is want of memory.
-pub fn copied_keys(alloc: Global, keys: &[TextRef<'_>]) -> Result<Items<Text>, AllocError>
+pub(crate) fn copied_keys(alloc: Global, keys: &[TextRef<'_>]) -> Result<Items<Text>, AllocError>
     ensures { Gives result keys.now }
 {
     let mut path = Items::with_capacity(alloc, keys.len())?;

@@ -49,7 +49,7 @@ pub fn declared_arguments<'t, S, C>(
 }
 
 /// Whether the type of this name is a scalar or an enum.
-pub fn is_leaf<S, C>(schema: &SchemaType<S, C>, name: &str) -> bool
+pub(crate) fn is_leaf<S, C>(schema: &SchemaType<S, C>, name: &str) -> bool
     ensures { result ≡ spec.is_leaf_named schema.now.types name.now }
 {
     match schema.concrete_type_by_name(name) {
@@ -79,7 +79,7 @@ pub fn query_root_name<S, C>(schema: &SchemaType<S, C>) -> &str
 
 /// The name of an object type, as the schema has it, where an object of it can stand at a place of a
 /// type.
-pub fn possible_name<'t, S, C>(
+pub(crate) fn possible_name<'t, S, C>(
     schema: &'t SchemaType<S, C>,
     at: &str,
     object: &str,

@@ -13,7 +13,7 @@ use graphql_text::{Items, Text};
 use std::alloc::{AllocError, Global};
 
 /// The groups that are known of what has begun: those of an object. An error is want of memory.
-pub fn known_of<'d, 'a, S, N>(
+pub(crate) fn known_of<'d, 'a, S, N>(
     begun: &Begun<'d, 'a, S, N>,
 ) -> Result<Option<KnownIn<'d, 'a, S>>, AllocError>
     ensures { Gives result (known_of begun.now) }
@@ -29,7 +29,7 @@ pub fn known_of<'d, 'a, S, N>(
 }
 
 /// The items, the last first. An error is want of memory.
-pub fn reversed<T: Drop>(alloc: Global, items: Items<T>) -> Result<Items<T>, AllocError>
+pub(crate) fn reversed<T: Drop>(alloc: Global, items: Items<T>) -> Result<Items<T>, AllocError>
     ensures { IfOk result (λ xs. reverse xs ≡ items) }
 {
     let mut left = items;
@@ -41,7 +41,7 @@ pub fn reversed<T: Drop>(alloc: Global, items: Items<T>) -> Result<Items<T>, All
 }
 
 /// The place behind this one; past the last of the items, the place itself.
-pub fn behind<T>(items: &Items<T>, place: usize) -> usize
+pub(crate) fn behind<T>(items: &Items<T>, place: usize) -> usize
     ensures { place < length items.now → result ≡ place + 1 }
 {
     if place < items.len() {
@@ -52,7 +52,7 @@ pub fn behind<T>(items: &Items<T>, place: usize) -> usize
 }
 
 /// The object of these members.
-pub fn object_of<S>(members: Option<Items<(Text, Value<S>)>>) -> Option<Value<S>>
+pub(crate) fn object_of<S>(members: Option<Items<(Text, Value<S>)>>) -> Option<Value<S>>
     requires { IfSome members HasDistinctKeys }
     ensures { result ≡ option_map object_members members }
 {
@@ -63,7 +63,7 @@ pub fn object_of<S>(members: Option<Items<(Text, Value<S>)>>) -> Option<Value<S>
 }
 
 /// The list of these values.
-pub fn list_of<S>(items: Option<Items<Value<S>>>) -> Option<Value<S>>
+pub(crate) fn list_of<S>(items: Option<Items<Value<S>>>) -> Option<Value<S>>
     ensures { result ≡ option_map value.List items }
 {
     match items {

@@ -11,7 +11,7 @@ use graphql_type_references::TypeModifier;
 
 /// An object in progress, whose groups are a `G`.
 #[derive(Drop)]
-pub struct ObjectFrame<'d, S, N, G> {
+pub(crate) struct ObjectFrame<'d, S, N, G> {
     /// The node.
     pub node: N,
 
@@ -34,7 +34,7 @@ pub struct ObjectFrame<'d, S, N, G> {
 
 /// The groups of an object type, which are a `G`.
 #[derive(Drop)]
-pub struct Known<'d, G> {
+pub(crate) struct Known<'d, G> {
     /// The name of the object type, as the schema has it.
     pub object: TextRef<'d>,
 
@@ -53,7 +53,7 @@ impl<'d, G> Named for Known<'d, G> {
 
 /// A list in progress, from whose items an `F` is selected.
 #[derive(Drop)]
-pub struct ListFrame<'d, S, N, G, F> {
+pub(crate) struct ListFrame<'d, S, N, G, F> {
     /// The name of the items' type.
     pub name: TextRef<'d>,
 
@@ -78,7 +78,7 @@ pub struct ListFrame<'d, S, N, G, F> {
 
 /// An object or a list in progress.
 #[derive(Drop)]
-pub enum Frame<'d, S, N, G, F> {
+pub(crate) enum Frame<'d, S, N, G, F> {
     /// An object.
     Object(ObjectFrame<'d, S, N, G>),
 
@@ -87,19 +87,19 @@ pub enum Frame<'d, S, N, G, F> {
 }
 
 /// Groups of a document's fields, which an object and the list that it stands in both hold.
-pub type SharedGroups<'d, 'a, S> = Shared<Items<Group<'d, 'a, S>>>;
+pub(crate) type SharedGroups<'d, 'a, S> = Shared<Items<Group<'d, 'a, S>>>;
 
 /// The groups of an object type, of a document's fields.
-pub type KnownIn<'d, 'a, S> = Known<'d, SharedGroups<'d, 'a, S>>;
+pub(crate) type KnownIn<'d, 'a, S> = Known<'d, SharedGroups<'d, 'a, S>>;
 
 /// The groups of several object types, each found by its name.
-pub type KnownGroups<'d, 'a, S> = NameMap<KnownIn<'d, 'a, S>>;
+pub(crate) type KnownGroups<'d, 'a, S> = NameMap<KnownIn<'d, 'a, S>>;
 
 /// An object in progress over a document's groups.
-pub type ObjectFrameIn<'d, 'a, S, N> = ObjectFrame<'d, S, N, SharedGroups<'d, 'a, S>>;
+pub(crate) type ObjectFrameIn<'d, 'a, S, N> = ObjectFrame<'d, S, N, SharedGroups<'d, 'a, S>>;
 
 /// A list in progress over a document.
-pub type ListFrameIn<'d, 'a, S, N> = ListFrame<
+pub(crate) type ListFrameIn<'d, 'a, S, N> = ListFrame<
     'd,
     S,
     N,
@@ -108,11 +108,17 @@ pub type ListFrameIn<'d, 'a, S, N> = ListFrame<
 >;
 
 /// An object or a list in progress over a document.
-pub type FrameIn<'d, 'a, S, N> = Frame<'d, S, N, SharedGroups<'d, 'a, S>, KeptSelected<'d, 'a, S>>;
+pub(crate) type FrameIn<'d, 'a, S, N> = Frame<
+    'd,
+    S,
+    N,
+    SharedGroups<'d, 'a, S>,
+    KeptSelected<'d, 'a, S>,
+>;
 
 /// What a place has come to: its value, or what is in progress there.
 #[derive(Drop)]
-pub enum Begun<'d, 'a, S, N> {
+pub(crate) enum Begun<'d, 'a, S, N> {
     /// The value.
     Value(Option<Value<S>>),
 
@@ -122,7 +128,7 @@ pub enum Begun<'d, 'a, S, N> {
 
 /// What a group has come to, and whether its place keeps `null` out.
 #[derive(Drop)]
-pub struct Started<'d, 'a, S, N> {
+pub(crate) struct Started<'d, 'a, S, N> {
     /// Whether the place keeps `null` out.
     pub is_needed: bool,
 
@@ -132,7 +138,7 @@ pub struct Started<'d, 'a, S, N> {
 
 /// What a turn leaves.
 #[derive(Drop)]
-pub enum Turned<'d, 'a, S, N> {
+pub(crate) enum Turned<'d, 'a, S, N> {
     /// The end, with the value.
     Done(Option<Value<S>>),
 

@@ -10,7 +10,7 @@ ghost use Rattle.graphql_execution.specs.Sets.{AreGroups, AreKnown, selected_in,
 use crate::frames::{KnownGroups, SharedGroups};
 use crate::selected::Selected;
 use crate::shared::Shared;
-use graphql_collect::{Group, Occurrence, Request, fields_below, fields_of_set, grouped};
+use graphql_collect::{CollectedField, Group, Request, fields_below, fields_of_set, grouped};
 use graphql_meta::SchemaScalar;
 use graphql_text::Items;
 use std::alloc::{AllocError, Global};
@@ -21,7 +21,7 @@ fn fields_selected<'d, 'a, S: SchemaScalar>(
     request: &Request<'d, 'a, S>,
     object: &str,
     selected: Selected<'_, 'd, 'a, S>,
-) -> Result<Items<Occurrence<'d, 'a, S>>, AllocError>
+) -> Result<Items<CollectedField<'d, 'a, S>>, AllocError>
     requires { Settled (fragments_in request.now) }
     ensures { IfOk result (λ found. Repeats (all_found (fragments_in request.now) found) (selected_in S.answer request.now (sets_in request.now selected.entry) object.now)) }
 {
@@ -32,7 +32,7 @@ fn fields_selected<'d, 'a, S: SchemaScalar>(
 }
 
 /// The groups of what is selected from an object type, collected. An error is want of memory.
-pub fn groups_collected<'d, 'a, S: SchemaScalar>(
+pub(crate) fn groups_collected<'d, 'a, S: SchemaScalar>(
     alloc: Global,
     request: &Request<'d, 'a, S>,
     object: &str,
@@ -48,7 +48,7 @@ pub fn groups_collected<'d, 'a, S: SchemaScalar>(
 
 /// The groups of what is selected from an object type: those that are known of it, else
 /// they are collected. An error is want of memory.
-pub fn groups_selected<'d, 'a, S: SchemaScalar>(
+pub(crate) fn groups_selected<'d, 'a, S: SchemaScalar>(
     alloc: Global,
     request: &Request<'d, 'a, S>,
     object: &str,

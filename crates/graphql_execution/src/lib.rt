@@ -22,12 +22,13 @@ mod shared;
 mod stack;
 mod steps;
 
+pub use asking::{arguments_of, text_scalar, written_arguments};
 pub use context::{Context, FromContext};
 pub use executor::Executor;
 pub use field_path::FieldPath;
-pub use fields::{declared_type, query_root_name};
+pub use fields::{declared_arguments, declared_type, query_root_name};
 pub use graphql_value::GraphQLValue;
-pub use parts::or_null;
+pub use parts::{is_required, or_null, shown};
 pub use report::Report;
 pub use selected::Selected;
 pub use selections::answer_selections;

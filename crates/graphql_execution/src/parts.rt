@@ -15,7 +15,7 @@ use std::alloc::AllocError;
 
 /// The outermost wrap of a type, and those within it.
 #[derive(Clone, Copy)]
-pub enum Outer<'t> {
+pub(crate) enum Outer<'t> {
     /// No wrap.
     Named,
 
@@ -27,7 +27,7 @@ pub enum Outer<'t> {
 }
 
 /// Takes the outermost wrap off; the wraps have the innermost first.
-pub fn take_apart(wraps: &[TypeModifier]) -> Outer<'_>
+pub(crate) fn take_apart(wraps: &[TypeModifier]) -> Outer<'_>
     ensures { IsOuter wraps.now result }
 {
     match wraps {
@@ -48,7 +48,7 @@ pub fn is_required(wraps: &[TypeModifier]) -> bool
     }
 }
 
-/// What a place shows.
+/// What a place shows: its value; where it has none, `null` if that may stand there, else nothing.
 pub fn shown<S>(is_required: bool, value: Option<Value<S>>) -> Option<Value<S>>
     ensures { result ≡ shown is_required value }
 {
@@ -69,7 +69,7 @@ pub fn or_null<S>(value: Option<Value<S>>) -> Value<S>
 }
 
 /// Whether the answer is null.
-pub fn is_null<S, N>(answer: &Resolved<S, N>) -> bool
+pub(crate) fn is_null<S, N>(answer: &Resolved<S, N>) -> bool
     ensures { result ≡ null_here answer.now }
 {
     match answer {
@@ -81,7 +81,7 @@ pub fn is_null<S, N>(answer: &Resolved<S, N>) -> bool
 }
 
 /// The values with one more item, nothing where either is nothing.
-pub fn with_item<S: Drop>(
+pub(crate) fn with_item<S: Drop>(
     values: Option<Items<Value<S>>>,
     value: Option<Value<S>>,
 ) -> Result<Option<Items<Value<S>>>, AllocError>
@@ -101,7 +101,7 @@ pub fn with_item<S: Drop>(
 }
 
 /// The members with one more, nothing where either is nothing.
-pub fn with_member<S: Drop>(
+pub(crate) fn with_member<S: Drop>(
     members: Option<Items<(Text, Value<S>)>>,
     key: &TextRef<'_>,
     value: Option<Value<S>>,

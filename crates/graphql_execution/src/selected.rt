@@ -4,7 +4,7 @@ ghost use Rattle.std.specs.Prelude.{◌≡◌, IfOk, List};
 ghost use Rattle.graphql_tree.specs.declared.document.Fragment.{Fragment};
 ghost use Rattle.graphql_execution.specs.Sets.{kept_sets, set_given, sets_of};
 
-use graphql_collect::Occurrence;
+use graphql_collect::CollectedField;
 use graphql_text::Items;
 use graphql_tree::Selection;
 use std::alloc::{AllocError, Global};
@@ -17,21 +17,23 @@ pub enum Selected<'p, 'd, 'a, S> {
     Set(&'d [Selection<'a, S>]),
 
     /// Those of the sets of these fields together.
-    Below(&'p [Occurrence<'d, 'a, S>]),
+    Below(&'p [CollectedField<'d, 'a, S>]),
 }
 
 /// What is selected from the items of a list, kept while the list is in progress.
 #[derive(Drop)]
-pub enum KeptSelected<'d, 'a, S> {
+pub(crate) enum KeptSelected<'d, 'a, S> {
     /// The selections of a set.
     Set(&'d [Selection<'a, S>]),
 
     /// Those of the sets of these fields together.
-    Below(Items<Occurrence<'d, 'a, S>>),
+    Below(Items<CollectedField<'d, 'a, S>>),
 }
 
 /// The selections of a set that is given, none where no set is.
-pub fn selections_of<'s, 'a, S>(set: Option<&'s [Selection<'a, S>]>) -> &'s [Selection<'a, S>]
+pub(crate) fn selections_of<'s, 'a, S>(
+    set: Option<&'s [Selection<'a, S>]>,
+) -> &'s [Selection<'a, S>]
     ensures { result.now ≡ set_given set.entry }
 {
     match set {
@@ -43,15 +45,13 @@ pub fn selections_of<'s, 'a, S>(set: Option<&'s [Selection<'a, S>]>) -> &'s [Sel
 /// The fields, lent once more. An error is want of memory.
 fn lent_again<'d, 'a, S>(
     alloc: Global,
-    fields: &[Occurrence<'d, 'a, S>],
-) -> Result<Items<Occurrence<'d, 'a, S>>, AllocError>
+    fields: &[CollectedField<'d, 'a, S>],
+) -> Result<Items<CollectedField<'d, 'a, S>>, AllocError>
     ensures { IfOk result (λ xs. xs ≡ fields.now) }
 {
     let mut these = Items::with_capacity(alloc, fields.len())?;
     for occurrence in fields {
-        these.push(Occurrence {
-            field: occurrence.field,
-        })?;
+        these.push(*occurrence)?;
     }
     Ok(these)
 }

@@ -6,9 +6,10 @@ ghost use Rattle.graphql_evaluation.specs.Completion.{object_members};
 ghost use Rattle.graphql_evaluation.specs.Evaluation.{evaluate};
 ghost use Rattle.graphql_evaluation.specs.Outcomes.{outcome_map};
 ghost use Rattle.graphql_written_out.specs.Written.{Settled};
-ghost use Rattle.graphql_execution.specs.Engines.{engine_of};
-ghost use Rattle.graphql_execution.specs.Gives.{Gives};
+ghost use Rattle.graphql_execution.specs.EngineAt.{engine_at};
+ghost use Rattle.graphql_execution.specs.GivesOutcome.{GivesOutcome};
 ghost use Rattle.graphql_execution.specs.Sets.{sets_in};
+ghost use Rattle.graphql_execution.specs.Standing.{IsTypeOf};
 
 use crate::executor::Executor;
 use crate::frame_parts::object_of;
@@ -22,21 +23,23 @@ use graphql_output_values::Value;
 use graphql_text::Items;
 use std::alloc::AllocError;
 
-/// What an executor's selections give on a node of an object type: an object with a member for each
-/// response key, in order of first appearance, or nothing where a `null` that may not stand reached it
-/// (GraphQL October 2021, 6.3 Executing Selection Sets). The report gets the failures, in the order in which
-/// they come. How deep selection sets, lists and fragments nest costs heap, and no stack. An error is want of
-/// memory.
+/// What an executor's selections give on a node of an object type, which is the node's own, or for the root the
+/// type from which queries start: an object with a member for each response key, in order of first appearance,
+/// or nothing where a `null` that may not stand reached it (GraphQL October 2021, 6.3 Executing Selection Sets).
+/// The report gets the failures, in the order in which they come. How deep selection sets, lists and fragments
+/// nest costs heap, and no stack. An error is want of memory.
 pub fn answer_selections<'d, 'a, S: SchemaScalar + Drop, R: GraphQLValue<S>>(
     resolver: &R,
-    executor: &Executor<'d, 'a, R::Context, S>,
+    executor: &Executor<'_, 'd, 'a, R::Context, S>,
     object: &str,
     node: &R::Node,
     report: &mut Report<'d, S>,
 ) -> Result<Option<Value<S>>, AllocError>
     requires settled { Settled (fragments_in executor.now.request.now) }
-    ensures { let e = engine_of S.of_text S.answer executor.now.request.now (R.type_of resolver.now executor.now.context.now) (R.answer resolver.now executor.now.context.now) in
-        IfOk result (λ value. Gives (outcome_map object_members (evaluate e report.old.path object.now node.now (sets_in executor.now.request.now executor.now.selected))) report.old value report.new) }
+    requires typed { IsTypeOf executor.now.request.now.schema.now.query (R.root_node resolver.now)
+        (R.type_of resolver.now executor.now.context.now) node.now object.now }
+    ensures { let e = engine_at S.of_text S.answer (R.type_of resolver.now) (R.answer resolver.now) executor.now in
+        IfOk result (λ value. GivesOutcome (outcome_map object_members (evaluate e report.old.path object.now node.now (sets_in executor.now.request.now executor.now.selected))) report.old value report.new) }
 {
     let groups = groups_collected(executor.alloc, executor.request, object, executor.selected)?;
     let mut members = Some(Items::new(executor.alloc));

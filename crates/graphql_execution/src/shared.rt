@@ -9,7 +9,7 @@ use std::rc::Rc;
 
 /// A value with several owners, the last of which lets it go. Contracts see the value alone.
 #[derive(Drop)]
-pub struct Shared<T> {
+pub(crate) struct Shared<T> {
     held: Rc<T>,
 }
 

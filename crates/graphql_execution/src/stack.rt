@@ -7,11 +7,13 @@ ghost use Rattle.graphql_collect.specs.Requests.{fragments_in};
 ghost use Rattle.graphql_names.specs.Names.{Bytes};
 ghost use Rattle.graphql_written_out.specs.Written.{Settled};
 ghost use Rattle.graphql_execution.specs.declared.frames.Frame.TheVariants as frame;
-ghost use Rattle.graphql_execution.specs.Engines.{engine_of};
+ghost use Rattle.graphql_execution.specs.EngineAt.{engine_at};
 ghost use Rattle.graphql_evaluation.specs.Evaluation.{evaluate, group};
 ghost use Rattle.graphql_execution.specs.FrameTurns.{all_waiting, begun_turns, rest_turns, turned_turns};
 ghost use Rattle.graphql_execution.specs.Frames.{Steps, resume, path_of, comes_to, IsTaught, KnownIn, known_of, learns, turned_to, rest, Fine, AllFine, FineBegun, FineTurned};
-ghost use Rattle.graphql_execution.specs.Gives.{Gives};
+ghost use Rattle.graphql_execution.specs.GivesOutcome.{GivesOutcome};
+ghost use Rattle.graphql_execution.specs.Sets.{HasKey};
+ghost use Rattle.graphql_execution.specs.Standing.{IsTypeOf};
 
 use crate::beginning::{Spot, begin};
 use crate::executor::Executor;
@@ -79,20 +81,20 @@ fn wait_for_item<'d, 'a, S: SchemaScalar + Drop, N: Drop>(
 /// Starts an object's next group, or ends the object. An error is want of memory.
 fn advance_object<'d, 'a, S: SchemaScalar + Drop, R: GraphQLValue<S>>(
     resolver: &R,
-    executor: &Executor<'d, 'a, R::Context, S>,
+    executor: &Executor<'_, 'd, 'a, R::Context, S>,
     object_frame: ObjectFrameIn<'d, 'a, S, R::Node>,
     waiting: &mut Items<FrameIn<'d, 'a, S, R::Node>>,
     report: &mut Report<'d, S>,
 ) -> Result<Begun<'d, 'a, S, R::Node>, AllocError>
     requires settled { Settled (fragments_in executor.now.request.now) }
-    requires fine { let e = engine_of S.of_text S.answer executor.now.request.now (R.type_of resolver.now executor.now.context.now) (R.answer resolver.now executor.now.context.now) in
+    requires fine { let e = engine_at S.of_text S.answer (R.type_of resolver.now) (R.answer resolver.now) executor.now in
         Fine e (fragments_in executor.now.request.now) (frame.Object object_frame) × AllFine e (fragments_in executor.now.request.now) waiting.now }
-    ensures steps { let e = engine_of S.of_text S.answer executor.now.request.now (R.type_of resolver.now executor.now.context.now) (R.answer resolver.now executor.now.context.now) in
+    ensures steps { let e = engine_at S.of_text S.answer (R.type_of resolver.now) (R.answer resolver.now) executor.now in
         let fr = fragments_in executor.now.request.now in
         IfOk result (λ b. (path : List Bytes) → report.old.path ≡ path_of path waiting.old → Steps e fr path (resume e fr path waiting.old (λ q. rest e fr q (frame.Object object_frame.entry))) report.old waiting.new (comes_to e fr b) report.new) }
-    ensures turns { let e = engine_of S.of_text S.answer executor.now.request.now (R.type_of resolver.now executor.now.context.now) (R.answer resolver.now executor.now.context.now) in
+    ensures turns { let e = engine_at S.of_text S.answer (R.type_of resolver.now) (R.answer resolver.now) executor.now in
         IfOk result (λ b. all_waiting e (fragments_in executor.now.request.now) waiting.new + begun_turns e (fragments_in executor.now.request.now) b < all_waiting e (fragments_in executor.now.request.now) waiting.old + rest_turns e (fragments_in executor.now.request.now) (frame.Object object_frame.entry)) }
-    ensures fine { let e = engine_of S.of_text S.answer executor.now.request.now (R.type_of resolver.now executor.now.context.now) (R.answer resolver.now executor.now.context.now) in
+    ensures fine { let e = engine_at S.of_text S.answer (R.type_of resolver.now) (R.answer resolver.now) executor.now in
         IfOk result (λ b. AllFine e (fragments_in executor.now.request.now) waiting.new × FineBegun e (fragments_in executor.now.request.now) b) }
 {
     let ObjectFrame {
@@ -122,20 +124,20 @@ fn advance_object<'d, 'a, S: SchemaScalar + Drop, R: GraphQLValue<S>>(
 /// Begins a list's next item, or ends the list. An error is want of memory.
 fn advance_list<'d, 'a, S: SchemaScalar + Drop, R: GraphQLValue<S>>(
     resolver: &R,
-    executor: &Executor<'d, 'a, R::Context, S>,
+    executor: &Executor<'_, 'd, 'a, R::Context, S>,
     list_frame: ListFrameIn<'d, 'a, S, R::Node>,
     waiting: &mut Items<FrameIn<'d, 'a, S, R::Node>>,
     report: &mut Report<'d, S>,
 ) -> Result<Begun<'d, 'a, S, R::Node>, AllocError>
     requires settled { Settled (fragments_in executor.now.request.now) }
-    requires fine { let e = engine_of S.of_text S.answer executor.now.request.now (R.type_of resolver.now executor.now.context.now) (R.answer resolver.now executor.now.context.now) in
+    requires fine { let e = engine_at S.of_text S.answer (R.type_of resolver.now) (R.answer resolver.now) executor.now in
         Fine e (fragments_in executor.now.request.now) (frame.List list_frame) × AllFine e (fragments_in executor.now.request.now) waiting.now }
-    ensures steps { let e = engine_of S.of_text S.answer executor.now.request.now (R.type_of resolver.now executor.now.context.now) (R.answer resolver.now executor.now.context.now) in
+    ensures steps { let e = engine_at S.of_text S.answer (R.type_of resolver.now) (R.answer resolver.now) executor.now in
         let fr = fragments_in executor.now.request.now in
         IfOk result (λ b. (path : List Bytes) → report.old.path ≡ path_of path waiting.old → Steps e fr path (resume e fr path waiting.old (λ q. rest e fr q (frame.List list_frame.entry))) report.old waiting.new (comes_to e fr b) report.new) }
-    ensures turns { let e = engine_of S.of_text S.answer executor.now.request.now (R.type_of resolver.now executor.now.context.now) (R.answer resolver.now executor.now.context.now) in
+    ensures turns { let e = engine_at S.of_text S.answer (R.type_of resolver.now) (R.answer resolver.now) executor.now in
         IfOk result (λ b. all_waiting e (fragments_in executor.now.request.now) waiting.new + begun_turns e (fragments_in executor.now.request.now) b < all_waiting e (fragments_in executor.now.request.now) waiting.old + rest_turns e (fragments_in executor.now.request.now) (frame.List list_frame.entry)) }
-    ensures fine { let e = engine_of S.of_text S.answer executor.now.request.now (R.type_of resolver.now executor.now.context.now) (R.answer resolver.now executor.now.context.now) in
+    ensures fine { let e = engine_at S.of_text S.answer (R.type_of resolver.now) (R.answer resolver.now) executor.now in
         IfOk result (λ b. AllFine e (fragments_in executor.now.request.now) waiting.new × FineBegun e (fragments_in executor.now.request.now) b) }
 {
     let ListFrame {
@@ -175,20 +177,20 @@ fn advance_list<'d, 'a, S: SchemaScalar + Drop, R: GraphQLValue<S>>(
 /// One turn of the loop. An error is want of memory.
 fn turn<'d, 'a, S: SchemaScalar + Drop, R: GraphQLValue<S>>(
     resolver: &R,
-    executor: &Executor<'d, 'a, R::Context, S>,
+    executor: &Executor<'_, 'd, 'a, R::Context, S>,
     now: Begun<'d, 'a, S, R::Node>,
     waiting: &mut Items<FrameIn<'d, 'a, S, R::Node>>,
     report: &mut Report<'d, S>,
 ) -> Result<Turned<'d, 'a, S, R::Node>, AllocError>
     requires settled { Settled (fragments_in executor.now.request.now) }
-    requires fine { let e = engine_of S.of_text S.answer executor.now.request.now (R.type_of resolver.now executor.now.context.now) (R.answer resolver.now executor.now.context.now) in
+    requires fine { let e = engine_at S.of_text S.answer (R.type_of resolver.now) (R.answer resolver.now) executor.now in
         AllFine e (fragments_in executor.now.request.now) waiting.now × FineBegun e (fragments_in executor.now.request.now) now }
-    ensures steps { let e = engine_of S.of_text S.answer executor.now.request.now (R.type_of resolver.now executor.now.context.now) (R.answer resolver.now executor.now.context.now) in
+    ensures steps { let e = engine_at S.of_text S.answer (R.type_of resolver.now) (R.answer resolver.now) executor.now in
         let fr = fragments_in executor.now.request.now in
         IfOk result (λ t. (path : List Bytes) → report.old.path ≡ path_of path waiting.old → Steps e fr path (resume e fr path waiting.old (comes_to e fr now.entry)) report.old waiting.new (turned_to e fr t) report.new) }
-    ensures turns { let e = engine_of S.of_text S.answer executor.now.request.now (R.type_of resolver.now executor.now.context.now) (R.answer resolver.now executor.now.context.now) in
+    ensures turns { let e = engine_at S.of_text S.answer (R.type_of resolver.now) (R.answer resolver.now) executor.now in
         IfOk result (λ t. all_waiting e (fragments_in executor.now.request.now) waiting.new + turned_turns e (fragments_in executor.now.request.now) t < all_waiting e (fragments_in executor.now.request.now) waiting.old + begun_turns e (fragments_in executor.now.request.now) now.entry) }
-    ensures fine { let e = engine_of S.of_text S.answer executor.now.request.now (R.type_of resolver.now executor.now.context.now) (R.answer resolver.now executor.now.context.now) in
+    ensures fine { let e = engine_at S.of_text S.answer (R.type_of resolver.now) (R.answer resolver.now) executor.now in
         IfOk result (λ t. FineTurned e (fragments_in executor.now.request.now) t waiting.new) }
 {
     match now {
@@ -211,17 +213,17 @@ fn turn<'d, 'a, S: SchemaScalar + Drop, R: GraphQLValue<S>>(
 }
 
 /// The value of what has begun. An error is want of memory.
-pub fn drive<'d, 'a, S: SchemaScalar + Drop, R: GraphQLValue<S>>(
+pub(crate) fn drive<'d, 'a, S: SchemaScalar + Drop, R: GraphQLValue<S>>(
     resolver: &R,
-    executor: &Executor<'d, 'a, R::Context, S>,
+    executor: &Executor<'_, 'd, 'a, R::Context, S>,
     first: Begun<'d, 'a, S, R::Node>,
     report: &mut Report<'d, S>,
 ) -> Result<Option<Value<S>>, AllocError>
     requires settled { Settled (fragments_in executor.now.request.now) }
-    requires fine { let e = engine_of S.of_text S.answer executor.now.request.now (R.type_of resolver.now executor.now.context.now) (R.answer resolver.now executor.now.context.now) in
+    requires fine { let e = engine_at S.of_text S.answer (R.type_of resolver.now) (R.answer resolver.now) executor.now in
         FineBegun e (fragments_in executor.now.request.now) first }
-    ensures { let e = engine_of S.of_text S.answer executor.now.request.now (R.type_of resolver.now executor.now.context.now) (R.answer resolver.now executor.now.context.now) in
-        IfOk result (λ value. Gives (comes_to e (fragments_in executor.now.request.now) first.entry report.old.path) report.old value report.new) }
+    ensures { let e = engine_at S.of_text S.answer (R.type_of resolver.now) (R.answer resolver.now) executor.now in
+        IfOk result (λ value. GivesOutcome (comes_to e (fragments_in executor.now.request.now) first.entry report.old.path) report.old value report.new) }
 {
     let mut waiting = Items::new(executor.alloc);
     let mut now = first;
@@ -234,17 +236,20 @@ pub fn drive<'d, 'a, S: SchemaScalar + Drop, R: GraphQLValue<S>>(
 }
 
 /// What a group shows. An error is want of memory.
-pub fn answer<'d, 'a, S: SchemaScalar + Drop, R: GraphQLValue<S>>(
+pub(crate) fn answer<'d, 'a, S: SchemaScalar + Drop, R: GraphQLValue<S>>(
     resolver: &R,
-    executor: &Executor<'d, 'a, R::Context, S>,
+    executor: &Executor<'_, 'd, 'a, R::Context, S>,
     object: &str,
     node: &R::Node,
     these: &Group<'d, 'a, S>,
     report: &mut Report<'d, S>,
 ) -> Result<Option<Value<S>>, AllocError>
     requires settled { Settled (fragments_in executor.now.request.now) }
-    ensures { let e = engine_of S.of_text S.answer executor.now.request.now (R.type_of resolver.now executor.now.context.now) (R.answer resolver.now executor.now.context.now) in
-        IfOk result (λ value. Gives (group e (evaluate e) report.old.path object.now node.now these.now.0 (all_found (fragments_in executor.now.request.now) these.now.1)) report.old value report.new) }
+    requires typed { IsTypeOf executor.now.request.now.schema.now.query (R.root_node resolver.now)
+        (R.type_of resolver.now executor.now.context.now) node.now object.now }
+    requires keyed { HasKey these.now }
+    ensures { let e = engine_at S.of_text S.answer (R.type_of resolver.now) (R.answer resolver.now) executor.now in
+        IfOk result (λ value. GivesOutcome (group e (evaluate e) report.old.path object.now node.now these.now.0 (all_found (fragments_in executor.now.request.now) these.now.1)) report.old value report.new) }
 {
     let started = start(resolver, executor, object, node, these, report)?;
     let value = drive(resolver, executor, started.begun, report)?;

@@ -4,6 +4,7 @@ ghost use Rattle.std.specs.Prelude.{◌≡◌, ◌++◌, [], ◌∷◌, reverse,
 ghost use Rattle.graphql_tree.specs.declared.document.Fragment.{Fragment};
 ghost use Rattle.graphql_collect.specs.Grouped.{all_found};
 ghost use Rattle.graphql_collect.specs.Requests.{fragments_in};
+ghost use Rattle.graphql_declarations.specs.Lent.{literal_of};
 ghost use Rattle.graphql_names.specs.Names.{Bytes};
 ghost use Rattle.graphql_written_out.specs.Written.{Settled, head_of};
 ghost use Rattle.graphql_evaluation.specs.Engines.{Engine};
@@ -12,9 +13,11 @@ ghost use Rattle.graphql_evaluation.specs.Outcomes.{show_place};
 ghost use Rattle.graphql_evaluation.specs.Turns.{all_turns, turns_of_group};
 ghost use Rattle.graphql_execution.specs.declared.frames.Frame.TheVariants as frame;
 ghost use Rattle.graphql_execution.specs.Begins.{Begins};
-ghost use Rattle.graphql_execution.specs.Engines.{engine_of};
+ghost use Rattle.graphql_execution.specs.EngineAt.{engine_at};
 ghost use Rattle.graphql_execution.specs.FrameTurns.{begun_turns, rest_turns, waiting_turns};
 ghost use Rattle.graphql_execution.specs.Frames.{Fine, FineBegun, Leads, close, comes_to, down, rest, shows};
+ghost use Rattle.graphql_execution.specs.Sets.{HasKey};
+ghost use Rattle.graphql_execution.specs.Standing.{IsPlaceOf, IsTypeOf};
 
 use crate::asking::ask;
 use crate::beginning::{Spot, begin};
@@ -29,7 +32,7 @@ use crate::graphql_value::GraphQLValue;
 use crate::parts::{is_required, shown, with_item, with_member};
 use crate::report::Report;
 use crate::selected::Selected;
-use graphql_collect::{Group, Occurrence};
+use graphql_collect::{CollectedField, Group};
 use graphql_declarations::TypeLiteral;
 use graphql_field_results::FieldResult;
 use graphql_meta::SchemaScalar;
@@ -43,16 +46,20 @@ use std::alloc::AllocError;
 /// comes to on a node of an object type.
 fn begin_field<'p, 'd, 'a, S: SchemaScalar + Drop, R: GraphQLValue<S>>(
     resolver: &R,
-    executor: &Executor<'d, 'a, R::Context, S>,
+    executor: &Executor<'_, 'd, 'a, R::Context, S>,
     object: &str,
     node: &R::Node,
-    fields: &'p [Occurrence<'d, 'a, S>],
+    fields: &'p [CollectedField<'d, 'a, S>],
     first: &'d Spanning<Field<'a, S>>,
     declared: TypeLiteral<'d>,
     keys: &'p [TextRef<'d>],
 ) -> FieldResult<Begun<'d, 'a, S, R::Node>, S>
-    requires { Settled (fragments_in executor.now.request.now) }
-    ensures { let e = engine_of S.of_text S.answer executor.now.request.now (R.type_of resolver.now executor.now.context.now) (R.answer resolver.now executor.now.context.now) in
+    requires settled { Settled (fragments_in executor.now.request.now) }
+    requires typed { IsTypeOf executor.now.request.now.schema.now.query (R.root_node resolver.now)
+        (R.type_of resolver.now executor.now.context.now) node.now object.now }
+    requires place { IsPlaceOf executor.now.request.now object.now first.now (literal_of declared) first.now.span.start keys.now
+        (sets_below (all_found (fragments_in executor.now.request.now) fields.now)) }
+    ensures { let e = engine_at S.of_text S.answer (R.type_of resolver.now) (R.answer resolver.now) executor.now in
         Begins e (sets_below (all_found (fragments_in executor.now.request.now) fields.now)) declared.entry.name.now (fragments_in executor.now.request.now) first.now.span.start (reverse declared.entry.modifiers.now) (e.answer node.now object.now (head_of first.now).name (e.arguments object.now (head_of first.now))) result }
 {
     let name = TextRef::new(declared.name);
@@ -72,22 +79,25 @@ fn begin_field<'p, 'd, 'a, S: SchemaScalar + Drop, R: GraphQLValue<S>>(
 }
 
 /// What a group comes to; the report goes down to it. An error is want of memory.
-pub fn start<'d, 'a, S: SchemaScalar + Drop, R: GraphQLValue<S>>(
+pub(crate) fn start<'d, 'a, S: SchemaScalar + Drop, R: GraphQLValue<S>>(
     resolver: &R,
-    executor: &Executor<'d, 'a, R::Context, S>,
+    executor: &Executor<'_, 'd, 'a, R::Context, S>,
     object: &str,
     node: &R::Node,
     these: &Group<'d, 'a, S>,
     report: &mut Report<'d, S>,
 ) -> Result<Started<'d, 'a, S, R::Node>, AllocError>
     requires settled { Settled (fragments_in executor.now.request.now) }
-    ensures leads { let e = engine_of S.of_text S.answer executor.now.request.now (R.type_of resolver.now executor.now.context.now) (R.answer resolver.now executor.now.context.now) in
+    requires typed { IsTypeOf executor.now.request.now.schema.now.query (R.root_node resolver.now)
+        (R.type_of resolver.now executor.now.context.now) node.now object.now }
+    requires keyed { HasKey these.now }
+    ensures leads { let e = engine_at S.of_text S.answer (R.type_of resolver.now) (R.answer resolver.now) executor.now in
         IfOk result (λ s. Leads (group e (evaluate e) report.old.path object.now node.now these.now.0 (all_found (fragments_in executor.now.request.now) these.now.1))
         report.old (show_place s.is_needed (comes_to e (fragments_in executor.now.request.now) s.begun (report.old.path ++ these.now.0 ∷ []))) report.new) }
     ensures path { OnOk result (report.new.path ≡ report.old.path ++ these.now.0 ∷ []) }
-    ensures turns { let e = engine_of S.of_text S.answer executor.now.request.now (R.type_of resolver.now executor.now.context.now) (R.answer resolver.now executor.now.context.now) in
+    ensures turns { let e = engine_at S.of_text S.answer (R.type_of resolver.now) (R.answer resolver.now) executor.now in
         IfOk result (λ s. begun_turns e (fragments_in executor.now.request.now) s.begun ≡ turns_of_group e (all_turns e) object.now node.now (all_found (fragments_in executor.now.request.now) these.now.1)) }
-    ensures fine { let e = engine_of S.of_text S.answer executor.now.request.now (R.type_of resolver.now executor.now.context.now) (R.answer resolver.now executor.now.context.now) in
+    ensures fine { let e = engine_at S.of_text S.answer (R.type_of resolver.now) (R.answer resolver.now) executor.now in
         IfOk result (λ s. FineBegun e (fragments_in executor.now.request.now) s.begun) }
 {
     report.enter(&these.0)?;
@@ -195,7 +205,7 @@ fn give_list<'d, 'a, S: Drop, N: Drop>(
 }
 
 /// A frame that gets the value of the place it waits for. An error is want of memory.
-pub fn give<'d, 'a, S: Drop, N: Drop>(
+pub(crate) fn give<'d, 'a, S: Drop, N: Drop>(
     waits: FrameIn<'d, 'a, S, N>,
     value: Option<Value<S>>,
     report: &mut Report<'d, S>,

@@ -1,2 +1,3 @@
 pub mod Executed
 pub mod Answered
+pub mod Laws

@@ -1,6 +1,6 @@
 //! Queries of documents that are known to be valid.
 
-ghost use Rattle.std.specs.Prelude.{[], ◌∷◌, IfOk};
+ghost use Rattle.std.specs.Prelude.{◌≡◌, [], ◌∷◌, IfOk};
 ghost use Rattle.std.specs.HashMap.{get_by_text};
 ghost use Rattle.graphql_final_variables.specs.FinalVariables.{value_in};
 ghost use Rattle.graphql_collect.specs.FragmentLists.{fragments_listed};
@@ -27,18 +27,19 @@ use std::alloc::{AllocError, Global};
 /// Data, and the errors of fields without a value, in order (GraphQL October 2021, 7.1 Response Format).
 pub type Response<S> = (Value<S>, Items<ExecutionError<S>>);
 
-/// What the selection set of an operation that starts at this place gives on a resolver's root. An error is
-/// want of memory.
+/// What the selection set of an operation that starts at this place gives on a resolver's root, as an object
+/// of the type of this name, from which queries start. An error is want of memory.
 fn respond<'d, 'a, S: SchemaScalar + Drop, R: GraphQLValue<S>>(
     alloc: Global,
     request: &'d Request<'d, 'a, S>,
     resolver: &R,
-    context: &'d R::Context,
+    context: &R::Context,
     object: &'d str,
     start: SourcePosition,
     set: &'d [Selection<'a, S>],
 ) -> Result<Response<S>, AllocError>
-    requires { Settled (fragments_in request.now) }
+    requires settled { Settled (fragments_in request.now) }
+    requires query { object.now ≡ request.now.schema.now.query }
     ensures { let e = engine_of S.of_text S.answer request.now (R.type_of resolver.now context.now) (R.answer resolver.now context.now) in
         IfOk result (λ r. IsResponse ⟦<ExecutionError<S> as Ord>⟧.cmp (evaluate e [] object.now (R.root_node resolver.now) (written_in request.now set.now ∷ [])) r.0 r.1) }
 {
@@ -58,7 +59,7 @@ fn respond_over<'d, 'a, S: SchemaScalar + Drop, R: GraphQLValue<S>>(
     operation: &'d Spanning<Operation<'a, S>>,
     resolver: &R,
     variables: FinalVariables<'d, S>,
-    context: &'d R::Context,
+    context: &R::Context,
 ) -> Result<Response<S>, AllocError>
     requires { Settled (fragments_listed document.now) }
     ensures { IfOk result (λ r. IsResponse ⟦<ExecutionError<S> as Ord>⟧.cmp (executed_over S.of_text S.answer schema.now document.now (value_in variables.entry) operation.now.item (R.root_node resolver.now) (R.type_of resolver.now context.now) (R.answer resolver.now context.now)) r.0 r.1) }
@@ -85,7 +86,7 @@ pub fn execute_query<'d, 'a, S: SchemaScalar + Drop, R: GraphQLValue<S>>(
     operation: &'d Spanning<Operation<'a, S>>,
     resolver: &R,
     variables: &'d Variables<S>,
-    context: &'d R::Context,
+    context: &R::Context,
 ) -> Result<Response<S>, AllocError>
     requires { Settled (fragments_listed document.now) }
     ensures { IfOk result (λ r. IsResponse ⟦<ExecutionError<S> as Ord>⟧.cmp (executed S.of_text S.answer schema.now document.now (get_by_text variables.now) operation.now.item (R.root_node resolver.now) (R.type_of resolver.now context.now) (R.answer resolver.now context.now)) r.0 r.1) }

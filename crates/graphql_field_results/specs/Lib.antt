@@ -1,1 +1,3 @@
+pub mod Answered
 pub mod IntoFieldErrors
+pub mod Reasons

@@ -6,8 +6,9 @@ ghost use Rattle.graphql_text.specs.Position.{origin};
 
 use crate::field_error::FieldError;
 use graphql_items::{Items, Text};
+use graphql_scalars::ScalarValue;
 use graphql_text::SourcePosition;
-use std::alloc::Global;
+use std::alloc::{AllocError, Global};
 
 /// A field that has no value (GraphQL October 2021, 7.1.2 Errors): where it stands in the request's text,
 /// its path, which is the response keys from the root of the data down to it, and why. Errors are ordered
@@ -63,6 +64,18 @@ impl<S> ExecutionError<S> {
         ensures { result.now ≡ self.now.path }
     {
         self.path.as_slice()
+    }
+}
+
+impl<S: ScalarValue + Drop> Clone for ExecutionError<S> {
+    ghost is_clone = { λ error copy. copy ≡ error };
+
+    /// The same error. An error of the call is want of memory. It takes stack for each level of what is told
+    /// beside the reason.
+    fn clone(&self) -> Result<ExecutionError<S>, AllocError> {
+        let path = self.path.clone()?;
+        let error = self.error.clone()?;
+        Ok(ExecutionError::new(self.location, path, error))
     }
 }
 

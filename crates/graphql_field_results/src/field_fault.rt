@@ -5,7 +5,7 @@ ghost use Rattle.graphql_field_results.specs.declared.field_fault.FieldFault.The
 
 use crate::field_error::FieldError;
 use graphql_output_values::Value;
-use std::alloc::AllocError;
+use std::alloc::{AllocError, AllocFailed};
 
 /// Why a resolver has no answer: the error of the field, or want of memory, which tells nothing of the
 /// field.
@@ -28,6 +28,14 @@ impl<S> From<AllocError> for FieldFault<S> {
     ghost from_gives = { λ _ fault. fault ≡ Memory };
 
     fn from(_error: AllocError) -> FieldFault<S> {
+        FieldFault::Memory
+    }
+}
+
+impl<S, T: Drop> From<AllocFailed<T>> for FieldFault<S> {
+    ghost from_gives = { λ _ fault. fault ≡ Memory };
+
+    fn from(_error: AllocFailed<T>) -> FieldFault<S> {
         FieldFault::Memory
     }
 }

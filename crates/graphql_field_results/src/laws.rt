@@ -12,7 +12,7 @@ use crate::into_field_error::IntoFieldError;
 use graphql_items::Text;
 use graphql_scalars::{CheckError, ScalarValue, WrongInputScalarTypeError};
 use graphql_text::SourcePosition;
-use graphql_values::{FromInputValue, FromInputValueVecError};
+use graphql_values::{FromInputValue, FromInputValueArrayError, FromInputValueVecError};
 use std::fmt::Display;
 
 /// Of two errors the one whose place comes first is first; of one place the one whose path is first, key
@@ -31,9 +31,11 @@ pub fn reasons_are_texts<'a, S, T: ScalarValue + 'a>()
     ensures wrong_type { (error : _) → IsReason (⟦<WrongInputScalarTypeError<'a, T> as IntoFieldError<S>>⟧.becomes error) (⟦<WrongInputScalarTypeError<'a, T> as Display>⟧.output error) }
 {}
 
-/// The reason that the error of a list gives is the text that it writes, if those of items are.
+/// The reason that the error of a list gives, of any length or of one, is the text that it writes, if
+/// those of items are.
 pub fn reasons_of_lists_are_texts<S, T: FromInputValue<S>>()
 where
     T::Error: IntoFieldError<S> + Display,
     ensures list { ((e : _) → IsReason (T.Error.becomes e) (T.Error.output e)) → (error : _) → IsReason (⟦<FromInputValueVecError<T, S> as IntoFieldError<S>>⟧.becomes error) (⟦<FromInputValueVecError<T, S> as Display>⟧.output error) }
+    ensures array { ((e : _) → IsReason (T.Error.becomes e) (T.Error.output e)) → (error : _) → IsReason (⟦<FromInputValueArrayError<T, S> as IntoFieldError<S>>⟧.becomes error) (⟦<FromInputValueArrayError<T, S> as Display>⟧.output error) }
 {}

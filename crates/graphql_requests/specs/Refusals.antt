@@ -15,7 +15,7 @@ use Rattle.graphql_schema.specs.Declarations.{Declarations}
 use Rattle.graphql_rule_errors.specs.Places.{places}
 use Rattle.graphql_rule_errors.specs.declared.rule_error.RuleError.{RuleError}
 use Rattle.graphql_language.specs.Texts.{IsDocument, IsRefused, OnlyDocument}
-use Rattle.graphql_variable_checks.specs.Accepted.{AreAccepted, Refusals}
+use Rattle.graphql_variable_checks.specs.Accepted.{AreAccepted, ValuesTold}
 use Rattle.graphql_visitors.specs.Subjects.{Subject}
 use Rattle.graphql_validation.specs.AllRules.{IsValidAt, RequestTold}
 use Rattle.graphql_requests.specs.declared.graphql_error.GraphQLError.{GraphQLError}
@@ -66,7 +66,7 @@ module _ {S C : Type 0} (answer : S → ScalarAnswer) (accepts : C → InputValu
 
   -- why an operation is not executed: values first, then what it does; want of memory tells nothing
   abbrev pub IsHeld : Placed (Operation S) → GraphQLError → Type 0
-  IsHeld operation (error.ValidationError errors) = Refusals answer accepts types given (variables_in operation.item.variable_definitions) (places errors) × (errors ≡ [] → ⊥)
+  IsHeld operation (error.ValidationError errors) = ValuesTold answer accepts types given (variables_in operation.item.variable_definitions) (places errors) × (errors ≡ [] → ⊥)
   IsHeld operation error.IsSubscription = TakesValues operation × (operation.item.operation_type ≡ kind.Subscription)
   IsHeld operation error.NoMutationType = TakesValues operation × (operation.item.operation_type ≡ kind.Mutation)
   IsHeld operation error.Memory = Unit {0}

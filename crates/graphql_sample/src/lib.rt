@@ -8,4 +8,4 @@ mod schema;
 
 pub use records::{SampleRecord, SampleRecords, sample_records};
 pub use resolver::{SampleNode, SampleResolver};
-pub use schema::{StandardChecks, schema_s};
+pub use schema::schema_s;

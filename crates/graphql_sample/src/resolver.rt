@@ -102,6 +102,8 @@ impl GraphQLValue<DefaultScalarValue> for SampleResolver {
 
     ghost respects = { λ _ _ _ _ _ _ _. refl };
 
+    ghost tells_distinct_keys = { λ _ _ _ _ _. record { beside = tt } };
+
     /// The root.
     fn root(&self) -> SampleNode
         ensures { result ≡ node.Root }
@@ -127,7 +129,7 @@ impl GraphQLValue<DefaultScalarValue> for SampleResolver {
         node: &SampleNode,
         field: &str,
         _arguments: &Arguments<'_, DefaultScalarValue>,
-        executor: &Executor<'_, '_, SampleRecords, DefaultScalarValue>,
+        executor: &Executor<'_, '_, '_, SampleRecords, DefaultScalarValue>,
     ) -> FieldResult<Answer, DefaultScalarValue> {
         let records = executor.context.records.as_slice();
         match node {

@@ -6,6 +6,7 @@ ghost use Rattle.graphql_schema.specs.Schemas.{Makes};
 ghost use Rattle.graphql_schema_faults.specs.Lookups.{type_named};
 ghost use Rattle.graphql_sample.specs.SampleTypes as spec;
 
+use graphql_meta::scalar_checks::StandardChecks;
 use graphql_meta::{
     Argument, DeprecationStatus, Field, MetaType, ObjectMeta, ScalarMeta, TypeCheck,
 };
@@ -18,22 +19,6 @@ use graphql_values::{DefaultScalarValue, ScalarValue};
 use std::alloc::{AllocError, Global};
 
 type Meta = MetaType<DefaultScalarValue>;
-
-/// The checks of the scalars of the sample (GraphQL October 2021, 3.5 Scalars).
-#[derive(Drop)]
-pub struct StandardChecks {
-    /// Which values `Int` accepts.
-    pub int: TypeCheck,
-
-    /// Which values `String` accepts.
-    pub string: TypeCheck,
-
-    /// Which values `Boolean` accepts.
-    pub boolean: TypeCheck,
-
-    /// Which values `ID` accepts.
-    pub id: TypeCheck,
-}
 
 /// An argument in short: its name, the name of its type, and the wraps of that, the innermost first.
 type ArgumentRow = (&'static str, &'static str, &'static [TypeModifier]);

@@ -12,23 +12,33 @@ pub sets-init : goal.sets-init
 sets-init g c =
     let none : c.new-sets.result ≡ [] = c.new-sets.ensures in
     let first : sum_by size (rests c.push.new.self) ≡ size c.args.set.now + sum_by size (rests c.new-sets.result) =
-    open-push size c.new-sets.result c.push.new.self c.args.set c.in_ok-push.ensures.ok in
+    open-push size c.new-sets.result c.push.new.self _ c.in_ok-push.ensures.ok in
     let others : sum_by size (rests c.new-sets.result) ≡ 0 = ap (λ zs. sum_by size (rests zs)) none in
     record {
-      leads = leads-now g.S.ScalarValue.answer c.args.request.now c.args.object.now c.args.set c.new-sets.result c.push.new.self c.args.visited.now.keys c.args.found.now
-          none c.in_ok-push.ensures.ok c.requires.ready;
+      leads = leads-now g.S.ScalarValue.answer c.args.request.now c.args.object.now _ c.new-sets.result
+          c.push.new.self c.args.visited.now.keys c.args.found.now none c.in_ok-push.ensures.ok c.requires.ready;
       sized = omega (arith, first, others);
     }
 
 pub sets-smaller : goal.sets-smaller
-sets-smaller g c = omega (arith, c.in_ok-advance.ensures.turns, open-push turns c.pop.new.self c.sets.sets c.in-Some.rest c.in-Some.ensures)
+sets-smaller g c = omega (
+  arith,
+  c.in_ok-advance.ensures.turns,
+  open-push turns c.pop.new.self c.sets.sets c.in-Some.innermost c.in-Some.ensures,
+)
 
 pub sets-preserved : goal.sets-preserved
 sets-preserved g c = record {
   leads = c.in_ok-advance.ensures.steps (fields_in g.S.ScalarValue.answer c.args.request.now c.args.object.now (written_in c.args.request.now c.args.set.now))
       (state c.args.request.now c.args.visited.now.keys c.args.found.now)
-      (goes-back g.S.ScalarValue.answer c.args.request.now c.args.object.now c.pop.new.self c.sets.sets c.in-Some.rest c.in-Some.ensures _ _ c.sets.visited.keys c.sets.found c.sets.invariant.leads);
-  sized = omega (arith, c.in_ok-advance.ensures.sized, open-push size c.pop.new.self c.sets.sets c.in-Some.rest c.in-Some.ensures, c.sets.invariant.sized);
+      (goes-back g.S.ScalarValue.answer c.args.request.now c.args.object.now c.pop.new.self c.sets.sets c.in-Some.innermost
+      c.in-Some.ensures _ _ c.sets.visited.keys c.sets.found c.sets.invariant.leads);
+  sized = omega (
+    arith,
+    c.in_ok-advance.ensures.sized,
+    open-push size c.pop.new.self c.sets.sets c.in-Some.innermost c.in-Some.ensures,
+    c.sets.invariant.sized,
+  );
 }
 
 pub returns-clause-walked : goal.returns-clause-walked

@@ -1,7 +1,7 @@
 use Rattle.std.proofs.Common.{sym, ◌≡◌, ◌∙◌, false, reverse}
 use Rattle.graphql_collect.specs.Requests.{fragments_in}
 use Rattle.graphql_type_references.specs.declared.type_modifier.TypeModifier.TheVariants as modifier
-use Rattle.graphql_execution.specs.Engines.{engine_of}
+use Rattle.graphql_execution.specs.EngineAt.{engine_at}
 use Rattle.graphql_execution.specs.Parts.{null_here}
 use Rattle.graphql_execution.specs.Sets.{sets_in}
 use Rattle.graphql_execution.proofs.BeginLemmas.{required-begins}
@@ -11,7 +11,7 @@ use Rattle.graphql_execution.proofs.beginning.+begin.Goals as goal
 pub returns-else-is_null : goal.returns-else-is_null
 returns-else-is_null g t c =
     let rq = c.args.executor.now.request.now in
-    let e = engine_of g.S.ScalarValue.of_text g.S.ScalarValue.answer rq (g.R.GraphQLValue.type_of c.args.resolver.now c.args.executor.now.context.now) (g.R.GraphQLValue.answer c.args.resolver.now c.args.executor.now.context.now) in
+    let e = engine_at g.S.ScalarValue.of_text g.S.ScalarValue.answer (g.R.GraphQLValue.type_of c.args.resolver.now) (g.R.GraphQLValue.answer c.args.resolver.now) c.args.executor.now in
     let spot = c.args.spot.now in
     let some : null_here c.args.answer ≡ false = sym c.is_null.ensures ∙ c.if-is_null.false in
     rw (outer-wraps c.args.wraps.now c.in-NonNull.rest.now modifier.NonNull c.in-NonNull.ensures)

@@ -7,7 +7,7 @@ use Rattle.graphql_collect.specs.Requests.{fragments_in}
 use Rattle.graphql_evaluation.specs.Completion.{blame_at}
 use Rattle.graphql_evaluation.specs.Evaluation.{evaluate}
 use Rattle.graphql_evaluation.specs.Outcomes.{together}
-use Rattle.graphql_execution.specs.Engines.{engine_of}
+use Rattle.graphql_execution.specs.EngineAt.{engine_at}
 use Rattle.graphql_execution.specs.Completed.{completed_item}
 use Rattle.graphql_execution.specs.Frames.{more}
 use Rattle.graphql_execution.specs.FrameTurns.{answer_turns}
@@ -19,7 +19,7 @@ pub returns-in_ok-selected-in-List : goal.returns-in_ok-selected-in-List
 returns-in_ok-selected-in-List g c =
     let rq = c.args.executor.now.request.now in
     let fr = fragments_in rq in
-    let e = engine_of g.S.ScalarValue.of_text g.S.ScalarValue.answer rq (g.R.GraphQLValue.type_of c.args.resolver.now c.args.executor.now.context.now) (g.R.GraphQLValue.answer c.args.resolver.now c.args.executor.now.context.now) in
+    let e = engine_at g.S.ScalarValue.of_text g.S.ScalarValue.answer (g.R.GraphQLValue.type_of c.args.resolver.now) (g.R.GraphQLValue.answer c.args.resolver.now) c.args.executor.now in
     let ts = sets_in rq c.args.spot.now.selected in
     let name = c.args.spot.now.name.now in
     let wraps = reverse c.args.wraps.now in

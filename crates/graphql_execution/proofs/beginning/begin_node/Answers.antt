@@ -15,6 +15,7 @@ use Rattle.graphql_execution.specs.Frames.{groups_left, more}
 use Rattle.graphql_execution.specs.FrameTurns.{groups_turns}
 use Rattle.graphql_execution.specs.Sets.{AreGroups, AreKnown, sets_in}
 use Rattle.graphql_execution.proofs.FrameLemmas.{distinct-begins, object-begins}
+use Rattle.graphql_execution.proofs.KeyLemmas.{groups-keyed}
 use Rattle.graphql_execution.proofs.TurnLemmas.{groups-begin}
 use Rattle.graphql_execution.proofs.beginning.begin_node.Goals as goal
 
@@ -68,7 +69,7 @@ returns g c =
           (ap (λ o. outcome_map object_members (evaluate e path o node ts)) same ∙ object-begins e fr path object node ts are.found gs are.groups repeats ∙ made);
       turns = rw (resolved.outs-Node, possible)
           (ap (λ o. 2 + groups_turns e fr o node gs) c.new-2.ensures ∙ ap (λ n. 2 + n) (groups-begin e fr object node ts are.found gs are.groups repeats ∙ ap (λ o. all_turns e o node ts) (sym same)));
-      fine = rw c.new.ensures (distinct-begins fr are.found gs are.groups);
+      fine = rw c.new.ensures (c.new-2.ensures ∙ sym same, groups-keyed fr are.found gs are.groups, distinct-begins fr are.found gs are.groups);
       known = subst (λ o. AreGroups fr (found_in e o ts) gs) (sym c.new-2.ensures)
           (subst (λ xs. AreGroups fr xs gs) (engine-found g.S.ScalarValue.of_text g.S.ScalarValue.answer rq ty an object ts) are);
     }

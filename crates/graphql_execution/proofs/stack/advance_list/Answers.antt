@@ -3,6 +3,7 @@ use Rattle.graphql_collect.specs.Requests.{fragments_in}
 use Rattle.graphql_evaluation.specs.Evaluation.{found_in}
 use Rattle.graphql_execution.specs.declared.frames.Frame.TheVariants as frame
 use Rattle.graphql_execution.specs.Begins.{outcome_at}
+use Rattle.graphql_execution.specs.EngineAt.{engine_at}
 use Rattle.graphql_execution.specs.Engines.{engine_of}
 use Rattle.graphql_execution.specs.Frames.{Leads, comes_to, known_of, learns, path_of, rest, shows}
 use Rattle.graphql_execution.specs.Sets.{kept_sets}
@@ -50,7 +51,7 @@ returns-clause-steps g c = λ path at.
 pub returns-clause-fine : goal.returns-clause-fine
 returns-clause-fine g c =
     let rq = c.args.executor.now.request.now in
-    let e = engine_of g.S.ScalarValue.of_text g.S.ScalarValue.answer rq (g.R.GraphQLValue.type_of c.args.resolver.now c.args.executor.now.context.now) (g.R.GraphQLValue.answer c.args.resolver.now c.args.executor.now.context.now) in
+    let e = engine_at g.S.ScalarValue.of_text g.S.ScalarValue.answer (g.R.GraphQLValue.type_of c.args.resolver.now) (g.R.GraphQLValue.answer c.args.resolver.now) c.args.executor.now in
     let fr = fragments_in rq in
     let f = c.args.list_frame in
     let kept = learns (keeps e fr f c.pop.new.self) c.in_ok-wait_for_item.ensures.0 in

@@ -1,19 +1,39 @@
-use Rattle.std.proofs.Common.{arith, refl, sym, ◌∙◌, ap, subst, ◌≡◌, ◌++◌, ◌∷◌, [], drop, slice_get, Some, None}
+use Rattle.std.proofs.Common.{arith, refl, sym, ◌∙◌, ap, subst, inl, ◌≡◌, ◌++◌, ◌∷◌, [], drop, slice_get, Some, None}
 use Rattle.graphql_collect.specs.Grouped.{all_found}
 use Rattle.graphql_collect.specs.Requests.{fragments_in}
 use Rattle.graphql_evaluation.specs.Evaluation.{evaluate, group}
 use Rattle.graphql_evaluation.specs.Outcomes.{show_place}
+use Rattle.graphql_execution.specs.EngineAt.{engine_at}
 use Rattle.graphql_execution.specs.Engines.{engine_of}
 use Rattle.graphql_execution.specs.declared.frames.Frame.TheVariants as frame
 use Rattle.graphql_execution.specs.Frames.{Leads, comes_to, path_of, rest, shows}
+use Rattle.graphql_execution.specs.Sets.{HasKey}
 use Rattle.graphql_execution.proofs.FrameLemmas.{awaits, distinct-end, drop-end, fine-last, group-path, group-starts, leads-same, object-ends, step-in_place, step-pushed}
+use Rattle.graphql_execution.proofs.EngineParts.{engine-concrete}
+use Rattle.graphql_execution.proofs.KeyLemmas.{all-at}
 use Rattle.graphql_execution.proofs.TurnLemmas.{group-due, waiting-last}
 use Rattle.graphql_execution.proofs.stack.advance_object.Goals as goal
 
 pub object_of-requires : goal.object_of-requires
 object_of-requires g c =
     let f = c.args.object_frame in
-    distinct-end f.members (drop f.next f.groups) (drop-end f.groups f.next (sym (rw (c.in-None.is, c.get.ensures) at c.get-2.ensures.value))) c.requires.fine.0
+    distinct-end f.members (drop f.next f.groups) (drop-end f.groups f.next (sym (rw (c.in-None.is, c.get.ensures) at c.get-2.ensures.value))) c.requires.fine.0.2
+
+-- the object's type is that of its node
+pub start-requires-clause-typed : goal.start-requires-clause-typed
+start-requires-clause-typed g c =
+    let rq = c.args.executor.now.request.now in
+    let ty = g.R.GraphQLValue.type_of c.args.resolver.now c.args.executor.now.context.now in
+    let an = g.R.GraphQLValue.answer c.args.resolver.now c.args.executor.now.context.now in
+    let f = c.args.object_frame in
+    inl (c.as_str.ensures ∙ c.requires.fine.0.0 ∙ ap (λ h. h f.node) (engine-concrete g.S.ScalarValue.of_text g.S.ScalarValue.answer rq ty an))
+
+pub start-requires-clause-keyed : goal.start-requires-clause-keyed
+start-requires-clause-keyed g c =
+    let f = c.args.object_frame in
+    let x = c.in-Some.group.now in
+    let here : slice_get f.groups f.next ≡ Some x = sym (rw (c.in-Some.is, c.get.ensures) at c.get-2.ensures.value) in
+    all-at HasKey f.groups f.next x c.requires.fine.0.1 here
 
 pub returns-in-None-clause-steps : goal.returns-in-None-clause-steps
 returns-in-None-clause-steps g c = λ path at.
@@ -54,7 +74,7 @@ returns-clause-steps g c = λ path at.
 pub returns-clause-fine : goal.returns-clause-fine
 returns-clause-fine g c =
     let rq = c.args.executor.now.request.now in
-    let e = engine_of g.S.ScalarValue.of_text g.S.ScalarValue.answer rq (g.R.GraphQLValue.type_of c.args.resolver.now c.args.executor.now.context.now) (g.R.GraphQLValue.answer c.args.resolver.now c.args.executor.now.context.now) in
+    let e = engine_at g.S.ScalarValue.of_text g.S.ScalarValue.answer (g.R.GraphQLValue.type_of c.args.resolver.now) (g.R.GraphQLValue.answer c.args.resolver.now) c.args.executor.now in
     let fr = fragments_in rq in
     let f = c.args.object_frame in
     rw c.in_ok-wait.ensures (fine-last e fr c.args.waiting.now (frame.Object (record { node = f.node; object = f.object; groups = f.groups; next = f.next; is_needed = c.in_ok-started-in-Some.started.is_needed; members = f.members })) c.requires.fine.1 c.requires.fine.0, c.in_ok-started-in-Some.ensures.fine)

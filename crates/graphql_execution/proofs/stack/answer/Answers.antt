@@ -4,7 +4,7 @@ use Rattle.graphql_collect.specs.Requests.{fragments_in}
 use Rattle.graphql_evaluation.specs.Evaluation.{evaluate, group}
 use Rattle.graphql_execution.specs.Engines.{engine_of}
 use Rattle.graphql_execution.specs.Frames.{comes_to}
-use Rattle.graphql_execution.specs.Gives.{Gives}
+use Rattle.graphql_execution.specs.GivesOutcome.{GivesOutcome}
 use Rattle.graphql_execution.proofs.FrameLemmas.{answer-gives}
 use Rattle.graphql_execution.proofs.stack.answer.Goals as goal
 
@@ -23,6 +23,6 @@ returns g c =
     let new = c.leave.new.self in
     let o = group e (evaluate e) old.path c.args.object.now c.args.node.now key fields in
     let q = comes_to e fr started.begun (old.path ++ key ∷ []) in
-    let gives : Gives q mid c.in_ok-value.value c.drive.new.report = subst (λ p. Gives (comes_to e fr started.begun p) mid c.in_ok-value.value c.drive.new.report) c.in_ok-started.ensures.path c.in_ok-value.ensures in
+    let gives : GivesOutcome q mid c.in_ok-value.value c.drive.new.report = subst (λ p. GivesOutcome (comes_to e fr started.begun p) mid c.in_ok-value.value c.drive.new.report) c.in_ok-started.ensures.path c.in_ok-value.ensures in
     rw c.shown.ensures
     (answer-gives key started.is_needed o q old mid c.drive.new.report new c.in_ok-value.value c.in_ok-started.ensures.leads gives c.in_ok-started.ensures.path c.leave.ensures.path c.leave.ensures.errors)

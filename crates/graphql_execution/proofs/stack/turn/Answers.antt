@@ -1,5 +1,6 @@
 use Rattle.std.proofs.Common.{arith, sym, ◌≡◌, ◌∙◌, ap, subst, ◌++◌, ◌∷◌, []}
 use Rattle.graphql_collect.specs.Requests.{fragments_in}
+use Rattle.graphql_execution.specs.EngineAt.{engine_at}
 use Rattle.graphql_execution.specs.Engines.{engine_of}
 use Rattle.graphql_execution.specs.declared.frames.Begun.TheVariants as begun
 use Rattle.graphql_execution.specs.declared.frames.Frame.TheVariants as frame
@@ -42,7 +43,7 @@ returns-in_ok-given-in-Some-clause-steps g c = λ path at.
 pub returns-in_ok-given-in-Some-clause-fine : goal.returns-in_ok-given-in-Some-clause-fine
 returns-in_ok-given-in-Some-clause-fine g c =
     let rq = c.args.executor.now.request.now in
-    let e = engine_of g.S.ScalarValue.of_text g.S.ScalarValue.answer rq (g.R.GraphQLValue.type_of c.args.resolver.now c.args.executor.now.context.now) (g.R.GraphQLValue.answer c.args.resolver.now c.args.executor.now.context.now) in
+    let e = engine_at g.S.ScalarValue.of_text g.S.ScalarValue.answer (g.R.GraphQLValue.type_of c.args.resolver.now) (g.R.GraphQLValue.answer c.args.resolver.now) c.args.executor.now in
     let fr = fragments_in rq in
     let popped : c.args.waiting.now ≡ c.pop.new.self ++ c.in-Some.waits ∷ [] = rw c.in-Some.is at c.pop.ensures in
     let parts = fine-pop e fr c.pop.new.self c.in-Some.waits (rw popped at c.requires.fine.0) in
@@ -54,7 +55,7 @@ returns-in_ok-begun-in-Frame-List-clause-steps g c =
     rw is c.in_ok-begun-in-Frame-List.ensures.steps
 
 pub returns-in-None-clause-turns : goal.returns-in-None-clause-turns
-returns-in-None-clause-turns g c = rw c.in-Value.is (omega (arith, ap (all_waiting (engine_of g.S.ScalarValue.of_text g.S.ScalarValue.answer c.args.executor.now.request.now (g.R.GraphQLValue.type_of c.args.resolver.now c.args.executor.now.context.now) (g.R.GraphQLValue.answer c.args.resolver.now c.args.executor.now.context.now)) (fragments_in c.args.executor.now.request.now)) ((rw c.in-None.is at c.pop.ensures).0 ∙ sym (rw c.in-None.is at c.pop.ensures).1)))
+returns-in-None-clause-turns g c = rw c.in-Value.is (omega (arith, ap (all_waiting (engine_at g.S.ScalarValue.of_text g.S.ScalarValue.answer (g.R.GraphQLValue.type_of c.args.resolver.now) (g.R.GraphQLValue.answer c.args.resolver.now) c.args.executor.now) (fragments_in c.args.executor.now.request.now)) ((rw c.in-None.is at c.pop.ensures).0 ∙ sym (rw c.in-None.is at c.pop.ensures).1)))
 
 pub returns-in_ok-given-in-Some-clause-turns : goal.returns-in_ok-given-in-Some-clause-turns
 returns-in_ok-given-in-Some-clause-turns g c =

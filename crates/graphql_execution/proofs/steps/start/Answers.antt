@@ -1,5 +1,7 @@
 use Rattle.std.proofs.Common.{refl, sym, ◌∙◌, ap, subst, ◌≡◌, ◌++◌, ◌∷◌, [], reverse, slice_get, Some, None}
-use Rattle.graphql_collect.specs.Grouped.{all_found}
+use Rattle.std.specs.List.{All}
+use Rattle.std.proofs.lemmas.List.Elements.{All-tail}
+use Rattle.graphql_collect.specs.Grouped.{all_found, key_at}
 use Rattle.graphql_collect.specs.Requests.{fragments_in}
 use Rattle.graphql_evaluation.specs.Evaluation.{sets_below}
 use Rattle.graphql_meta.specs.Types.{TypeOf}
@@ -11,8 +13,34 @@ use Rattle.graphql_execution.specs.Frames.{Leads, comes_to}
 use Rattle.graphql_execution.proofs.BeginLemmas.{told-begins}
 use Rattle.graphql_execution.proofs.EngineParts.{engine-declared}
 use Rattle.graphql_execution.proofs.FrameLemmas.{group-leads, none-leads, undeclared-leads}
-use Rattle.graphql_execution.proofs.GroupLemmas.{group-turns, nothing_first}
+use Rattle.graphql_execution.proofs.GroupLemmas.{group-turns, head_first, nothing_first}
+use Rattle.graphql_execution.proofs.KeyLemmas.{IsUnder, all-at, found-under}
 use Rattle.graphql_execution.proofs.steps.start.Goals as goal
+
+-- the first field of the group stands where its executor does
+pub begin_field-begins-requires-clause-place : goal.begin_field-begins-requires-clause-place
+begin_field-begins-requires-clause-place g c =
+    let rq = c.args.executor.now.request.now in
+    let fr = fragments_in rq in
+    let old = c.args.report.now in
+    let key = c.args.these.now.0 in
+    let fields = c.args.these.now.1 in
+    let x = c.in-Some.first.now in
+    let first : Some x ≡ slice_get fields 0 = rw c.in-Some.is at c.first.ensures in
+    let parts = head_first fields x first in
+    let same : key_at x ≡ key = all-at (λ y. key_at y ≡ key) fields 0 x c.requires.keyed (sym first) in
+    let keyed : All (λ y. key_at y ≡ key) (x ∷ parts.0) = subst (All (λ y. key_at y ≡ key)) parts.1 c.requires.keyed in
+    let alike : All (IsUnder key) (all_found fr parts.0) =
+    found-under fr key parts.0 (All-tail (λ y. key_at y ≡ key) x parts.0 keyed) in
+    record {
+      declared = ap (declared_type rq.schema.now.types c.args.object.now) (sym c.as_str.ensures) ∙ sym (rw c.in-Some-declared_type.is at c.declared_type.ensures);
+      starts = refl;
+      above = old.path;
+      leads = c.as_slice-keys.ensures ∙ c.in_ok-enter.ensures.path ∙ ap (λ k. old.path ++ k ∷ []) (sym same);
+      others = all_found fr parts.0;
+      alike = subst (λ k. All (IsUnder k) (all_found fr parts.0)) (sym same) alike;
+      selects = ap (λ xs. sets_below (all_found fr xs)) (c.as_slice-fields.ensures ∙ parts.1);
+    }
 
 pub returns-in_default-clause-leads : goal.returns-in_default-clause-leads
 returns-in_default-clause-leads g c =

@@ -1,0 +1,18 @@
+-- Argument values that are the same, in whichever order and wherever they stand (GraphQL October 2021, 2.6 Arguments: arguments are unordered).
+use Rattle.std.specs.Prelude.{Bool, Option, Some, None}
+use Rattle.graphql_names.specs.Names.{Bytes}
+use Rattle.graphql_values.specs.SameValue.{SameValue}
+use Rattle.graphql_values.specs.declared.input_value.InputValue.{InputValue}
+use Rattle.graphql_arguments.specs.ArgumentValues.{Given, value_named}
+
+module _ {S : Type 0} (eq : S → S → Bool) where
+  -- nothing stands in both, or the same value in both
+  abbrev pub SameGiven : Option (InputValue S) → Option (InputValue S) → Type 0
+  SameGiven None None = Unit {0}
+  SameGiven (Some v) (Some w) = SameValue S eq v w
+  SameGiven None (Some w) = ⊥
+  SameGiven (Some v) None = ⊥
+
+  -- under each name
+  abbrev pub SameArguments : Given S → Given S → Type 0
+  SameArguments xs ys = (name : Bytes) → SameGiven (value_named xs name) (value_named ys name)
