@@ -1,5 +1,5 @@
 -- Answers as lines of JSON (GraphQL October 2021, 7.2 Serialization Format; RFC 8259).
-use Rattle.std.specs.Prelude.{◌≡◌, ℤ, ◌==◌, false, List, [], ◌∷◌, ◌++◌}
+use Rattle.std.specs.Prelude.{◌≡◌, ◌==◌, false, List, [], ◌∷◌, ◌++◌}
 use Rattle.std.specs.List.{All, list_any}
 use Rattle.graphql_names.specs.Names.{Bytes}
 use Rattle.graphql_scalars.specs.ScalarAnswers.{ScalarAnswer}
@@ -16,22 +16,24 @@ pub record IsLine (bytes : Bytes) : Type 0 where
   pub is : bytes ≡ front ++ 10 ∷ []
   pub no_feed : list_any (λ b. b == 10) front ≡ false
 
-module _ {S : Type 0} (answer : S → ScalarAnswer) where
-  -- the JSON of a value, and a line feed
-  abbrev pub line_of : Value S → Bytes
-  line_of v = json answer v ++ 10 ∷ []
+-- the JSON of what a request is answered
+abbrev pub answer_json : Value ScalarAnswer → Bytes
+answer_json v = json (λ scalar. scalar) v
 
-  abbrev pub ValuesAreLines : Type 0
-  ValuesAreLines = (v : Value S) → IsLine (line_of v)
+-- that JSON, and a line feed
+abbrev pub line_of : Value ScalarAnswer → Bytes
+line_of v = answer_json v ++ 10 ∷ []
 
-module _ {S : Type 0} (of_int : ℤ → S) (of_text : Bytes → S) where
-  -- what is told beside an error has distinct keys, however deep
-  abbrev pub ToldInDistinctKeys : ExecutionError S → Type 0
-  ToldInDistinctKeys error = HasDistinctKeysThroughout error.error.extensions
+abbrev pub ValuesAreLines : Type 0
+ValuesAreLines = (v : Value ScalarAnswer) → IsLine (line_of v)
 
-  -- each object in an answer has distinct keys, however deep, where those have that it takes over (7.2.2 Serialized Map Ordering)
-  abbrev pub AnswersHaveDistinctKeys : Type 0
-  AnswersHaveDistinctKeys =
-      ((answered : Value S) (errors : List (ExecutionError S)) → HasDistinctKeysThroughout answered → All ToldInDistinctKeys errors
-      → HasDistinctKeysThroughout (response_of of_int of_text answered errors))
-      × ((errors : List RuleError) → HasDistinctKeysThroughout (refusal_of {S = S} of_int of_text errors))
+-- what is told beside an error has distinct keys, however deep
+abbrev pub ToldInDistinctKeys : {S : Type 0} → ExecutionError S → Type 0
+ToldInDistinctKeys error = HasDistinctKeysThroughout error.error.extensions
+
+-- each object in an answer has distinct keys, however deep, where those have that it takes over (7.2.2 Serialized Map Ordering)
+abbrev pub AnswersHaveDistinctKeys : {S : Type 0} → (S → ScalarAnswer) → Type 0
+AnswersHaveDistinctKeys {S} answer =
+    ((answered : Value S) (errors : List (ExecutionError S)) → HasDistinctKeysThroughout answered → All ToldInDistinctKeys errors
+    → HasDistinctKeysThroughout (response_of answer answered errors))
+    × ((errors : List RuleError) → HasDistinctKeysThroughout (refusal_of errors))

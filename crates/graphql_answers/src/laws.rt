@@ -5,12 +5,12 @@ ghost use Rattle.graphql_answers.specs.Lines.{AnswersHaveDistinctKeys, ValuesAre
 use graphql_scalars::ScalarValue;
 
 /// The JSON of a value holds no line feed, whatever its texts hold: with one behind it, it is one line.
-pub fn values_are_lines<S: ScalarValue>()
-    ensures { ValuesAreLines S.answer }
+pub fn values_are_lines()
+    ensures { ValuesAreLines }
 {}
 
 /// Each object in the answer to a request has distinct keys, however deep (GraphQL October 2021, 7.2.2
 /// Serialized Map Ordering), where those in its data have, and those in what is told beside its errors.
 pub fn answers_have_distinct_keys<S: ScalarValue>()
-    ensures { AnswersHaveDistinctKeys S.of_int S.of_text }
+    ensures { AnswersHaveDistinctKeys S.answer }
 {}

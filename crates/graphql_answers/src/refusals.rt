@@ -1,14 +1,14 @@
 //! Answers to requests that are not executed.
 
 ghost use Rattle.std.specs.Prelude.{◌≡◌, ◌∷◌, [], ◌++◌, map, OnOk};
+ghost use Rattle.graphql_answers.specs.Lines.{answer_json};
 ghost use Rattle.graphql_answers.specs.Responses.{refusal_of};
 ghost use Rattle.graphql_answers.specs.Texts as spec;
-ghost use Rattle.graphql_lines.specs.Json.{joined, json};
+ghost use Rattle.graphql_lines.specs.Json.{joined};
 
 use crate::places::push_locations;
 use graphql_lines::text_to_json;
 use graphql_rule_errors::RuleError;
-use graphql_scalars::ScalarValue;
 use graphql_text::SourcePosition;
 use std::alloc::AllocError;
 
@@ -42,11 +42,8 @@ fn push_request_errors(out: &mut Vec<u8>, errors: &[RuleError]) -> Result<(), Al
 /// Writes the answer to a request that is refused with these errors, at the end of `out`, as JSON without
 /// spaces (GraphQL October 2021, 7.1.2 Errors): what each says and, where it has places, their lines and
 /// columns from one. An error is want of memory: then `out` may hold a part of it.
-pub fn errors_to_json<S: ScalarValue>(
-    out: &mut Vec<u8>,
-    errors: &[RuleError],
-) -> Result<(), AllocError>
-    ensures { OnOk result (out.new.items ≡ out.old.items ++ json S.answer (refusal_of S.of_int S.of_text errors.now)) }
+pub fn errors_to_json(out: &mut Vec<u8>, errors: &[RuleError]) -> Result<(), AllocError>
+    ensures { OnOk result (out.new.items ≡ out.old.items ++ answer_json (refusal_of errors.now)) }
 {
     out.extend_from_slice(b"{\"errors\":[")?;
     push_request_errors(out, errors)?;
@@ -55,12 +52,12 @@ pub fn errors_to_json<S: ScalarValue>(
 
 /// Writes the answer to a request that is refused with one error, which says this and points at these
 /// places, as `errors_to_json` does.
-pub fn refusal_to_json<S: ScalarValue>(
+pub fn refusal_to_json(
     out: &mut Vec<u8>,
     message: &str,
     places: &[SourcePosition],
 ) -> Result<(), AllocError>
-    ensures { OnOk result (out.new.items ≡ out.old.items ++ json S.answer (refusal_of S.of_int S.of_text (record { locations = places.now; message = message.now } ∷ []))) }
+    ensures { OnOk result (out.new.items ≡ out.old.items ++ answer_json (refusal_of (record { locations = places.now; message = message.now } ∷ []))) }
 {
     out.extend_from_slice(b"{\"errors\":[")?;
     push_request_error(out, message, places)?;

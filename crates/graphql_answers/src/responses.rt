@@ -1,9 +1,10 @@
 //! Answers to requests that are executed.
 
 ghost use Rattle.std.specs.Prelude.{◌≡◌, [], ◌++◌, map, OnOk};
+ghost use Rattle.graphql_answers.specs.Lines.{answer_json};
 ghost use Rattle.graphql_answers.specs.Responses.{response_of};
 ghost use Rattle.graphql_answers.specs.Texts as spec;
-ghost use Rattle.graphql_lines.specs.Json.{joined, json, json_text};
+ghost use Rattle.graphql_lines.specs.Json.{joined, json_text};
 
 use crate::places::push_location;
 use graphql_field_results::ExecutionError;
@@ -106,7 +107,7 @@ pub fn response_to_json<S: ScalarValue>(
     value: &Value<S>,
     errors: &[ExecutionError<S>],
 ) -> Result<(), AllocError>
-    ensures { OnOk result (out.new.items ≡ out.old.items ++ json S.answer (response_of S.of_int S.of_text value.now errors.now)) }
+    ensures { OnOk result (out.new.items ≡ out.old.items ++ answer_json (response_of S.answer value.now errors.now)) }
 {
     out.extend_from_slice(b"{\"data\":")?;
     value_to_json(out, value)?;

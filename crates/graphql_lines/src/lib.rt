@@ -3,14 +3,12 @@
 #![tactic(auto)]
 
 pub mod laws;
-mod moved_variables;
 mod refusal;
 mod request;
 mod to_json;
 mod variables;
 
-pub use moved_variables::variables_of_json;
 pub use refusal::LineRefusal;
 pub use request::{GraphQLRequest, json_of_line, request_from_line, request_in};
 pub use to_json::{text_to_json, value_to_json};
-pub use variables::variables_from_json;
+pub use variables::{variables_from_json, variables_of_json};

@@ -2,7 +2,7 @@
 
 ghost use Rattle.std.specs.Prelude.{◌≡◌};
 
-use std::alloc::AllocError;
+use std::alloc::{AllocError, AllocFailed};
 
 /// Why a line is no request that can be run: the first that stands, in this order.
 #[derive(Clone, Copy, Debug, PartialEq, Eq)]
@@ -28,6 +28,16 @@ impl From<AllocError> for LineRefusal {
     ghost from_gives = { λ _ e. e ≡ Memory };
 
     fn from(_error: AllocError) -> LineRefusal {
+        LineRefusal::Memory
+    }
+}
+
+impl<T: Drop> From<AllocFailed<T>> for LineRefusal {
+    ghost use Rattle.graphql_lines.specs.declared.refusal.LineRefusal.TheVariants.{Memory};
+
+    ghost from_gives = { λ _ e. e ≡ Memory };
+
+    fn from(_error: AllocFailed<T>) -> LineRefusal {
         LineRefusal::Memory
     }
 }

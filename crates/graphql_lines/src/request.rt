@@ -8,8 +8,8 @@ ghost use Rattle.graphql_lines.specs.declared.refusal.LineRefusal.TheVariants.{N
 ghost use Rattle.graphql_lines.specs.Variables.{AnswersVariables};
 ghost use Rattle.graphql_lines.specs.Request as spec;
 
-use crate::moved_variables::variables_of_json;
 use crate::refusal::LineRefusal;
+use crate::variables::variables_of_json;
 use graphql_values::{DefaultScalarValue, ScalarValue, Variables};
 use serde_json::{Map, Value};
 use std::alloc::Global;

@@ -1,4 +1,4 @@
-//! Variables' values from JSON.
+//! Variables' values from JSON, whose texts and keys they take over.
 
 ghost use Rattle.std.specs.Prelude.{◌≡◌, Some, None, OnOk, option_map};
 ghost use Rattle.std.specs.HashMap.{Updates};
@@ -18,7 +18,7 @@ use std::alloc::{AllocError, Global};
 use std::collections::HashMap;
 
 /// The integer of 32 bits that a number is, if it is held as a whole one.
-pub(crate) fn whole(number: &Number) -> Option<i32>
+fn whole(number: &Number) -> Option<i32>
     ensures { result ≡ spec.whole_of (number_view number.now) }
 {
     match number.as_i64() {
@@ -30,40 +30,35 @@ pub(crate) fn whole(number: &Number) -> Option<i32>
     }
 }
 
-/// The scalar of a text.
-fn text_scalar<S: ScalarValue>(alloc: Global, text: &str) -> Result<InputValue<S>, AllocError>
-    ensures { Gives result (value.Scalar (S.of_text text.now)) }
-{
-    let text = String::from_str(alloc, text)?;
-    Ok(InputValue::Scalar(S::from_string(text)))
-}
-
 /// The value that JSON stands for, in no text, or None where a number in it is no whole one of 32
 /// bits.
 #[cycle(inputs)]
 fn input_value<S: ScalarValue>(
     alloc: Global,
-    json: &Value,
+    json: Value,
 ) -> Result<Option<InputValue<S>>, AllocError>
-    ensures { Gives result (spec.input_of S.of_bool S.of_int S.of_text (view json.now)) }
+    ensures { Gives result (spec.input_of S.of_bool S.of_int S.of_text (view json)) }
 {
     match json {
         Value::Null => Ok(Some(InputValue::Null)),
-        Value::Bool(value) => Ok(Some(InputValue::Scalar(S::from_bool(*value)))),
-        Value::Number(number) => match whole(number) {
+        Value::Bool(value) => Ok(Some(InputValue::Scalar(S::from_bool(value)))),
+        Value::Number(number) => match whole(&number) {
             Some(value) => Ok(Some(InputValue::Scalar(S::from_int(value)))),
             None => Ok(None),
         },
-        Value::String(text) => Ok(Some(text_scalar(alloc, text.as_str())?)),
-        Value::Array(items) => list(alloc, items.as_slice()),
+        Value::String(text) => Ok(Some(InputValue::Scalar(S::from_string(text)))),
+        Value::Array(items) => list(alloc, items),
         Value::Object(members) => object(alloc, members),
     }
 }
 
 /// The list of what these stand for.
 #[cycle(inputs)]
-fn list<S: ScalarValue>(alloc: Global, items: &[Value]) -> Result<Option<InputValue<S>>, AllocError>
-    ensures { Gives result (option_map value.List (spec.inputs_of S.of_bool S.of_int S.of_text (items_view items.now))) }
+fn list<S: ScalarValue>(
+    alloc: Global,
+    items: Vec<Value>,
+) -> Result<Option<InputValue<S>>, AllocError>
+    ensures { Gives result (option_map value.List (spec.inputs_of S.of_bool S.of_int S.of_text (items_view items.items))) }
 {
     let mut found = Items::with_capacity(alloc, items.len())?;
     'items: for item in items {
@@ -79,16 +74,16 @@ fn list<S: ScalarValue>(alloc: Global, items: &[Value]) -> Result<Option<InputVa
 #[cycle(inputs)]
 fn object<S: ScalarValue>(
     alloc: Global,
-    members: &Map<String, Value>,
+    members: Map<String, Value>,
 ) -> Result<Option<InputValue<S>>, AllocError>
-    ensures { Gives result (option_map value.Object (spec.fields_of S.of_bool S.of_int S.of_text (members_view members.now.entries))) }
+    ensures { Gives result (option_map value.Object (spec.fields_of S.of_bool S.of_int S.of_text (members_view members.entries))) }
 {
     let mut found = Items::with_capacity(alloc, members.len())?;
-    'members: for (key, member) in members.iter() {
+    'members: for (key, member) in members {
         match input_value(alloc, member)? {
             Some(value) => {
-                let name = Text::from_str(alloc, key.as_str())?;
-                found.push((Spanning::unlocated(name), Spanning::unlocated(value)))?;
+                let name = Spanning::unlocated(Text::from_string(key));
+                found.push((name, Spanning::unlocated(value)))?;
             }
             None => return Ok(None),
         }
@@ -97,7 +92,7 @@ fn object<S: ScalarValue>(
 }
 
 /// Gives a variable a value, and lets its old one go.
-pub(crate) fn set<S: Drop>(
+fn set<S: Drop>(
     variables: &mut Variables<S>,
     name: String,
     value: InputValue<S>,
@@ -116,35 +111,32 @@ pub(crate) fn set<S: Drop>(
 /// where memory ran out.
 fn values_by_name<S: ScalarValue>(
     alloc: Global,
-    members: &Map<String, Value>,
+    members: Map<String, Value>,
 ) -> Result<Variables<S>, LineRefusal>
-    ensures { let ms = members_view members.now.entries in
+    ensures { let ms = members_view members.entries in
         Answers (λ variables. spec.HasValues S.of_bool S.of_int S.of_text ms variables)
         (λ e. (e ≡ BadNumber) × (spec.fields_of S.of_bool S.of_int S.of_text ms ≡ None)) (λ e. e ≡ Memory) result }
 {
     let mut variables = HashMap::new(alloc);
-    'members: for (key, member) in members.iter() {
+    'members: for (key, member) in members {
         match input_value(alloc, member)? {
-            Some(value) => {
-                let name = String::from_str(alloc, key.as_str())?;
-                set(&mut variables, name, value)?;
-            }
+            Some(value) => set(&mut variables, key, value)?,
             None => return Err(LineRefusal::BadNumber),
         }
     }
     Ok(variables)
 }
 
-/// The values of a request's variables, from their JSON value: an object, or null, which has none.
-/// No value holds a variable.
+/// The values of a request's variables, of their JSON value, whose texts and keys they take over: an
+/// object, or null, which has none. No value holds a variable.
 ///
 /// `NotARequest` where the JSON value is of another kind; else `BadNumber` where a number anywhere in
 /// it is not held as a whole one, or lies outside 32 bits; `Memory` where memory ran out.
-pub fn variables_from_json<S: ScalarValue>(
+pub fn variables_of_json<S: ScalarValue>(
     alloc: Global,
-    json: &Value,
+    json: Value,
 ) -> Result<Variables<S>, LineRefusal>
-    ensures { spec.AnswersVariables S.of_bool S.of_int S.of_text result (spec.members_of_variables (view json.now)) }
+    ensures { spec.AnswersVariables S.of_bool S.of_int S.of_text result (spec.members_of_variables (view json)) }
 {
     match json {
         Value::Null => Ok(HashMap::new(alloc)),
@@ -153,4 +145,15 @@ pub fn variables_from_json<S: ScalarValue>(
             Err(LineRefusal::NotARequest)
         }
     }
+}
+
+/// The values of a request's variables, as `variables_of_json` gives them, of a JSON value that is lent
+/// and copied.
+pub fn variables_from_json<S: ScalarValue>(
+    alloc: Global,
+    json: &Value,
+) -> Result<Variables<S>, LineRefusal>
+    ensures { spec.AnswersVariables S.of_bool S.of_int S.of_text result (spec.members_of_variables (view json.now)) }
+{
+    variables_of_json(alloc, json.clone()?)
 }

@@ -24,7 +24,7 @@ use Rattle.graphql_lines.specs.declared.refusal.LineRefusal.TheVariants.{LineToo
 use Rattle.graphql_lines.specs.declared.request.GraphQLRequest.{GraphQLRequest}
 use Rattle.graphql_answers.specs.Lines.{IsLine, line_of}
 use Rattle.graphql_answers.specs.Responses.{refusal_of, response_of}
-use Rattle.graphql_service.specs.Answers.{Adds, Asks, given, IsNoRequest, IsNotExecuted, IsExecuted, IsAnswer, no_request, not_executed, executed_to}
+use Rattle.graphql_service.specs.Answers.{Appends, Asks, given, IsNoRequest, IsNotExecuted, IsExecuted, IsAnswer, no_request, not_executed, executed_to}
 use Rattle.graphql_service.specs.Texts.{told_of_line, told_of_request}
 
 -- a fact on `Ok` gives another
@@ -38,7 +38,7 @@ both_on_ok (Ok x) P Q R f h k = f h k
 both_on_ok (Err e) P Q R f h k = h
 
 -- what is written behind nothing is all
-pub alone : (P : Bytes → Type 0) (old new : Bytes) → old ≡ [] → Adds P old new → P new
+pub alone : (P : Bytes → Type 0) (old new : Bytes) → old ≡ [] → Appends P old new → P new
 alone P old new nothing written = subst P (sym (written.1 ∙ (λ i. nothing i ++ written.0))) written.2
 
 module _ {S C : Type 0} (reads : ScalarToken → Result S ParseError) (of_bool : Bool → S) (of_int : ℤ → S) (of_text : Bytes → S) (eq : S → S → Bool) (answer : S → ScalarAnswer) (accepts : C → InputValue S → Type 0) (by_rules : RuleError → RuleError → Ordering) (by_fields : ExecutionError S → ExecutionError S → Ordering) (schema : SchemaType S C) (disabled : Bool) (limit : ℕ) (line : Bytes) where
@@ -54,12 +54,12 @@ module _ {S C : Type 0} (reads : ScalarToken → Result S ParseError) (of_bool :
     abbrev Answer : Bytes → Type 0
     Answer = IsAnswer reads of_bool of_int of_text eq answer accepts by_rules by_fields schema disabled limit line root concrete resolves
 
-    pub too_long : (old new : Bytes) → limit < length line → new ≡ old ++ line_of answer (refusal_of of_int of_text (told_of_line limit LineTooLong)) → Adds Answer old new
-    too_long old new longer e = (line_of answer (refusal_of of_int of_text (told_of_line limit LineTooLong)), e, no_request LineTooLong longer refl)
+    pub too_long : (old new : Bytes) → limit < length line → new ≡ old ++ line_of (refusal_of (told_of_line limit LineTooLong)) → Appends Answer old new
+    too_long old new longer e = (line_of (refusal_of (told_of_line limit LineTooLong)), e, no_request LineTooLong longer refl)
 
     pub no_request_answer : (refusal : LineRefusal) (old new : Bytes) → length line ≤ limit → IsDue of_bool of_int of_text (λ (q : Request). q.variables) (request_of line) refusal
-        → new ≡ old ++ line_of answer (refusal_of of_int of_text (told_of_line limit refusal)) → Adds Answer old new
-    no_request_answer refusal old new within h e = (line_of answer (refusal_of of_int of_text (told_of_line limit refusal)), e, no_request refusal (due refusal within h) refl)
+        → new ≡ old ++ line_of (refusal_of (told_of_line limit refusal)) → Appends Answer old new
+    no_request_answer refusal old new within h e = (line_of (refusal_of (told_of_line limit refusal)), e, no_request refusal (due refusal within h) refl)
 
     -- a request that holds what the line asks: its query, its operation's name and its values are those that the line gives
     module _ (asked : Request) (request : GraphQLRequest S) (query : Bytes) (name : Option Bytes) (holds : HoldsRequest of_bool of_int of_text asked request) (its_query : query ≡ string_bytes request.query) (its_name : name ≡ option_map (λ t. string_bytes t) request.operation_name) where
@@ -75,9 +75,9 @@ module _ {S C : Type 0} (reads : ScalarToken → Result S ParseError) (of_bool :
       pub executed_answer : (found : Value S) (errors : List (ExecutionError S)) (old new : Bytes) → Asks of_bool of_int of_text limit line asked
           → IsAnswered reads of_bool eq answer accepts schema disabled (chars query) name (get_by_text request.variables) by_fields
           (λ document operation. executed of_text answer schema document (get_by_text request.variables) operation root concrete resolves) found errors
-          → new ≡ old ++ line_of answer (response_of of_int of_text found errors) → Adds Answer old new
+          → new ≡ old ++ line_of (response_of answer found errors) → Appends Answer old new
       executed_answer found errors old new asks h e = (
-        line_of answer (response_of of_int of_text found errors),
+        line_of (response_of answer found errors),
         e,
         executed_to found errors (record {
           request = asked;
@@ -88,9 +88,9 @@ module _ {S C : Type 0} (reads : ScalarToken → Result S ParseError) (of_bool :
 
       pub refused_answer : (refusal : GraphQLError) (old new : Bytes) → Asks of_bool of_int of_text limit line asked
           → IsRefused reads of_bool eq answer accepts schema disabled (chars query) name (get_by_text request.variables) by_rules refusal
-          → new ≡ old ++ line_of answer (refusal_of of_int of_text (told_of_request refusal)) → (refusal ≡ request_error.Memory → ⊥) → Adds Answer old new
+          → new ≡ old ++ line_of (refusal_of (told_of_request refusal)) → (refusal ≡ request_error.Memory → ⊥) → Appends Answer old new
       refused_answer refusal old new asks h e is = (
-        line_of answer (refusal_of of_int of_text (told_of_request refusal)),
+        line_of (refusal_of (told_of_request refusal)),
         e,
         not_executed refusal (record {
           request = asked;
@@ -101,7 +101,7 @@ module _ {S C : Type 0} (reads : ScalarToken → Result S ParseError) (of_bool :
       )
 
     -- an answer is one line
-    pub answer_is_line : ((v : Value S) → IsLine (line_of answer v)) → (answered : Bytes) → Answer answered → IsLine answered
-    answer_is_line lines answered (no_request refusal h e) = subst IsLine (sym e) (lines (refusal_of of_int of_text (told_of_line limit refusal)))
-    answer_is_line lines answered (not_executed refusal h e) = subst IsLine (sym e) (lines (refusal_of of_int of_text (told_of_request refusal)))
-    answer_is_line lines answered (executed_to found errors h e) = subst IsLine (sym e) (lines (response_of of_int of_text found errors))
+    pub answer_is_line : ((v : Value ScalarAnswer) → IsLine (line_of v)) → (answered : Bytes) → Answer answered → IsLine answered
+    answer_is_line lines answered (no_request refusal h e) = subst IsLine (sym e) (lines (refusal_of (told_of_line limit refusal)))
+    answer_is_line lines answered (not_executed refusal h e) = subst IsLine (sym e) (lines (refusal_of (told_of_request refusal)))
+    answer_is_line lines answered (executed_to found errors h e) = subst IsLine (sym e) (lines (response_of answer found errors))

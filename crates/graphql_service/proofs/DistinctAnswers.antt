@@ -1,5 +1,5 @@
 -- Each object in an answer has distinct keys, however deep.
-use Rattle.std.proofs.Common.{◌≡◌, Bool, true, false, List, ◌∷◌, Option, Some, None, Result, Ok, Err, IfSome, codes, cond, refl, sym, subst, ap, ◌∙◌, get_or}
+use Rattle.std.proofs.Common.{◌≡◌, Bool, true, false, List, ◌∷◌, Option, Some, None, Result, Ok, Err, IfErr, IfSome, codes, cond, refl, sym, subst, ap, ◌∙◌, get_or}
 use Rattle.std.specs.Option.{option_map}
 use Rattle.std.specs.Prelude.{unwrap_or}
 use Rattle.std.specs.List.{All, Contains}
@@ -17,6 +17,7 @@ use Rattle.graphql_output_values.specs.DistinctKeys.{HasDistinctKeysThroughout}
 use Rattle.graphql_output_values.specs.declared.value.Value.{Value}
 use Rattle.graphql_output_values.specs.declared.value.Value.TheVariants as value
 use Rattle.graphql_output_values.proofs.DistinctKeyLaws.{by_forms}
+use Rattle.graphql_field_results.specs.Answered.{TellsInDistinctKeys}
 use Rattle.graphql_field_results.specs.declared.execution_error.ExecutionError.{ExecutionError}
 use Rattle.graphql_field_results.specs.declared.field_error.FieldError.{FieldError}
 use Rattle.graphql_field_results.specs.declared.resolved.Resolved.{Resolved}
@@ -31,10 +32,12 @@ use Rattle.graphql_executor.specs.Executed.{data_of}
 use Rattle.graphql_evaluation.specs.Failing.{FailsAt, misfit, required_null, required, item, ReasonAt, Fails, resolver, answer, below}
 use Rattle.graphql_evaluation.specs.Outcomes.{Outcome}
 use Rattle.graphql_execution.specs.Engines.{Resolves, engine_over, with_typename}
-use Rattle.graphql_service.specs.Laws.{TellsInDistinctKeys}
 
 abbrev Tells : {S : Type 0} → FieldError S → Type 0
 Tells error = HasDistinctKeysThroughout error.extensions
+
+abbrev AlwaysTells : {S N : Type 0} → Resolves S N → Type 0
+AlwaysTells {S} {N} resolves = (node : N) (field : Bytes) (given : Given S) → TellsInDistinctKeys (resolves node field given)
 
 nothing : (S : Type 0) → HasDistinctKeysThroughout {S = S} value.Null
 nothing S = (by_forms {S = S}).0
@@ -47,14 +50,19 @@ module _ {S N : Type 0} (name : Bytes) (is_leaf : Bool) (is_possible : N → Boo
   own wraps r error (required inner _ _ h rest) = own inner r error rest
   own wraps r error (item size inner _ x items _ h k rest) = own inner x error rest
 
-module _ {S N : Type 0} (of_text : Bytes → S) (resolves : Resolves S N) (tells : TellsInDistinctKeys resolves) where
+module _ {S N : Type 0} (of_text : Bytes → S) (resolves : Resolves S N) (tells : AlwaysTells resolves) where
   typename : (b : Bool) (object : Bytes) (given : Result (Resolved S N) (FieldError S)) (error : FieldError S) → ((e : FieldError S) → given ≡ Err e → Tells e)
       → cond b (Ok (resolved.Scalar (of_text object))) given ≡ Err error → Tells error
   typename true object given error h is = cc
   typename false object given error h is = h error is
 
+  -- by the resolver's law
+  told : (node : N) (field : Bytes) (given : Given S) (error : FieldError S) → resolves node field given ≡ Err error → Tells error
+  told node field given error is =
+      subst (λ (r : Result (Resolved S N) (FieldError S)). IfErr r (λ (e : FieldError S). HasDistinctKeysThroughout e.extensions)) is (tells node field given).beside
+
   asked : (node : N) (object field : Bytes) (given : Given S) (error : FieldError S) → with_typename of_text resolves node object field given ≡ Err error → Tells error
-  asked node object field given error is = typename (bytes_eq field (codes "__typename")) object (resolves node field given) error (λ e h. tells node field given e h) is
+  asked node object field given error is = typename (bytes_eq field (codes "__typename")) object (resolves node field given) error (λ e h. told node field given e h) is
 
 module _ {S N : Type 0} (e : Engine S N) (asks : (node : N) (object field : Bytes) (given : Given S) (error : FieldError S) → e.answer node object field given ≡ Err error → Tells error) where
   failing : (path : List Bytes) (object : Bytes) (node : N) (sets : List (Tree S)) (f : ExecutionError S) → Fails e path object node sets f → Tells f.error
@@ -62,7 +70,7 @@ module _ {S N : Type 0} (e : Engine S N) (asks : (node : N) (object field : Byte
   failing path object node sets f (answer _ _ _ _ key x xs type r error h d is why) = own type.name (e.is_leaf type.name) (λ m. e.is_possible type.name (e.concrete m)) _ r error why
   failing path object node sets f (below _ _ _ _ key x xs type r m _ h d is at rest) = failing _ _ m _ f rest
 
-module _ {S C N : Type 0} (of_text : Bytes → S) (answers : S → ScalarAnswer) (types : List (MetaType S C)) (values : Bytes → Option (InputValue S)) (concrete : N → Bytes) (resolves : Resolves S N) (tells : TellsInDistinctKeys resolves) (kept : DataHaveDistinctKeys S N) (exact : FailuresAreExact S N) where
+module _ {S C N : Type 0} (of_text : Bytes → S) (answers : S → ScalarAnswer) (types : List (MetaType S C)) (values : Bytes → Option (InputValue S)) (concrete : N → Bytes) (resolves : Resolves S N) (tells : AlwaysTells resolves) (kept : DataHaveDistinctKeys S N) (exact : FailuresAreExact S N) where
   abbrev engine : Engine S N
   engine = engine_over of_text answers types values concrete resolves
 

@@ -27,8 +27,8 @@ use Rattle.graphql_answers.specs.Responses.{refusal_of, response_of}
 use Rattle.graphql_service.specs.Texts.{told_of_line, told_of_request}
 
 -- what is written behind a text has a property
-abbrev pub Adds : (Bytes → Type 0) → Bytes → Bytes → Type 0
-Adds P old new = (text : Bytes) × (new ≡ old ++ text) × P text
+abbrev pub Appends : (Bytes → Type 0) → Bytes → Bytes → Type 0
+Appends P old new = (text : Bytes) × (new ≡ old ++ text) × P text
 
 -- by the scalars of JSON values; by the greatest length of a line in bytes, and the line
 module _ {S : Type 0} (of_bool : Bool → S) (of_int : ℤ → S) (of_text : Bytes → S) where
@@ -69,6 +69,6 @@ module _ {S C : Type 0} (reads : ScalarToken → Result S ParseError) (of_bool :
 
     -- the answer line: of the refusal that is due, or of the data and the errors
     pub data IsAnswer (answered : Bytes) : Type 0 where
-      no_request : (refusal : LineRefusal) → IsNoRequest refusal → answered ≡ line_of answer (refusal_of of_int of_text (told_of_line limit refusal)) → IsAnswer answered
-      not_executed : (refusal : GraphQLError) → IsNotExecuted refusal → answered ≡ line_of answer (refusal_of of_int of_text (told_of_request refusal)) → IsAnswer answered
-      executed_to : (found : Value S) (errors : List (ExecutionError S)) → IsExecuted found errors → answered ≡ line_of answer (response_of of_int of_text found errors) → IsAnswer answered
+      no_request : (refusal : LineRefusal) → IsNoRequest refusal → answered ≡ line_of (refusal_of (told_of_line limit refusal)) → IsAnswer answered
+      not_executed : (refusal : GraphQLError) → IsNotExecuted refusal → answered ≡ line_of (refusal_of (told_of_request refusal)) → IsAnswer answered
+      executed_to : (found : Value S) (errors : List (ExecutionError S)) → IsExecuted found errors → answered ≡ line_of (response_of answer found errors) → IsAnswer answered

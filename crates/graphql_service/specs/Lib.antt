@@ -3,3 +3,4 @@ pub mod Answers
 pub mod Made
 pub mod Laws
 pub mod Serving
+pub mod FaultTexts

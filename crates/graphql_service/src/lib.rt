@@ -11,6 +11,7 @@ pub use graphql_lines::{
     GraphQLRequest, LineRefusal, json_of_line, request_from_line, request_in, text_to_json,
     value_to_json, variables_from_json,
 };
+pub use graphql_meta::scalar_checks::{self, StandardChecks};
 pub use graphql_sample as sample;
 pub use service::{Service, ServiceFault};
 pub use serving::{ServeError, serve};

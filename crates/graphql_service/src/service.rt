@@ -16,6 +16,8 @@ use graphql_meta::SchemaScalar;
 use graphql_rule_errors::RuleError;
 use graphql_schema::RootNode;
 use std::alloc::{AllocError, Global};
+use std::error::Error;
+use std::fmt;
 
 /// Why there is no service.
 #[derive(Clone, Copy, Debug, PartialEq, Eq)]
@@ -26,6 +28,27 @@ pub enum ServiceFault {
     /// The directive `skip` or `include` is not the standard's: `has_standard_conditions` is false.
     OtherConditions,
 }
+
+/// Writes the fault in words.
+impl fmt::Display for ServiceFault {
+    ghost use Rattle.std.specs.Prelude.{Some};
+    ghost use Rattle.graphql_service.specs.FaultTexts.{service_fault_text};
+
+    ghost output = { λ fault. Some (service_fault_text fault) };
+
+    fn fmt<W: fmt::Write>(&self, f: &mut fmt::Formatter<W>) -> fmt::Result {
+        match self {
+            ServiceFault::NotExecutable => {
+                f.write_str("a type of the schema does not keep what it promises")
+            }
+            ServiceFault::OtherConditions => {
+                f.write_str("the directive skip or include is not the standard's")
+            }
+        }
+    }
+}
+
+impl Error for ServiceFault {}
 
 /// A schema that can be executed, a resolver and its context, over which request lines are answered.
 #[derive(Drop)]
@@ -44,8 +67,8 @@ impl<S: SchemaScalar + Drop, R: GraphQLValue<S>> Service<S, R, R::Context> {
     ghost use Rattle.graphql_answers.specs.Lines.{IsLine};
     ghost use Rattle.graphql_lines.specs.Request.{HoldsRequest, Request};
     ghost use Rattle.graphql_names.specs.Names.{Bytes};
-    ghost use Rattle.graphql_service.specs.Answers.{Adds, Asks, IsAnswer};
-    ghost use Rattle.graphql_service.specs.Laws.{IsLineOfDistinctKeys, TellsInDistinctKeys};
+    ghost use Rattle.graphql_service.specs.Answers.{Appends, Asks, IsAnswer};
+    ghost use Rattle.graphql_service.specs.Laws.{IsLineOfDistinctKeys};
     ghost use Rattle.graphql_service.specs.Made.{IsOf, Makes};
 
     /// A service over this root node, this resolver and this context. Its lines have at most `line_limit`
@@ -103,8 +126,7 @@ impl<S: SchemaScalar + Drop, R: GraphQLValue<S>> Service<S, R, R::Context> {
     /// The answer line of a request line, its line feed included, which is then all that `out` holds: the
     /// refusal that comes first, in the order of [`LineRefusal`] and then of `execute_sync`, or data and
     /// errors (GraphQL October 2021, 7 Response). The line is given without its line feed. Each object in
-    /// the answer has distinct keys, however deep, where what the resolver tells beside its errors has. The
-    /// service, its context too, stays as it was.
+    /// the answer has distinct keys, however deep. The service, its context too, stays as it was.
     ///
     /// The only error is want of memory, after which `out` is empty.
     pub fn answer(
@@ -116,11 +138,11 @@ impl<S: SchemaScalar + Drop, R: GraphQLValue<S>> Service<S, R, R::Context> {
         ensures answers { OnOk result (IsAnswer S.reads S.of_bool S.of_int S.of_text S.eq S.answer S.Check.accepts ⟦<RuleError as Ord>⟧.cmp ⟦<ExecutionError<S> as Ord>⟧.cmp self.old.root_node.schema true self.old.line_limit line.now
             (R.root_node self.old.resolver) (R.type_of self.old.resolver self.old.context) (R.answer self.old.resolver self.old.context) out.new.items) }
         ensures line { OnOk result (IsLine out.new.items) }
-        ensures distinct { OnOk result (TellsInDistinctKeys (R.answer self.old.resolver self.old.context) → IsLineOfDistinctKeys S.answer out.new.items) }
+        ensures distinct { OnOk result (IsLineOfDistinctKeys out.new.items) }
         ensures unchanged { IsOf self.old.root_node self.old.resolver self.old.context self.old.line_limit self.old.selection_limit self.new }
         ensures emptied { OnErr result (out.new.items ≡ []) }
     {
-        values_are_lines::<S>();
+        values_are_lines();
         answer_lines_have_distinct_keys::<S, R>();
         out.clear();
         match self.push_answer(alloc, line, out) {
@@ -139,16 +161,16 @@ impl<S: SchemaScalar + Drop, R: GraphQLValue<S>> Service<S, R, R::Context> {
         line: &[u8],
         out: &mut Vec<u8>,
     ) -> Result<(), AllocError>
-        ensures answers { OnOk result (Adds (IsAnswer S.reads S.of_bool S.of_int S.of_text S.eq S.answer S.Check.accepts ⟦<RuleError as Ord>⟧.cmp ⟦<ExecutionError<S> as Ord>⟧.cmp self.old.root_node.schema true self.old.line_limit line.now
+        ensures answers { OnOk result (Appends (IsAnswer S.reads S.of_bool S.of_int S.of_text S.eq S.answer S.Check.accepts ⟦<RuleError as Ord>⟧.cmp ⟦<ExecutionError<S> as Ord>⟧.cmp self.old.root_node.schema true self.old.line_limit line.now
             (R.root_node self.old.resolver) (R.type_of self.old.resolver self.old.context) (R.answer self.old.resolver self.old.context)) out.old.items out.new.items) }
         ensures unchanged { IsOf self.old.root_node self.old.resolver self.old.context self.old.line_limit self.old.selection_limit self.new }
     {
         if line.len() > self.line_limit {
-            return push_line_refusal::<S>(alloc, out, LineRefusal::LineTooLong, self.line_limit);
+            return push_line_refusal(alloc, out, LineRefusal::LineTooLong, self.line_limit);
         }
         match request_from_line(alloc, line) {
             Ok(request) => self.push_executed(alloc, &request, out),
-            Err(refusal) => push_line_refusal::<S>(alloc, out, refusal, self.line_limit),
+            Err(refusal) => push_line_refusal(alloc, out, refusal, self.line_limit),
         }
     }
 
@@ -160,7 +182,7 @@ impl<S: SchemaScalar + Drop, R: GraphQLValue<S>> Service<S, R, R::Context> {
         out: &mut Vec<u8>,
     ) -> Result<(), AllocError>
         ensures answers { OnOk result ((line : Bytes) (asked : Request) → Asks S.of_bool S.of_int S.of_text self.old.line_limit line asked → HoldsRequest S.of_bool S.of_int S.of_text asked request.now
-            → Adds (IsAnswer S.reads S.of_bool S.of_int S.of_text S.eq S.answer S.Check.accepts ⟦<RuleError as Ord>⟧.cmp ⟦<ExecutionError<S> as Ord>⟧.cmp self.old.root_node.schema true self.old.line_limit line (R.root_node self.old.resolver) (R.type_of self.old.resolver self.old.context) (R.answer self.old.resolver self.old.context)) out.old.items out.new.items) }
+            → Appends (IsAnswer S.reads S.of_bool S.of_int S.of_text S.eq S.answer S.Check.accepts ⟦<RuleError as Ord>⟧.cmp ⟦<ExecutionError<S> as Ord>⟧.cmp self.old.root_node.schema true self.old.line_limit line (R.root_node self.old.resolver) (R.type_of self.old.resolver self.old.context) (R.answer self.old.resolver self.old.context)) out.old.items out.new.items) }
         ensures unchanged { IsOf self.old.root_node self.old.resolver self.old.context self.old.line_limit self.old.selection_limit self.new }
     {
         let name = lent(&request.operation_name);
@@ -175,7 +197,7 @@ impl<S: SchemaScalar + Drop, R: GraphQLValue<S>> Service<S, R, R::Context> {
             &mut self.context,
         ) {
             Ok(response) => push_response(out, response),
-            Err(error) => push_error::<S>(alloc, out, error),
+            Err(error) => push_error(alloc, out, error),
         }
     }
 }

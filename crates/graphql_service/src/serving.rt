@@ -8,7 +8,7 @@ ghost use Rattle.graphql_service.specs.Serving.{serve_error_text};
 use crate::service::Service;
 use graphql_executor::GraphQLValue;
 use graphql_meta::SchemaScalar;
-use std::alloc::{AllocError, Global};
+use std::alloc::{AllocError, AllocFailed, Global};
 use std::error::Error;
 use std::fmt;
 use std::io::{self, Read, Write};
@@ -30,6 +30,14 @@ impl From<AllocError> for ServeError {
     ghost from_gives = { λ _ error. error ≡ Memory };
 
     fn from(_error: AllocError) -> ServeError {
+        ServeError::Memory
+    }
+}
+
+impl<T: Drop> From<AllocFailed<T>> for ServeError {
+    ghost from_gives = { λ _ error. error ≡ Memory };
+
+    fn from(_error: AllocFailed<T>) -> ServeError {
         ServeError::Memory
     }
 }

@@ -10,10 +10,10 @@ ghost use Rattle.graphql_meta.specs.ScalarChecks.{IsBoolean, IsId, IsInt, IsStri
 
 use failure::Failure;
 use graphql_meta::TypeCheck;
-use graphql_meta::scalar_checks::{boolean_check, id_check, int_check, string_check};
 use graphql_schema::RootNode;
-use graphql_service::sample::{SampleResolver, StandardChecks, sample_records, schema_s};
-use graphql_service::{Service, serve};
+use graphql_service::sample::{SampleResolver, sample_records, schema_s};
+use graphql_service::scalar_checks::{boolean_check, id_check, int_check, string_check};
+use graphql_service::{Service, StandardChecks, serve};
 use graphql_values::{DefaultScalarValue, InputValue};
 use std::process::ExitCode;
 use std::{env, io};

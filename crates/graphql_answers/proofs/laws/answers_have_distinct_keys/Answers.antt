@@ -2,4 +2,4 @@ use Rattle.graphql_answers.proofs.Distinct.{of_refusal, of_response}
 use Rattle.graphql_answers.proofs.laws.answers_have_distinct_keys.Goals as goal
 
 pub returns : goal.returns
-returns g c = (of_response g.S.ScalarValue.of_int g.S.ScalarValue.of_text, of_refusal g.S.ScalarValue.of_int g.S.ScalarValue.of_text)
+returns g c = (of_response g.S.ScalarValue.answer, of_refusal)

@@ -7,8 +7,7 @@ use Rattle.graphql_answers.proofs.Written.{of_refusal}
 use Rattle.graphql_answers.proofs.refusals.errors_to_json.Goals as goal
 
 pub returns : goal.returns
-returns g c =
-    let s = g.S.ScalarValue in
+returns c =
     let o = c.args.out.now.items in
     let a = c.extend_from_slice.new.self.items in
     let b = c.push_request_errors.new.out.items in
@@ -17,4 +16,4 @@ returns g c =
     let end : OnOk c.extend_from_slice-2.result (n ≡ b ++ codes "]}") = search rules in
     let whole = three_parts c.extend_from_slice-2.result o (codes "{\"errors\":[") a (joined [] (map request_error_text c.args.errors.now)) b (codes "]}") n first c.in_ok-push_request_errors.ensures end in
     let P : Bytes → Type 0 = λ t. OnOk c.extend_from_slice-2.result (n ≡ o ++ t) in
-    subst P (sym (of_refusal s.answer s.of_int s.of_text g.met.S.ScalarValue.int_answers g.met.S.ScalarValue.text_answers c.args.errors.now)) whole
+    subst P (sym (of_refusal c.args.errors.now)) whole

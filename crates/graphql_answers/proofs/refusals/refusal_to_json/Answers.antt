@@ -7,8 +7,7 @@ use Rattle.graphql_answers.proofs.Written.{of_refusal}
 use Rattle.graphql_answers.proofs.refusals.refusal_to_json.Goals as goal
 
 pub returns : goal.returns
-returns g c =
-    let s = g.S.ScalarValue in
+returns c =
     let error : RuleError = record { locations = c.args.places.now; message = c.args.message.now } in
     let o = c.args.out.now.items in
     let a = c.extend_from_slice.new.self.items in
@@ -18,5 +17,5 @@ returns g c =
     let end : OnOk c.extend_from_slice-2.result (n ≡ b ++ codes "]}") = search rules in
     let whole = three_parts c.extend_from_slice-2.result o (codes "{\"errors\":[") a (request_error_text error) b (codes "]}") n first c.in_ok-push_request_error.ensures end in
     let P : Bytes → Type 0 = λ t. OnOk c.extend_from_slice-2.result (n ≡ o ++ t) in
-    subst P (sym (of_refusal s.answer s.of_int s.of_text g.met.S.ScalarValue.int_answers g.met.S.ScalarValue.text_answers (error ∷ [])
+    subst P (sym (of_refusal (error ∷ [])
     ∙ ap (λ z. codes "{\"errors\":[" ++ (z ++ codes "]}")) (append-nil (request_error_text error)))) whole

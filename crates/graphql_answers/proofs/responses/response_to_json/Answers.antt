@@ -19,4 +19,4 @@ returns g c =
     let end : OnOk c.extend_from_slice-2.result (n ≡ d ++ codes "}") = search rules in
     let whole = four_parts c.extend_from_slice-2.result o (codes "{\"data\":") a (json s.answer v) b (errors_text s.answer c.args.errors.now) d (codes "}") n first c.in_ok-value_to_json.ensures c.in_ok-push_errors.ensures end in
     let P : Bytes → Type 0 = λ t. OnOk c.extend_from_slice-2.result (n ≡ o ++ t) in
-    subst P (sym (of_response s.answer s.of_int s.of_text g.met.S.ScalarValue.int_answers g.met.S.ScalarValue.text_answers v c.args.errors.now)) whole
+    subst P (sym (of_response s.answer v c.args.errors.now)) whole

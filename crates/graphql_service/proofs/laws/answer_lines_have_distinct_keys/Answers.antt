@@ -11,17 +11,18 @@ use Rattle.graphql_service.proofs.DistinctAnswers.{data_distinct, errors_distinc
 use Rattle.graphql_service.proofs.laws.answer_lines_have_distinct_keys.Goals as goal
 
 pub returns : goal.returns
-returns g c = λ schema disabled limit line answered resolver context tells is.
+returns g c = λ schema disabled limit line answered resolver context is.
     let s = g.S.ScalarValue in
+    let tells = g.met.R.GraphQLValue.tells_distinct_keys resolver context in
     elim is [
-      | no_request refusal due e ↦ record { found = refusal_of s.of_int s.of_text (told_of_line limit refusal); is = e; distinct = c.answers_have_distinct_keys.ensures.1 (told_of_line limit refusal) }
-      | not_executed refusal due e ↦ record { found = refusal_of s.of_int s.of_text (told_of_request refusal); is = e; distinct = c.answers_have_distinct_keys.ensures.1 (told_of_request refusal) }
+      | no_request refusal due e ↦ record { found = refusal_of (told_of_line limit refusal); is = e; distinct = c.answers_have_distinct_keys.ensures.1 (told_of_line limit refusal) }
+      | not_executed refusal due e ↦ record { found = refusal_of (told_of_request refusal); is = e; distinct = c.answers_have_distinct_keys.ensures.1 (told_of_request refusal) }
       | executed_to found errors ex e ↦
           let a = ex.answers in
           let values = final_value (given s.of_bool s.of_int s.of_text ex.request) (variables_in a.operation.item.variable_definitions) in
           let sets = written (fragments_listed a.document) a.operation.item.selection_set ∷ [] in
           record {
-            found = response_of s.of_int s.of_text found errors;
+            found = response_of s.answer found errors;
             is = e;
             distinct = c.answers_have_distinct_keys.ensures.0 found errors
                 (subst HasDistinctKeysThroughout (sym a.response.is) (data_distinct s.of_text s.answer schema.types values (g.R.GraphQLValue.type_of resolver context) (g.R.GraphQLValue.answer resolver context) tells c.data_have_distinct_keys.ensures c.failures_are_exact.ensures [] schema.query (g.R.GraphQLValue.root_node resolver) sets))

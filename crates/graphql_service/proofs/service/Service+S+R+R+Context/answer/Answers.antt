@@ -14,7 +14,7 @@ returns-in-Ok-clause-line g c =
     c.values_are_lines.ensures c.push_answer.new.out.items (alone _ c.clear.new.self.items c.push_answer.new.out.items c.clear.ensures.items c.in-Ok.ensures.answers)
 
 pub returns-in-Ok-clause-distinct : goal.returns-in-Ok-clause-distinct
-returns-in-Ok-clause-distinct g c = λ tells.
+returns-in-Ok-clause-distinct g c =
     let self = c.args.self.now in
-    c.answer_lines_have_distinct_keys.ensures self.root_node.schema true self.line_limit c.args.line.now c.push_answer.new.out.items self.resolver self.context tells
+    c.answer_lines_have_distinct_keys.ensures self.root_node.schema true self.line_limit c.args.line.now c.push_answer.new.out.items self.resolver self.context
     (alone _ c.clear.new.self.items c.push_answer.new.out.items c.clear.ensures.items c.in-Ok.ensures.answers)

@@ -1,6 +1,6 @@
 use Rattle.serde_json.specs.Data.{no_members}
 use Rattle.graphql_lines.proofs.Requests.{no_members_of_null, no_values}
-use Rattle.graphql_lines.proofs.moved_variables.variables_of_json.Goals as goal
+use Rattle.graphql_lines.proofs.variables.variables_of_json.Goals as goal
 
 pub returns-in-Null : goal.returns-in-Null
 returns-in-Null g c =
