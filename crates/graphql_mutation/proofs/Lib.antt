@@ -1,0 +1,6 @@
+pub mod RunLemmas
+pub mod SerialSteps
+pub mod SerialRepeats
+pub mod SerialEnds
+pub mod SerialQueries
+pub mod Rows

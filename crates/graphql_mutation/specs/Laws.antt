@@ -1,0 +1,35 @@
+-- What holds of mutations (GraphQL October 2021, 6.2.1 Query, 6.2.2 Mutation).
+use Rattle.std.specs.Prelude.{◌≡◌, ◌++◌, List, [], IfSome}
+use Rattle.graphql_names.specs.Names.{Bytes}
+use Rattle.graphql_written_out.specs.Trees.{Head, Tree}
+use Rattle.graphql_written_out.specs.Fields.{Found}
+use Rattle.graphql_written_out.specs.Groups.{groups}
+use Rattle.graphql_written_out.specs.Repeats.{Repeats}
+use Rattle.graphql_field_results.specs.declared.execution_error.ExecutionError.{ExecutionError}
+use Rattle.graphql_evaluation.specs.Evaluation.{evaluate, found_in}
+use Rattle.graphql_evaluation.specs.Outcomes.{Outcome}
+use Rattle.graphql_mutation.specs.Serial.{Mutation, Run, mutate, serially, step_of}
+
+-- fields that stand there before give nothing more, and change nothing more
+abbrev pub RepeatsChangeNothing : (S N X : Type 0) → Type 0
+RepeatsChangeNothing S N X = (m : Mutation S N X) (object : Bytes) (c : X) (sets : List (Tree S)) (ys : List (Found S))
+    → Repeats ys (found_in (m.engine c) object sets) → serially m object c (groups ys) ≡ mutate m object c sets
+
+-- on a context, what is answered for a field of the root is what a node answers for it, and nothing is changed
+abbrev pub AsksOnly : {S N X : Type 0} → Mutation S N X → Bytes → X → N → Type 0
+AsksOnly {S} m object c node = (head : Head S)
+    → step_of m object c head
+    ≡ record { answer = (m.engine c).answer node object head.name ((m.engine c).arguments object head); after = c }
+
+-- the value of an outcome, and its failures, or where there is no value a beginning of them; the context stays
+pub record GivesOf {S X A : Type 0} (run : Run S X A) (o : Outcome S A) (c : X) : Type 0 where
+  pub value : run.outcome.value ≡ o.value
+  pub others : List (ExecutionError S)
+  pub failures : o.failures ≡ run.outcome.failures ++ others
+  pub all : IfSome o.value (λ _. others ≡ [])
+  pub after : run.after ≡ c
+
+-- a mutation that only asks gives what a query gives on the node
+abbrev pub AskingOnlyIsQuerying : (S N X : Type 0) → Type 0
+AskingOnlyIsQuerying S N X = (m : Mutation S N X) (object : Bytes) (c : X) (node : N) (sets : List (Tree S))
+    → AsksOnly m object c node → GivesOf (mutate m object c sets) (evaluate (m.engine c) [] object node sets) c

@@ -1,0 +1,5 @@
+pub mod Serial
+pub mod Runs
+pub mod Mutations
+pub mod Completing
+pub mod Laws

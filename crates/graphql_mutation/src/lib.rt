@@ -1,0 +1,13 @@
+//! Mutations: resolvers that change their context, and the fields of a mutation's root, answered one after
+//! the other (GraphQL October 2021, 6.2.2 Mutation, 6.3.1 Normal and Serial Execution).
+#![tactic(auto)]
+
+mod asking;
+mod groups;
+pub mod laws;
+mod mutation_value;
+mod root_fields;
+mod serially;
+
+pub use mutation_value::GraphQLMutationValue;
+pub use serially::answer_serially;
