@@ -1,4 +1,5 @@
 use crate::told::check;
+use graphql_input_types::{ID, Nullable};
 use graphql_output_values::Value;
 use graphql_scalars::DefaultScalarValue;
 use graphql_text::Text;
@@ -106,6 +107,11 @@ fn nullable_values_are_read(rt: HostRuntime) {
         reads::<Rc<Option<i32>>>(alloc, numbers(alloc)),
         NULLABLE,
     );
+    check(
+        &rt,
+        reads::<Nullable<i32>>(alloc, numbers(alloc)),
+        "Ok(ImplicitNull); Ok(ExplicitNull); Ok(Some(1)); Err(Message(\"Expected GraphQL scalar, found: [1, 2, 3]\")); Err(Message(\"Expected GraphQL scalar, found: [1, 2, null]\"))",
+    );
 }
 
 /// The text `ab`, `true` and the enum value `RED`.
@@ -113,6 +119,12 @@ fn words(alloc: Global) -> Result<Vec<InputValue>, AllocError> {
     let text = InputValue::scalar(Text::from_str(alloc, "ab")?);
     let color = InputValue::enum_value(alloc, "RED")?;
     let values = vec![in alloc; text, InputValue::scalar(true), color]?;
+    Ok(values)
+}
+
+/// The integer -7.
+fn integers(alloc: Global) -> Result<Vec<InputValue>, AllocError> {
+    let values = vec![in alloc; InputValue::scalar(-7)]?;
     Ok(values)
 }
 
@@ -134,6 +146,16 @@ fn scalars_are_read(rt: HostRuntime) {
         reads::<i32>(alloc, words(alloc)),
         "Err(Message(\"Expected GraphQL scalar, found: null\")); Err(Message(\"Expected `Int`, found: \\\"ab\\\"\")); Err(Message(\"Expected `Int`, found: true\")); Err(Message(\"Expected GraphQL scalar, found: RED\"))",
     );
+    check(
+        &rt,
+        reads::<ID>(alloc, words(alloc)),
+        "Err(Message(\"Expected GraphQL scalar, found: null\")); Ok(ID { text: \"ab\" }); Err(Message(\"Expected `String` or `Int`, found: true\")); Err(Message(\"Expected GraphQL scalar, found: RED\"))",
+    );
+    check(
+        &rt,
+        reads::<ID>(alloc, integers(alloc)),
+        "Err(Message(\"Expected GraphQL scalar, found: null\")); Ok(ID { text: \"-7\" })",
+    );
 }
 
 /// Which input value stands for a value, as `{}` writes it.
@@ -145,16 +167,24 @@ fn giving<T: ToInputValue<DefaultScalarValue> + Drop>(
     input.to_string(alloc)
 }
 
+/// The identifier of a text.
+fn identifier(alloc: Global, text: &str) -> Result<ID, AllocError> {
+    Ok(ID::new(String::from_str(alloc, text)?))
+}
+
 #[test]
 fn values_are_given(rt: HostRuntime) {
     let alloc = rt.alloc();
     let numbers = [1, 2];
     let none: Option<i32> = None;
     let list = numbers.to_vec(alloc);
+    let identifier = identifier(alloc, "ab");
     let boxed = Box::new(alloc, 1).map_err(AllocError::from);
     let shared = Rc::new(alloc, 1).map_err(AllocError::from);
     check(&rt, giving(alloc, Ok(none)), "null");
     check(&rt, giving(alloc, Ok(Some(1))), "1");
+    check(&rt, giving(alloc, Ok(Nullable::Some(1))), "1");
+    check(&rt, giving(alloc, identifier), "\"ab\"");
     check(&rt, giving(alloc, Ok(numbers.as_slice())), "[1, 2]");
     check(&rt, giving(alloc, Ok([[true]; 2])), "[[true], [true]]");
     check(&rt, giving(alloc, Ok(&&1)), "1");

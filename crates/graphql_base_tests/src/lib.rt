@@ -1,4 +1,5 @@
-//! Tests of the base: lists and texts, tokens, names, scalars, values.
+//! Tests of the base: lists and texts, tokens, names, scalars, values, what values become and why a
+//! field has none.
 //!
 //! They show what no contract says: printed texts, tables of rows, each call that takes memory once
 //! on its happy path, generic code at a concrete type. They stand apart from the crates that they
@@ -12,7 +13,11 @@ mod conversions;
 #[cfg(test)]
 mod default_scalars;
 #[cfg(test)]
+mod field_errors;
+#[cfg(test)]
 mod from_scalars;
+#[cfg(test)]
+mod input_types;
 #[cfg(test)]
 mod input_values;
 #[cfg(test)]

@@ -1,3 +1,4 @@
 pub mod Beings
 pub mod Kinds
 pub mod SameKinds
+pub mod ToldKeys

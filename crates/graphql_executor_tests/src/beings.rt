@@ -100,7 +100,9 @@ fn kind_or_absent(value: Option<&InputValue<DefaultScalarValue>>) -> &'static st
 
 /// The errors that an executor makes of the field at which it stands, each behind the end of a line.
 /// An error is want of memory.
-fn places_told(executor: &Executor<'_, '_, (), DefaultScalarValue>) -> Result<String, AllocError> {
+fn places_told(
+    executor: &Executor<'_, '_, '_, (), DefaultScalarValue>,
+) -> Result<String, AllocError> {
     let alloc = executor.alloc();
     let mut errors = Items::new(alloc);
     let here = FieldError::of(Text::from_str(alloc, "here")?);
@@ -125,12 +127,25 @@ pub fn null_if(holds: bool) -> FieldResult<Answer, DefaultScalarValue>
 
 /// `Null`, if the executor stands at the field of the one request that asks for it.
 fn placed(
-    executor: &Executor<'_, '_, (), DefaultScalarValue>,
+    executor: &Executor<'_, '_, '_, (), DefaultScalarValue>,
 ) -> FieldResult<Answer, DefaultScalarValue>
     ensures { Answered (Ok resolved.Null) result }
 {
     let told = places_told(executor)?;
     null_if(executor.current_type().name == "Boolean" && told.as_str() == PLACES)
+}
+
+/// `Null`, if the argument `value` is read as `true` and as no number, and no other one is there.
+fn read(
+    alloc: Global,
+    arguments: &Arguments<'_, DefaultScalarValue>,
+) -> FieldResult<Answer, DefaultScalarValue>
+    ensures { Answered (Ok resolved.Null) result }
+{
+    let is_flag = matches!(arguments.get::<bool>(alloc, "value"), Ok(Some(true)));
+    let is_number = arguments.get::<i32>(alloc, "value").is_ok();
+    let is_alone = matches!(arguments.get::<bool>(alloc, "other"), Ok(None));
+    null_if(is_flag && !is_number && is_alone)
 }
 
 /// A dog twice, and a cat and the dog. An error is want of memory.
@@ -146,7 +161,7 @@ fn packs(alloc: Global) -> Result<Answer, AllocError>
 
 /// What the root answers for a field.
 fn of_root(
-    executor: &Executor<'_, '_, (), DefaultScalarValue>,
+    executor: &Executor<'_, '_, '_, (), DefaultScalarValue>,
     field: &str,
     arguments: &Arguments<'_, DefaultScalarValue>,
 ) -> FieldResult<Answer, DefaultScalarValue>
@@ -157,6 +172,7 @@ fn of_root(
     match field {
         "placed" => placed(executor),
         "completed" => completed(executor),
+        "read" => read(alloc, arguments),
         "human" => Ok(Resolved::Node(Being::Ann)),
         "dog" => Ok(Resolved::Node(Being::Rex)),
         "pet" => Ok(Resolved::Node(Being::Tom)),
@@ -222,6 +238,7 @@ impl GraphQLValue<DefaultScalarValue> for Household {
 
     ghost use Rattle.graphql_executor_tests.specs.Beings as spec;
     ghost use Rattle.graphql_executor_tests.specs.SameKinds.{answers-same};
+    ghost use Rattle.graphql_executor_tests.specs.ToldKeys.{answers-tell};
     ghost use Rattle.graphql_executor_tests.specs.declared.beings.Being.TheVariants as being;
 
     ghost root_node = { λ _. being.Root };
@@ -231,6 +248,8 @@ impl GraphQLValue<DefaultScalarValue> for Household {
     ghost answer = { λ _ _ node field given. spec.answer node field given };
 
     ghost respects = { λ _ _ node field a b same. answers-same _ node field a b same };
+
+    ghost tells_distinct_keys = { λ _ _ node field given. answers-tell node field given };
 
     fn root(&self) -> Being
         ensures { result ≡ being.Root }
@@ -249,7 +268,7 @@ impl GraphQLValue<DefaultScalarValue> for Household {
         node: &Being,
         field: &str,
         arguments: &Arguments<'_, DefaultScalarValue>,
-        executor: &Executor<'_, '_, (), DefaultScalarValue>,
+        executor: &Executor<'_, '_, '_, (), DefaultScalarValue>,
     ) -> FieldResult<Answer, DefaultScalarValue> {
         match node {
             Being::Root => of_root(executor, field, arguments),

@@ -10,21 +10,22 @@ use crate::beings::{Answer, Being, null_if};
 use crate::kennel::Kennel;
 use crate::told::errors_told;
 use graphql_execution::{Executor, declared_type};
-use graphql_field_results::{ExecutionError, ExecutionResult, FieldFault, FieldResult, Resolved};
+use graphql_field_results::{ExecutionError, FieldFault, FieldResult, Resolved};
+use graphql_output_values::Value;
 use graphql_text::{Items, SourcePosition, TextRef};
 use graphql_tree::Selection;
 use graphql_values::DefaultScalarValue;
 use std::alloc::{AllocError, Global};
 
 /// An executor at a field.
-type Place<'d, 'a> = Executor<'d, 'a, (), DefaultScalarValue>;
+type Place<'c, 'd, 'a> = Executor<'c, 'd, 'a, (), DefaultScalarValue>;
 
 type Errors = Items<ExecutionError<DefaultScalarValue>>;
 
 /// What `completed` wants to be told.
 const COMPLETED: &str = "\
 \n{\"name\": \"Rex\", \"owner\": {\"name\": \"Ann\"}}\
-\nnull\
+\nno value\
 \nAnswer does not fit type Pet\
 \nnull\
 \n{\"name\": \"Rex\", \"owner\": {\"name\": \"Ann\"}}\
@@ -36,14 +37,16 @@ const COMPLETED: &str = "\
 \n(2,0,2) completed: Answer does not fit type Pet\
 \n(0,0,0) completed mine: Null at a non-null place";
 
-/// Tells a value, or why there is none, behind the end of a line. An error is want of memory.
+/// Tells a value, that there is none, or the error of the place, behind the end of a line. An error is want of
+/// memory.
 fn tell(
     alloc: Global,
-    given: ExecutionResult<DefaultScalarValue>,
+    given: FieldResult<Option<Value<DefaultScalarValue>>, DefaultScalarValue>,
     told: &mut String,
 ) -> Result<(), AllocError> {
     let line = match given {
-        Ok(value) => format!(in alloc; "\n{value}")?,
+        Ok(Some(value)) => format!(in alloc; "\n{value}")?,
+        Ok(None) => return told.push_str("\nno value"),
         Err(FieldFault::Error(error)) => format!(in alloc; "\n{error}")?,
         Err(FieldFault::Memory) => return Err(AllocError),
     };
@@ -52,7 +55,7 @@ fn tell(
 
 /// Tells what an answer comes to at an executor's place. An error is want of memory.
 fn tell_resolved(
-    executor: &Place<'_, '_>,
+    executor: &Place<'_, '_, '_>,
     answer: Answer,
     errors: &mut Errors,
     told: &mut String,
@@ -65,7 +68,7 @@ fn tell_resolved(
 
 /// Tells the value that an answer comes to at an executor's place. An error is want of memory.
 fn tell_value(
-    executor: &Place<'_, '_>,
+    executor: &Place<'_, '_, '_>,
     answer: Answer,
     errors: &mut Errors,
     told: &mut String,
@@ -73,12 +76,12 @@ fn tell_value(
     requires { Settled (fragments_in executor.now.request.now) }
 {
     let value = executor.resolve_into_value(&Kennel, answer, errors)?;
-    tell(executor.alloc(), Ok(value), told)
+    tell(executor.alloc(), Ok(Some(value)), told)
 }
 
 /// Tells what answers come to at an executor's own place. An error is want of memory.
 fn tell_here(
-    executor: &Place<'_, '_>,
+    executor: &Place<'_, '_, '_>,
     errors: &mut Errors,
     told: &mut String,
 ) -> Result<(), AllocError>
@@ -96,7 +99,7 @@ fn tell_here(
 
 /// Tells what answers come to at other types, and with other selections. An error is want of memory.
 fn tell_at_types(
-    executor: &Place<'_, '_>,
+    executor: &Place<'_, '_, '_>,
     errors: &mut Errors,
     told: &mut String,
 ) -> Result<(), AllocError>
@@ -115,7 +118,7 @@ fn tell_at_types(
 /// Tells what `null` comes to as the answer of a field `owner`, if the current type has one. An error is want
 /// of memory.
 fn tell_at_field(
-    executor: &Place<'_, '_>,
+    executor: &Place<'_, '_, '_>,
     errors: &mut Errors,
     told: &mut String,
 ) -> Result<(), AllocError>
@@ -136,7 +139,7 @@ fn tell_at_field(
 
 /// What answers come to, and then the errors that are told, each behind the end of a line. An error is want
 /// of memory.
-fn completions_told(executor: &Place<'_, '_>) -> Result<String, AllocError>
+fn completions_told(executor: &Place<'_, '_, '_>) -> Result<String, AllocError>
     requires { Settled (fragments_in executor.now.request.now) }
 {
     let alloc = executor.alloc();
@@ -151,7 +154,7 @@ fn completions_told(executor: &Place<'_, '_>) -> Result<String, AllocError>
 }
 
 /// `Null`, if answers come to what they should at the field of the one request that asks for it.
-pub fn completed(executor: &Place<'_, '_>) -> FieldResult<Answer, DefaultScalarValue>
+pub fn completed(executor: &Place<'_, '_, '_>) -> FieldResult<Answer, DefaultScalarValue>
     requires { Settled (fragments_in executor.now.request.now) }
     ensures { Answered (Ok resolved.Null) result }
 {

@@ -19,6 +19,7 @@ impl GraphQLValue<DefaultScalarValue> for Kennel {
 
     ghost use Rattle.std.specs.Prelude.{refl};
     ghost use Rattle.graphql_executor_tests.specs.Beings as spec;
+    ghost use Rattle.graphql_executor_tests.specs.ToldKeys.{being-tells};
     ghost use Rattle.graphql_executor_tests.specs.declared.beings.Being.TheVariants as being;
 
     ghost root_node = { λ _. being.Rex };
@@ -28,6 +29,8 @@ impl GraphQLValue<DefaultScalarValue> for Kennel {
     ghost answer = { λ _ _ node field _. spec.of_being (spec.own_name node) field };
 
     ghost respects = { λ _ _ _ _ _ _ _. refl };
+
+    ghost tells_distinct_keys = { λ _ _ node field _. being-tells (spec.own_name node) field };
 
     fn root(&self) -> Being
         ensures { result ≡ being.Rex }
@@ -46,7 +49,7 @@ impl GraphQLValue<DefaultScalarValue> for Kennel {
         node: &Being,
         field: &str,
         _arguments: &Arguments<'_, DefaultScalarValue>,
-        executor: &Executor<'_, '_, (), DefaultScalarValue>,
+        executor: &Executor<'_, '_, '_, (), DefaultScalarValue>,
     ) -> FieldResult<Answer, DefaultScalarValue> {
         of_being(executor.alloc, own_name(node), field)
     }

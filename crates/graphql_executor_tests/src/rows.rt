@@ -42,6 +42,7 @@ const ANSWERED: &[Row<'_>] = &[
         "query {\n self {\n   there: placed } }",
         "{\"self\": {\"there\": null}}",
     ),
+    ("{ read(value: true) }", "{\"read\": null}"),
     (
         "{ completed { name ...f } } fragment f on Pet { owner { name } ... on Cat { lives } }",
         "{\"completed\": null}",

@@ -129,7 +129,7 @@ fn pet(rt: &impl Abort, alloc: Global, name: &str, rows: &[FieldRow]) -> Meta {
         .into_meta()
 }
 
-/// The fields of the root that have an argument `value`: a scalar with a default, a list, an object.
+/// The fields of the root that have an argument `value`: a scalar with a default, a list, an object, a flag.
 fn with_given(
     rt: &impl Abort,
     alloc: Global,
@@ -139,7 +139,9 @@ fn with_given(
     let given = asking(rt, alloc, "given", ("Any", NULLABLE), default);
     let many = asking(rt, alloc, "many", ("Any", LIST), None);
     let shape = asking(rt, alloc, "shape", ("Point", NULLABLE), None);
-    with(rt, with(rt, with(rt, items, given), many), shape)
+    let read = asking(rt, alloc, "read", ("Boolean", NULLABLE), None);
+    let items = with(rt, with(rt, items, given), many);
+    with(rt, with(rt, items, shape), read)
 }
 
 /// A field with an argument `value` of this type.

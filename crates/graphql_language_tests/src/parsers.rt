@@ -1,10 +1,16 @@
-ghost use Rattle.std.specs.Prelude.{◌<◌, OnOk};
+ghost use Rattle.std.specs.Prelude.{◌≡◌, ◌<◌, IfOk, None, OnOk};
+ghost use Rattle.graphql_text.specs.declared.token.Token.TheVariants as token;
 ghost use Rattle.graphql_grammar.specs.Input.{left};
+ghost use Rattle.graphql_parser.specs.Leaves.{Leaves};
+ghost use Rattle.graphql_parser.specs.Parser.{Calls, NextName};
+ghost use Rattle.graphql_parser.specs.SpelledLists.{InFront, ListOf};
+ghost use Rattle.graphql_language_tests.specs.Names.{NameAt};
 
 use crate::told::check;
 use graphql_grammar::Fault;
 use graphql_language::Parser;
-use graphql_text::{ParseResult, SourcePosition, TextRef, Token};
+use graphql_language::laws::{Production, lists_are_spelled, lists_leave_the_rest};
+use graphql_text::{Items, ParseResult, SourcePosition, Spanning, TextRef, Token};
 use std::alloc::{AllocError, Global};
 use std::test::Fail;
 
@@ -27,9 +33,35 @@ fn text_is_read(alloc: Global) -> Result<bool, Fault> {
 
 /// A name, as an item of a list.
 fn name<'a>(parser: &mut Parser<'a>) -> ParseResult<TextRef<'a>>
-    ensures { OnOk result (left parser.new.input < left parser.old.input) }
+    ensures calls { Calls NextName parser.old result parser.new }
+    ensures fewer { OnOk result (left parser.new.input < left parser.old.input) }
 {
     parser.expect_name()
+}
+
+/// Names, each at its place.
+struct Names;
+
+impl<'a> Production<Spanning<TextRef<'a>>> for Names {
+    ghost spells = { NameAt };
+}
+
+/// Names between brackets: what the tokens from the one bracket to the other spell, behind which the
+/// parser stands then, or before the token that is wrong.
+fn names_read<'a, F: Fn(&mut Parser<'a>) -> ParseResult<TextRef<'a>>>(
+    parser: &mut Parser<'a>,
+    name: F,
+) -> ParseResult<Items<Spanning<TextRef<'a>>>>
+    requires fresh { parser.old.refused ≡ None }
+    requires callable { (p : _) → F.pre name p }
+    requires reads { (p q : _) (r : _) → F.post name p r q → Calls NextName p.now r q.now }
+    requires fewer { (p q : _) (r : _) → F.post name p r q → OnOk r (left q.now.input < left p.now.input) }
+    ensures spelled { IfOk result (λ names. InFront (ListOf token.BracketOpen token.BracketClose NameAt) parser.old.input names parser.new.input) }
+    ensures leaves { Leaves parser.old.input result parser.new }
+{
+    lists_are_spelled::<Spanning<TextRef<'a>>, F, Names>();
+    lists_leave_the_rest::<Spanning<TextRef<'a>>, F>();
+    parser.delimited_list(&Token::BracketOpen, name, &Token::BracketClose)
 }
 
 /// Whether two items in braces are read at their place.
@@ -41,8 +73,10 @@ fn braces_are_read(parser: &mut Parser<'_>) -> Result<bool, Fault> {
 }
 
 /// How many items a list in brackets has.
-fn brackets_read(parser: &mut Parser<'_>) -> Result<usize, Fault> {
-    let list = parser.delimited_list(&Token::BracketOpen, name, &Token::BracketClose)?;
+fn brackets_read(parser: &mut Parser<'_>) -> Result<usize, Fault>
+    requires { parser.old.refused ≡ None }
+{
+    let list = names_read(parser, name)?;
     Ok(list.item.len())
 }
 

@@ -257,6 +257,15 @@ fragment Tame on Pet { name }
 /// Documents without a fault.
 const RIGHT: &[(&str, &str)] = &[(FAULTLESS, ""), ("subscription { x }", "")];
 
+/// Documents, each with the errors of two rules over all fragments.
+const VISITED: &[(&str, &str)] = &[
+    (FAULTLESS, ""),
+    (
+        "{ hero { ...A } } fragment A on Human { ...A } fragment B on Human { name }",
+        "Cannot spread fragment \"A\" at (40,0,40)\nFragment \"B\" is never used at (47,0,47)",
+    ),
+];
+
 /// Asserts which errors of the first stage each text has.
 fn have_errors(rt: &impl Abort, alloc: Global, rows: &[(&str, &str)]) {
     over_kinds(rt, alloc, Asked::Errors(Judge::FirstStage, rows));
@@ -269,6 +278,11 @@ fn each_rule_has_its_errors(rt: HostRuntime) {
     have_errors(&rt, rt.alloc(), OPERATIONS);
     have_errors(&rt, rt.alloc(), TOGETHER);
     have_errors(&rt, rt.alloc(), RIGHT);
+}
+
+#[test]
+fn rules_over_fragments_are_visitors(rt: HostRuntime) {
+    over_kinds(&rt, rt.alloc(), Asked::Errors(Judge::Fragments, VISITED));
 }
 
 #[test]

@@ -5,10 +5,12 @@ use crate::values::{VariableRow, variables_of};
 use graphql_language::parse_document_source;
 use graphql_text::Items;
 use graphql_tree::{Definition, OwnedDocument};
-use graphql_validation::rules::{overlapping_fields, overlapping_fields_can_be_merged};
+use graphql_validation::rules::{
+    no_fragment_cycles, no_unused_fragments, overlapping_fields, overlapping_fields_can_be_merged,
+};
 use graphql_validation::{
-    RootNode, RuleError, ValidatorContext, first_stage_errors, root_node_errors,
-    validate_input_values, validation_errors, visit,
+    MultiVisitorNil, RootNode, RuleError, ValidatorContext, first_stage_errors, root_node_errors,
+    validate_input_values, validation_errors, visit, visit_all_rules,
 };
 use graphql_values::DefaultScalarValue;
 use std::alloc::{AllocError, Global};
@@ -55,6 +57,9 @@ pub enum Judge {
     /// All rules.
     AllRules,
 
+    /// All rules, over a context.
+    Visited,
+
     /// All rules, over the root node.
     Request,
 
@@ -63,6 +68,9 @@ pub enum Judge {
 
     /// The same rule by itself.
     MergingAlone,
+
+    /// The rules that each fragment is used and that none has a cycle, as visitors in one pass.
+    Fragments,
 }
 
 /// What is asserted of documents.
@@ -78,6 +86,17 @@ pub enum Asked<'a> {
     Variables(&'a [VariableRow]),
 }
 
+/// The errors of all rules, over a context.
+fn visited_errors(
+    alloc: Global,
+    root: &Root,
+    document: &[Definition<'_>],
+) -> Result<Items<RuleError>, AllocError> {
+    let mut context = ValidatorContext::new(alloc, root.schema(), document)?;
+    visit_all_rules(&mut context);
+    context.into_errors()
+}
+
 /// The errors of the rule that fields merge, by a visitor.
 fn merge_errors(
     alloc: Global,
@@ -87,6 +106,19 @@ fn merge_errors(
     let mut context = ValidatorContext::new(alloc, root.schema(), document)?;
     let mut rule = overlapping_fields::factory();
     visit(&mut rule, &mut context);
+    context.into_errors()
+}
+
+/// The errors of two rules over all fragments of a document, by visitors.
+fn fragment_errors(
+    alloc: Global,
+    root: &Root,
+    document: &[Definition<'_>],
+) -> Result<Items<RuleError>, AllocError> {
+    let mut context = ValidatorContext::new(alloc, root.schema(), document)?;
+    let rules = MultiVisitorNil.with(no_unused_fragments::factory());
+    let mut rules = rules.with(no_fragment_cycles::factory());
+    visit(&mut rules, &mut context);
     context.into_errors()
 }
 
@@ -100,9 +132,11 @@ fn errors_of(
     match judge {
         Judge::FirstStage => first_stage_errors(alloc, root.schema(), document),
         Judge::AllRules => validation_errors(alloc, root.schema(), document),
+        Judge::Visited => visited_errors(alloc, root, document),
         Judge::Request => root_node_errors(alloc, root, document),
         Judge::Merging => merge_errors(alloc, root, document),
         Judge::MergingAlone => overlapping_fields_can_be_merged(alloc, root.schema(), document),
+        Judge::Fragments => fragment_errors(alloc, root, document),
     }
 }
 

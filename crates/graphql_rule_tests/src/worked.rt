@@ -4,7 +4,7 @@ use crate::schemas::over_heroes;
 use crate::told::{Asked, Judge};
 
 /// Documents, each with its only error.
-const WORKED: [(&str, &str); 5] = [
+const WORKED: [(&str, &str); 6] = [
     (
         "{ hero { age } }",
         "Unknown field \"age\" on type \"Human\" at (9,0,9)",
@@ -25,9 +25,13 @@ const WORKED: [(&str, &str); 5] = [
         "{ hero { __typename(a: 1) } }",
         "Unknown argument \"a\" on field \"__typename\" of type \"Human\" at (20,0,20)",
     ),
+    (
+        "{ hero { x: name x: id } }",
+        "Fields \"x\" conflict because name and id are different fields at (9,0,9) (17,0,17)",
+    ),
 ];
 
 #[test]
 fn worked_examples_have_their_errors(rt: HostRuntime) {
-    over_heroes(&rt, rt.alloc(), Asked::Errors(Judge::FirstStage, &WORKED));
+    over_heroes(&rt, rt.alloc(), Asked::Errors(Judge::Visited, &WORKED));
 }

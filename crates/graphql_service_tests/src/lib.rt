@@ -14,3 +14,6 @@ mod schemas;
 mod served;
 #[cfg(test)]
 mod serving;
+#[cfg(test)]
+mod wide_numbers;
+pub mod wide_scalar;

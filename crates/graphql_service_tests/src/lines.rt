@@ -1,3 +1,15 @@
+ghost use Rattle.std.specs.Prelude.{◌≡◌, [], Some, None, IfSome, codes};
+ghost use Rattle.serde_json.specs.Find.{get};
+ghost use Rattle.serde_json.specs.Read.{read};
+ghost use Rattle.graphql_scalars.specs.DefaultScalar.{answer};
+ghost use Rattle.graphql_scalars.specs.declared.default_scalar.DefaultScalarValue.TheVariants as scalar;
+ghost use Rattle.graphql_output_values.specs.declared.value.Value.TheVariants as value;
+ghost use Rattle.graphql_values.specs.Variables.{variables_in};
+ghost use Rattle.graphql_lines.specs.Json.{json};
+ghost use Rattle.graphql_lines.specs.Laws.{data_of_value};
+ghost use Rattle.graphql_lines.specs.Variables.{input_of};
+ghost use Rattle.graphql_service_tests.specs.Samples as spec;
+
 use graphql_items::{Items, Text};
 use graphql_lines::{GraphQLRequest, laws};
 use graphql_output_values::{DefaultScalarValue, Object, Value};
@@ -104,10 +116,26 @@ fn deep_values_are_written(rt: HostRuntime) -> Result<(), Fail> {
     Ok(())
 }
 
-#[test]
-fn laws_hold_of_the_default_scalars() {
+/// What is written of `{"c":[null,true,-7]}` is read as that, and the list stands under `c`.
+fn list_is_read_back()
+    ensures read { read (json answer (value.Object spec.sample)) ≡ Some spec.sample_data }
+    ensures under { get (codes "c") (data_of_value answer (value.Object spec.sample)) ≡ Some spec.list_data }
+{
     laws::json_reads_back::<DefaultScalarValue>();
     laws::keys_keep_values::<DefaultScalarValue>();
+}
+
+/// No input value stands for `["$x",2147483648]`, and in the one for `["$x"]` stands no variable.
+fn lists_are_judged()
+    ensures wide { input_of scalar.Boolean scalar.Int scalar.String spec.too_wide ≡ None }
+    ensures constant { IfSome (input_of scalar.Boolean scalar.Int scalar.String spec.text_data) (λ v. variables_in v ≡ []) }
+{
     laws::bad_numbers_are_refused::<DefaultScalarValue>();
     laws::json_holds_no_variable::<DefaultScalarValue>();
+}
+
+#[test]
+fn laws_hold_of_the_default_scalars() {
+    list_is_read_back();
+    lists_are_judged();
 }

@@ -7,8 +7,8 @@ use graphql_meta::{
 };
 use graphql_names::NamedItems;
 use graphql_schema::{RootNode, SchemaType};
-use graphql_service::sample::{SampleRecords, SampleResolver, StandardChecks, sample_records};
-use graphql_service::{Service, ServiceFault};
+use graphql_service::sample::{SampleRecords, SampleResolver, sample_records};
+use graphql_service::{Service, ServiceFault, StandardChecks};
 use graphql_type_references::{Type, TypeModifier};
 use graphql_values::DefaultScalarValue;
 use std::alloc::Global;
@@ -18,15 +18,15 @@ type Schema = SchemaType<DefaultScalarValue>;
 
 type Meta = MetaType<DefaultScalarValue>;
 
-fn text(rt: &impl Abort, alloc: Global, words: &str) -> Text {
+pub fn text(rt: &impl Abort, alloc: Global, words: &str) -> Text {
     Text::from_str(alloc, words).expect(rt, "memory")
 }
 
-fn alone<T: Drop>(rt: &impl Abort, alloc: Global, item: T) -> Items<T> {
+pub fn alone<T: Drop>(rt: &impl Abort, alloc: Global, item: T) -> Items<T> {
     with(rt, Items::new(alloc), item)
 }
 
-fn with<T: Drop>(rt: &impl Abort, mut items: Items<T>, item: T) -> Items<T> {
+pub fn with<T: Drop>(rt: &impl Abort, mut items: Items<T>, item: T) -> Items<T> {
     let pushed = items.push(item).is_ok();
     assert!(rt; pushed);
     items

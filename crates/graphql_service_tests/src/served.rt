@@ -9,12 +9,12 @@ use crate::schemas::{is_refused, unkept, with_other_skip};
 use crate::serving::{Run, are_served};
 use graphql_items::{Items, Text};
 use graphql_meta::TypeCheck;
-use graphql_meta::scalar_checks::{boolean_check, id_check, int_check, string_check};
 use graphql_schema::{RootNode, SchemaType};
 use graphql_service::sample::{
-    SampleRecord, SampleRecords, SampleResolver, StandardChecks, sample_records, schema_s,
+    SampleRecord, SampleRecords, SampleResolver, sample_records, schema_s,
 };
-use graphql_service::{Service, ServiceFault};
+use graphql_service::scalar_checks::{boolean_check, id_check, int_check, string_check};
+use graphql_service::{Service, ServiceFault, StandardChecks};
 use graphql_values::{DefaultScalarValue, InputValue};
 use std::alloc::{AllocError, Global};
 use std::process::Abort;

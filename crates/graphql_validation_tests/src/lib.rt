@@ -26,6 +26,8 @@ mod lookups;
 #[cfg(test)]
 mod metadata;
 #[cfg(test)]
+mod pushed;
+#[cfg(test)]
 mod refusals;
 #[cfg(test)]
 mod scalar_checks;

@@ -1,0 +1,3 @@
+pub mod WideScalars
+pub mod AnyScalars
+pub mod Samples
