@@ -1,10 +1,13 @@
 -- Mutations of a small counter, which tells its count: what they give, and the count that they leave.
-use Rattle.std.proofs.Common.{◌≡◌, refl, ℕ, suc, false, true, [], ◌∷◌, Some, None, Ok}
+use Rattle.std.proofs.Common.{◌≡◌, refl, lit<, ℕ, suc, false, true, [], ◌∷◌, Some, None, Ok}
 use Rattle.std.specs.Prelude.{codes, if◌then◌else◌}
 use Rattle.std.specs.Str.{bytes_eq}
 use Rattle.graphql_names.specs.Names.{Bytes}
 use Rattle.graphql_meta.specs.Types.{reference_to}
 use Rattle.graphql_written_out.specs.Trees.{Head, Tree, none, field}
+use Rattle.graphql_written_out.specs.Fields.{Found}
+use Rattle.graphql_written_out.specs.Groups.{groups}
+use Rattle.graphql_written_out.specs.Repeats.{Repeats, nothing, kept, again}
 use Rattle.graphql_output_values.specs.declared.value.Value.TheVariants as value
 use Rattle.graphql_field_results.specs.declared.execution_error.ExecutionError.{ExecutionError}
 use Rattle.graphql_field_results.specs.declared.resolved.Resolved.{Resolved}
@@ -12,9 +15,10 @@ use Rattle.graphql_field_results.specs.declared.resolved.Resolved.TheVariants as
 use Rattle.graphql_evaluation.specs.Completion.{Members, blame_at, own_null}
 use Rattle.graphql_evaluation.specs.Engines.{Engine}
 use Rattle.graphql_mutation.specs.Laws.{GivesOf}
-use Rattle.graphql_mutation.specs.Serial.{Mutation, Run, mutate}
+use Rattle.graphql_mutation.specs.Serial.{Mutation, Run, mutate, serially}
 use Rattle.graphql_mutation.proofs.SerialQueries.{asking-only-is-querying}
-use Rattle.graphql_evaluation.specs.Evaluation.{evaluate}
+use Rattle.graphql_mutation.proofs.SerialRepeats.{repeats-change-nothing}
+use Rattle.graphql_evaluation.specs.Evaluation.{evaluate, found_in}
 
 -- `lose` answers null, each other field the count
 abbrev told : Bytes → ℕ → Resolved ℕ ℕ
@@ -106,3 +110,23 @@ no_later_key_is_asked = simp (resolved.outs-Scalar, resolved.outs-Null) refl
 pub asking_is_querying :
     GivesOf (run_of asking two) (evaluate (counter 0) [] (codes "Mutation") 0 (two ∷ [])) 0
 asking_is_querying = asking-only-is-querying ℕ ℕ ℕ asking (codes "Mutation") 0 0 (two ∷ []) (λ head. refl)
+
+-- `{ a: add }` twice, as a fragment that is spread twice is written out: the field is found twice, and kept once
+abbrev one : Tree ℕ
+one = then_field 2 (codes "a") (codes "add") none
+
+abbrev add_field : Found ℕ
+add_field = record { head = head_at 2 (codes "a") (codes "add"); below = none }
+
+pub field_is_repeated : Repeats (add_field ∷ []) (found_in (counter 0) (codes "Mutation") (one ∷ one ∷ []))
+field_is_repeated = kept add_field (again add_field (0, lit< tt, refl) nothing)
+
+-- so the one field gives and changes what the two do: it counts one up
+pub repeats_count_once :
+    serially counting (codes "Mutation") 0 (groups (add_field ∷ []))
+    ≡ mutate counting (codes "Mutation") 0 (one ∷ one ∷ [])
+repeats_count_once =
+    repeats-change-nothing ℕ ℕ ℕ counting (codes "Mutation") 0 (one ∷ one ∷ []) (add_field ∷ []) field_is_repeated
+
+pub one_is_counted : (mutate counting (codes "Mutation") 0 (one ∷ one ∷ [])).after ≡ 1
+one_is_counted = simp resolved.outs-Scalar refl
