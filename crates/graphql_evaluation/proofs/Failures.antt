@@ -1,5 +1,6 @@
 -- Failures stand below the path, and where there are no data something failed.
 use Rattle.std.proofs.Common.{◌≡◌, refl, sym, ◌∙◌, ap, subst, ℕ, zero, suc, Bool, true, false, List, [], ◌∷◌, ◌++◌, map, append-nil, append_assoc, reverse, Option, Some, None, Result, Ok, Err}
+use Rattle.std.specs.Prelude.{IfErr}
 use Rattle.std.specs.List.{All}
 use Rattle.std.specs.Option.{option_map}
 use Rattle.std.proofs.lemmas.List.Elements.{All-nil, All-cons, All-head, All-tail, All-append}
@@ -30,14 +31,15 @@ module _ {S : Type 0} (P : ExecutionError S → Type 0) where
   one : (x : ExecutionError S) → P x → All P (x ∷ [])
   one x h = All-cons P x [] h (All-nil P)
 
-  all-together : {A B : Type 0} (f : A → Outcome S B) → ((x : A) → All P (f x).failures) → (xs : List A) → All P (together (map f xs)).failures
+  pub all-together : {A B : Type 0} (f : A → Outcome S B) → ((x : A) → All P (f x).failures) → (xs : List A) → All P (together (map f xs)).failures
   all-together f h [] = All-nil P
   all-together f h (x ∷ xs) = All-append P (f x).failures (together (map f xs)).failures (h x) (all-together f h xs)
 
-  module _ {N : Type 0} (run_on : N → Outcome S (Members S)) (runs : (m : N) → All P (run_on m).failures) (blame : FieldError S → ExecutionError S) (blames : (x : FieldError S) → P (blame x))
-      (name : Bytes) (is_leaf : Bool) (is_possible : N → Bool) where
+  module _ {N : Type 0} (run_on : N → Outcome S (Members S)) (runs : (m : N) → All P (run_on m).failures)
+      (blame : FieldError S → ExecutionError S) (name : Bytes) (is_leaf : Bool) (is_possible : N → Bool)
+      (misfits : (wraps : List TypeModifier) → P (blame (misfit_error name wraps))) (null : P (blame own_null)) where
     of-misfit : (wraps : List TypeModifier) → All P (blame (misfit_error name wraps) ∷ [])
-    of-misfit wraps = one (blame (misfit_error name wraps)) (blames (misfit_error name wraps))
+    of-misfit wraps = one (blame (misfit_error name wraps)) (misfits wraps)
 
     of-leaf : (q : Bool) (s : S) → All P (leaf_if run_on blame name is_leaf is_possible q s).failures
     of-leaf true s = All-nil P
@@ -54,7 +56,7 @@ module _ {S : Type 0} (P : ExecutionError S → Type 0) where
     of-name (Resolved-F.Node m) = of-node (is_possible m) m
 
     of-required : (o : Outcome S (Value S)) (r : Resolved-F S N (Resolved S N)) → All P o.failures → All P (at_required run_on blame name is_leaf is_possible o r).failures
-    of-required o Resolved-F.Null h = one (blame own_null) (blames own_null)
+    of-required o Resolved-F.Null h = one (blame own_null) null
     of-required o (Resolved-F.Scalar s) h = h
     of-required o (Resolved-F.List items) h = h
     of-required o (Resolved-F.Node m) h = h
@@ -72,9 +74,15 @@ module _ {S : Type 0} (P : ExecutionError S → Type 0) where
     of-complete (modifier.List size ∷ wraps) r =
         of-list (modifier.List size ∷ wraps) (λ x. show_place (is_required wraps) (complete run_on blame name is_leaf is_possible wraps x)) (of-complete wraps) (out-Resolved S N r)
 
-    pub of-result : (wraps : List TypeModifier) (a : Result (Resolved S N) (FieldError S)) → All P (complete_result run_on blame name is_leaf is_possible wraps a).failures
-    of-result wraps (Ok r) = of-complete wraps r
-    of-result wraps (Err x) = one (blame x) (blames x)
+    pub of-result : (wraps : List TypeModifier) (a : Result (Resolved S N) (FieldError S)) → IfErr a (λ x. P (blame x))
+        → All P (complete_result run_on blame name is_leaf is_possible wraps a).failures
+    of-result wraps (Ok r) h = of-complete wraps r
+    of-result wraps (Err x) h = one (blame x) h
+
+-- what holds of each error holds of the one that there is
+if-any : {A E : Type 0} (a : Result A E) (P : E → Type 0) → ((x : E) → P x) → IfErr a P
+if-any (Ok r) P h = tt
+if-any (Err x) P h = h x
 
 module _ {S N : Type 0} (e : Engine S N) where
   abbrev RunsStand : ℕ → Type 0
@@ -91,8 +99,11 @@ module _ {S N : Type 0} (e : Engine S N) where
         → AreAt here (at_declared e type (λ m. run e n here (e.concrete m) m sets) (blame_at here head.place) (e.answer node of head.name (e.arguments of head))).failures
     declared-stands None here sets head = All-nil (IsAt here)
     declared-stands (Some type) here sets head =
-        of-result (IsAt here) (λ m. run e n here (e.concrete m) m sets) (λ m. stand here (e.concrete m) m sets) (blame_at here head.place) (λ x. ([], sym (append-nil here)))
-        type.name (e.is_leaf type.name) (λ m. e.is_possible type.name (e.concrete m)) (reverse type.modifiers) (e.answer node of head.name (e.arguments of head))
+        let answer = e.answer node of head.name (e.arguments of head) in
+        of-result (IsAt here) (λ m. run e n here (e.concrete m) m sets) (λ m. stand here (e.concrete m) m sets)
+        (blame_at here head.place) type.name (e.is_leaf type.name) (λ m. e.is_possible type.name (e.concrete m))
+        (λ wraps. ([], sym (append-nil here))) ([], sym (append-nil here)) (reverse type.modifiers) answer
+        (if-any answer (λ x. IsAt here (blame_at here head.place x)) (λ x. ([], sym (append-nil here))))
 
     group-stands : (g : Group S) → AreAt path (keyed e (run e n) path of node g).failures
     group-stands (key, []) = All-nil (IsAt path)

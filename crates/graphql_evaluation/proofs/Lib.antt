@@ -10,6 +10,7 @@ mod FittingData
 mod DistinctMembers
 mod Failures
 mod ExactFailures
+pub mod ToldErrors
 pub mod RunRepeats
 pub mod TurnLaws
 pub mod Rows

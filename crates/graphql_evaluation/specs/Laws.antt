@@ -1,12 +1,14 @@
 -- What holds of evaluation (GraphQL October 2021, 6.3 Executing Selection Sets, 6.4.4 Handling Field Errors).
 use Rattle.std.specs.Prelude.{◌≡◌, ◌↔◌, ℕ, ◌+◌, ◌≤◌, List, map, IfSome}
-use Rattle.std.specs.List.{Contains, sum}
+use Rattle.std.specs.List.{All, Contains, sum}
 use Rattle.graphql_names.specs.Names.{Bytes}
 use Rattle.graphql_output_values.specs.DistinctKeys.{HasDistinctKeysThroughout}
 use Rattle.graphql_written_out.specs.Trees.{Tree}
 use Rattle.graphql_written_out.specs.Fields.{Found}
 use Rattle.graphql_written_out.specs.Groups.{groups}
 use Rattle.graphql_written_out.specs.Repeats.{Repeats}
+use Rattle.graphql_arguments.specs.ArgumentValues.{Given}
+use Rattle.graphql_field_results.specs.Answered.{TellsInDistinctKeys}
 use Rattle.graphql_field_results.specs.declared.execution_error.ExecutionError.{ExecutionError}
 use Rattle.graphql_evaluation.specs.Engines.{Engine}
 use Rattle.graphql_evaluation.specs.Outcomes.{together}
@@ -15,6 +17,15 @@ use Rattle.graphql_evaluation.specs.Evaluation.{Group, evaluate, found_in, highe
 use Rattle.graphql_evaluation.specs.Failing.{AreAt, Fails, IsAccounted}
 use Rattle.graphql_evaluation.specs.Fitting.{MembersFit}
 use Rattle.graphql_evaluation.specs.Turns.{all_turns, turns_of_group}
+
+-- what is told beside a failure has distinct keys, however deep
+abbrev pub TellsDistinctKeys : {S : Type 0} → ExecutionError S → Type 0
+TellsDistinctKeys failure = HasDistinctKeysThroughout failure.error.extensions
+
+-- what each answer of an engine tells beside an error has
+abbrev pub AnswersTellDistinctKeys : {S N : Type 0} → Engine S N → Type 0
+AnswersTellDistinctKeys {S} {N} e = (node : N) (object field : Bytes) (given : Given S)
+    → TellsInDistinctKeys (e.answer node object field given)
 
 module _ (S N : Type 0) where
   -- each depth that suffices gives the same
@@ -59,3 +70,9 @@ module _ (S N : Type 0) where
   abbrev pub TurnsOfGroups : Type 0
   TurnsOfGroups = (e : Engine S N) (object : Bytes) (node : N) (sets : List (Tree S)) (ys : List (Found S))
       → Repeats ys (found_in e object sets) → sum (map (λ (g : Group S). 1 + turns_of_group e (all_turns e) object node g.1) (groups ys)) ≡ all_turns e object node sets
+
+  -- what is told beside failures has distinct keys, where what answers tell beside errors has
+  abbrev pub FailuresTellDistinctKeys : Type 0
+  FailuresTellDistinctKeys = (e : Engine S N) → AnswersTellDistinctKeys e
+      → (path : List Bytes) (object : Bytes) (node : N) (sets : List (Tree S))
+      → All TellsDistinctKeys (evaluate e path object node sets).failures

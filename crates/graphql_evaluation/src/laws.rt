@@ -1,6 +1,6 @@
 //! Laws of evaluation: each function's contract is a law, and its body does nothing.
 
-ghost use Rattle.graphql_evaluation.specs.Laws.{DataFit, DataHaveDistinctKeys, DataOfGroups, DepthsAlike, FailuresAreExact, FailuresStandBelow, NoDataFails, RepeatsGiveNothing, TurnsOfGroups};
+ghost use Rattle.graphql_evaluation.specs.Laws.{DataFit, DataHaveDistinctKeys, DataOfGroups, DepthsAlike, FailuresAreExact, FailuresStandBelow, FailuresTellDistinctKeys, NoDataFails, RepeatsGiveNothing, TurnsOfGroups};
 
 /// Each depth of selection sets that suffices gives the same value and the same failures.
 pub fn depths_are_alike<S, N>()
@@ -34,6 +34,12 @@ pub fn no_data_fails<S, N>()
 /// at the start of the first field of its response key; and each of these is told.
 pub fn failures_are_exact<S, N>()
     ensures { FailuresAreExact S N }
+{}
+
+/// What is told beside failures has distinct keys, however deep, where what each answer tells beside an error
+/// has (GraphQL October 2021, 7.2.2 Serialized Map Ordering).
+pub fn failures_tell_distinct_keys<S, N>()
+    ensures { FailuresTellDistinctKeys S N }
 {}
 
 /// Selection sets of which some stand there before give nothing more: the same data, and the same

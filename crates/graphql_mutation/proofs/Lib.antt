@@ -1,3 +1,4 @@
+mod DistinctRuns
 pub mod RunLemmas
 pub mod SerialSteps
 pub mod SerialRepeats

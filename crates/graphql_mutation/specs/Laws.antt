@@ -1,12 +1,18 @@
 -- What holds of mutations (GraphQL October 2021, 6.2.1 Query, 6.2.2 Mutation).
 use Rattle.std.specs.Prelude.{◌≡◌, ◌++◌, List, [], IfSome}
+use Rattle.std.specs.List.{All}
 use Rattle.graphql_names.specs.Names.{Bytes}
+use Rattle.graphql_arguments.specs.ArgumentValues.{Given}
+use Rattle.graphql_output_values.specs.DistinctKeys.{HasDistinctKeysThroughout}
 use Rattle.graphql_written_out.specs.Trees.{Head, Tree}
 use Rattle.graphql_written_out.specs.Fields.{Found}
 use Rattle.graphql_written_out.specs.Groups.{groups}
 use Rattle.graphql_written_out.specs.Repeats.{Repeats}
+use Rattle.graphql_field_results.specs.Answered.{TellsInDistinctKeys}
 use Rattle.graphql_field_results.specs.declared.execution_error.ExecutionError.{ExecutionError}
+use Rattle.graphql_evaluation.specs.Completion.{Members, object_members}
 use Rattle.graphql_evaluation.specs.Evaluation.{evaluate, found_in}
+use Rattle.graphql_evaluation.specs.Laws.{AnswersTellDistinctKeys, TellsDistinctKeys}
 use Rattle.graphql_evaluation.specs.Outcomes.{Outcome}
 use Rattle.graphql_mutation.specs.Serial.{Mutation, Run, mutate, serially, step_of}
 
@@ -33,3 +39,17 @@ pub record GivesOf {S X A : Type 0} (run : Run S X A) (o : Outcome S A) (c : X) 
 abbrev pub AskingOnlyIsQuerying : (S N X : Type 0) → Type 0
 AskingOnlyIsQuerying S N X = (m : Mutation S N X) (object : Bytes) (c : X) (node : N) (sets : List (Tree S))
     → AsksOnly m object c node → GivesOf (mutate m object c sets) (evaluate (m.engine c) [] object node sets) c
+
+-- what each answer tells beside an error has distinct keys, at the root and below it, on each context
+pub record StepsTellDistinctKeys {S N X : Type 0} (m : Mutation S N X) : Type 0 where
+  pub below : (c : X) → AnswersTellDistinctKeys (m.engine c)
+  pub steps : (c : X) (object field : Bytes) (given : Given S) → TellsInDistinctKeys (m.step c object field given).answer
+
+-- each object in data has distinct keys, however deep, and so has what is told beside failures
+pub record HasDistinctRun {S X : Type 0} (run : Run S X (Members S)) : Type 0 where
+  pub members : IfSome run.outcome.value (λ members. HasDistinctKeysThroughout (object_members members))
+  pub failures : All TellsDistinctKeys run.outcome.failures
+
+abbrev pub RunsHaveDistinctKeys : (S N X : Type 0) → Type 0
+RunsHaveDistinctKeys S N X = (m : Mutation S N X) → StepsTellDistinctKeys m → (object : Bytes) (c : X) (sets : List (Tree S))
+    → HasDistinctRun (mutate m object c sets)

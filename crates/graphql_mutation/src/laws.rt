@@ -1,6 +1,8 @@
-//! Laws of mutations: each function's contract is a law, and its body does nothing.
+//! Laws of mutations: each function's contract is a law, and its body asks for the laws below it.
 
-ghost use Rattle.graphql_mutation.specs.Laws.{AskingOnlyIsQuerying, RepeatsChangeNothing};
+ghost use Rattle.graphql_mutation.specs.Laws.{AskingOnlyIsQuerying, RepeatsChangeNothing, RunsHaveDistinctKeys};
+
+use graphql_evaluation::laws::{data_have_distinct_keys, failures_tell_distinct_keys};
 
 /// Selection sets give and change what the groups of their fields do, also where fields are left out that
 /// stand there before: so each fragment is entered once, however often it is spread.
@@ -14,3 +16,13 @@ pub fn repeats_change_nothing<S, N, X>()
 pub fn asking_only_is_querying<S, N, X>()
     ensures { AskingOnlyIsQuerying S N X }
 {}
+
+/// Each object in the data of a mutation has distinct keys, however deep, and so has what is told beside its
+/// failures, where what each answer tells beside an error has (GraphQL October 2021, 7.2.2 Serialized Map
+/// Ordering).
+pub fn runs_have_distinct_keys<S, N, X>()
+    ensures { RunsHaveDistinctKeys S N X }
+{
+    data_have_distinct_keys::<S, N>();
+    failures_tell_distinct_keys::<S, N>();
+}

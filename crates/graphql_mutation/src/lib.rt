@@ -8,6 +8,8 @@ pub mod laws;
 mod mutation_value;
 mod root_fields;
 mod serially;
+mod without_mutations;
 
 pub use mutation_value::GraphQLMutationValue;
 pub use serially::answer_serially;
+pub use without_mutations::WithoutMutations;
