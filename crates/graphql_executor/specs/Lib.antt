@@ -1,3 +1,4 @@
+pub mod Resolvers
 pub mod Executed
 pub mod Answered
 pub mod Laws

@@ -2,8 +2,9 @@
 #![tactic(auto)]
 
 pub mod laws;
-mod query;
+mod operation;
 mod request;
+mod resolving;
 mod validated;
 
 pub use graphql_arguments::Arguments;
@@ -16,8 +17,10 @@ pub use graphql_field_results::{
 };
 pub use graphql_final_variables::FinalVariables;
 pub use graphql_input_types::{ID, Nullable};
-pub use graphql_requests::{GraphQLError, get_operation};
+pub use graphql_mutation::GraphQLMutationValue;
+pub use graphql_requests::{GraphQLError, Meaning, get_operation};
 pub use graphql_values::{FromInputValueArrayError, FromInputValueVecError};
-pub use query::{Response, execute_query};
+pub use operation::Response;
 pub use request::execute_sync;
+pub use resolving::Resolving;
 pub use validated::execute_validated_query;

@@ -1,17 +1,18 @@
 //! Requests.
 
-ghost use Rattle.std.specs.Prelude.{◌≡◌, true, IfErr, IfOk};
+ghost use Rattle.std.specs.Prelude.{true, IfErr, IfOk};
 ghost use Rattle.std.specs.HashMap.{get_by_text};
 ghost use Rattle.std.specs.Option.{option_map};
 ghost use Rattle.std.specs.Str.{chars};
-ghost use Rattle.graphql_executor.specs.Answered.{IsAnswered, IsRefused};
-ghost use Rattle.graphql_executor.specs.Executed.{executed};
+ghost use Rattle.graphql_executor.specs.Answered.{IsAnswered, IsRefused, LeftUnanswered, asking};
 
-use crate::query::{Response, execute_query};
-use graphql_execution::GraphQLValue;
+use crate::operation::Response;
+use crate::resolving::Resolving;
+use crate::validated::execute_validated_query;
 use graphql_field_results::ExecutionError;
 use graphql_meta::SchemaScalar;
-use graphql_requests::{GraphQLError, chosen_operation, read_request};
+use graphql_mutation::GraphQLMutationValue;
+use graphql_requests::{GraphQLError, Meaning, chosen_operation, read_request};
 use graphql_rule_errors::RuleError;
 use graphql_schema::RootNode;
 use graphql_validation::laws::documents_without_a_fault_are_settled;
@@ -19,14 +20,16 @@ use graphql_values::Variables;
 use std::alloc::Global;
 
 /// What a request is answered (GraphQL October 2021, 6.1 Executing Requests): the data and the errors of
-/// the operation that it chooses, on the context, which stays as it was.
+/// the operation that it chooses. A query leaves the context as it was; a mutation changes it, response key after
+/// response key (6.2.2 Mutation).
 ///
 /// The request is worked on in this order, and the first step that fails decides the error, with which
-/// nothing is executed: the text is parsed; all rules for documents are asked, among them the rule against
-/// introspection, since nothing answers `__schema` and `__type` yet; the operation is chosen; the values of its variables
-/// are checked; a subscription is refused; a mutation is refused. `GraphQLError::Memory` comes only where
-/// memory ran out, which may be at any step.
-pub fn execute_sync<S: SchemaScalar + Drop, R: GraphQLValue<S>>(
+/// nothing is executed, so that the context stays as it was: the text is parsed; all rules for documents are
+/// asked, among them the rule against introspection, since nothing answers `__schema` and `__type` yet; the
+/// operation is chosen; the values of its variables are checked; a subscription is refused; a mutation is refused
+/// where the schema has no type for mutations. `GraphQLError::Memory` comes only where memory ran out, which may
+/// be at any step; a mutation has then changed the context by a beginning of its response keys, by none in part.
+pub fn execute_sync<S: SchemaScalar + Drop, R: GraphQLMutationValue<S>>(
     alloc: Global,
     source: &str,
     operation_name: Option<&str>,
@@ -35,20 +38,33 @@ pub fn execute_sync<S: SchemaScalar + Drop, R: GraphQLValue<S>>(
     variables: &Variables<S>,
     context: &mut R::Context,
 ) -> Result<Response<S>, GraphQLError>
-    ensures context { context.new ≡ context.old }
-    ensures answered { IfOk result (λ r. IsAnswered S.reads S.of_bool S.eq S.answer S.Check.accepts root_node.now.schema true (chars source.now) (option_map (λ name. name.now) operation_name.entry) (get_by_text variables.now) ⟦<ExecutionError<S> as Ord>⟧.cmp
-        (λ document operation. executed S.of_text S.answer root_node.now.schema document (get_by_text variables.now) operation (R.root_node resolver.now) (R.type_of resolver.now context.old) (R.answer resolver.now context.old)) r.0 r.1) }
-    ensures refused { IfErr result (IsRefused S.reads S.of_bool S.eq S.answer S.Check.accepts root_node.now.schema true (chars source.now) (option_map (λ name. name.now) operation_name.entry) (get_by_text variables.now) ⟦<RuleError as Ord>⟧.cmp) }
+    ensures answered { let name = option_map (λ name. name.now) operation_name.entry in
+        let given = get_by_text variables.now in
+        let schema = root_node.now.schema in
+        let asked = asking schema true (chars source.now) name given in
+        IfOk result (λ r. IsAnswered ⟦<S as Meaning>⟧.meaning asked (⟦<R as Resolving<S>>⟧.resolving resolver.now)
+        ⟦<ExecutionError<S> as Ord>⟧.cmp context.old r.0 r.1 context.new) }
+    ensures refused { let name = option_map (λ name. name.now) operation_name.entry in
+        let given = get_by_text variables.now in
+        let schema = root_node.now.schema in
+        let asked = asking schema true (chars source.now) name given in
+        IfErr result (IsRefused ⟦<S as Meaning>⟧.meaning asked ⟦<RuleError as Ord>⟧.cmp) }
+    ensures unanswered { let name = option_map (λ name. name.now) operation_name.entry in
+        let given = get_by_text variables.now in
+        let schema = root_node.now.schema in
+        let asked = asking schema true (chars source.now) name given in
+        let resolving = ⟦<R as Resolving<S>>⟧.resolving resolver.now in
+        IfErr result (λ error. LeftUnanswered ⟦<S as Meaning>⟧.meaning asked resolving error context.old context.new) }
 {
     let document = read_request(alloc, source, root_node)?;
     let definitions = document.as_slice();
     let operation = chosen_operation(alloc, definitions, operation_name, root_node, variables)?;
     documents_without_a_fault_are_settled(root_node.schema());
-    let response = execute_query(
+    let response = execute_validated_query(
         alloc,
-        root_node.schema(),
         definitions,
         operation,
+        root_node,
         resolver,
         variables,
         context,

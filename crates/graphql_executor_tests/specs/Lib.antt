@@ -1,4 +1,5 @@
 pub mod Beings
+pub mod Counters
 pub mod Kinds
 pub mod SameKinds
 pub mod ToldKeys

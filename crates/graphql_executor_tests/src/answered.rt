@@ -2,10 +2,12 @@
 
 use crate::beings::Household;
 use crate::costly::{nested, spread_twice};
+use crate::counter::Counter;
 use crate::told::errors_told;
 use graphql_executor::{
     GraphQLError, Response, execute_sync, execute_validated_query, get_operation,
 };
+use graphql_mutation::WithoutMutations;
 use graphql_requests::read_request;
 use graphql_validation::RootNode;
 use graphql_validation::laws::documents_without_a_fault_are_settled;
@@ -17,6 +19,9 @@ pub type Root = RootNode<DefaultScalarValue>;
 
 /// A text, and what it is answered: the data and the errors, a line each, or the refusal.
 pub type Row<'a> = (&'a str, &'a str);
+
+/// The text of a mutation, what it is answered over the counter, and the count that it leaves.
+pub type CountedRow<'a> = (&'a str, &'a str, i32);
 
 /// What is asserted of requests.
 #[derive(Clone, Copy)]
@@ -35,6 +40,9 @@ pub enum Asked<'a> {
 
     /// What a text is answered of which each operation is executed as one of a valid document.
     Validated(&'a str, &'a [(Option<&'a str>, &'a str)]),
+
+    /// What mutations are answered over the counter, and the count that each leaves of zero.
+    Mutations(&'a [CountedRow<'a>]),
 }
 
 /// The data, and behind them the errors, a line each.
@@ -65,16 +73,11 @@ fn answer_told(
     name: Option<&str>,
 ) -> Result<String, AllocError> {
     let mut context = ();
+    let resolver = WithoutMutations {
+        resolver: Household,
+    };
     let variables = Variables::new(alloc);
-    let answer = execute_sync(
-        alloc,
-        text,
-        name,
-        root,
-        &Household,
-        &variables,
-        &mut context,
-    );
+    let answer = execute_sync(alloc, text, name, root, &resolver, &variables, &mut context);
     told(alloc, answer)
 }
 
@@ -91,12 +94,15 @@ fn validated_answer(
     let definitions = document.as_slice();
     let operation = get_operation(definitions, name)?;
     documents_without_a_fault_are_settled(root.schema());
+    let resolver = WithoutMutations {
+        resolver: Household,
+    };
     let response = execute_validated_query(
         alloc,
         definitions,
         operation,
         root,
-        &Household,
+        &resolver,
         &variables,
         &mut context,
     )?;
@@ -114,6 +120,16 @@ fn is_answered(
 ) {
     let told = answer_told(alloc, root, text, name).expect(rt, "memory");
     assert_eq!(rt; told.as_str(), wanted);
+}
+
+/// Asserts what a mutation is answered over the counter, and the count that it leaves of zero.
+fn is_counted(rt: &impl Abort, alloc: Global, root: &Root, row: &CountedRow<'_>) {
+    let mut count = 0;
+    let variables = Variables::new(alloc);
+    let answer = execute_sync(alloc, row.0, None, root, &Counter, &variables, &mut count);
+    let told = told(alloc, answer).expect(rt, "memory");
+    assert_eq!(rt; told.as_str(), row.1);
+    assert_eq!(rt; count, row.2);
 }
 
 /// Asserts of requests over a root node what they are answered.
@@ -143,6 +159,11 @@ pub fn ask(rt: &impl Abort, alloc: Global, root: &Root, asked: Asked<'_>) {
                 let answer = validated_answer(alloc, root, text, row.0);
                 let told = told(alloc, answer).expect(rt, "memory");
                 assert_eq!(rt; told.as_str(), row.1);
+            }
+        }
+        Asked::Mutations(rows) => {
+            for row in rows {
+                is_counted(rt, alloc, root, row);
             }
         }
     }

@@ -7,6 +7,7 @@ pub mod beings;
 mod completed;
 #[cfg(test)]
 mod costly;
+pub mod counter;
 mod kennel;
 #[cfg(test)]
 mod rows;

@@ -1,6 +1,6 @@
 //! Requests, and what they are answered.
 
-use crate::answered::{Asked, Row};
+use crate::answered::{Asked, CountedRow, Row};
 use crate::schemas::over;
 
 /// Objects, aliases, fragments and arguments.
@@ -97,6 +97,33 @@ const REFUSED: &[Row<'_>] = &[
         "Fragment \"f\" is never used. At 0:0",
     ),
 ];
+
+/// Mutations: their fields in order, a key asked once, none asked behind a null at the root, and none for the
+/// root's type name; for want of memory the fields before are counted.
+const COUNTED: &[CountedRow<'_>] = &[
+    ("mutation { a: add b: add }", "{\"a\": 1, \"b\": 2}", 2),
+    (
+        "mutation { ...f add ...f } fragment f on Mutation { add }",
+        "{\"add\": 1}",
+        1,
+    ),
+    (
+        "mutation { a: add lose b: add }",
+        "null\n(18,0,18) lose: Null at a non-null place",
+        2,
+    ),
+    (
+        "mutation { __typename }",
+        "{\"__typename\": \"Mutation\"}",
+        0,
+    ),
+    ("mutation { a: add starve b: add }", "Out of memory", 1),
+];
+
+#[test]
+fn mutations_are_counted(rt: HostRuntime) {
+    over(&rt, rt.alloc(), Asked::Mutations(COUNTED));
+}
 
 #[test]
 fn requests_are_answered(rt: HostRuntime) {

@@ -67,6 +67,13 @@ const CAT: &[FieldRow] = &[
     ("lives", "Int", NON_NULL),
 ];
 
+/// The fields of the counter's mutations.
+const COUNTED: &[FieldRow] = &[
+    ("add", "Int", NON_NULL),
+    ("lose", "Int", NON_NULL),
+    ("starve", "Int", NULLABLE),
+];
+
 const TOLD_OF_ITSELF: &[FieldRow] = &[("description", "String", NULLABLE)];
 
 fn text(rt: &impl Abort, alloc: Global, words: &str) -> Text {
@@ -179,6 +186,8 @@ fn scalar(rt: &impl Abort, alloc: Global, name: &str, check: TypeCheck) -> Meta 
 fn with_objects(rt: &impl Abort, alloc: Global, types: Items<Meta>) -> Items<Meta> {
     let of_root = with_given(rt, alloc, fields(rt, alloc, ROOT));
     let types = with(rt, types, object(rt, alloc, "Query", of_root).into_meta());
+    let counted = object(rt, alloc, "Mutation", fields(rt, alloc, COUNTED));
+    let types = with(rt, types, counted.into_meta());
     let human = object(rt, alloc, "Human", fields(rt, alloc, HUMAN));
     let types = with(rt, types, human.into_meta());
     let of_pets = NamedItems::from_items(fields(rt, alloc, PET)).expect(rt, "memory");
@@ -194,6 +203,14 @@ fn with_objects(rt: &impl Abort, alloc: Global, types: Items<Meta>) -> Items<Met
     let types = with(rt, types, of_types.into_meta());
     let of_schemas = object(rt, alloc, "__Schema", fields(rt, alloc, TOLD_OF_ITSELF));
     with(rt, types, of_schemas.into_meta())
+}
+
+/// The mutation root of the schema over which this is asked: only mutations of the counter have one.
+fn mutation_root(asked: Asked<'_>) -> Option<&'static str> {
+    match asked {
+        Asked::Mutations(_) => Some("Mutation"),
+        _ => None,
+    }
 }
 
 /// Asserts of requests over the schema of these tests what they are answered.
@@ -239,6 +256,7 @@ pub fn over(rt: &impl Abort, alloc: Global, asked: Asked<'_>) {
     let types = with(rt, types, scalar(rt, alloc, "Any", any));
     let types = with(rt, types, point(rt, alloc, points));
     let types = with_objects(rt, alloc, types);
-    let schema = SchemaType::new(alloc, types, "Query", None, None).expect(rt, "a schema");
+    let mutation = mutation_root(asked);
+    let schema = SchemaType::new(alloc, types, "Query", mutation, None).expect(rt, "a schema");
     ask(rt, alloc, &RootNode::new(schema), asked);
 }

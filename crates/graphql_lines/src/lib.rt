@@ -11,4 +11,4 @@ mod variables;
 pub use refusal::LineRefusal;
 pub use request::{GraphQLRequest, json_of_line, request_from_line, request_in};
 pub use to_json::{text_to_json, value_to_json};
-pub use variables::{variables_from_json, variables_of_json};
+pub use variables::{variables_from_json, variables_of_json, whole};

@@ -17,8 +17,9 @@ use serde_json::{Map, Number, Value};
 use std::alloc::{AllocError, Global};
 use std::collections::HashMap;
 
-/// The integer of 32 bits that a number is, if it is held as a whole one.
-fn whole(number: &Number) -> Option<i32>
+/// The integer of 32 bits that a number of JSON is; `None` where it is not held as a whole one, or is none of
+/// 32 bits. Takes no memory.
+pub fn whole(number: &Number) -> Option<i32>
     ensures { result ≡ spec.whole_of (number_view number.now) }
 {
     match number.as_i64() {

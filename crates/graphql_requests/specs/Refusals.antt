@@ -1,23 +1,22 @@
 -- What a request is refused for, step by step (GraphQL October 2021, 6.1 Executing Requests).
 use Rattle.std.specs.Prelude.{◌≡◌, ℕ, Bool, List, [], Option, Result, Ok, Err}
-use Rattle.graphql_text.specs.declared.token.ScalarToken.{ScalarToken}
-use Rattle.graphql_text.specs.declared.parse_error.ParseError.{ParseError}
-use Rattle.graphql_scalars.specs.ScalarAnswers.{ScalarAnswer}
 use Rattle.graphql_names.specs.Names.{Bytes}
 use Rattle.graphql_values.specs.InputValues.{Placed}
 use Rattle.graphql_values.specs.declared.input_value.InputValue.{InputValue}
 use Rattle.graphql_tree.specs.Documents.{variables_in}
 use Rattle.graphql_tree.specs.declared.document.Definition.{Definition}
 use Rattle.graphql_tree.specs.declared.document.Operation.{Operation}
-use Rattle.graphql_tree.specs.declared.document.OperationType.TheVariants as kind
-use Rattle.graphql_meta.specs.declared.meta.MetaType.{MetaType}
+use Rattle.graphql_tree.specs.declared.document.OperationType.{OperationType}
 use Rattle.graphql_schema.specs.Declarations.{Declarations}
+use Rattle.graphql_schema.specs.declared.schema.SchemaType.{SchemaType}
 use Rattle.graphql_rule_errors.specs.Places.{places}
 use Rattle.graphql_rule_errors.specs.declared.rule_error.RuleError.{RuleError}
 use Rattle.graphql_language.specs.Texts.{IsDocument, IsRefused, OnlyDocument}
 use Rattle.graphql_variable_checks.specs.Accepted.{AreAccepted, ValuesTold}
 use Rattle.graphql_visitors.specs.Subjects.{Subject}
 use Rattle.graphql_validation.specs.AllRules.{IsValidAt, RequestTold}
+use Rattle.graphql_requests.specs.Operations.{mutation_root}
+use Rattle.graphql_requests.specs.Scalars.{Scalars}
 use Rattle.graphql_requests.specs.declared.graphql_error.GraphQLError.{GraphQLError}
 use Rattle.graphql_requests.specs.declared.graphql_error.GraphQLError.TheVariants as error
 
@@ -27,50 +26,61 @@ errors_of (error.ValidationError errors) = errors
 errors_of _ = []
 
 -- by what scalars mean, and by a schema: what a text is as a request
-module _ {S C : Type 0} (reads : ScalarToken → Result S ParseError) (of_bool : Bool → S) (eq : S → S → Bool) (answer : S → ScalarAnswer) (accepts : C → InputValue S → Type 0) (schema : Declarations S C) (introspection_disabled : Bool) (text : List ℕ) where
+module _ {S C : Type 0} (s : Scalars S C) (schema : Declarations S C) (introspection_disabled : Bool) (text : List ℕ) where
   abbrev subject_with : List (Definition S) → Subject S C
   subject_with document = record { schema = schema; document = document }
 
   -- the text spells this document and no other, and the document is valid
   pub record IsRead (document : List (Definition S)) : Type 0 where
-    pub spelled : IsDocument S reads of_bool text document
-    pub alone : OnlyDocument S reads of_bool text document
-    pub valid : IsValidAt eq answer accepts (subject_with document) introspection_disabled
+    pub spelled : IsDocument S s.reads s.of_bool text document
+    pub alone : OnlyDocument S s.reads s.of_bool text document
+    pub valid : IsValidAt s.eq s.answer s.accepts (subject_with document) introspection_disabled
 
   -- the text spells a document, and rules have this against it
   pub record IsInvalid (errors : List RuleError) : Type 0 where
     pub document : List (Definition S)
-    pub spelled : IsDocument S reads of_bool text document
-    pub alone : OnlyDocument S reads of_bool text document
-    pub told : RequestTold eq answer accepts (subject_with document) introspection_disabled (places errors)
+    pub spelled : IsDocument S s.reads s.of_bool text document
+    pub alone : OnlyDocument S s.reads s.of_bool text document
+    pub told : RequestTold s.eq s.answer s.accepts (subject_with document) introspection_disabled (places errors)
     pub at_least_one : errors ≡ [] → ⊥
 
   -- why the request is not read; want of memory tells nothing
   abbrev pub IsUnread : GraphQLError → Type 0
-  IsUnread (error.ParseError fault) = IsRefused S reads of_bool text fault
+  IsUnread (error.ParseError fault) = IsRefused S s.reads s.of_bool text fault
   IsUnread (error.ValidationError errors) = IsInvalid errors
   IsUnread error.Memory = Unit {0}
   IsUnread _ = ⊥
 
--- by what a scalar answers, what the check of a type accepts, the types of a schema, and the value that the request gives for each name
-module _ {S C : Type 0} (answer : S → ScalarAnswer) (accepts : C → InputValue S → Type 0) (types : List (MetaType S C)) (given : Bytes → Option (InputValue S)) where
+-- why an operation of a type is not executed, by the schema's root for mutations; want of memory tells nothing
+abbrev pub IsNotServed : Option Bytes → OperationType → GraphQLError → Type 0
+IsNotServed root type error.Memory = Unit {0}
+IsNotServed root type refusal = mutation_root root type ≡ Err refusal
+
+-- by what scalars mean, a schema, and the value that the request gives for each name
+module _ {S C : Type 0} (s : Scalars S C) (schema : SchemaType S C) (given : Bytes → Option (InputValue S)) where
   -- each variable of the operation accepts what is given for it
   abbrev pub TakesValues : Placed (Operation S) → Type 0
-  TakesValues operation = AreAccepted answer accepts types given (variables_in operation.item.variable_definitions)
+  TakesValues operation =
+      AreAccepted s.answer s.accepts schema.types given (variables_in operation.item.variable_definitions)
 
-  -- the operation is chosen, takes the values, and is a query
+  -- the operation is chosen, takes the values, and is executed: `root` is its root, of a mutation
   pub record IsReady (choice : Result (Placed (Operation S)) GraphQLError) (operation : Placed (Operation S)) : Type 0 where
     pub chosen : choice ≡ Ok operation
     pub takes_values : TakesValues operation
-    pub query : operation.item.operation_type ≡ kind.Query
+    pub root : Option Bytes
+    pub served : mutation_root schema.mutation operation.item.operation_type ≡ Ok root
+
+  -- what is said of the values that are given for variables
+  pub record AreRefused (operation : Placed (Operation S)) (errors : List RuleError) : Type 0 where
+    pub told : ValuesTold s.answer s.accepts schema.types given (variables_in operation.item.variable_definitions) (places errors)
+    pub at_least_one : errors ≡ [] → ⊥
 
   -- why an operation is not executed: values first, then what it does; want of memory tells nothing
   abbrev pub IsHeld : Placed (Operation S) → GraphQLError → Type 0
-  IsHeld operation (error.ValidationError errors) = ValuesTold answer accepts types given (variables_in operation.item.variable_definitions) (places errors) × (errors ≡ [] → ⊥)
-  IsHeld operation error.IsSubscription = TakesValues operation × (operation.item.operation_type ≡ kind.Subscription)
-  IsHeld operation error.NoMutationType = TakesValues operation × (operation.item.operation_type ≡ kind.Mutation)
+  IsHeld operation (error.ValidationError errors) = AreRefused operation errors
   IsHeld operation error.Memory = Unit {0}
-  IsHeld operation _ = ⊥
+  IsHeld operation refusal =
+      TakesValues operation × (mutation_root schema.mutation operation.item.operation_type ≡ Err refusal)
 
   -- why a request is not executed: none is chosen, or the one that is chosen is not executed
   abbrev pub IsStopped : Result (Placed (Operation S)) GraphQLError → GraphQLError → Type 0

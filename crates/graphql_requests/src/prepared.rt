@@ -10,13 +10,14 @@ ghost use Rattle.graphql_requests.specs.Operations.{chosen};
 ghost use Rattle.graphql_requests.specs.Refusals.{IsRead, IsReady, IsStopped, IsUnread, errors_of};
 
 use crate::graphql_error::GraphQLError;
-use crate::operations::get_operation;
+use crate::meaning::Meaning;
+use crate::operations::{get_operation, mutation_root};
 use graphql_language::parse_document_source;
 use graphql_meta::SchemaScalar;
 use graphql_rule_errors::RuleError;
 use graphql_schema::RootNode;
 use graphql_text::Spanning;
-use graphql_tree::{Definition, Operation, OperationType, OwnedDocument};
+use graphql_tree::{Definition, Operation, OwnedDocument};
 use graphql_validation::request_errors;
 use graphql_values::Variables;
 use graphql_variable_checks::validate_input_values;
@@ -28,14 +29,17 @@ use std::alloc::Global;
 /// An error is `GraphQLError::ParseError` where the text is no document: its first fault. Where it is one,
 /// the error is `GraphQLError::ValidationError` with what all rules have against it, the rule against
 /// introspection among them, in order: by their places, then by their messages. That rule is asked whether
-/// or not the root node has introspection disabled, since nothing answers `__schema` and `__type` yet. `GraphQLError::Memory` comes only where memory ran out, and no other error comes.
+/// or not the root node has introspection disabled, since nothing answers `__schema` and `__type` yet.
+/// `GraphQLError::Memory` comes only where memory ran out, and no other error comes.
 pub fn read_request<'a, S: SchemaScalar>(
     alloc: Global,
     source: &'a str,
     root_node: &RootNode<S>,
 ) -> Result<OwnedDocument<'a, S>, GraphQLError>
-    ensures read { IfOk result (IsRead S.reads S.of_bool S.eq S.answer S.Check.accepts (declarations_of root_node.now.schema) true (chars source.now)) }
-    ensures refused { IfErr result (IsUnread S.reads S.of_bool S.eq S.answer S.Check.accepts (declarations_of root_node.now.schema) true (chars source.now)) }
+    ensures read { let schema = declarations_of root_node.now.schema in
+        IfOk result (IsRead ⟦<S as Meaning>⟧.meaning schema true (chars source.now)) }
+    ensures refused { let schema = declarations_of root_node.now.schema in
+        IfErr result (IsUnread ⟦<S as Meaning>⟧.meaning schema true (chars source.now)) }
     ensures sorted { IfErr result (λ error. IsSorted ⟦<RuleError as Ord>⟧.cmp (errors_of error)) }
 {
     let document = match parse_document_source(alloc, source) {
@@ -51,12 +55,12 @@ pub fn read_request<'a, S: SchemaScalar>(
 
 /// The operation of a document that a request executes (GraphQL October 2021, 6.1 Executing Requests): the
 /// one that `get_operation` gives. It accepts the values that the request gives for its variables (6.1.2
-/// Coercing Variable Values), and is a query.
+/// Coercing Variable Values), and is a query, or a mutation where the schema has a type for mutations.
 ///
 /// The first of these that fails decides: `get_operation` refuses; the operation does not accept the
 /// values, `GraphQLError::ValidationError` with the errors that `validate_input_values` gives; the
-/// operation is a subscription, `GraphQLError::IsSubscription`, or a mutation,
-/// `GraphQLError::NoMutationType`, also where the schema has a type for mutations: they are not executed.
+/// operation is a subscription, `GraphQLError::IsSubscription`, or a mutation and the schema has no type for
+/// mutations, `GraphQLError::NoMutationType`.
 /// `GraphQLError::Memory` comes only where memory ran out, and no other error comes.
 pub fn chosen_operation<'d, 'a, S: SchemaScalar>(
     alloc: Global,
@@ -65,17 +69,18 @@ pub fn chosen_operation<'d, 'a, S: SchemaScalar>(
     root_node: &RootNode<S>,
     variables: &Variables<S>,
 ) -> Result<&'d Spanning<Operation<'a, S>>, GraphQLError>
-    ensures ready { IfOk result (λ operation. IsReady S.answer S.Check.accepts root_node.now.schema.types (get_by_text variables.now) (chosen (option_map (λ name. name.now) operation_name.entry) document.now) operation.now) }
-    ensures refused { IfErr result (IsStopped S.answer S.Check.accepts root_node.now.schema.types (get_by_text variables.now) (chosen (option_map (λ name. name.now) operation_name.entry) document.now)) }
+    ensures ready { let choice = chosen (option_map (λ name. name.now) operation_name.entry) document.now in
+        let given = get_by_text variables.now in
+        IfOk result (λ o. IsReady ⟦<S as Meaning>⟧.meaning root_node.now.schema given choice o.now) }
+    ensures refused { let choice = chosen (option_map (λ name. name.now) operation_name.entry) document.now in
+        let given = get_by_text variables.now in
+        IfErr result (IsStopped ⟦<S as Meaning>⟧.meaning root_node.now.schema given choice) }
 {
     let operation = get_operation(document, operation_name)?;
     let errors = validate_input_values(alloc, variables, operation, root_node.schema())?;
     if !errors.is_empty() {
         return Err(GraphQLError::from(errors));
     }
-    match operation.item.operation_type {
-        OperationType::Query => Ok(operation),
-        OperationType::Mutation => Err(GraphQLError::NoMutationType),
-        OperationType::Subscription => Err(GraphQLError::IsSubscription),
-    }
+    mutation_root(root_node.schema(), operation.item.operation_type)?;
+    Ok(operation)
 }

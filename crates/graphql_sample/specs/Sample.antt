@@ -1,12 +1,16 @@
--- The records of the sample, and what its resolver answers from records (GraphQL October 2021, 6.4.2 Value Resolution).
-use Rattle.std.specs.Prelude.{◌∷◌, ℕ, [], List, Option, Some, None, codes, position, slice_get, if◌then◌else◌}
-use Rattle.std.specs.Option.{option_map_or}
+-- The records of the sample, and what its resolver answers from records (GraphQL October 2021, 6.4.2 Value Resolution) and changes in them (6.2.2 Mutation).
+use Rattle.std.specs.Prelude.{◌∷◌, ◌+◌, ◌-◌, ◌^◌, min, ℕ, [], List, Option, Some, None, Ok, codes, position, slice_get, slice_set, if◌then◌else◌}
+use Rattle.std.specs.Option.{option_and_then, option_map_or}
 use Rattle.std.specs.Str.{bytes_eq}
 use Rattle.graphql_names.specs.Names.{Bytes}
 use Rattle.graphql_scalars.specs.declared.default_scalar.DefaultScalarValue.{DefaultScalarValue}
 use Rattle.graphql_scalars.specs.declared.default_scalar.DefaultScalarValue.TheVariants as scalar
+use Rattle.graphql_values.specs.declared.input_value.InputValue.{InputValue, out-InputValue}
+use Rattle.graphql_values.specs.declared.input_value.InputValue.TheOpen.{InputValue-F}
+use Rattle.graphql_arguments.specs.ArgumentValues.{Given, value_named}
 use Rattle.graphql_field_results.specs.declared.resolved.Resolved.{Resolved}
 use Rattle.graphql_field_results.specs.declared.resolved.Resolved.TheVariants as resolved
+use Rattle.graphql_mutation.specs.Mutations.{Changes}
 use Rattle.graphql_sample.specs.declared.records.SampleRecord.{SampleRecord}
 use Rattle.graphql_sample.specs.declared.records.SampleRecords.{SampleRecords}
 use Rattle.graphql_sample.specs.declared.resolver.SampleNode.{SampleNode}
@@ -54,3 +58,63 @@ of_human records r field =
 abbrev pub answer : List SampleRecord → SampleNode → Bytes → Answer
 answer records node.Root field = of_root records field
 answer records (node.Human place) field = option_map_or (λ r. of_human records r field) (slice_get records place) resolved.Null
+
+-- the text that a scalar is, if it is one
+abbrev pub text_of_scalar : DefaultScalarValue → Option Bytes
+text_of_scalar (scalar.String text) = Some text
+text_of_scalar (scalar.Int n) = None
+text_of_scalar (scalar.Boolean b) = None
+
+abbrev pub text_layer : {A : Type 0} → InputValue-F DefaultScalarValue A → Option Bytes
+text_layer (InputValue-F.Scalar s) = text_of_scalar s
+text_layer InputValue-F.Null = None
+text_layer (InputValue-F.Enum name) = None
+text_layer (InputValue-F.Variable name) = None
+text_layer (InputValue-F.List items) = None
+text_layer (InputValue-F.Object pairs) = None
+
+-- the text that a value is, if it is one
+abbrev pub text_of : InputValue DefaultScalarValue → Option Bytes
+text_of v = text_layer (out-InputValue DefaultScalarValue v)
+
+-- the text that the argument of a name is: none where it is absent, or is no text
+abbrev pub text_given : Given DefaultScalarValue → Bytes → Option Bytes
+text_given given name = option_and_then text_of (value_named given name)
+
+-- the same human, of this name
+abbrev pub named : Option Bytes → SampleRecord → SampleRecord
+named name r = record { id = r.id; name = name; friend = r.friend }
+
+-- the human at a place has this name
+abbrev pub named_at : List SampleRecord → Option Bytes → ℕ → List SampleRecord
+named_at records name place = option_map_or (λ r. slice_set records place (named name r)) (slice_get records place) records
+
+-- the first human of an id has this name; none where there is no id
+abbrev pub named_of : List SampleRecord → Option Bytes → Option Bytes → List SampleRecord
+named_of records id name = option_map_or (named_at records name) (option_and_then (place_of records) id) records
+
+-- `rename`: the human of the argument `id`, null where there is none
+abbrev pub renamed_answer : List SampleRecord → Given DefaultScalarValue → Answer
+renamed_answer records given = option_map_or (human_of records) (text_given given (codes "id")) resolved.Null
+
+-- its name is the argument `name` then, which is none where that is no text
+abbrev pub renamed : List SampleRecord → Given DefaultScalarValue → List SampleRecord
+renamed records given = named_of records (text_given given (codes "id")) (text_given given (codes "name"))
+
+-- one call more, up to the greatest number of 32 bits
+abbrev pub one_more : ℕ → ℕ
+one_more calls = min (calls + 1) (2 ^ 32 - 1)
+
+-- what a field of a mutation is answered: null for each but `rename`
+abbrev pub root_answer : SampleRecords → Bytes → Given DefaultScalarValue → Answer
+root_answer c field given = if bytes_eq field (codes "rename") then renamed_answer c.records given else resolved.Null
+
+-- each field of a mutation counts as a call, and `rename` changes a name
+abbrev pub root_after : SampleRecords → Bytes → Given DefaultScalarValue → SampleRecords
+root_after c field given = record {
+  records = if bytes_eq field (codes "rename") then renamed c.records given else c.records;
+  root_calls = one_more c.root_calls;
+}
+
+abbrev pub changes : Changes DefaultScalarValue SampleNode SampleRecords
+changes = record { answer = λ c field given. Ok (root_answer c field given); after = root_after }

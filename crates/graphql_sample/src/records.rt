@@ -14,20 +14,20 @@ pub struct SampleRecord {
     /// By what it is found.
     pub id: Text,
 
-    /// The name, if it is known.
+    /// The name, if it is known. A mutation may change it.
     pub name: Option<Text>,
 
     /// The `id` of a friend, if there is one.
     pub friend: Option<Text>,
 }
 
-/// The humans, in order, and how often fields of mutations were resolved.
+/// The humans, in order, and how often fields of mutations were resolved. A mutation changes both.
 #[derive(Drop)]
 pub struct SampleRecords {
     /// The humans. Of those with one `id` the first is found.
     pub records: Items<SampleRecord>,
 
-    /// How often a field of a mutation was resolved: never yet, since no mutation is executed.
+    /// How often a field of a mutation was resolved, up to the greatest number of 32 bits, at which it stays.
     pub root_calls: u32,
 }
 

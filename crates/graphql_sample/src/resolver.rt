@@ -5,9 +5,11 @@ ghost use Rattle.graphql_execution.specs.Answered.{Answered};
 ghost use Rattle.graphql_sample.specs.Sample as spec;
 
 use crate::records::{SampleRecord, SampleRecords};
+use crate::renaming::rename;
 use graphql_arguments::Arguments;
 use graphql_execution::{Executor, GraphQLValue};
 use graphql_field_results::{FieldResult, Resolved};
+use graphql_mutation::GraphQLMutationValue;
 use graphql_text::Text;
 use graphql_values::DefaultScalarValue;
 use std::alloc::Global;
@@ -22,14 +24,14 @@ pub enum SampleNode {
     Human(usize),
 }
 
-type Answer = Resolved<DefaultScalarValue, SampleNode>;
+pub(crate) type Answer = Resolved<DefaultScalarValue, SampleNode>;
 
-/// Answers from the records.
+/// Answers from the records, and changes the names in them.
 #[derive(Drop)]
 pub struct SampleResolver;
 
 /// The place of the first human of this `id`.
-fn place_of(records: &[SampleRecord], id: &str) -> Option<usize>
+pub(crate) fn place_of(records: &[SampleRecord], id: &str) -> Option<usize>
     ensures { result ≡ spec.place_of records.now id.now }
 {
     records.iter().position(|record| id == record.id.as_str())
@@ -139,5 +141,41 @@ impl GraphQLValue<DefaultScalarValue> for SampleResolver {
                 None => Ok(Resolved::Null),
             },
         }
+    }
+}
+
+impl GraphQLMutationValue<DefaultScalarValue> for SampleResolver {
+    ghost use Rattle.std.specs.Prelude.{Ok};
+    ghost use Rattle.graphql_arguments.specs.GivenValues.{arguments_told};
+    ghost use Rattle.graphql_field_results.specs.Answered.{Answered, Leaves};
+    ghost use Rattle.graphql_sample.specs.Sample as spec;
+    ghost use Rattle.graphql_sample.specs.SameTexts.{answers-same, leaves-same};
+
+    ghost changes = { λ _. spec.changes };
+
+    ghost respects_root = { λ _ c field a b same. (answers-same c field a b same, leaves-same c field a b same) };
+
+    ghost root_tells_distinct_keys = { λ _ _ _ _. record { beside = tt } };
+
+    /// What `rename` answers, and changes; null for each other field. Each call counts, whatever is asked, but
+    /// for want of memory, which changes nothing.
+    fn resolve_root(
+        &self,
+        _alloc: Global,
+        context: &mut SampleRecords,
+        field: &str,
+        arguments: &Arguments<'_, DefaultScalarValue>,
+    ) -> FieldResult<Answer, DefaultScalarValue>
+        ensures answer { let given = arguments_told arguments.now in
+            Answered (Ok (spec.root_answer context.old field.now given)) result }
+        ensures after { let given = arguments_told arguments.now in
+            Leaves context.old (spec.root_after context.old field.now given) result context.new }
+    {
+        let answer = match field {
+            "rename" => rename(&mut context.records, arguments)?,
+            _ => Resolved::Null,
+        };
+        context.root_calls = context.root_calls.saturating_add(1);
+        Ok(answer)
     }
 }

@@ -1,22 +1,23 @@
 -- What is written of a line is its answer.
-use Rattle.std.proofs.Common.{◌≡◌, ◌<◌, ◌≤◌, ℕ, ℤ, Bool, List, [], ◌++◌, length, Option, Some, None, option_map, Result, Ok, Err, OnOk, string_bytes, refl, sym, subst, ◌∙◌}
-use Rattle.std.specs.declared.cmp.Ordering.{Ordering}
+use Rattle.std.proofs.Common.{◌≡◌, List, inl, inr, ◌<◌, ◌≤◌, [], ◌∷◌, ◌++◌, length, Option, Some, None, option_map, Result, Ok, Err, OnOk, OnErr, string_bytes, refl, sym, subst, ◌∙◌, append-nil}
 use Rattle.std.specs.HashMap.{get_by_text}
 use Rattle.std.specs.Str.{chars}
-use Rattle.graphql_text.specs.declared.token.ScalarToken.{ScalarToken}
-use Rattle.graphql_text.specs.declared.parse_error.ParseError.{ParseError}
 use Rattle.graphql_names.specs.Names.{Bytes}
 use Rattle.graphql_scalars.specs.ScalarAnswers.{ScalarAnswer}
 use Rattle.graphql_values.specs.declared.input_value.InputValue.{InputValue}
 use Rattle.graphql_output_values.specs.declared.value.Value.{Value}
-use Rattle.graphql_schema.specs.declared.schema.SchemaType.{SchemaType}
 use Rattle.graphql_field_results.specs.declared.execution_error.ExecutionError.{ExecutionError}
-use Rattle.graphql_rule_errors.specs.declared.rule_error.RuleError.{RuleError}
+use Rattle.graphql_requests.specs.Scalars.{Scalars}
 use Rattle.graphql_requests.specs.declared.graphql_error.GraphQLError.{GraphQLError}
 use Rattle.graphql_requests.specs.declared.graphql_error.GraphQLError.TheVariants as request_error
-use Rattle.graphql_execution.specs.Engines.{Resolves}
-use Rattle.graphql_executor.specs.Answered.{IsAnswered, IsRefused}
-use Rattle.graphql_executor.specs.Executed.{executed}
+use Rattle.std.specs.declared.cmp.Ordering.{Ordering}
+use Rattle.graphql_mutation.specs.Serial.{Mutation, root_groups}
+use Rattle.graphql_written_out.specs.Trees.{Tree}
+use Rattle.graphql_executor.specs.Answered.{Asking, IsAnswered, IsBrokenOff, IsRefused, LeftUnanswered, asking}
+use Rattle.graphql_written_out.specs.Written.{written}
+use Rattle.graphql_collect.specs.FragmentLists.{fragments_listed}
+use Rattle.graphql_executor.specs.Executed.{IsBegunAt, asked_of_resolver, run_at}
+use Rattle.graphql_executor.specs.Resolvers.{Resolver}
 use Rattle.graphql_lines.specs.Request.{HoldsRequest, Request, request_of}
 use Rattle.graphql_lines.specs.Variables.{IsDue}
 use Rattle.graphql_lines.specs.declared.refusal.LineRefusal.{LineRefusal}
@@ -24,7 +25,7 @@ use Rattle.graphql_lines.specs.declared.refusal.LineRefusal.TheVariants.{LineToo
 use Rattle.graphql_lines.specs.declared.request.GraphQLRequest.{GraphQLRequest}
 use Rattle.graphql_answers.specs.Lines.{IsLine, line_of}
 use Rattle.graphql_answers.specs.Responses.{refusal_of, response_of}
-use Rattle.graphql_service.specs.Answers.{Appends, Asks, given, IsNoRequest, IsNotExecuted, IsExecuted, IsAnswer, no_request, not_executed, executed_to}
+use Rattle.graphql_service.specs.Answers.{Answerer, Appends, Asks, asked_by, given, IsNoRequest, IsAnswer, LeavesBroken, no_request, not_executed, executed_to}
 use Rattle.graphql_service.specs.Texts.{told_of_line, told_of_request}
 
 -- a fact on `Ok` gives another
@@ -37,71 +38,158 @@ pub both_on_ok : {A E : Type 0} (r : Result A E) (P Q R : Type 0) → (P → Q �
 both_on_ok (Ok x) P Q R f h k = f h k
 both_on_ok (Err e) P Q R f h k = h
 
+-- what always holds holds on `Err`
+pub on_err : {A E : Type 0} (r : Result A E) (P : Type 0) → P → OnErr r P
+on_err (Ok x) P h = tt
+on_err (Err e) P h = h
+
+-- a fact on `Err` gives another
+pub also_on_err : {A E : Type 0} (r : Result A E) (P Q : Type 0) → (P → Q) → OnErr r P → OnErr r Q
+also_on_err (Ok x) P Q f h = h
+also_on_err (Err e) P Q f h = f h
+
 -- what is written behind nothing is all
 pub alone : (P : Bytes → Type 0) (old new : Bytes) → old ≡ [] → Appends P old new → P new
 alone P old new nothing written = subst P (sym (written.1 ∙ (λ i. nothing i ++ written.0))) written.2
 
-module _ {S C : Type 0} (reads : ScalarToken → Result S ParseError) (of_bool : Bool → S) (of_int : ℤ → S) (of_text : Bytes → S) (eq : S → S → Bool) (answer : S → ScalarAnswer) (accepts : C → InputValue S → Type 0) (by_rules : RuleError → RuleError → Ordering) (by_fields : ExecutionError S → ExecutionError S → Ordering) (schema : SchemaType S C) (disabled : Bool) (limit : ℕ) (line : Bytes) where
+-- what an operation leaves at its end, it leaves after a beginning
+begun-at-the-end : {S N X : Type 0} (m : Mutation S N X) (query : Bytes) (node : N) (sets : List (Tree S)) (root : Option Bytes)
+    (c new : X) → new ≡ (run_at m query node sets root c).after → IsBegunAt m query node sets root c new
+begun-at-the-end m query node sets None c new is = is
+begun-at-the-end m query node sets (Some root) c new is = record {
+  done = root_groups m root c sets;
+  others = [];
+  is = sym (append-nil (root_groups m root c sets));
+  after = is;
+}
+
+broken-at-the-end : {S C N X : Type 0} (s : Scalars S C) (a : Asking S C) (r : Resolver S N X) (cmp : ExecutionError S → ExecutionError S → Ordering)
+    (old new : X) (found : Value S) (errors : List (ExecutionError S)) → IsAnswered s a r cmp old found errors new → IsBrokenOff s a r old new
+broken-at-the-end s a r cmp old new found errors h = record {
+  document = h.document;
+  operation = h.operation;
+  executable = h.executable;
+  broken = record {
+    root = h.yields.root;
+    served = h.yields.served;
+    begun = begun-at-the-end (asked_of_resolver s a.schema r h.document a.given h.operation.item) a.schema.query r.root
+        (written (fragments_listed h.document) h.operation.item.selection_set ∷ []) h.yields.root old new h.yields.responds.after;
+  };
+}
+
+module _ {S C N X : Type 0} (a : Answerer S C N X) (line : Bytes) where
+  abbrev Answer : X → X → Bytes → Type 0
+  Answer old new text = IsAnswer a line old text new
+
   -- a line that is no request is refused for what stands first
-  due : (refusal : LineRefusal) → length line ≤ limit → IsDue of_bool of_int of_text (λ (q : Request). q.variables) (request_of line) refusal
-      → IsNoRequest reads of_bool of_int of_text eq answer accepts by_rules by_fields schema disabled limit line refusal
+  due : (refusal : LineRefusal) → length line ≤ a.limit
+      → IsDue a.scalars.of_bool a.scalars.of_int a.scalars.of_text (λ (q : Request). q.variables) (request_of line) refusal
+      → IsNoRequest a line refusal
   due LineTooLong within h = absurd h
   due NotARequest within h = (within, h)
   due BadNumber within h = (h.0, within, h.1, h.2)
   due Memory within h = absurd h
 
-  module _ {N : Type 0} (root : N) (concrete : N → Bytes) (resolves : Resolves S N) where
-    abbrev Answer : Bytes → Type 0
-    Answer = IsAnswer reads of_bool of_int of_text eq answer accepts by_rules by_fields schema disabled limit line root concrete resolves
+  pub too_long : (c : X) (old new : Bytes) → a.limit < length line
+      → new ≡ old ++ line_of (refusal_of (told_of_line a.limit LineTooLong)) → Appends (Answer c c) old new
+  too_long c old new longer e =
+      (line_of (refusal_of (told_of_line a.limit LineTooLong)), e, no_request LineTooLong longer refl refl)
 
-    pub too_long : (old new : Bytes) → limit < length line → new ≡ old ++ line_of (refusal_of (told_of_line limit LineTooLong)) → Appends Answer old new
-    too_long old new longer e = (line_of (refusal_of (told_of_line limit LineTooLong)), e, no_request LineTooLong longer refl)
+  pub no_request_answer : (refusal : LineRefusal) (c : X) (old new : Bytes) → length line ≤ a.limit
+      → IsDue a.scalars.of_bool a.scalars.of_int a.scalars.of_text (λ (q : Request). q.variables) (request_of line) refusal
+      → new ≡ old ++ line_of (refusal_of (told_of_line a.limit refusal)) → Appends (Answer c c) old new
+  no_request_answer refusal c old new within h e =
+      (line_of (refusal_of (told_of_line a.limit refusal)), e, no_request refusal (due refusal within h) refl refl)
 
-    pub no_request_answer : (refusal : LineRefusal) (old new : Bytes) → length line ≤ limit → IsDue of_bool of_int of_text (λ (q : Request). q.variables) (request_of line) refusal
-        → new ≡ old ++ line_of (refusal_of (told_of_line limit refusal)) → Appends Answer old new
-    no_request_answer refusal old new within h e = (line_of (refusal_of (told_of_line limit refusal)), e, no_request refusal (due refusal within h) refl)
+  -- a request that holds what the line asks: its query, its operation's name and its values are those of the line
+  module _ (asked : Request) (request : GraphQLRequest S) (query : Bytes) (name : Option Bytes)
+      (holds : HoldsRequest a.scalars.of_bool a.scalars.of_int a.scalars.of_text asked request)
+      (its_query : query ≡ string_bytes request.query)
+      (its_name : name ≡ option_map (λ t. string_bytes t) request.operation_name) (asks : Asks a line asked) where
+    values : get_by_text request.variables ≡ given a.scalars asked
+    values = λ i key. holds.variables.values key i
 
-    -- a request that holds what the line asks: its query, its operation's name and its values are those that the line gives
-    module _ (asked : Request) (request : GraphQLRequest S) (query : Bytes) (name : Option Bytes) (holds : HoldsRequest of_bool of_int of_text asked request) (its_query : query ≡ string_bytes request.query) (its_name : name ≡ option_map (λ t. string_bytes t) request.operation_name) where
-      values : get_by_text request.variables ≡ given of_bool of_int of_text asked
-      values = λ i key. holds.variables.values key i
+    abbrev asked_with : Bytes → Option Bytes → (Bytes → Option (InputValue S)) → Asking S C
+    asked_with q n v = asking a.schema a.introspection_disabled (chars q) n v
 
-      as_asked : (P : Bytes → Option Bytes → (Bytes → Option (InputValue S)) → Type 0) → P query name (get_by_text request.variables) → P asked.query asked.operation_name (given of_bool of_int of_text asked)
-      as_asked P h =
-          subst (λ v. P asked.query asked.operation_name v) values
-          (subst (λ n. P asked.query n (get_by_text request.variables)) (its_name ∙ holds.operation_name)
-          (subst (λ q. P q name (get_by_text request.variables)) (its_query ∙ holds.query) h))
+    as_asked : (P : Asking S C → Type 0) → P (asked_with query name (get_by_text request.variables)) → P (asked_by a line asked)
+    as_asked P h =
+        subst (λ v. P (asked_with asked.query asked.operation_name v)) values
+        (subst (λ n. P (asked_with asked.query n (get_by_text request.variables))) (its_name ∙ holds.operation_name)
+        (subst (λ q. P (asked_with q name (get_by_text request.variables))) (its_query ∙ holds.query) h))
 
-      pub executed_answer : (found : Value S) (errors : List (ExecutionError S)) (old new : Bytes) → Asks of_bool of_int of_text limit line asked
-          → IsAnswered reads of_bool eq answer accepts schema disabled (chars query) name (get_by_text request.variables) by_fields
-          (λ document operation. executed of_text answer schema document (get_by_text request.variables) operation root concrete resolves) found errors
-          → new ≡ old ++ line_of (response_of answer found errors) → Appends Answer old new
-      executed_answer found errors old new asks h e = (
-        line_of (response_of answer found errors),
-        e,
-        executed_to found errors (record {
-          request = asked;
-          asks = asks;
-          answers = as_asked (λ q n v. IsAnswered reads of_bool eq answer accepts schema disabled (chars q) n v by_fields (λ document operation. executed of_text answer schema document v operation root concrete resolves) found errors) h;
-        }) refl,
-      )
+    pub executed_answer : (found : Value S) (errors : List (ExecutionError S)) (c after : X) (old new : Bytes)
+        → IsAnswered a.scalars (asked_with query name (get_by_text request.variables)) a.resolver a.by_fields c found errors after
+        → new ≡ old ++ line_of (response_of a.scalars.answer found errors) → Appends (Answer c after) old new
+    executed_answer found errors c after old new h e = (
+      line_of (response_of a.scalars.answer found errors),
+      e,
+      executed_to found errors (record {
+        request = asked;
+        asks = asks;
+        answers = as_asked (λ q. IsAnswered a.scalars q a.resolver a.by_fields c found errors after) h;
+      }) refl,
+    )
 
-      pub refused_answer : (refusal : GraphQLError) (old new : Bytes) → Asks of_bool of_int of_text limit line asked
-          → IsRefused reads of_bool eq answer accepts schema disabled (chars query) name (get_by_text request.variables) by_rules refusal
-          → new ≡ old ++ line_of (refusal_of (told_of_request refusal)) → (refusal ≡ request_error.Memory → ⊥) → Appends Answer old new
-      refused_answer refusal old new asks h e is = (
-        line_of (refusal_of (told_of_request refusal)),
-        e,
-        not_executed refusal (record {
-          request = asked;
-          asks = asks;
-          is_refusal = is;
-          due = as_asked (λ q n v. IsRefused reads of_bool eq answer accepts schema disabled (chars q) n v by_rules refusal) h;
-        }) refl,
-      )
+    pub refused_answer : (refusal : GraphQLError) (c after : X) (old new : Bytes)
+        → IsRefused a.scalars (asked_with query name (get_by_text request.variables)) a.by_rules refusal
+        → LeftUnanswered a.scalars (asked_with query name (get_by_text request.variables)) a.resolver refusal c after
+        → new ≡ old ++ line_of (refusal_of (told_of_request refusal)) → (refusal ≡ request_error.Memory → ⊥)
+        → Appends (Answer c after) old new
+    refused_answer refusal c after old new h left e is = (
+      line_of (refusal_of (told_of_request refusal)),
+      e,
+      not_executed refusal (record {
+        request = asked;
+        asks = asks;
+        is_refusal = is;
+        due = as_asked (λ q. IsRefused a.scalars q a.by_rules refusal) h;
+      }) refl (kept refusal left is),
+    )
+      where
+        kept : (e : GraphQLError) → LeftUnanswered a.scalars (asked_with query name (get_by_text request.variables)) a.resolver e c after
+            → (e ≡ request_error.Memory → ⊥) → after ≡ c
+        kept (request_error.ParseError fault) l n = l
+        kept (request_error.ValidationError errors) l n = l
+        kept request_error.NoOperationProvided l n = l
+        kept request_error.MultipleOperationsProvided l n = l
+        kept request_error.UnknownOperationName l n = l
+        kept request_error.IsSubscription l n = l
+        kept request_error.NotSubscription l n = l
+        kept request_error.NoMutationType l n = l
+        kept request_error.Memory l n = absurd (n refl)
 
-    -- an answer is one line
-    pub answer_is_line : ((v : Value ScalarAnswer) → IsLine (line_of v)) → (answered : Bytes) → Answer answered → IsLine answered
-    answer_is_line lines answered (no_request refusal h e) = subst IsLine (sym e) (lines (refusal_of (told_of_line limit refusal)))
-    answer_is_line lines answered (not_executed refusal h e) = subst IsLine (sym e) (lines (refusal_of (told_of_request refusal)))
-    answer_is_line lines answered (executed_to found errors h e) = subst IsLine (sym e) (lines (response_of answer found errors))
+    -- where memory runs out once the operation is executed, its whole change is left
+    pub executed_broken : (found : Value S) (errors : List (ExecutionError S)) (c after : X)
+        → IsAnswered a.scalars (asked_with query name (get_by_text request.variables)) a.resolver a.by_fields c found errors after
+        → LeavesBroken a line c after
+    executed_broken found errors c after h = inr (record {
+      request = asked;
+      asks = asks;
+      broken = as_asked (λ q. IsBrokenOff a.scalars q a.resolver c after) (broken-at-the-end a.scalars _ a.resolver a.by_fields c after found errors h);
+    })
+
+    pub refused_broken : (refusal : GraphQLError) (c after : X)
+        → LeftUnanswered a.scalars (asked_with query name (get_by_text request.variables)) a.resolver refusal c after
+        → LeavesBroken a line c after
+    refused_broken (request_error.ParseError fault) c after l = inl l
+    refused_broken (request_error.ValidationError errors) c after l = inl l
+    refused_broken request_error.NoOperationProvided c after l = inl l
+    refused_broken request_error.MultipleOperationsProvided c after l = inl l
+    refused_broken request_error.UnknownOperationName c after l = inl l
+    refused_broken request_error.IsSubscription c after l = inl l
+    refused_broken request_error.NotSubscription c after l = inl l
+    refused_broken request_error.NoMutationType c after l = inl l
+    refused_broken request_error.Memory c after (inl same) = inl same
+    refused_broken request_error.Memory c after (inr broken) = inr (record {
+      request = asked;
+      asks = asks;
+      broken = as_asked (λ q. IsBrokenOff a.scalars q a.resolver c after) broken;
+    })
+
+  -- an answer is one line
+  pub answer_is_line : ((v : Value ScalarAnswer) → IsLine (line_of v)) → (old new : X) (answered : Bytes) → Answer old new answered
+      → IsLine answered
+  answer_is_line lines old new answered (no_request refusal h e kept) = subst IsLine (sym e) (lines (refusal_of (told_of_line a.limit refusal)))
+  answer_is_line lines old new answered (not_executed refusal h e kept) = subst IsLine (sym e) (lines (refusal_of (told_of_request refusal)))
+  answer_is_line lines old new answered (executed_to found errors h e) = subst IsLine (sym e) (lines (response_of a.scalars.answer found errors))

@@ -9,7 +9,7 @@ use crate::laws::answer_lines_have_distinct_keys;
 use crate::refusal::{push_error, push_line_refusal};
 use crate::response::push_response;
 use graphql_answers::laws::values_are_lines;
-use graphql_executor::{GraphQLValue, execute_sync};
+use graphql_executor::{GraphQLMutationValue, Meaning, Resolving, execute_sync};
 use graphql_field_results::ExecutionError;
 use graphql_lines::{GraphQLRequest, LineRefusal, request_from_line};
 use graphql_meta::SchemaScalar;
@@ -62,12 +62,12 @@ pub struct Service<S, R, X, C = <S as SchemaScalar>::Check> {
     ghost conditions: { has_standard_conditions root_node.schema.directives ≡ true },
 }
 
-impl<S: SchemaScalar + Drop, R: GraphQLValue<S>> Service<S, R, R::Context> {
+impl<S: SchemaScalar + Drop, R: GraphQLMutationValue<S>> Service<S, R, R::Context> {
     ghost use Rattle.std.specs.Prelude.{[], OnErr, OnOk};
     ghost use Rattle.graphql_answers.specs.Lines.{IsLine};
     ghost use Rattle.graphql_lines.specs.Request.{HoldsRequest, Request};
     ghost use Rattle.graphql_names.specs.Names.{Bytes};
-    ghost use Rattle.graphql_service.specs.Answers.{Appends, Asks, IsAnswer};
+    ghost use Rattle.graphql_service.specs.Answers.{Appends, Asks, IsAnswer, LeavesBroken, answerer_of};
     ghost use Rattle.graphql_service.specs.Laws.{IsLineOfDistinctKeys};
     ghost use Rattle.graphql_service.specs.Made.{IsOf, Makes};
 
@@ -126,20 +126,27 @@ impl<S: SchemaScalar + Drop, R: GraphQLValue<S>> Service<S, R, R::Context> {
     /// The answer line of a request line, its line feed included, which is then all that `out` holds: the
     /// refusal that comes first, in the order of [`LineRefusal`] and then of `execute_sync`, or data and
     /// errors (GraphQL October 2021, 7 Response). The line is given without its line feed. Each object in
-    /// the answer has distinct keys, however deep. The service, its context too, stays as it was.
+    /// the answer has distinct keys, however deep. A refusal and a query leave the context as it was; a mutation
+    /// changes it, response key after response key. The other parts of the service stay as they were.
     ///
-    /// The only error is want of memory, after which `out` is empty.
+    /// The only error is want of memory, after which `out` is empty; a mutation has then changed the context by a
+    /// beginning of its response keys, by none in part.
     pub fn answer(
         &mut self,
         alloc: Global,
         line: &[u8],
         out: &mut Vec<u8>,
     ) -> Result<(), AllocError>
-        ensures answers { OnOk result (IsAnswer S.reads S.of_bool S.of_int S.of_text S.eq S.answer S.Check.accepts ⟦<RuleError as Ord>⟧.cmp ⟦<ExecutionError<S> as Ord>⟧.cmp self.old.root_node.schema true self.old.line_limit line.now
-            (R.root_node self.old.resolver) (R.type_of self.old.resolver self.old.context) (R.answer self.old.resolver self.old.context) out.new.items) }
+        ensures answers { let a = answerer_of ⟦<S as Meaning>⟧.meaning ⟦<RuleError as Ord>⟧.cmp
+            ⟦<ExecutionError<S> as Ord>⟧.cmp ⟦<R as Resolving<S>>⟧.resolving self.old in
+            OnOk result (IsAnswer a line.now self.old.context out.new.items self.new.context) }
         ensures line { OnOk result (IsLine out.new.items) }
         ensures distinct { OnOk result (IsLineOfDistinctKeys out.new.items) }
-        ensures unchanged { IsOf self.old.root_node self.old.resolver self.old.context self.old.line_limit self.old.selection_limit self.new }
+        ensures parts { IsOf self.old.root_node self.old.resolver self.new.context
+            self.old.line_limit self.old.selection_limit self.new }
+        ensures broken { let a = answerer_of ⟦<S as Meaning>⟧.meaning ⟦<RuleError as Ord>⟧.cmp
+            ⟦<ExecutionError<S> as Ord>⟧.cmp ⟦<R as Resolving<S>>⟧.resolving self.old in
+            OnErr result (LeavesBroken a line.now self.old.context self.new.context) }
         ensures emptied { OnErr result (out.new.items ≡ []) }
     {
         values_are_lines();
@@ -161,9 +168,15 @@ impl<S: SchemaScalar + Drop, R: GraphQLValue<S>> Service<S, R, R::Context> {
         line: &[u8],
         out: &mut Vec<u8>,
     ) -> Result<(), AllocError>
-        ensures answers { OnOk result (Appends (IsAnswer S.reads S.of_bool S.of_int S.of_text S.eq S.answer S.Check.accepts ⟦<RuleError as Ord>⟧.cmp ⟦<ExecutionError<S> as Ord>⟧.cmp self.old.root_node.schema true self.old.line_limit line.now
-            (R.root_node self.old.resolver) (R.type_of self.old.resolver self.old.context) (R.answer self.old.resolver self.old.context)) out.old.items out.new.items) }
-        ensures unchanged { IsOf self.old.root_node self.old.resolver self.old.context self.old.line_limit self.old.selection_limit self.new }
+        ensures answers { let a = answerer_of ⟦<S as Meaning>⟧.meaning ⟦<RuleError as Ord>⟧.cmp
+            ⟦<ExecutionError<S> as Ord>⟧.cmp ⟦<R as Resolving<S>>⟧.resolving self.old in
+            OnOk result (Appends (λ text. IsAnswer a line.now self.old.context text self.new.context)
+            out.old.items out.new.items) }
+        ensures parts { IsOf self.old.root_node self.old.resolver self.new.context
+            self.old.line_limit self.old.selection_limit self.new }
+        ensures broken { let a = answerer_of ⟦<S as Meaning>⟧.meaning ⟦<RuleError as Ord>⟧.cmp
+            ⟦<ExecutionError<S> as Ord>⟧.cmp ⟦<R as Resolving<S>>⟧.resolving self.old in
+            OnErr result (LeavesBroken a line.now self.old.context self.new.context) }
     {
         if line.len() > self.line_limit {
             return push_line_refusal(alloc, out, LineRefusal::LineTooLong, self.line_limit);
@@ -181,9 +194,18 @@ impl<S: SchemaScalar + Drop, R: GraphQLValue<S>> Service<S, R, R::Context> {
         request: &GraphQLRequest<S>,
         out: &mut Vec<u8>,
     ) -> Result<(), AllocError>
-        ensures answers { OnOk result ((line : Bytes) (asked : Request) → Asks S.of_bool S.of_int S.of_text self.old.line_limit line asked → HoldsRequest S.of_bool S.of_int S.of_text asked request.now
-            → Appends (IsAnswer S.reads S.of_bool S.of_int S.of_text S.eq S.answer S.Check.accepts ⟦<RuleError as Ord>⟧.cmp ⟦<ExecutionError<S> as Ord>⟧.cmp self.old.root_node.schema true self.old.line_limit line (R.root_node self.old.resolver) (R.type_of self.old.resolver self.old.context) (R.answer self.old.resolver self.old.context)) out.old.items out.new.items) }
-        ensures unchanged { IsOf self.old.root_node self.old.resolver self.old.context self.old.line_limit self.old.selection_limit self.new }
+        ensures answers { let a = answerer_of ⟦<S as Meaning>⟧.meaning ⟦<RuleError as Ord>⟧.cmp
+            ⟦<ExecutionError<S> as Ord>⟧.cmp ⟦<R as Resolving<S>>⟧.resolving self.old in
+            OnOk result ((line : Bytes) (asked : Request) → Asks a line asked
+            → HoldsRequest S.of_bool S.of_int S.of_text asked request.now
+            → Appends (λ text. IsAnswer a line self.old.context text self.new.context) out.old.items out.new.items) }
+        ensures parts { IsOf self.old.root_node self.old.resolver self.new.context
+            self.old.line_limit self.old.selection_limit self.new }
+        ensures broken { let a = answerer_of ⟦<S as Meaning>⟧.meaning ⟦<RuleError as Ord>⟧.cmp
+            ⟦<ExecutionError<S> as Ord>⟧.cmp ⟦<R as Resolving<S>>⟧.resolving self.old in
+            OnErr result ((line : Bytes) (asked : Request) → Asks a line asked
+            → HoldsRequest S.of_bool S.of_int S.of_text asked request.now
+            → LeavesBroken a line self.old.context self.new.context) }
     {
         let name = lent(&request.operation_name);
         let query = request.query.as_str();

@@ -6,7 +6,7 @@ ghost use Rattle.graphql_service.specs.Made.{IsOf};
 ghost use Rattle.graphql_service.specs.Serving.{serve_error_text};
 
 use crate::service::Service;
-use graphql_executor::GraphQLValue;
+use graphql_executor::GraphQLMutationValue;
 use graphql_meta::SchemaScalar;
 use std::alloc::{AllocError, AllocFailed, Global};
 use std::error::Error;
@@ -87,15 +87,17 @@ fn keep(line: &mut Vec<u8>, bytes: &[u8], limit: usize) -> Result<(), AllocError
     }
 }
 
-/// Answers a line behind the answers that wait to be written, unless it is empty.
-fn answer<S: SchemaScalar + Drop, R: GraphQLValue<S>>(
+/// Answers a line behind the answers that wait to be written, unless it is empty. Of the service nothing but the
+/// context changes.
+fn answer<S: SchemaScalar + Drop, R: GraphQLMutationValue<S>>(
     alloc: Global,
     service: &mut Service<S, R, R::Context>,
     line: &[u8],
     one: &mut Vec<u8>,
     answers: &mut Vec<u8>,
 ) -> Result<(), AllocError>
-    ensures { IsOf service.old.root_node service.old.resolver service.old.context service.old.line_limit service.old.selection_limit service.new }
+    ensures { IsOf service.old.root_node service.old.resolver service.new.context
+        service.old.line_limit service.old.selection_limit service.new }
 {
     if line.is_empty() {
         return Ok(());
@@ -105,7 +107,7 @@ fn answer<S: SchemaScalar + Drop, R: GraphQLValue<S>>(
 }
 
 /// Takes a block of the input: answers each line that ends in it, and keeps what comes of the next.
-fn feed<S: SchemaScalar + Drop, R: GraphQLValue<S>>(
+fn feed<S: SchemaScalar + Drop, R: GraphQLMutationValue<S>>(
     alloc: Global,
     service: &mut Service<S, R, R::Context>,
     limit: usize,
@@ -160,7 +162,7 @@ fn read_block<I: Read>(reader: &mut I, block: &mut [u8]) -> Result<Option<usize>
 }
 
 /// Answers the lines that end in a block, and writes their answers.
-fn answer_block<S: SchemaScalar + Drop, R: GraphQLValue<S>, O: Write>(
+fn answer_block<S: SchemaScalar + Drop, R: GraphQLMutationValue<S>, O: Write>(
     alloc: Global,
     service: &mut Service<S, R, R::Context>,
     limit: usize,
@@ -178,7 +180,7 @@ fn answer_block<S: SchemaScalar + Drop, R: GraphQLValue<S>, O: Write>(
 }
 
 /// Answers the line behind the last line feed.
-fn answer_rest<S: SchemaScalar + Drop, R: GraphQLValue<S>, O: Write>(
+fn answer_rest<S: SchemaScalar + Drop, R: GraphQLMutationValue<S>, O: Write>(
     alloc: Global,
     service: &mut Service<S, R, R::Context>,
     buffers: &mut Buffers,
@@ -202,7 +204,7 @@ fn answer_rest<S: SchemaScalar + Drop, R: GraphQLValue<S>, O: Write>(
 ///
 /// Errors: a read that failed, a write that failed or took nothing, and want of memory, each at the first
 /// that comes. What was answered before is written, unless a write failed.
-pub fn serve<S: SchemaScalar + Drop, R: GraphQLValue<S>, I: Read, O: Write>(
+pub fn serve<S: SchemaScalar + Drop, R: GraphQLMutationValue<S>, I: Read, O: Write>(
     alloc: Global,
     service: &mut Service<S, R, R::Context>,
     reader: &mut I,

@@ -9,6 +9,7 @@ use graphql_execution::{Executor, GraphQLValue};
 use graphql_field_results::{FieldResult, Resolved};
 use graphql_items::{Items, Text};
 use graphql_meta::{Argument, DeprecationStatus, Field, MetaType, ObjectMeta, ScalarMeta};
+use graphql_mutation::WithoutMutations;
 use graphql_names::NamedItems;
 use graphql_schema::{RootNode, SchemaType};
 use graphql_service::Service;
@@ -110,7 +111,8 @@ const ROWS: &[(&str, &str)] = &[
 fn scalars_may_be_of_another_type(rt: HostRuntime) {
     let alloc = rt.alloc();
     let root_node = RootNode::new(schema(&rt, alloc));
-    let mut service = Service::new(root_node, Greatest, (), 65_536, 10_000).expect(
+    let resolver = WithoutMutations { resolver: Greatest };
+    let mut service = Service::new(root_node, resolver, (), 65_536, 10_000).expect(
         &rt,
         "a service",
     );

@@ -3,8 +3,8 @@ use Rattle.graphql_schema.specs.Declarations.{declarations_of}
 use Rattle.graphql_validation.specs.Valid.{HasNoFault}
 use Rattle.graphql_executor.proofs.request.execute_sync.Goals as goal
 
-pub execute_query-requires : goal.execute_query-requires
-execute_query-requires g c =
+pub execute_validated_query-requires : goal.execute_validated_query-requires
+execute_validated_query-requires g c =
     let document = c.in_ok-document.document in
     let valid = subst (λ s. HasNoFault g.S.ScalarValue.answer g.S.Check.Check.accepts (record { schema = declarations_of s; document = document })) (sym c.schema.ensures) c.in_ok-document.ensures.read.valid.valid.no_fault in
     rw c.as_slice-definitions.ensures (c.documents_without_a_fault_are_settled.ensures document valid)
