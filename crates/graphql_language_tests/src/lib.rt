@@ -10,8 +10,6 @@ mod cursors;
 #[cfg(test)]
 mod documents;
 #[cfg(test)]
-mod faults;
-#[cfg(test)]
 mod parsers;
 #[cfg(test)]
 mod places;

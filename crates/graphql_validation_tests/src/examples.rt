@@ -6,8 +6,8 @@ use graphql_text::{Items, Text};
 use graphql_type_references::{Type, TypeModifier};
 use graphql_validation::{
     Argument, Check, DeprecationStatus, DirectiveLocation, EnumMeta, EnumValue, Field,
-    InputObjectMeta, InterfaceMeta, MetaType, NamedItems, ObjectMeta, ScalarMeta, SchemaError,
-    SchemaType, UnionMeta,
+    InputObjectMeta, InterfaceMeta, MetaType, NamedItems, ObjectMeta, ScalarMeta, SchemaType,
+    UnionMeta,
 };
 use graphql_values::{DefaultScalarValue, InputValue};
 use std::alloc::Global;
@@ -48,12 +48,11 @@ pub struct Of<'a> {
     pub wraps: &'a [TypeModifier],
 }
 
-/// A field in short: its name, its type, and the type of its argument `a` where it has one.
+/// A field in short: its name and its type.
 #[derive(Clone, Copy)]
 pub struct FieldRow<'a> {
     pub name: &'a str,
     pub of: Of<'a>,
-    pub argument: Option<Of<'a>>,
 }
 
 /// A type in short, its name first.
@@ -67,9 +66,6 @@ pub enum Row<'a> {
 
     /// Of one field.
     Object(&'a str, FieldRow<'a>),
-
-    /// Of the same field twice.
-    Twice(&'a str, FieldRow<'a>),
 
     /// Of one field; and the interface that it lists.
     Implementor(&'a str, FieldRow<'a>, &'a str),
@@ -100,17 +96,16 @@ pub fn non_null(name: &str) -> Of<'_> {
     }
 }
 
-/// A field without arguments, of a type with `null`.
+/// A field of a type with `null`.
 pub fn plain<'a>(name: &'a str, type_name: &'a str) -> FieldRow<'a> {
     FieldRow {
         name,
         of: nullable(type_name),
-        argument: None,
     }
 }
 
 /// What every schema has, and a query root of the field `name: String`.
-pub fn every_schema() -> [Row<'static>; 5] {
+fn every_schema() -> [Row<'static>; 5] {
     [
         Row::Scalar("Boolean"),
         Row::Scalar("String"),
@@ -144,17 +139,6 @@ pub fn with<T: Drop>(rt: &impl Abort, mut items: Items<T>, item: T) -> Items<T> 
 /// An item alone.
 pub fn alone<T: Drop>(rt: &impl Abort, alloc: Global, item: T) -> Items<T> {
     with(rt, Items::new(alloc), item)
-}
-
-/// The items with one more, which is found by its name.
-pub fn declared_with<T: Named + Drop>(
-    rt: &impl Abort,
-    mut items: NamedItems<T>,
-    item: T,
-) -> NamedItems<T> {
-    let pushed = items.push(item).is_ok();
-    assert!(rt; pushed);
-    items
 }
 
 /// An item alone, which is found by its name.
@@ -195,22 +179,11 @@ pub fn argument(
     Argument::new(text(rt, alloc, name), reference(rt, alloc, of))
 }
 
-fn arguments(
-    rt: &impl Abort,
-    alloc: Global,
-    of: Option<Of<'_>>,
-) -> Option<NamedItems<Argument<DefaultScalarValue>>> {
-    match of {
-        Some(of) => Some(declared_alone(rt, alloc, argument(rt, alloc, "a", of))),
-        None => None,
-    }
-}
-
 fn field(rt: &impl Abort, alloc: Global, row: FieldRow<'_>) -> Field<DefaultScalarValue> {
     Field {
         name: text(rt, alloc, row.name),
         description: None,
-        arguments: arguments(rt, alloc, row.argument),
+        arguments: None,
         field_type: reference(rt, alloc, row.of),
         deprecation_status: DeprecationStatus::Current,
     }
@@ -225,12 +198,6 @@ pub fn object(
 ) -> ObjectMeta<DefaultScalarValue> {
     let fields = declared_alone(rt, alloc, field(rt, alloc, row));
     ObjectMeta::new(alloc, text(rt, alloc, name), fields)
-}
-
-fn twice(rt: &impl Abort, alloc: Global, name: &str, row: FieldRow<'_>) -> Meta {
-    let fields = declared_alone(rt, alloc, field(rt, alloc, row));
-    let fields = declared_with(rt, fields, field(rt, alloc, row));
-    ObjectMeta::new(alloc, text(rt, alloc, name), fields).into_meta()
 }
 
 fn implementor(
@@ -281,7 +248,6 @@ fn meta_of(rt: &impl Abort, alloc: Global, row: Row<'_>) -> Meta {
         Row::Scalar(name) => scalar(rt, alloc, name, true),
         Row::Refusing(name) => scalar(rt, alloc, name, false),
         Row::Object(name, of) => object(rt, alloc, name, of).into_meta(),
-        Row::Twice(name, of) => twice(rt, alloc, name, of),
         Row::Implementor(name, of, listed) => {
             implementor(rt, alloc, object(rt, alloc, name, of), listed)
         }
@@ -293,7 +259,7 @@ fn meta_of(rt: &impl Abort, alloc: Global, row: Row<'_>) -> Meta {
 }
 
 /// The types, and behind them those that are meant.
-pub fn with_all(
+fn with_all(
     rt: &impl Abort,
     alloc: Global,
     mut types: Items<Meta>,
@@ -305,21 +271,12 @@ pub fn with_all(
     types
 }
 
-/// The schema of these types, with the query root `Query`, a mutation root where one is given, and the
-/// name of no subscription root.
-pub fn schema_of(
-    rt: &impl Abort,
-    alloc: Global,
-    first: &[Row<'_>],
-    rows: &[Row<'_>],
-    mutation: Option<&str>,
-) -> Result<Schema, SchemaError> {
-    let types = with_all(rt, alloc, Items::new(alloc), first);
-    let types = with_all(rt, alloc, types, rows);
-    SchemaType::new(alloc, types, "Query", mutation, Some("_EmptySubscription"))
-}
-
-/// The same with what every schema has, of types without a fault.
+/// The schema of these types and of what every schema has, with the query root `Query`, a mutation root
+/// where one is given, and the name of no subscription root.
 pub fn schema(rt: &impl Abort, alloc: Global, rows: &[Row<'_>], mutation: Option<&str>) -> Schema {
-    schema_of(rt, alloc, &every_schema(), rows, mutation).expect(rt, "a schema")
+    let types = with_all(rt, alloc, Items::new(alloc), &every_schema());
+    let types = with_all(rt, alloc, types, rows);
+    SchemaType::new(alloc, types, "Query", mutation, Some("_EmptySubscription")).expect(
+        rt, "a schema",
+    )
 }

@@ -1,42 +1,8 @@
-use crate::examples::{
-    FieldRow, Of, Row, Schema, argument, declared_alone, non_null, nullable, schema, selections,
-    text,
-};
+use crate::examples::{Schema, argument, declared_alone, nullable, schema, selections, text};
 use graphql_validation::{DirectiveType, SchemaError};
 use graphql_values::DefaultScalarValue;
 use std::alloc::Global;
 use std::process::Abort;
-
-/// Whether a schema can be executed of an interface of the field `f: String!`, and of an object that
-/// lists it and has the field `f` of this type and with this argument.
-fn keeps(rt: &impl Abort, alloc: Global, of: Of<'static>, argument: Option<Of<'static>>) -> bool {
-    let promise = FieldRow {
-        name: "f",
-        of: non_null("String"),
-        argument: None,
-    };
-    let own = FieldRow {
-        name: "f",
-        of,
-        argument,
-    };
-    let rows = [
-        Row::Scalar("Int"),
-        Row::Interface("Promise", promise),
-        Row::Implementor("Keeper", own, "Promise"),
-    ];
-    schema(rt, alloc, &rows, None).schema_is_executable()
-}
-
-#[test]
-fn an_object_keeps_what_its_interface_promises(rt: HostRuntime) {
-    let alloc = rt.alloc();
-    let string = non_null("String");
-    assert!(rt; keeps(&rt, alloc, string, None));
-    assert!(rt; !keeps(&rt, alloc, nullable("String"), None));
-    assert!(rt; !keeps(&rt, alloc, string, Some(non_null("Int"))));
-    assert!(rt; keeps(&rt, alloc, string, Some(nullable("Int"))));
-}
 
 /// A directive of this name where the standard has its conditions, with the argument `if` of this
 /// type, with `null`.

@@ -4,9 +4,9 @@ use Rattle.graphql_meta.proofs.ScalarCheckLemmas.{scalar_consistent, scalar_acce
 use Rattle.graphql_validation_tests.proofs.scalar_checks.boolean_accepts_truth_values.Goals as goal
 
 pub new-boolean-requires-clause-consistent : goal.new-boolean-requires-clause-consistent
-new-boolean-requires-clause-consistent g c = scalar_consistent _ (λ p r said. rw (known_box c.into_dyn_box.result c.into_dyn_box.ensures.0) at said)
+new-boolean-requires-clause-consistent c = scalar_consistent _ (λ p r said. rw (known_box c.into_dyn_box.result c.into_dyn_box.ensures.0) at said)
 
 pub decides_conditions-requires : goal.decides_conditions-requires
-decides_conditions-requires g c =
+decides_conditions-requires c =
     let is = c.new-boolean.ensures ∙ known_box c.into_dyn_box.result c.into_dyn_box.ensures.0 in
     record { exactly = scalar_accepted _ (λ p r said. rw is at said) (λ p held. rw is held) }
