@@ -1,0 +1,3 @@
+pub mod SampleTokens
+pub mod SampleScalars
+pub mod SampleValues

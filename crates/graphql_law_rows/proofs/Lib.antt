@@ -1,0 +1,5 @@
+pub mod SampleLiterals
+pub mod SampleTexts
+pub mod Parsed
+pub mod Told
+pub mod Answered

@@ -1,0 +1,5 @@
+pub mod SampleLiterals
+pub mod SampleTexts
+pub mod OnlyAnswers
+pub mod OnlyTold
+pub mod OnlyResponses
