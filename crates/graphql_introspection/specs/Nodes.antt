@@ -1,0 +1,57 @@
+-- Parts of a schema as answers, and lists of them (GraphQL October 2021, 4.2 Schema Introspection).
+use Rattle.std.specs.Prelude.{List, [], map, Option}
+use Rattle.std.specs.Option.{option_map_or}
+use Rattle.std.specs.List.{filter_map}
+use Rattle.graphql_names.specs.Names.{Bytes}
+use Rattle.graphql_type_references.specs.declared.type_modifier.TypeModifier.{TypeModifier}
+use Rattle.graphql_meta.specs.declared.directive.DirectiveType.{DirectiveType}
+use Rattle.graphql_meta.specs.declared.meta.argument.Argument.{Argument}
+use Rattle.graphql_meta.specs.declared.meta.enum_value.EnumValue.{EnumValue}
+use Rattle.graphql_meta.specs.declared.meta.field.Field.{Field}
+use Rattle.graphql_meta.specs.declared.meta.MetaType.{MetaType}
+use Rattle.graphql_meta.specs.Types.{TypeOf}
+use Rattle.graphql_schema_faults.specs.Lookups.{type_named}
+use Rattle.graphql_field_results.specs.declared.resolved.Resolved.{Resolved}
+use Rattle.graphql_field_results.specs.declared.resolved.Resolved.TheVariants as resolved
+use Rattle.graphql_introspection.specs.declared.part.SchemaPart.{SchemaPart}
+use Rattle.graphql_introspection.specs.declared.part.SchemaPart.TheVariants as part
+
+abbrev pub Answer : Type 0 → Type 0 → Type 0
+Answer S C = Resolved S (SchemaPart S C)
+
+module _ {S C : Type 0} where
+  -- a type within wraps, the innermost first
+  abbrev pub wrapped : List TypeModifier → MetaType S C → Answer S C
+  wrapped wraps m = resolved.Node (part.Type m wraps)
+
+  -- a type without wraps: null is among its values
+  abbrev pub bare : MetaType S C → Answer S C
+  bare m = wrapped [] m
+
+  abbrev pub bare_or_null : Option (MetaType S C) → Answer S C
+  bare_or_null m = option_map_or bare m resolved.Null
+
+  abbrev pub bare_types : List (MetaType S C) → Answer S C
+  bare_types ms = resolved.List (map bare ms)
+
+  abbrev pub arguments : List (Argument S) → Answer S C
+  arguments xs = resolved.List (map (λ a. resolved.Node (part.InputValue a)) xs)
+
+  abbrev pub fields : List (Field S) → Answer S C
+  fields xs = resolved.List (map (λ f. resolved.Node (part.Field f)) xs)
+
+  abbrev pub enum_values : List EnumValue → Answer S C
+  enum_values xs = resolved.List (map (λ v. resolved.Node (part.EnumValue v)) xs)
+
+  abbrev pub directives : List (DirectiveType S) → Answer S C
+  directives xs = resolved.List (map (λ d. resolved.Node (part.Directive d)) xs)
+
+-- `types`: those of the schema
+module _ {S C : Type 0} (types : List (MetaType S C)) where
+  -- the type that a reference means, within its wraps
+  abbrev pub referred : TypeOf → Answer S C
+  referred t = option_map_or (wrapped t.modifiers) (type_named types t.name) resolved.Null
+
+  -- the types of these names
+  abbrev pub named_types : List Bytes → Answer S C
+  named_types names = bare_types (filter_map (type_named types) names)
