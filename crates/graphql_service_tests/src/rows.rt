@@ -6,12 +6,14 @@ use crate::served::{Asked, Row, over};
 const FAILED: &[Row<'_>] = &[(
     r#"{"query":"{ hero { friend { id } friend { name } } }"}"#,
     r#"{"data":{"hero":{"friend":null}},"errors":[{"message":"Null at a non-null place","locations":[{"line":1,"column":33}],"path":["hero","friend","name"]}]}"#,
+    0,
 )];
 
 /// A line of 29 bytes.
 const SHORT: &[Row<'_>] = &[(
     r#"{"query":"{ hero { name } }"}"#,
     r#"{"data":{"hero":{"name":"Ann"}}}"#,
+    0,
 )];
 
 /// The same where 28 are too many, and so is one that is no request.
@@ -19,16 +21,68 @@ const LONG: &[Row<'_>] = &[
     (
         r#"{"query":"{ hero { name } }"}"#,
         r#"{"errors":[{"message":"Line is longer than 28 bytes"}]}"#,
+        0,
     ),
     (
         "                             ",
         r#"{"errors":[{"message":"Line is longer than 28 bytes"}]}"#,
+        0,
+    ),
+];
+
+/// The name of the root's type, of which no resolver is asked; a field that is left out; a key that stands twice; a
+/// request that is refused; and what the next line sees.
+const CHANGED: &[Row<'_>] = &[
+    (
+        r#"{"query":"mutation { __typename }"}"#,
+        r#"{"data":{"__typename":"Mutation"}}"#,
+        0,
+    ),
+    (
+        r#"{"query":"mutation M($n: String!, $x: Boolean!) { rename(id: \"h2\", name: $n) @include(if: $x) { id } }","variables":{"n":"Z","x":false}}"#,
+        r#"{"data":{}}"#,
+        0,
+    ),
+    (
+        r#"{"query":"mutation { rename(id: \"h1\", name: \"Eve\") { id } rename(id: \"h1\", name: \"Eve\") { name } }"}"#,
+        r#"{"data":{"rename":{"id":"h1","name":"Eve"}}}"#,
+        1,
+    ),
+    (
+        r#"{"query":"mutation M($n: String!) { rename(id: \"h1\", name: $n) { id } }"}"#,
+        r#"{"errors":[{"message":"Variable \"$n\" of type \"String!\" was not provided","locations":[{"line":1,"column":12}]}]}"#,
+        1,
+    ),
+    (
+        r#"{"query":"{ hero { name } }"}"#,
+        r#"{"data":{"hero":{"name":"Eve"}}}"#,
+        1,
+    ),
+];
+
+/// A mutation of another human, where the hero has no name.
+const OTHERS: &[Row<'_>] = &[
+    (
+        r#"{"query":"mutation { a: rename(id: \"h2\", name: \"X\") { id } }"}"#,
+        r#"{"data":{"a":{"id":"h2"}}}"#,
+        1,
+    ),
+    (
+        r#"{"query":"{ hero { name } }"}"#,
+        r#"{"data":{"hero":null},"errors":[{"message":"Null at a non-null place","locations":[{"line":1,"column":10}],"path":["hero","name"]}]}"#,
+        1,
     ),
 ];
 
 #[test]
 fn a_field_that_fails_is_told(rt: HostRuntime) {
-    over(&rt, rt.alloc(), Asked::Nameless(FAILED));
+    over(&rt, rt.alloc(), Asked::Nameless("h2", FAILED));
+}
+
+#[test]
+fn mutations_are_seen_by_later_lines(rt: HostRuntime) {
+    over(&rt, rt.alloc(), Asked::Lines(65_536, CHANGED));
+    over(&rt, rt.alloc(), Asked::Nameless("h1", OTHERS));
 }
 
 #[test]

@@ -7,12 +7,9 @@ ghost use Rattle.graphql_meta.specs.ScalarChecks.{IsBoolean, IsId, IsInt, IsStri
 
 use crate::schemas::{is_refused, unkept, with_other_skip};
 use crate::serving::{Run, are_served};
-use graphql_items::{Items, Text};
 use graphql_meta::TypeCheck;
 use graphql_schema::{RootNode, SchemaType};
-use graphql_service::sample::{
-    SampleRecord, SampleRecords, SampleResolver, sample_records, schema_s,
-};
+use graphql_service::sample::{SampleRecords, SampleResolver, sample_records, schema_s};
 use graphql_service::scalar_checks::{boolean_check, id_check, int_check, string_check};
 use graphql_service::{Service, ServiceFault, StandardChecks};
 use graphql_values::{DefaultScalarValue, InputValue};
@@ -24,8 +21,9 @@ type Value = InputValue<DefaultScalarValue>;
 /// A service over the sample's schema and resolver.
 pub type SampleService = Service<DefaultScalarValue, SampleResolver, SampleRecords>;
 
-/// A line, and its answer without the line feed.
-pub type Row<'a> = (&'a str, &'a str);
+/// A line, its answer without the line feed, and how often the resolver has been asked for a field of a mutation
+/// by then.
+pub type Row<'a> = (&'a str, &'a str, u32);
 
 /// What is asserted of services.
 #[derive(Clone, Copy)]
@@ -33,8 +31,8 @@ pub enum Asked<'a> {
     /// What lines of at most so many bytes are answered over the sample's records.
     Lines(usize, &'a [Row<'a>]),
 
-    /// The same where the second human has no name.
-    Nameless(&'a [Row<'a>]),
+    /// The same where the human of this `id` has no name.
+    Nameless(&'a str, &'a [Row<'a>]),
 
     /// How runs over input end, and what they write.
     Runs(&'a [Run<'a>]),
@@ -46,26 +44,18 @@ pub enum Asked<'a> {
     OtherSkip,
 }
 
-/// The sample's records, with no name of the second human.
-fn nameless(alloc: Global) -> Result<SampleRecords, AllocError> {
-    let mut records = Items::with_capacity(alloc, 2)?;
-    records.push(SampleRecord {
-        id: Text::from_str(alloc, "h1")?,
-        name: Some(Text::from_str(alloc, "Ann")?),
-        friend: Some(Text::from_str(alloc, "h2")?),
-    })?;
-    records.push(SampleRecord {
-        id: Text::from_str(alloc, "h2")?,
-        name: None,
-        friend: None,
-    })?;
-    Ok(SampleRecords {
-        records,
-        root_calls: 0,
-    })
+/// The sample's records, with no name of the human of this `id`.
+fn nameless(alloc: Global, id: &str) -> Result<SampleRecords, AllocError> {
+    let mut sample = sample_records(alloc)?;
+    for human in sample.records.as_mut_slice() {
+        if human.id.as_str() == id {
+            human.name = None;
+        }
+    }
+    Ok(sample)
 }
 
-/// Asserts what lines are answered, and that the records stay.
+/// Asserts what lines are answered, and how often the resolver was asked for a field of a mutation.
 fn are_answered(rt: &impl Abort, alloc: Global, service: &mut SampleService, rows: &[Row<'_>]) {
     let mut out = Vec::new(alloc);
     for row in rows {
@@ -77,7 +67,7 @@ fn are_answered(rt: &impl Abort, alloc: Global, service: &mut SampleService, row
         };
         assert_eq!(rt; front, row.1.as_bytes());
         assert_eq!(rt; end, b'\n');
-        assert_eq!(rt; service.context().root_calls, 0);
+        assert_eq!(rt; service.context().root_calls, row.2);
     }
 }
 
@@ -110,8 +100,8 @@ fn with_schema(
         Asked::Lines(limit, rows) => {
             are_answered(rt, alloc, &mut service(rt, schema, records, limit), rows);
         }
-        Asked::Nameless(rows) => {
-            let records = nameless(alloc).expect(rt, "memory");
+        Asked::Nameless(id, rows) => {
+            let records = nameless(alloc, id).expect(rt, "memory");
             are_answered(rt, alloc, &mut service(rt, schema, records, 65_536), rows);
         }
         Asked::Runs(runs) => are_served(rt, alloc, &mut service(rt, schema, records, 64), runs),
