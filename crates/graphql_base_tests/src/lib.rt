@@ -2,9 +2,8 @@
 //! field has none.
 //!
 //! They show what no contract says: printed texts, tables of rows, each call that takes memory once
-//! on its happy path, generic code at a concrete type; and something that meets the premise of each
-//! law that has one. They stand apart from the crates that they test, as a crate with tests of its own
-//! is proved twice.
+//! on its happy path, generic code at a concrete type. They stand apart from the crates that they
+//! test, as a crate with tests of its own is proved twice.
 #![tactic(auto)]
 
 #[cfg(test)]
@@ -36,20 +35,14 @@ mod output_values;
 #[cfg(test)]
 mod primitives;
 #[cfg(test)]
-mod scalar_laws;
-#[cfg(test)]
 mod scalar_values;
 #[cfg(test)]
 mod texts;
 #[cfg(test)]
 mod to_scalars;
 #[cfg(test)]
-mod token_laws;
-#[cfg(test)]
 mod tokens;
 #[cfg(test)]
 mod told;
 #[cfg(test)]
 mod type_references;
-#[cfg(test)]
-mod value_laws;

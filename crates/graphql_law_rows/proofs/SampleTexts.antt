@@ -1,11 +1,11 @@
--- The texts are read as they say; the tokens of the two lines spell their document, and no tokens none.
+-- Texts without a token are read as they say; the tokens of the two lines spell their document, and no tokens none.
 use Rattle.std.proofs.Common.{◌≡◌, refl, ℕ, inl, inr, Bool, false, List, [], ◌∷◌, ◌++◌, None, Result, codes}
 use Rattle.graphql_text.specs.declared.parse_error.ParseError.{ParseError}
 use Rattle.graphql_text.specs.declared.position.SourcePosition.{SourcePosition}
 use Rattle.graphql_text.specs.declared.token.ScalarToken.{ScalarToken}
-use Rattle.graphql_text.specs.declared.token.Token.TheVariants.{Name, CurlyOpen, CurlyClose, EndOfFile}
+use Rattle.graphql_text.specs.declared.token.Token.TheVariants.{EndOfFile}
 use Rattle.graphql_text.specs.Position.{origin}
-use Rattle.graphql_text.specs.Reading.{Place, between}
+use Rattle.graphql_text.specs.Reading.{between}
 use Rattle.graphql_text.specs.Tokens.{Tokens, cut, token, ahead, name_from}
 use Rattle.graphql_grammar.specs.Input.{Located}
 use Rattle.graphql_grammar.specs.Ahead.{mk}
@@ -17,58 +17,12 @@ use Rattle.graphql_language.specs.Documents.{DefinitionOf, DocumentOf}
 use Rattle.graphql_language.specs.ReadDocuments.{query_of}
 use Rattle.graphql_language.specs.Selections.{NamesOf, SelectionOf, SetOf, no_set, of_field, of_parts, of_set, one_selection}
 use Rattle.graphql_language.specs.Texts.{Documents}
-use Rattle.graphql_law_rows.specs.SampleTexts.{at, blank, closed, fault, field_a, finish, located, named, nothing, one_line, opened, others, span, tree, two_lines}
+use Rattle.graphql_law_rows.specs.SampleTexts.{blank, fault, field_a, nothing, tree}
+use Rattle.graphql_law_rows.specs.SampleTokens.{at, before_end, closed, located, named, opened, span}
+use Rattle.graphql_law_rows.proofs.SampleTokens.{stands}
 use lib.Utf8.{encode}
 
 -- ---- tokens
-
-abbrev stands : SourcePosition → List ℕ → Place
-stands position rest = record { at = position; rest = rest }
-
-abbrev behind_opened : Place
-behind_opened = stands (at 1 0 1) (10 ∷ 97 ∷ 125 ∷ [])
-
-abbrev behind_named : Place
-behind_named = stands (at 3 1 1) (125 ∷ [])
-
-abbrev behind_closed : Place
-behind_closed = stands (at 4 1 2) []
-
-abbrev pub tokens : List Located
-tokens = opened ∷ named ∷ closed ∷ []
-
-pub two_lines_are_read : Tokens two_lines (tokens ++ located EndOfFile finish.start finish.end ∷ [])
-unfolding cut token ahead name_from between encode
-two_lines_are_read = record {
-  front = tokens;
-  last = located EndOfFile finish.start finish.end;
-  is = refl;
-  before = behind_closed;
-  after = behind_closed;
-  runs = (behind_opened, refl, refl, (behind_named, refl, refl, (behind_closed, refl, refl, refl)));
-  ends = refl;
-  end = refl;
-}
-
-pub one_line_is_read : Tokens one_line others
-unfolding cut token ahead name_from between encode
-one_line_is_read = record {
-  front =
-      located CurlyOpen (at 0 0 0) (at 1 0 1) ∷ located (Name (codes "a")) (at 1 0 1) (at 2 0 2)
-      ∷ located CurlyClose (at 2 0 2) (at 3 0 3) ∷ [];
-  last = located EndOfFile (at 3 0 3) (at 3 0 3);
-  is = refl;
-  before = stands (at 3 0 3) [];
-  after = stands (at 3 0 3) [];
-  runs = (
-    stands (at 1 0 1) (97 ∷ 125 ∷ []),
-    refl,
-    refl,
-    (stands (at 2 0 2) (125 ∷ []), refl, refl, (stands (at 3 0 3) [], refl, refl, refl)),
-  );
-  ends = refl;
-  end = refl;
-}
 
 -- the end alone
 abbrev pub only_end : SourcePosition → List Located
@@ -131,12 +85,12 @@ module _ {S : Type 0} (reads : ScalarToken → Result S ParseError) (of_bool : B
       of_field (named ∷ []) _ (record { head = named; tail = []; is = refl; stands = refl })
       (of_parts (named ∷ []) [] [] [] _ names absent no_directives no_set)
 
-  its_set : SetOf S reads of_bool tokens (field_a ∷ [])
+  its_set : SetOf S reads of_bool before_end (field_a ∷ [])
   its_set = of_set opened closed (named ∷ []) (field_a ∷ []) refl (one_selection (named ∷ []) field_a a_is_selected) refl
 
-  pub tokens_spell : DocumentOf S reads of_bool tokens tree
+  pub tokens_spell : DocumentOf S reads of_bool before_end tree
   tokens_spell = record {
-    front = tokens;
+    front = before_end;
     back = [];
     is = refl;
     part = _;
@@ -172,7 +126,7 @@ module _ {S : Type 0} (reads : ScalarToken → Result S ParseError) (of_bool : B
     before = [];
     rest = [];
     front = refl;
-    possible = record { more = tokens; tree = tree; spells = tokens_spell };
+    possible = record { more = before_end; tree = tree; spells = tokens_spell };
     impossible = λ a more e begins. absurd (cc);
     too_short = λ e x d. no_document x d;
     fault = unexpected_token refl (λ a more e scalar takes. absurd (cc));

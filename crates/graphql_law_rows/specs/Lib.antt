@@ -1,3 +1,6 @@
+pub mod SampleTokens
+pub mod SampleScalars
+pub mod SampleValues
 pub mod SampleLiterals
 pub mod SampleTexts
 pub mod OnlyAnswers

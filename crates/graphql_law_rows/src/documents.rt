@@ -6,6 +6,7 @@ ghost use Rattle.graphql_language.specs.Texts.{IsDocument, IsRefused};
 ghost use Rattle.graphql_tree.specs.Unlocated.{unlocated_document};
 ghost use Rattle.graphql_tree.specs.declared.document.Definition.{Definition};
 ghost use Rattle.graphql_law_rows.specs.SampleTexts as spec;
+ghost use Rattle.graphql_law_rows.specs.SampleTokens.{one_line, two_lines};
 
 use graphql_language::laws::{differ_in_places, not_both, one_document, one_fault};
 use graphql_text::laws::reading_is_division;
@@ -13,9 +14,10 @@ use graphql_values::ScalarValue;
 
 /// A query of one field in two lines is that document and no other, and has no fault.
 pub fn two_lines_are_a_document<S: ScalarValue>()
-    ensures document { IsDocument S S.reads S.of_bool spec.two_lines spec.tree }
-    ensures only { (other : List (Definition S)) → IsDocument S S.reads S.of_bool spec.two_lines other → other ≡ spec.tree }
-    ensures no_fault { (fault : Fault) → IsRefused S S.reads S.of_bool spec.two_lines fault → ⊥ }
+    ensures document { IsDocument S S.reads S.of_bool two_lines spec.tree }
+    ensures only { (other : List (Definition S)) → IsDocument S S.reads S.of_bool two_lines other
+        → other ≡ spec.tree }
+    ensures no_fault { (fault : Fault) → IsRefused S S.reads S.of_bool two_lines fault → ⊥ }
 {
     reading_is_division();
     one_document::<S>();
@@ -24,7 +26,8 @@ pub fn two_lines_are_a_document<S: ScalarValue>()
 
 /// The same query in one line is a document that differs from it in places alone.
 pub fn one_line_is_the_same_document<S: ScalarValue>()
-    ensures { (again : List (Definition S)) × IsDocument S S.reads S.of_bool spec.one_line again × (unlocated_document again ≡ unlocated_document spec.tree) }
+    ensures { (again : List (Definition S)) × IsDocument S S.reads S.of_bool one_line again
+        × (unlocated_document again ≡ unlocated_document spec.tree) }
 {
     reading_is_division();
     two_lines_are_a_document::<S>();
@@ -34,8 +37,10 @@ pub fn one_line_is_the_same_document<S: ScalarValue>()
 /// The empty text ends too early, which is its only fault.
 pub fn nothing_ends_too_early<S: ScalarValue>()
     ensures refused { IsRefused S S.reads S.of_bool spec.nothing spec.fault }
-    ensures only { (other : Fault) → IsRefused S S.reads S.of_bool spec.nothing other → other ≡ spec.fault }
-    ensures no_document { (tree : List (Definition S)) → IsDocument S S.reads S.of_bool spec.nothing tree → ⊥ }
+    ensures only { (other : Fault) → IsRefused S S.reads S.of_bool spec.nothing other
+        → other ≡ spec.fault }
+    ensures no_document { (tree : List (Definition S)) → IsDocument S S.reads S.of_bool spec.nothing tree
+        → ⊥ }
 {
     reading_is_division();
     one_fault::<S>();
@@ -44,7 +49,8 @@ pub fn nothing_ends_too_early<S: ScalarValue>()
 
 /// A blank text has the same fault.
 pub fn blank_ends_too_early<S: ScalarValue>()
-    ensures { (again : Fault) × IsRefused S S.reads S.of_bool spec.blank again × (again.item ≡ spec.fault.item) }
+    ensures { (again : Fault) × IsRefused S S.reads S.of_bool spec.blank again
+        × (again.item ≡ spec.fault.item) }
 {
     reading_is_division();
     nothing_ends_too_early::<S>();

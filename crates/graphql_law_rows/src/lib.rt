@@ -9,4 +9,7 @@ pub mod documents;
 pub mod literals;
 pub mod parsers;
 pub mod requests;
+pub mod scalars;
+pub mod tokens;
+pub mod values;
 pub mod visitors;

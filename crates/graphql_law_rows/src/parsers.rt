@@ -16,7 +16,8 @@ pub fn value_alone<S: ScalarValue>(
     parser: &mut Parser<'_>,
     is_const: bool,
 ) -> ParseResult<InputValue<S>>
-    ensures { parser.old.refused ≡ None → AnsweredAlone (NextValue S S.reads S.of_bool is_const) parser.old.input result parser.new }
+    ensures { let rule = NextValue S S.reads S.of_bool is_const in
+        parser.old.refused ≡ None → AnsweredAlone rule parser.old.input result parser.new }
 {
     value_or_refused::<S>();
     parse_value_literal(parser, is_const)

@@ -54,7 +54,8 @@ pub fn report_unknown_fragments<'a, 't, S: SchemaScalar>(context: &mut Validator
 /// Reports the arguments whose values do not conform. Whatever the checks answer, nothing else may be
 /// told of them.
 pub fn report_arguments<'a, 't, S: SchemaScalar>(context: &mut ValidatorContext<'a, 't, S>)
-    ensures { ReportsBy (IsOnlyTold (ArgumentsTold S.answer S.Check.accepts (subject_of context.old))) context.old context.new }
+    ensures { let may_tell = ArgumentsTold S.answer S.Check.accepts (subject_of context.old) in
+        ReportsBy (IsOnlyTold may_tell) context.old context.new }
 {
     relational_rules_tell_of_occurrences::<S, ArgumentsOfCorrectType>();
     told_of_arguments_is_determined::<S>();
@@ -64,7 +65,8 @@ pub fn report_arguments<'a, 't, S: SchemaScalar>(context: &mut ValidatorContext<
 
 /// The same of the defaults of variables.
 pub fn report_defaults<'a, 't, S: SchemaScalar>(context: &mut ValidatorContext<'a, 't, S>)
-    ensures { ReportsBy (IsOnlyTold (DefaultsTold S.answer S.Check.accepts (subject_of context.old))) context.old context.new }
+    ensures { let may_tell = DefaultsTold S.answer S.Check.accepts (subject_of context.old) in
+        ReportsBy (IsOnlyTold may_tell) context.old context.new }
 {
     relational_rules_tell_of_occurrences::<S, DefaultValuesOfCorrectType>();
     told_of_defaults_is_determined::<S>();
@@ -75,7 +77,9 @@ pub fn report_defaults<'a, 't, S: SchemaScalar>(context: &mut ValidatorContext<'
 /// Reports unknown fields and unknown fragments in one walk: what both rules say of the document's parts,
 /// in some order.
 pub fn report_unknown_names<'a, 't, S: SchemaScalar>(context: &mut ValidatorContext<'a, 't, S>)
-    ensures { ReportsBy (IsPermutation (places_of (subject_of context.old) unknown_field ++ places_of (subject_of context.old) unknown_fragment)) context.old context.new }
+    ensures { let told = places_of (subject_of context.old) in
+        let both = told unknown_field ++ told unknown_fragment in
+        ReportsBy (IsPermutation both) context.old context.new }
 {
     local_rules_tell_of_occurrences::<S, FieldsOnCorrectType>();
     local_rules_tell_of_occurrences::<S, KnownFragmentNames>();
@@ -104,7 +108,8 @@ pub fn report_impossible_spreads<'a, 't, S: SchemaScalar>(context: &mut Validato
 
 /// Reports the fragments that no operation reaches: what the rule says of the document.
 pub fn report_unused_fragments<'a, 't, S: SchemaScalar>(context: &mut ValidatorContext<'a, 't, S>)
-    ensures { Reports (said_of (λ types operations fragments. never_reached operations fragments) (subject_of context.old)) context.old context.new }
+    ensures { let said = said_of (λ types operations fragments. never_reached operations fragments) in
+        Reports (said (subject_of context.old)) context.old context.new }
 {
     document_rules_tell_of_documents::<S, NoUnusedFragments>();
     let mut rule = no_unused_fragments::factory();

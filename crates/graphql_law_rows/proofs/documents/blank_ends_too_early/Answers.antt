@@ -1,5 +1,6 @@
 use Rattle.std.proofs.Common.{refl}
-use Rattle.graphql_law_rows.specs.SampleTexts.{at, blank, fault, nothing}
+use Rattle.graphql_law_rows.specs.SampleTexts.{blank, fault, nothing}
+use Rattle.graphql_law_rows.specs.SampleTokens.{at}
 use Rattle.graphql_law_rows.proofs.SampleTexts.{blank_is_read, nothing_is_read, only_end}
 use Rattle.graphql_law_rows.proofs.documents.blank_ends_too_early.Goals as goal
 

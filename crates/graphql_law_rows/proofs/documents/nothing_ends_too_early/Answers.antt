@@ -1,5 +1,6 @@
 use Rattle.std.proofs.Common.{[], inr}
-use Rattle.graphql_law_rows.specs.SampleTexts.{at, fault, nothing, span}
+use Rattle.graphql_law_rows.specs.SampleTexts.{fault, nothing}
+use Rattle.graphql_law_rows.specs.SampleTokens.{at, span}
 use Rattle.graphql_law_rows.proofs.SampleTexts.{ends_too_early, nothing_is_read, only_end}
 use Rattle.graphql_law_rows.proofs.documents.nothing_ends_too_early.Goals as goal
 

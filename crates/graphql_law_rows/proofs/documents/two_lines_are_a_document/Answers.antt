@@ -1,14 +1,14 @@
-use Rattle.std.proofs.Common.{◌++◌, [], ◌∷◌}
-use Rattle.graphql_text.specs.declared.token.Token.TheVariants.{EndOfFile}
-use Rattle.graphql_law_rows.specs.SampleTexts.{finish, located, tree, two_lines}
-use Rattle.graphql_law_rows.proofs.SampleTexts.{tokens, tokens_spell, two_lines_are_read}
+use Rattle.graphql_law_rows.specs.SampleTexts.{tree}
+use Rattle.graphql_law_rows.specs.SampleTokens.{before_end, ended, tokens, two_lines}
+use Rattle.graphql_law_rows.proofs.SampleTexts.{tokens_spell}
+use Rattle.graphql_law_rows.proofs.SampleTokens.{two_lines_are_read}
 use Rattle.graphql_law_rows.proofs.documents.two_lines_are_a_document.Goals as goal
 
 is_document : goal.returns-clause-document
 is_document g c = record {
-  tokens = tokens;
-  finish = finish;
-  cut = (c.reading_is_division.ensures two_lines (tokens ++ located EndOfFile finish.start finish.end ∷ [])).0 two_lines_are_read;
+  tokens = before_end;
+  finish = ended.span;
+  cut = (c.reading_is_division.ensures two_lines tokens).0 two_lines_are_read;
   spells = tokens_spell {S = g.row.S.Denot} g.S.ParseScalarValue.reads g.S.ScalarValue.of_bool;
 }
 

@@ -1,3 +1,0 @@
-pub mod SampleTokens
-pub mod SampleScalars
-pub mod SampleValues

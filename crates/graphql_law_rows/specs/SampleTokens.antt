@@ -1,0 +1,66 @@
+-- Two texts of the same tokens at other places, and a text with a fault.
+use Rattle.std.specs.Prelude.{ℕ, List, [], ◌∷◌, ◌++◌, true, codes, Ok, Err}
+use Rattle.graphql_text.specs.declared.position.SourcePosition.{SourcePosition}
+use Rattle.graphql_text.specs.declared.position.Span.{Span}
+use Rattle.graphql_text.specs.declared.token.Token.{Token}
+use Rattle.graphql_text.specs.declared.token.Token.TheVariants.{Name, CurlyOpen, CurlyClose, EndOfFile}
+use Rattle.graphql_text.specs.declared.token.LexerError.TheVariants.{UnknownCharacter}
+use Rattle.graphql_text.specs.Reading.{Refusal}
+use Rattle.graphql_text.specs.Tokens.{Located}
+use Rattle.graphql_text.specs.OneByOne.{Answer, Remains}
+
+abbrev pub at : ℕ → ℕ → ℕ → SourcePosition
+at index line column = record { index = index; line = line; column = column }
+
+abbrev pub span : SourcePosition → SourcePosition → Span
+span start end = record { start = start; end = end }
+
+abbrev pub located : Token → SourcePosition → SourcePosition → Located
+located token start end = record { item = token; span = span start end }
+
+-- `{`, a line feed and `a}`
+abbrev pub two_lines : List ℕ
+two_lines = 123 ∷ 10 ∷ 97 ∷ 125 ∷ []
+
+abbrev pub opened : Located
+opened = located CurlyOpen (at 0 0 0) (at 1 0 1)
+
+abbrev pub named : Located
+named = located (Name (codes "a")) (at 2 1 0) (at 3 1 1)
+
+abbrev pub closed : Located
+closed = located CurlyClose (at 3 1 1) (at 4 1 2)
+
+abbrev pub ended : Located
+ended = located EndOfFile (at 4 1 2) (at 4 1 2)
+
+-- its tokens before the end, and all
+abbrev pub before_end : List Located
+before_end = opened ∷ named ∷ closed ∷ []
+
+abbrev pub tokens : List Located
+tokens = before_end ++ ended ∷ []
+
+-- `{a}`
+abbrev pub one_line : List ℕ
+one_line = 123 ∷ 97 ∷ 125 ∷ []
+
+abbrev pub others : List Located
+others =
+    located CurlyOpen (at 0 0 0) (at 1 0 1) ∷ located (Name (codes "a")) (at 1 0 1) (at 2 0 2)
+    ∷ located CurlyClose (at 2 0 2) (at 3 0 3) ∷ located EndOfFile (at 3 0 3) (at 3 0 3) ∷ []
+
+-- `{ ?`
+abbrev pub broken : List ℕ
+broken = 123 ∷ 32 ∷ 63 ∷ []
+
+abbrev pub fault : Refusal
+fault = record { item = UnknownCharacter 63; span = span (at 2 0 2) (at 2 0 2) }
+
+-- what a lexer gives of it, one by one
+abbrev pub answers : List Answer
+answers = Ok opened ∷ Err fault ∷ []
+
+-- and where it stands then
+abbrev pub done : Remains
+done = record { place = record { at = at 2 0 2; rest = 63 ∷ [] }; is_done = true }
