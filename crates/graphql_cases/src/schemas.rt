@@ -10,7 +10,7 @@ use crate::groups::answer_groups;
 use crate::schema_text::{MOST, Meta, Roots, push, read_head, read_roots, read_type_from};
 use graphql_language::Parser;
 use graphql_meta::TypeCheck;
-use graphql_schema::{RootNode, SchemaType};
+use graphql_schema::{BrokenPromise, RootNode, SchemaType};
 use graphql_text::{Items, ParseError, Spanning};
 use graphql_values::{DefaultScalarValue, InputValue};
 use std::alloc::{AllocError, Global};
@@ -18,9 +18,31 @@ use std::alloc::{AllocError, Global};
 /// Whether requests can be executed over the schema.
 fn executable(schema: &SchemaType<DefaultScalarValue>) -> &'static str {
     if schema.schema_is_executable() {
-        "=> can be executed\n\n"
+        "=> can be executed\n"
     } else {
-        "=> can't be executed\n\n"
+        "=> can't be executed\n"
+    }
+}
+
+/// Tells which promise a type of the schema does not keep, if there is one.
+fn tell_broken(
+    schema: &SchemaType<DefaultScalarValue>,
+    told: &mut String,
+) -> Result<(), AllocError> {
+    let Some(broken) = schema.broken_promise() else {
+        return Ok(());
+    };
+    let BrokenPromise {
+        type_name,
+        interface,
+        field,
+    } = broken;
+    match field {
+        Some(field) => write!(told, "=> {type_name} lacks {field} of {interface}\n"),
+        None => write!(
+            told,
+            "=> {type_name} does not list what {interface} lists\n"
+        ),
     }
 }
 
@@ -41,6 +63,8 @@ fn answer_types(
     match SchemaType::new(alloc, types, query, mutation, subscription) {
         Ok(schema) => {
             told.push_str(executable(&schema))?;
+            tell_broken(&schema, told)?;
+            told.push_str("\n")?;
             let root = RootNode::new(schema).disable_introspection();
             answer_groups(alloc, &root, groups, told)
         }
