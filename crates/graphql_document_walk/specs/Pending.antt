@@ -1,32 +1,59 @@
 -- What is ahead of a walk: the events of its tasks, the last task first.
-use Rattle.std.specs.Prelude.{◌≡◌, List, [], ◌∷◌, ◌++◌, Option, Result, IfOk, MatchOption}
+use Rattle.std.specs.Prelude.{◌≡◌, ℕ, ◌+◌, ◌⊎◌, List, [], ◌∷◌, ◌++◌}
 use Rattle.std.specs.List.{flat_map}
 use Rattle.std.specs.Option.{option_map}
-use Rattle.std.specs.declared.alloc.AllocError.{AllocError}
 use Rattle.graphql_schema.specs.Declarations.{Declarations, declarations_of}
-use Rattle.graphql_occurrences.specs.declared.event.Seen.{Seen}
+use Rattle.graphql_document_walk.specs.declared.walk.tasks.Part.{Part}
+use Rattle.graphql_document_walk.specs.declared.walk.tasks.Part.TheVariants as part
+use Rattle.graphql_document_walk.specs.declared.walk.tasks.Side.{Side}
+use Rattle.graphql_document_walk.specs.declared.walk.tasks.Side.TheVariants as side
 use Rattle.graphql_document_walk.specs.declared.walk.tasks.Task.{Task}
 use Rattle.graphql_document_walk.specs.declared.walk.tasks.Work.{Work}
 use Rattle.graphql_document_walk.specs.declared.walk.tasks.Work.TheVariants as work
 use Rattle.graphql_document_walk.specs.declared.walk.Walk.{Walk}
 use Rattle.graphql_occurrences.specs.Events.{seen, each, events, definition_events, variable_events, directives_events, arguments_events, set_events, selection_events, value_events, item_events, pair_events}
-use Rattle.graphql_occurrences.specs.Lent.{arguments_lent, node_of, around_of, owner_of, seen_of}
-use Rattle.graphql_occurrences.specs.Nodes.{Leave}
+use Rattle.graphql_occurrences.specs.Lent.{arguments_lent, node_of, around_of, owner_of}
+use Rattle.graphql_occurrences.specs.Nodes.{Enter, Leave}
 use Rattle.graphql_occurrences.specs.Nodes as spec
 
+module _ {S : Type 0} where
+  abbrev pub told : Side → spec.Node S → spec.Event S
+  told side.Enter node = Enter node
+  told side.Leave node = Leave node
+
+  -- with one more task, how many parts stand on top of the last event, where so many did before
+  abbrev pub part_after : ℕ → Work S → ℕ
+  part_after n (work.Tell _ _) = 0
+  part_after n (work.Through _) = n + 1
+
+module _ {S C : Type 0} where
+  abbrev pub parts_after : ℕ → List (Task S C) → ℕ
+  parts_after n [] = n
+  parts_after n (t ∷ ts) = parts_after (part_after n t.work) ts
+
+  abbrev pub parts_on_top : List (Task S C) → ℕ
+  parts_on_top ts = parts_after 0 ts
+
+  -- the next task is an event
+  abbrev pub EventOnTop : List (Task S C) → Type 0
+  EventOnTop ts = parts_on_top ts ≡ 0
+
 module _ {S C : Type 0} (schema : Declarations S C) where
+  abbrev pub part_events : Part S → spec.Around S C → List (spec.Seen S C)
+  part_events (part.Document ds) around = events schema ds.now
+  part_events (part.Definitions ds) around = flat_map (definition_events schema) ds.now
+  part_events (part.Variables vs) around = each (variable_events schema) vs.now around
+  part_events (part.Directives place ds) around = directives_events schema place ds.now around
+  part_events (part.Arguments owner declared xs) around = arguments_events schema (owner_of owner) (option_map arguments_lent declared) xs.now around
+  part_events (part.Set xs) around = set_events schema xs.now around
+  part_events (part.Selections xs) around = each (selection_events schema) xs.now around
+  part_events (part.Value x) around = value_events schema x.now around
+  part_events (part.Items xs) around = each (item_events schema) xs.now around
+  part_events (part.Pairs ps) around = each (pair_events schema) ps.now around
+
   abbrev pub work_events : Work S → spec.Around S C → List (spec.Seen S C)
-  work_events (work.Leave n) around = seen around (Leave (node_of n)) ∷ []
-  work_events (work.Document ds) around = events schema ds.now
-  work_events (work.Definitions ds) around = flat_map (definition_events schema) ds.now
-  work_events (work.Variables vs) around = each (variable_events schema) vs.now around
-  work_events (work.Directives place ds) around = directives_events schema place ds.now around
-  work_events (work.Arguments owner declared xs) around = arguments_events schema (owner_of owner) (option_map arguments_lent declared) xs.now around
-  work_events (work.Set xs) around = set_events schema xs.now around
-  work_events (work.Selections xs) around = each (selection_events schema) xs.now around
-  work_events (work.Value x) around = value_events schema x.now around
-  work_events (work.Items xs) around = each (item_events schema) xs.now around
-  work_events (work.Pairs ps) around = each (pair_events schema) ps.now around
+  work_events (work.Tell s n) around = seen around (told s (node_of n)) ∷ []
+  work_events (work.Through p) around = part_events p around
 
   abbrev pub task_events : Task S C → List (spec.Seen S C)
   task_events t = work_events t.work (around_of t.around)
@@ -40,17 +67,13 @@ module _ {S C : Type 0} (schema : Declarations S C) where
   abbrev pub Adds : List (spec.Seen S C) → List (Task S C) → List (Task S C) → Type 0
   Adds es old new = pending new ≡ es ++ pending old
 
-  -- the first of these events is told, and the others are ahead
-  abbrev pub Opens : List (spec.Seen S C) → Seen S C → List (Task S C) → List (Task S C) → Type 0
-  Opens es first old new = es ++ pending old ≡ seen_of first ∷ pending new
-
-  -- so it is, unless memory ran out
-  abbrev pub Opened : List (spec.Seen S C) → Result (Seen S C) AllocError → List (Task S C) → List (Task S C) → Type 0
-  Opened es result old new = IfOk result (λ first. Opens es first old new)
+  -- so they do, and the first of them is the next task
+  abbrev pub Opens : List (spec.Seen S C) → List (Task S C) → List (Task S C) → Type 0
+  Opens es old new = Adds es old new × EventOnTop new
 
   -- the same, or there is none of these events
-  abbrev pub OpenedAny : List (spec.Seen S C) → Result (Option (Seen S C)) AllocError → List (Task S C) → List (Task S C) → Type 0
-  OpenedAny es result old new = IfOk result (λ r. MatchOption r ((es ≡ []) × (new ≡ old)) (λ first. Opens es first old new))
+  abbrev pub OpensAny : List (spec.Seen S C) → List (Task S C) → List (Task S C) → Type 0
+  OpensAny es old new = Adds es old new × (EventOnTop new ⊎ (new ≡ old))
 
 module _ {S C : Type 0} where
   -- the events that a walk has yet to tell

@@ -1,10 +1,10 @@
 //! A walk over a document, event by event.
 
-ghost use Rattle.std.specs.Prelude.{◌≡◌, ◌∷◌, [], IfOk, MatchOption};
+ghost use Rattle.std.specs.Prelude.{◌≡◌, ◌∷◌, [], IfOk, MatchOption, OnOk};
 ghost use Rattle.graphql_schema.specs.Declarations.{declarations_of};
 ghost use Rattle.graphql_occurrences.specs.Events.{events};
-ghost use Rattle.graphql_occurrences.specs.Lent.{seen_of};
-ghost use Rattle.graphql_document_walk.specs.Pending.{OpenedAny, ahead, task_events};
+ghost use Rattle.graphql_occurrences.specs.Lent.{around_of, seen_of};
+ghost use Rattle.graphql_document_walk.specs.Pending.{OpensAny, ahead, part_events};
 
 mod definitions;
 mod selections;
@@ -13,13 +13,13 @@ mod values;
 
 use definitions::{open_definitions, open_document, open_variables};
 use graphql_meta::SchemaScalar;
-use graphql_occurrences::{Around, Event, Seen};
+use graphql_occurrences::{Around, Seen};
 use graphql_schema::SchemaType;
 use graphql_text::Items;
 use graphql_tree::Definition;
 use selections::{open_directives, open_selections, open_set};
 use std::alloc::{AllocError, Global};
-use tasks::{Task, Work, add};
+use tasks::{Part, Task, Work, add, event};
 use values::{open_arguments, open_items, open_pairs, open_value};
 
 /// A walk over a document, which tells its events in order, with the types around each: what is
@@ -48,7 +48,7 @@ impl<'a, 't, S, C> Walk<'a, 't, S, C> {
             schema,
             &mut tasks,
             Around::nowhere(),
-            Work::Document(document),
+            Part::Document(document),
         )?;
         Ok(Walk { schema, tasks })
     }
@@ -59,49 +59,45 @@ impl<'a, 't, S, C> Walk<'a, 't, S, C> {
         ensures events { IfOk result (λ next. MatchOption next (ahead self.old ≡ []) (λ first. ahead self.old ≡ seen_of first ∷ ahead self.new)) }
     {
         'tasks: while let Some(task) = self.tasks.pop() {
-            match open(self.schema, &mut self.tasks, task)? {
-                Some(first) => return Ok(Some(first)),
-                None => {}
+            let around = task.around;
+            match task.work {
+                Work::Tell(side, node) => {
+                    return Ok(Some(Seen {
+                        around,
+                        event: event(side, node),
+                    }));
+                }
+                Work::Through(part) => open(self.schema, &mut self.tasks, around, part)?,
             }
         }
         Ok(None)
     }
 }
 
-/// Tells the first event of a task, if there is one, and keeps the others for later. An error is want
-/// of memory.
+/// Opens a part: puts its first event on top, if there is one, and below it what comes after. An error
+/// is want of memory.
 fn open<'a, 't, S, C>(
     schema: &'a SchemaType<S, C>,
     tasks: &mut Items<Task<'a, 't, S, C>>,
-    task: Task<'a, 't, S, C>,
-) -> Result<Option<Seen<'a, 't, S, C>>, AllocError>
-    ensures { OpenedAny (declarations_of schema.now) (task_events (declarations_of schema.now) task.entry) result tasks.old tasks.new }
+    around: Around<'a, S, C>,
+    part: Part<'a, 't, S>,
+) -> Result<(), AllocError>
+    ensures { OnOk result (OpensAny (declarations_of schema.now) (part_events (declarations_of schema.now) part.entry (around_of around.entry)) tasks.old tasks.new) }
 {
-    let around = task.around;
-    match task.work {
-        Work::Leave(node) => Ok(Some(Seen {
-            around,
-            event: Event::Leave(node),
-        })),
-        Work::Document(document) => {
-            let first = open_document(schema, tasks, document)?;
-            Ok(Some(first))
-        }
-        Work::Definitions(definitions) => open_definitions(schema, tasks, definitions),
-        Work::Variables(variables) => open_variables(schema, tasks, around, variables),
-        Work::Directives(place, directives) => open_directives(
+    match part {
+        Part::Document(document) => open_document(schema, tasks, document),
+        Part::Definitions(definitions) => open_definitions(schema, tasks, definitions),
+        Part::Variables(variables) => open_variables(schema, tasks, around, variables),
+        Part::Directives(place, directives) => open_directives(
             schema, tasks, around, place, directives,
         ),
-        Work::Arguments(owner, declared, arguments) => open_arguments(
+        Part::Arguments(owner, declared, arguments) => open_arguments(
             schema, tasks, around, owner, declared, arguments,
         ),
-        Work::Set(selections) => open_set(schema, tasks, around, selections),
-        Work::Selections(selections) => open_selections(schema, tasks, around, selections),
-        Work::Value(value) => {
-            let first = open_value(schema, tasks, around, value)?;
-            Ok(Some(first))
-        }
-        Work::Items(items) => open_items(schema, tasks, around, items),
-        Work::Pairs(pairs) => open_pairs(schema, tasks, around, pairs),
+        Part::Set(selections) => open_set(schema, tasks, around, selections),
+        Part::Selections(selections) => open_selections(schema, tasks, around, selections),
+        Part::Value(value) => open_value(schema, tasks, around, value),
+        Part::Items(items) => open_items(schema, tasks, around, items),
+        Part::Pairs(pairs) => open_pairs(schema, tasks, around, pairs),
     }
 }

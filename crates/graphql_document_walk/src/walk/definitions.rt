@@ -9,13 +9,13 @@ ghost use Rattle.graphql_occurrences.specs.Lookups.{location_of};
 ghost use Rattle.graphql_tree.specs.Documents.{variables_in as variables_given};
 ghost use Rattle.graphql_occurrences.specs.Events.{default_events, definition_events, each, events, fragment_events, operation_events, variable_events};
 ghost use Rattle.graphql_occurrences.specs.Lent.{around_of};
-ghost use Rattle.graphql_document_walk.specs.Pending.{Adds, Opened, OpenedAny};
+ghost use Rattle.graphql_document_walk.specs.Pending.{Adds, Opens, OpensAny};
 
 use super::selections::directives_in;
-use super::tasks::{Task, Work, add, enter};
+use super::tasks::{Part, Side, Task, add, tell};
 use graphql_declarations::{TypeLiteral, root_of};
 use graphql_meta::{DirectiveLocation, MetaType};
-use graphql_occurrences::{Around, InputPlace, Node, Seen};
+use graphql_occurrences::{Around, InputPlace, Node};
 use graphql_schema::SchemaType;
 use graphql_text::{Items, Spanning, TextRef};
 use graphql_tree::{
@@ -77,7 +77,7 @@ fn add_default<'a, 't, S, C>(
     ensures { OnOk result (Adds (declarations_of schema.now) (default_events (declarations_of schema.now) value.now (around_of around.entry)) tasks.old tasks.new) }
 {
     match value {
-        Some(value) => add(schema, tasks, around, Work::Value(value)),
+        Some(value) => add(schema, tasks, around, Part::Value(value)),
         None => Ok(()),
     }
 }
@@ -88,28 +88,35 @@ fn open_variable<'a, 't, S, C>(
     tasks: &mut Items<Task<'a, 't, S, C>>,
     around: Around<'a, S, C>,
     variable: &'a (Spanning<TextRef<'t>>, VariableDefinition<'t, S>),
-) -> Result<Seen<'a, 't, S, C>, AllocError>
-    ensures { Opened (declarations_of schema.now) (variable_events (declarations_of schema.now) variable.now (around_of around.entry)) result tasks.old tasks.new }
+) -> Result<(), AllocError>
+    ensures { OnOk result (Opens (declarations_of schema.now) (variable_events (declarations_of schema.now) variable.now (around_of around.entry)) tasks.old tasks.new) }
 {
     let place = InputPlace::bare(TypeLiteral::of_document(&variable.1.var_type.item));
     let inside = around.asking(Some(place));
-    add(
+    tell(
         schema,
         tasks,
         inside,
-        Work::Leave(Node::VariableDefinition(variable)),
+        Side::Leave,
+        Node::VariableDefinition(variable),
     )?;
     add(
         schema,
         tasks,
         inside,
-        Work::Directives(
+        Part::Directives(
             DirectiveLocation::VariableDefinition,
             directives_in(&variable.1.directives),
         ),
     )?;
     add_default(schema, tasks, inside, &variable.1.default_value)?;
-    Ok(enter(inside, Node::VariableDefinition(variable)))
+    tell(
+        schema,
+        tasks,
+        inside,
+        Side::Enter,
+        Node::VariableDefinition(variable),
+    )
 }
 
 /// The next definition of a variable is entered, if there is one.
@@ -118,15 +125,14 @@ pub(crate) fn open_variables<'a, 't, S, C>(
     tasks: &mut Items<Task<'a, 't, S, C>>,
     around: Around<'a, S, C>,
     variables: &'a [(Spanning<TextRef<'t>>, VariableDefinition<'t, S>)],
-) -> Result<Option<Seen<'a, 't, S, C>>, AllocError>
-    ensures { OpenedAny (declarations_of schema.now) (each (variable_events (declarations_of schema.now)) variables.now (around_of around.entry)) result tasks.old tasks.new }
+) -> Result<(), AllocError>
+    ensures { OnOk result (OpensAny (declarations_of schema.now) (each (variable_events (declarations_of schema.now)) variables.now (around_of around.entry)) tasks.old tasks.new) }
 {
     match variables.split_first() {
-        None => Ok(None),
+        None => Ok(()),
         Some((first, rest)) => {
-            add(schema, tasks, around, Work::Variables(rest))?;
-            let event = open_variable(schema, tasks, around, first)?;
-            Ok(Some(event))
+            add(schema, tasks, around, Part::Variables(rest))?;
+            open_variable(schema, tasks, around, first)
         }
     }
 }
@@ -136,27 +142,28 @@ fn open_operation<'a, 't, S, C>(
     schema: &'a SchemaType<S, C>,
     tasks: &mut Items<Task<'a, 't, S, C>>,
     operation: &'a Spanning<Operation<'t, S>>,
-) -> Result<Seen<'a, 't, S, C>, AllocError>
-    ensures { Opened (declarations_of schema.now) (operation_events (declarations_of schema.now) operation.now) result tasks.old tasks.new }
+) -> Result<(), AllocError>
+    ensures { OnOk result (Opens (declarations_of schema.now) (operation_events (declarations_of schema.now) operation.now) tasks.old tasks.new) }
 {
     let inside = Around::top(name_of_root(root_of(schema, operation.item.operation_type)));
-    add(
+    tell(
         schema,
         tasks,
         inside,
-        Work::Leave(Node::Operation(operation)),
+        Side::Leave,
+        Node::Operation(operation),
     )?;
     add(
         schema,
         tasks,
         inside,
-        Work::Set(operation.item.selection_set.as_slice()),
+        Part::Set(operation.item.selection_set.as_slice()),
     )?;
     add(
         schema,
         tasks,
         inside,
-        Work::Directives(
+        Part::Directives(
             place_of(operation.item.operation_type),
             directives_in(&operation.item.directives),
         ),
@@ -165,9 +172,15 @@ fn open_operation<'a, 't, S, C>(
         schema,
         tasks,
         inside,
-        Work::Variables(variables_in(&operation.item.variable_definitions)),
+        Part::Variables(variables_in(&operation.item.variable_definitions)),
     )?;
-    Ok(enter(inside, Node::Operation(operation)))
+    tell(
+        schema,
+        tasks,
+        inside,
+        Side::Enter,
+        Node::Operation(operation),
+    )
 }
 
 /// A fragment is entered.
@@ -175,27 +188,27 @@ fn open_fragment<'a, 't, S, C>(
     schema: &'a SchemaType<S, C>,
     tasks: &mut Items<Task<'a, 't, S, C>>,
     fragment: &'a Spanning<Fragment<'t, S>>,
-) -> Result<Seen<'a, 't, S, C>, AllocError>
-    ensures { Opened (declarations_of schema.now) (fragment_events (declarations_of schema.now) fragment.now) result tasks.old tasks.new }
+) -> Result<(), AllocError>
+    ensures { OnOk result (Opens (declarations_of schema.now) (fragment_events (declarations_of schema.now) fragment.now) tasks.old tasks.new) }
 {
     let inside = Around::top(Some(fragment.item.type_condition.item.as_str()));
-    add(schema, tasks, inside, Work::Leave(Node::Fragment(fragment)))?;
+    tell(schema, tasks, inside, Side::Leave, Node::Fragment(fragment))?;
     add(
         schema,
         tasks,
         inside,
-        Work::Set(fragment.item.selection_set.as_slice()),
+        Part::Set(fragment.item.selection_set.as_slice()),
     )?;
     add(
         schema,
         tasks,
         inside,
-        Work::Directives(
+        Part::Directives(
             DirectiveLocation::FragmentDefinition,
             directives_in(&fragment.item.directives),
         ),
     )?;
-    Ok(enter(inside, Node::Fragment(fragment)))
+    tell(schema, tasks, inside, Side::Enter, Node::Fragment(fragment))
 }
 
 /// A definition is entered.
@@ -203,8 +216,8 @@ fn open_definition<'a, 't, S, C>(
     schema: &'a SchemaType<S, C>,
     tasks: &mut Items<Task<'a, 't, S, C>>,
     definition: &'a Definition<'t, S>,
-) -> Result<Seen<'a, 't, S, C>, AllocError>
-    ensures { Opened (declarations_of schema.now) (definition_events (declarations_of schema.now) definition.now) result tasks.old tasks.new }
+) -> Result<(), AllocError>
+    ensures { OnOk result (Opens (declarations_of schema.now) (definition_events (declarations_of schema.now) definition.now) tasks.old tasks.new) }
 {
     match definition {
         Definition::Operation(operation) => open_operation(schema, tasks, operation),
@@ -217,15 +230,14 @@ pub(crate) fn open_definitions<'a, 't, S, C>(
     schema: &'a SchemaType<S, C>,
     tasks: &mut Items<Task<'a, 't, S, C>>,
     definitions: &'a [Definition<'t, S>],
-) -> Result<Option<Seen<'a, 't, S, C>>, AllocError>
-    ensures { OpenedAny (declarations_of schema.now) (flat_map (definition_events (declarations_of schema.now)) definitions.now) result tasks.old tasks.new }
+) -> Result<(), AllocError>
+    ensures { OnOk result (OpensAny (declarations_of schema.now) (flat_map (definition_events (declarations_of schema.now)) definitions.now) tasks.old tasks.new) }
 {
     match definitions.split_first() {
-        None => Ok(None),
+        None => Ok(()),
         Some((first, rest)) => {
-            add(schema, tasks, Around::nowhere(), Work::Definitions(rest))?;
-            let event = open_definition(schema, tasks, first)?;
-            Ok(Some(event))
+            add(schema, tasks, Around::nowhere(), Part::Definitions(rest))?;
+            open_definition(schema, tasks, first)
         }
     }
 }
@@ -235,16 +247,23 @@ pub(crate) fn open_document<'a, 't, S, C>(
     schema: &'a SchemaType<S, C>,
     tasks: &mut Items<Task<'a, 't, S, C>>,
     document: &'a [Definition<'t, S>],
-) -> Result<Seen<'a, 't, S, C>, AllocError>
-    ensures { Opened (declarations_of schema.now) (events (declarations_of schema.now) document.now) result tasks.old tasks.new }
+) -> Result<(), AllocError>
+    ensures { OnOk result (Opens (declarations_of schema.now) (events (declarations_of schema.now) document.now) tasks.old tasks.new) }
 {
     let outside = Around::nowhere();
-    add(
+    tell(
         schema,
         tasks,
         outside,
-        Work::Leave(Node::Document(document)),
+        Side::Leave,
+        Node::Document(document),
     )?;
-    add(schema, tasks, outside, Work::Definitions(document))?;
-    Ok(enter(outside, Node::Document(document)))
+    add(schema, tasks, outside, Part::Definitions(document))?;
+    tell(
+        schema,
+        tasks,
+        outside,
+        Side::Enter,
+        Node::Document(document),
+    )
 }

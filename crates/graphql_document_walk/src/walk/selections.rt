@@ -5,12 +5,12 @@ ghost use Rattle.std.specs.Option.{unwrap_or};
 ghost use Rattle.graphql_schema.specs.Declarations.{declarations_of};
 ghost use Rattle.graphql_occurrences.specs.Events.{directive_events, directives_events, each, field_events, inline_events, optional_set, selection_events, set_events, spread_events};
 ghost use Rattle.graphql_occurrences.specs.Lent.{around_of};
-ghost use Rattle.graphql_document_walk.specs.Pending.{Adds, Opened, OpenedAny};
+ghost use Rattle.graphql_document_walk.specs.Pending.{Adds, Opens, OpensAny};
 
-use super::tasks::{Task, Work, add, enter};
+use super::tasks::{Part, Side, Task, add, tell};
 use graphql_declarations::{arguments_of_field, declared_by_directive, field_of, type_of_field};
 use graphql_meta::DirectiveLocation;
-use graphql_occurrences::{Around, Node, Owner, Seen, arguments_in};
+use graphql_occurrences::{Around, Node, Owner, arguments_in};
 use graphql_schema::SchemaType;
 use graphql_text::{Items, Spanning};
 use graphql_tree::{Directive, Field, FragmentSpread, InlineFragment, Selection};
@@ -35,28 +35,35 @@ fn open_directive<'a, 't, S, C>(
     around: Around<'a, S, C>,
     place: DirectiveLocation,
     directive: &'a Spanning<Directive<'t, S>>,
-) -> Result<Seen<'a, 't, S, C>, AllocError>
-    ensures { Opened (declarations_of schema.now) (directive_events (declarations_of schema.now) place directive.now (around_of around.entry)) result tasks.old tasks.new }
+) -> Result<(), AllocError>
+    ensures { OnOk result (Opens (declarations_of schema.now) (directive_events (declarations_of schema.now) place directive.now (around_of around.entry)) tasks.old tasks.new) }
 {
     let name = directive.item.name.item.as_str();
     let declared = schema.directive_by_name(name);
-    add(
+    tell(
         schema,
         tasks,
         around,
-        Work::Leave(Node::Directive(place, declared, directive)),
+        Side::Leave,
+        Node::Directive(place, declared, directive),
     )?;
     add(
         schema,
         tasks,
         around,
-        Work::Arguments(
+        Part::Arguments(
             Owner::Directive(name),
             declared_by_directive(declared),
             arguments_in(&directive.item.arguments),
         ),
     )?;
-    Ok(enter(around, Node::Directive(place, declared, directive)))
+    tell(
+        schema,
+        tasks,
+        around,
+        Side::Enter,
+        Node::Directive(place, declared, directive),
+    )
 }
 
 /// The next directive is entered, if there is one.
@@ -66,15 +73,14 @@ pub(crate) fn open_directives<'a, 't, S, C>(
     around: Around<'a, S, C>,
     place: DirectiveLocation,
     directives: &'a [Spanning<Directive<'t, S>>],
-) -> Result<Option<Seen<'a, 't, S, C>>, AllocError>
-    ensures { OpenedAny (declarations_of schema.now) (directives_events (declarations_of schema.now) place directives.now (around_of around.entry)) result tasks.old tasks.new }
+) -> Result<(), AllocError>
+    ensures { OnOk result (OpensAny (declarations_of schema.now) (directives_events (declarations_of schema.now) place directives.now (around_of around.entry)) tasks.old tasks.new) }
 {
     match directives.split_first() {
-        None => Ok(None),
+        None => Ok(()),
         Some((first, rest)) => {
-            add(schema, tasks, around, Work::Directives(place, rest))?;
-            let event = open_directive(schema, tasks, around, place, first)?;
-            Ok(Some(event))
+            add(schema, tasks, around, Part::Directives(place, rest))?;
+            open_directive(schema, tasks, around, place, first)
         }
     }
 }
@@ -85,21 +91,28 @@ pub(crate) fn open_set<'a, 't, S, C>(
     tasks: &mut Items<Task<'a, 't, S, C>>,
     around: Around<'a, S, C>,
     selections: &'a [Selection<'t, S>],
-) -> Result<Option<Seen<'a, 't, S, C>>, AllocError>
-    ensures { OpenedAny (declarations_of schema.now) (set_events (declarations_of schema.now) selections.now (around_of around.entry)) result tasks.old tasks.new }
+) -> Result<(), AllocError>
+    ensures { OnOk result (OpensAny (declarations_of schema.now) (set_events (declarations_of schema.now) selections.now (around_of around.entry)) tasks.old tasks.new) }
 {
     let inside = around.inside_set(schema);
     match inside.parent {
-        None => Ok(None),
+        None => Ok(()),
         Some(_) => {
-            add(
+            tell(
                 schema,
                 tasks,
                 inside,
-                Work::Leave(Node::SelectionSet(selections)),
+                Side::Leave,
+                Node::SelectionSet(selections),
             )?;
-            add(schema, tasks, inside, Work::Selections(selections))?;
-            Ok(Some(enter(inside, Node::SelectionSet(selections))))
+            add(schema, tasks, inside, Part::Selections(selections))?;
+            tell(
+                schema,
+                tasks,
+                inside,
+                Side::Enter,
+                Node::SelectionSet(selections),
+            )
         }
     }
 }
@@ -114,7 +127,7 @@ fn add_optional_set<'a, 't, S, C>(
     ensures { OnOk result (Adds (declarations_of schema.now) (optional_set (declarations_of schema.now) set.now (around_of around.entry)) tasks.old tasks.new) }
 {
     match set {
-        Some(selections) => add(schema, tasks, around, Work::Set(selections.as_slice())),
+        Some(selections) => add(schema, tasks, around, Part::Set(selections.as_slice())),
         None => Ok(()),
     }
 }
@@ -125,24 +138,25 @@ fn open_field<'a, 't, S, C>(
     tasks: &mut Items<Task<'a, 't, S, C>>,
     outer: Around<'a, S, C>,
     field: &'a Spanning<Field<'t, S>>,
-) -> Result<Seen<'a, 't, S, C>, AllocError>
-    ensures { Opened (declarations_of schema.now) (field_events (declarations_of schema.now) field.now (around_of outer.entry)) result tasks.old tasks.new }
+) -> Result<(), AllocError>
+    ensures { OnOk result (Opens (declarations_of schema.now) (field_events (declarations_of schema.now) field.now (around_of outer.entry)) tasks.old tasks.new) }
 {
     let name = field.item.name.item.as_str();
     let definition = field_of(outer.parent, name);
     let inside = outer.selecting(type_of_field(definition));
-    add(
+    tell(
         schema,
         tasks,
         inside,
-        Work::Leave(Node::Field(definition, field)),
+        Side::Leave,
+        Node::Field(definition, field),
     )?;
     add_optional_set(schema, tasks, inside, &field.item.selection_set)?;
     add(
         schema,
         tasks,
         inside,
-        Work::Directives(
+        Part::Directives(
             DirectiveLocation::Field,
             directives_in(&field.item.directives),
         ),
@@ -151,13 +165,19 @@ fn open_field<'a, 't, S, C>(
         schema,
         tasks,
         inside,
-        Work::Arguments(
+        Part::Arguments(
             Owner::Field(name),
             arguments_of_field(definition),
             arguments_in(&field.item.arguments),
         ),
     )?;
-    Ok(enter(inside, Node::Field(definition, field)))
+    tell(
+        schema,
+        tasks,
+        inside,
+        Side::Enter,
+        Node::Field(definition, field),
+    )
 }
 
 /// A spread of a fragment is entered.
@@ -166,25 +186,32 @@ fn open_spread<'a, 't, S, C>(
     tasks: &mut Items<Task<'a, 't, S, C>>,
     around: Around<'a, S, C>,
     spread: &'a Spanning<FragmentSpread<'t, S>>,
-) -> Result<Seen<'a, 't, S, C>, AllocError>
-    ensures { Opened (declarations_of schema.now) (spread_events (declarations_of schema.now) spread.now (around_of around.entry)) result tasks.old tasks.new }
+) -> Result<(), AllocError>
+    ensures { OnOk result (Opens (declarations_of schema.now) (spread_events (declarations_of schema.now) spread.now (around_of around.entry)) tasks.old tasks.new) }
 {
-    add(
+    tell(
         schema,
         tasks,
         around,
-        Work::Leave(Node::FragmentSpread(spread)),
+        Side::Leave,
+        Node::FragmentSpread(spread),
     )?;
     add(
         schema,
         tasks,
         around,
-        Work::Directives(
+        Part::Directives(
             DirectiveLocation::FragmentSpread,
             directives_in(&spread.item.directives),
         ),
     )?;
-    Ok(enter(around, Node::FragmentSpread(spread)))
+    tell(
+        schema,
+        tasks,
+        around,
+        Side::Enter,
+        Node::FragmentSpread(spread),
+    )
 }
 
 /// An inline fragment is entered.
@@ -193,32 +220,39 @@ fn open_inline<'a, 't, S, C>(
     tasks: &mut Items<Task<'a, 't, S, C>>,
     outer: Around<'a, S, C>,
     inline: &'a Spanning<InlineFragment<'t, S>>,
-) -> Result<Seen<'a, 't, S, C>, AllocError>
-    ensures { Opened (declarations_of schema.now) (inline_events (declarations_of schema.now) inline.now (around_of outer.entry)) result tasks.old tasks.new }
+) -> Result<(), AllocError>
+    ensures { OnOk result (Opens (declarations_of schema.now) (inline_events (declarations_of schema.now) inline.now (around_of outer.entry)) tasks.old tasks.new) }
 {
     let inside = outer.inside_condition(&inline.item.type_condition);
-    add(
+    tell(
         schema,
         tasks,
         inside,
-        Work::Leave(Node::InlineFragment(inline)),
+        Side::Leave,
+        Node::InlineFragment(inline),
     )?;
     add(
         schema,
         tasks,
         inside,
-        Work::Set(inline.item.selection_set.as_slice()),
+        Part::Set(inline.item.selection_set.as_slice()),
     )?;
     add(
         schema,
         tasks,
         inside,
-        Work::Directives(
+        Part::Directives(
             DirectiveLocation::InlineFragment,
             directives_in(&inline.item.directives),
         ),
     )?;
-    Ok(enter(inside, Node::InlineFragment(inline)))
+    tell(
+        schema,
+        tasks,
+        inside,
+        Side::Enter,
+        Node::InlineFragment(inline),
+    )
 }
 
 /// A selection is entered.
@@ -227,8 +261,8 @@ fn open_selection<'a, 't, S, C>(
     tasks: &mut Items<Task<'a, 't, S, C>>,
     around: Around<'a, S, C>,
     selection: &'a Selection<'t, S>,
-) -> Result<Seen<'a, 't, S, C>, AllocError>
-    ensures { Opened (declarations_of schema.now) (selection_events (declarations_of schema.now) selection.now (around_of around.entry)) result tasks.old tasks.new }
+) -> Result<(), AllocError>
+    ensures { OnOk result (Opens (declarations_of schema.now) (selection_events (declarations_of schema.now) selection.now (around_of around.entry)) tasks.old tasks.new) }
 {
     match selection {
         Selection::Field(field) => open_field(schema, tasks, around, field),
@@ -243,15 +277,14 @@ pub(crate) fn open_selections<'a, 't, S, C>(
     tasks: &mut Items<Task<'a, 't, S, C>>,
     around: Around<'a, S, C>,
     selections: &'a [Selection<'t, S>],
-) -> Result<Option<Seen<'a, 't, S, C>>, AllocError>
-    ensures { OpenedAny (declarations_of schema.now) (each (selection_events (declarations_of schema.now)) selections.now (around_of around.entry)) result tasks.old tasks.new }
+) -> Result<(), AllocError>
+    ensures { OnOk result (OpensAny (declarations_of schema.now) (each (selection_events (declarations_of schema.now)) selections.now (around_of around.entry)) tasks.old tasks.new) }
 {
     match selections.split_first() {
-        None => Ok(None),
+        None => Ok(()),
         Some((first, rest)) => {
-            add(schema, tasks, around, Work::Selections(rest))?;
-            let event = open_selection(schema, tasks, around, first)?;
-            Ok(Some(event))
+            add(schema, tasks, around, Part::Selections(rest))?;
+            open_selection(schema, tasks, around, first)
         }
     }
 }

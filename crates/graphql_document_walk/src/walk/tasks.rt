@@ -1,61 +1,77 @@
 //! What a walk has yet to do, on a stack of its own.
 
-ghost use Rattle.std.specs.Prelude.{◌≡◌, OnOk};
+ghost use Rattle.std.specs.Prelude.{◌≡◌, ◌∷◌, [], ◌++◌, OnOk};
 ghost use Rattle.graphql_schema.specs.Declarations.{declarations_of};
 ghost use Rattle.graphql_occurrences.specs.Events.{seen};
-ghost use Rattle.graphql_occurrences.specs.Lent.{around_of, node_of, seen_of};
-ghost use Rattle.graphql_occurrences.specs.Nodes.{Enter};
-ghost use Rattle.graphql_document_walk.specs.Pending.{Adds, work_events};
+ghost use Rattle.graphql_occurrences.specs.Lent.{around_of, event_of, node_of};
+ghost use Rattle.graphql_document_walk.specs.Pending.{Adds, Opens, part_events, told};
 
 use graphql_declarations::DeclaredArguments;
 use graphql_meta::{DirectiveLocation, SchemaScalar};
-use graphql_occurrences::{Around, Event, Node, Owner, Seen};
+use graphql_occurrences::{Around, Event, Node, Owner};
 use graphql_schema::SchemaType;
 use graphql_text::{Items, Spanning, Text, TextRef};
 use graphql_tree::{Definition, Directive, Selection, VariableDefinition};
 use graphql_values::InputValue;
 use std::alloc::AllocError;
 
-/// What a walk has yet to do. Siblings are one task, so that there are no more tasks than the tree is
-/// deep, but for a few at each level.
+/// A part of a document that a walk goes through. Siblings are one part, so that there are no more
+/// tasks than the tree is deep, but for a few at each level.
 #[derive(Drop)]
-pub(crate) enum Work<'a, 't, S> {
-    /// To leave a node.
-    Leave(Node<'a, 't, S>),
-
-    /// To go through a document.
+pub(crate) enum Part<'a, 't, S> {
+    /// A document.
     Document(&'a [Definition<'t, S>]),
 
-    /// To go through definitions.
+    /// Definitions.
     Definitions(&'a [Definition<'t, S>]),
 
-    /// To go through the definitions of variables.
+    /// The definitions of variables.
     Variables(&'a [(Spanning<TextRef<'t>>, VariableDefinition<'t, S>)]),
 
-    /// To go through directives, which stand at this place.
+    /// Directives, which stand at this place.
     Directives(DirectiveLocation, &'a [Spanning<Directive<'t, S>>]),
 
-    /// To go through arguments, by what they are given to and what is declared there.
+    /// Arguments, by what they are given to and what is declared there.
     Arguments(
         Owner<'a>,
         Option<DeclaredArguments<'a, S>>,
         &'a [(Spanning<TextRef<'t>>, Spanning<InputValue<S>>)],
     ),
 
-    /// To go through a selection set.
+    /// A selection set.
     Set(&'a [Selection<'t, S>]),
 
-    /// To go through selections.
+    /// Selections.
     Selections(&'a [Selection<'t, S>]),
 
-    /// To go through a value.
+    /// A value.
     Value(&'a Spanning<InputValue<S>>),
 
-    /// To go through the items of a list.
+    /// The items of a list.
     Items(&'a [Spanning<InputValue<S>>]),
 
-    /// To go through the fields of an object.
+    /// The fields of an object.
     Pairs(&'a [(Spanning<Text>, Spanning<InputValue<S>>)]),
+}
+
+/// A node is entered, or left.
+#[derive(Drop)]
+pub(crate) enum Side {
+    /// It is entered.
+    Enter,
+
+    /// It is left.
+    Leave,
+}
+
+/// What a walk has yet to do.
+#[derive(Drop)]
+pub(crate) enum Work<'a, 't, S> {
+    /// To tell that a node is entered or left.
+    Tell(Side, Node<'a, 't, S>),
+
+    /// To go through a part.
+    Through(Part<'a, 't, S>),
 }
 
 /// What a walk has yet to do, and the types around it.
@@ -65,29 +81,57 @@ pub(crate) struct Task<'a, 't, S, C = <S as SchemaScalar>::Check> {
     pub(crate) work: Work<'a, 't, S>,
 }
 
-/// Puts a task on top. An error is want of memory.
-#[tactic(auto, using(crate::proofs::PendingLemmas::pending_push))]
+/// Puts an item on top. An error is want of memory.
+fn put<T: Drop>(items: &mut Items<T>, item: T) -> Result<(), AllocError>
+    ensures { OnOk result (items.new ≡ items.old ++ item ∷ []) }
+{
+    items.push(item)?;
+    Ok(())
+}
+
+/// Puts a part on top, to be gone through. An error is want of memory.
 pub(crate) fn add<'a, 't, S, C>(
     schema: &'a SchemaType<S, C>,
     tasks: &mut Items<Task<'a, 't, S, C>>,
     around: Around<'a, S, C>,
-    work: Work<'a, 't, S>,
+    part: Part<'a, 't, S>,
 ) -> Result<(), AllocError>
-    ensures { OnOk result (Adds (declarations_of schema.now) (work_events (declarations_of schema.now) work.entry (around_of around.entry)) tasks.old tasks.new) }
+    ensures { OnOk result (Adds (declarations_of schema.now) (part_events (declarations_of schema.now) part.entry (around_of around.entry)) tasks.old tasks.new) }
 {
-    tasks.push(Task { around, work })?;
-    Ok(())
+    put(
+        tasks,
+        Task {
+            around,
+            work: Work::Through(part),
+        },
+    )
 }
 
-/// The node is entered.
-pub(crate) fn enter<'a, 't, S, C>(
+/// Puts on top that a node is entered or left. An error is want of memory.
+pub(crate) fn tell<'a, 't, S, C>(
+    schema: &'a SchemaType<S, C>,
+    tasks: &mut Items<Task<'a, 't, S, C>>,
     around: Around<'a, S, C>,
+    side: Side,
     node: Node<'a, 't, S>,
-) -> Seen<'a, 't, S, C>
-    ensures { seen_of result ≡ seen (around_of around.entry) (Enter (node_of node.entry)) }
+) -> Result<(), AllocError>
+    ensures { OnOk result (Opens (declarations_of schema.now) (seen (around_of around.entry) (told side (node_of node.entry)) ∷ []) tasks.old tasks.new) }
 {
-    Seen {
-        around,
-        event: Event::Enter(node),
+    put(
+        tasks,
+        Task {
+            around,
+            work: Work::Tell(side, node),
+        },
+    )
+}
+
+/// The node is entered or left.
+pub(crate) fn event<'a, 't, S>(side: Side, node: Node<'a, 't, S>) -> Event<'a, 't, S>
+    ensures { event_of result ≡ told side (node_of node.entry) }
+{
+    match side {
+        Side::Enter => Event::Enter(node),
+        Side::Leave => Event::Leave(node),
     }
 }

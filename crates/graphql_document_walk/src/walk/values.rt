@@ -5,13 +5,11 @@ ghost use Rattle.std.specs.Option.{option_map};
 ghost use Rattle.graphql_schema.specs.Declarations.{declarations_of};
 ghost use Rattle.graphql_occurrences.specs.Events.{argument_events, arguments_events, content_events, each, item_events, pair_events, value_events};
 ghost use Rattle.graphql_occurrences.specs.Lent.{arguments_lent, around_of, owner_of};
-ghost use Rattle.graphql_document_walk.specs.Pending.{Adds, Opened, OpenedAny};
+ghost use Rattle.graphql_document_walk.specs.Pending.{Adds, Opens, OpensAny};
 
-use super::tasks::{Task, Work, add, enter};
+use super::tasks::{Part, Side, Task, add, tell};
 use graphql_declarations::DeclaredArguments;
-use graphql_occurrences::{
-    Around, Node, Owner, Seen, place_of_argument, place_of_field, place_of_items,
-};
+use graphql_occurrences::{Around, Node, Owner, place_of_argument, place_of_field, place_of_items};
 use graphql_schema::SchemaType;
 use graphql_text::{Items, Spanning, Text, TextRef};
 use graphql_values::InputValue;
@@ -28,8 +26,8 @@ fn add_content<'a, 't, S, C>(
     ensures { OnOk result (Adds (declarations_of schema.now) (content_events (declarations_of schema.now) value.now (around_of around.entry)) tasks.old tasks.new) }
 {
     match value {
-        InputValue::List(items) => add(schema, tasks, around, Work::Items(items.as_slice())),
-        InputValue::Object(pairs) => add(schema, tasks, around, Work::Pairs(pairs.as_slice())),
+        InputValue::List(items) => add(schema, tasks, around, Part::Items(items.as_slice())),
+        InputValue::Object(pairs) => add(schema, tasks, around, Part::Pairs(pairs.as_slice())),
         InputValue::Null => Ok(()),
         InputValue::Scalar(_) => Ok(()),
         InputValue::Enum(_) => Ok(()),
@@ -43,12 +41,12 @@ pub(crate) fn open_value<'a, 't, S, C>(
     tasks: &mut Items<Task<'a, 't, S, C>>,
     around: Around<'a, S, C>,
     value: &'a Spanning<InputValue<S>>,
-) -> Result<Seen<'a, 't, S, C>, AllocError>
-    ensures { Opened (declarations_of schema.now) (value_events (declarations_of schema.now) value.now (around_of around.entry)) result tasks.old tasks.new }
+) -> Result<(), AllocError>
+    ensures { OnOk result (Opens (declarations_of schema.now) (value_events (declarations_of schema.now) value.now (around_of around.entry)) tasks.old tasks.new) }
 {
-    add(schema, tasks, around, Work::Leave(Node::Value(value)))?;
+    tell(schema, tasks, around, Side::Leave, Node::Value(value))?;
     add_content(schema, tasks, around, &value.item)?;
-    Ok(enter(around, Node::Value(value)))
+    tell(schema, tasks, around, Side::Enter, Node::Value(value))
 }
 
 /// The next item of a list is entered, if there is one.
@@ -57,20 +55,19 @@ pub(crate) fn open_items<'a, 't, S, C>(
     tasks: &mut Items<Task<'a, 't, S, C>>,
     around: Around<'a, S, C>,
     items: &'a [Spanning<InputValue<S>>],
-) -> Result<Option<Seen<'a, 't, S, C>>, AllocError>
-    ensures { OpenedAny (declarations_of schema.now) (each (item_events (declarations_of schema.now)) items.now (around_of around.entry)) result tasks.old tasks.new }
+) -> Result<(), AllocError>
+    ensures { OnOk result (OpensAny (declarations_of schema.now) (each (item_events (declarations_of schema.now)) items.now (around_of around.entry)) tasks.old tasks.new) }
 {
     match items.split_first() {
-        None => Ok(None),
+        None => Ok(()),
         Some((first, rest)) => {
-            add(schema, tasks, around, Work::Items(rest))?;
-            let event = open_value(
+            add(schema, tasks, around, Part::Items(rest))?;
+            open_value(
                 schema,
                 tasks,
                 around.asking(place_of_items(around.input)),
                 first,
-            )?;
-            Ok(Some(event))
+            )
         }
     }
 }
@@ -81,18 +78,25 @@ fn open_pair<'a, 't, S, C>(
     tasks: &mut Items<Task<'a, 't, S, C>>,
     around: Around<'a, S, C>,
     pair: &'a (Spanning<Text>, Spanning<InputValue<S>>),
-) -> Result<Seen<'a, 't, S, C>, AllocError>
-    ensures { Opened (declarations_of schema.now) (pair_events (declarations_of schema.now) pair.now (around_of around.entry)) result tasks.old tasks.new }
+) -> Result<(), AllocError>
+    ensures { OnOk result (Opens (declarations_of schema.now) (pair_events (declarations_of schema.now) pair.now (around_of around.entry)) tasks.old tasks.new) }
 {
     let inside = around.asking(place_of_field(schema, around.input, pair.0.item.as_str()));
-    add(
+    tell(
         schema,
         tasks,
         inside,
-        Work::Leave(Node::ObjectField(&pair.0)),
+        Side::Leave,
+        Node::ObjectField(&pair.0),
     )?;
-    add(schema, tasks, inside, Work::Value(&pair.1))?;
-    Ok(enter(inside, Node::ObjectField(&pair.0)))
+    add(schema, tasks, inside, Part::Value(&pair.1))?;
+    tell(
+        schema,
+        tasks,
+        inside,
+        Side::Enter,
+        Node::ObjectField(&pair.0),
+    )
 }
 
 /// The next field of an object is entered, if there is one.
@@ -101,15 +105,14 @@ pub(crate) fn open_pairs<'a, 't, S, C>(
     tasks: &mut Items<Task<'a, 't, S, C>>,
     around: Around<'a, S, C>,
     pairs: &'a [(Spanning<Text>, Spanning<InputValue<S>>)],
-) -> Result<Option<Seen<'a, 't, S, C>>, AllocError>
-    ensures { OpenedAny (declarations_of schema.now) (each (pair_events (declarations_of schema.now)) pairs.now (around_of around.entry)) result tasks.old tasks.new }
+) -> Result<(), AllocError>
+    ensures { OnOk result (OpensAny (declarations_of schema.now) (each (pair_events (declarations_of schema.now)) pairs.now (around_of around.entry)) tasks.old tasks.new) }
 {
     match pairs.split_first() {
-        None => Ok(None),
+        None => Ok(()),
         Some((first, rest)) => {
-            add(schema, tasks, around, Work::Pairs(rest))?;
-            let event = open_pair(schema, tasks, around, first)?;
-            Ok(Some(event))
+            add(schema, tasks, around, Part::Pairs(rest))?;
+            open_pair(schema, tasks, around, first)
         }
     }
 }
@@ -122,18 +125,25 @@ fn open_argument<'a, 't, S, C>(
     owner: Owner<'a>,
     declared: Option<DeclaredArguments<'a, S>>,
     argument: &'a (Spanning<TextRef<'t>>, Spanning<InputValue<S>>),
-) -> Result<Seen<'a, 't, S, C>, AllocError>
-    ensures { Opened (declarations_of schema.now) (argument_events (declarations_of schema.now) (owner_of owner.entry) (option_map arguments_lent declared.entry) argument.now (around_of around.entry)) result tasks.old tasks.new }
+) -> Result<(), AllocError>
+    ensures { OnOk result (Opens (declarations_of schema.now) (argument_events (declarations_of schema.now) (owner_of owner.entry) (option_map arguments_lent declared.entry) argument.now (around_of around.entry)) tasks.old tasks.new) }
 {
     let inside = around.asking(place_of_argument(declared, argument.0.item.as_str()));
-    add(
+    tell(
         schema,
         tasks,
         inside,
-        Work::Leave(Node::Argument(owner, declared, argument)),
+        Side::Leave,
+        Node::Argument(owner, declared, argument),
     )?;
-    add(schema, tasks, inside, Work::Value(&argument.1))?;
-    Ok(enter(inside, Node::Argument(owner, declared, argument)))
+    add(schema, tasks, inside, Part::Value(&argument.1))?;
+    tell(
+        schema,
+        tasks,
+        inside,
+        Side::Enter,
+        Node::Argument(owner, declared, argument),
+    )
 }
 
 /// The next argument is entered, if there is one.
@@ -144,20 +154,19 @@ pub(crate) fn open_arguments<'a, 't, S, C>(
     owner: Owner<'a>,
     declared: Option<DeclaredArguments<'a, S>>,
     arguments: &'a [(Spanning<TextRef<'t>>, Spanning<InputValue<S>>)],
-) -> Result<Option<Seen<'a, 't, S, C>>, AllocError>
-    ensures { OpenedAny (declarations_of schema.now) (arguments_events (declarations_of schema.now) (owner_of owner.entry) (option_map arguments_lent declared.entry) arguments.now (around_of around.entry)) result tasks.old tasks.new }
+) -> Result<(), AllocError>
+    ensures { OnOk result (OpensAny (declarations_of schema.now) (arguments_events (declarations_of schema.now) (owner_of owner.entry) (option_map arguments_lent declared.entry) arguments.now (around_of around.entry)) tasks.old tasks.new) }
 {
     match arguments.split_first() {
-        None => Ok(None),
+        None => Ok(()),
         Some((first, rest)) => {
             add(
                 schema,
                 tasks,
                 around,
-                Work::Arguments(owner, declared, rest),
+                Part::Arguments(owner, declared, rest),
             )?;
-            let event = open_argument(schema, tasks, around, owner, declared, first)?;
-            Ok(Some(event))
+            open_argument(schema, tasks, around, owner, declared, first)
         }
     }
 }

@@ -1,24 +1,38 @@
-use Rattle.std.proofs.Common.{◌≡◌, sym, subst, ◌∙◌}
-use Rattle.std.specs.Prelude.{[]}
+use Rattle.std.proofs.Common.{◌++◌, ◌∷◌, ap, sym, ◌∙◌}
 use Rattle.graphql_schema.specs.Declarations.{declarations_of}
-use Rattle.graphql_document_walk.specs.Pending.{Opens, task_events}
-use Rattle.graphql_document_walk.proofs.PendingLemmas.{next_none, next_some}
-use Rattle.std.specs.Prelude.{MatchOption}
+use Rattle.graphql_occurrences.specs.Events.{seen}
+use Rattle.graphql_occurrences.specs.Lent.{around_of}
+use Rattle.graphql_document_walk.specs.Pending.{part_after, parts_on_top, pending, work_events}
+use Rattle.graphql_document_walk.proofs.PendingLemmas.{fewer_parts, parts_with, pending_with}
 use Rattle.graphql_document_walk.proofs.walk.Walk.next.Goals as goal
 
-pub returns-in-Some-2 : goal.returns-in-Some-2
-returns-in-Some-2 g c =
+pub returns-in-Tell : goal.returns-in-Tell
+returns-in-Tell g c =
     let schema = declarations_of c.tasks.self.schema.now in
-    let opened =
-    subst (λ o. MatchOption o ((task_events schema c.in-Some.task ≡ []) × (c.open.new.tasks ≡ c.pop.new.self)) (λ n. Opens schema (task_events schema c.in-Some.task) n c.pop.new.self c.open.new.tasks)) c.in-Some-2.is c.in_ok-first.ensures in
+    let task = c.in-Some.task in
+    let popped = c.pop.new.self in
     record {
       schema = c.tasks.invariant.0;
-      events = sym c.tasks.invariant.1 ∙ next_some schema c.tasks.self.tasks c.pop.new.self c.open.new.tasks c.in-Some.task c.in-Some-2.first c.in-Some.ensures opened;
+      events = sym c.tasks.invariant.1
+          ∙ pending_with schema popped c.tasks.self.tasks task c.in-Some.ensures
+          ∙ ap (λ w. work_events schema w (around_of task.around) ++ pending schema popped) c.in-Tell.is
+          ∙ ap (λ e. seen (around_of task.around) e ∷ pending schema popped) (sym c.event.ensures);
     }
 
 pub tasks-preserved : goal.tasks-preserved
 tasks-preserved g c =
     let schema = declarations_of c.tasks.self.schema.now in
-    let none =
-    subst (λ o. MatchOption o ((task_events schema c.in-Some.task ≡ []) × (c.open.new.tasks ≡ c.pop.new.self)) (λ n. Opens schema (task_events schema c.in-Some.task) n c.pop.new.self c.open.new.tasks)) c.in-None.is c.in_ok-first.ensures in
-    (c.tasks.invariant.0, sym (next_none schema c.tasks.self.tasks c.pop.new.self c.open.new.tasks c.in-Some.task c.in-Some.ensures none.0 none.1) ∙ c.tasks.invariant.1)
+    let task = c.in-Some.task in
+    let popped = c.pop.new.self in (
+      c.tasks.invariant.0,
+      c.in_ok-open-in-Through.ensures.0
+          ∙ sym (pending_with schema popped c.tasks.self.tasks task c.in-Some.ensures ∙ ap (λ w. work_events schema w (around_of task.around) ++ pending schema popped) c.in-Through.is)
+          ∙ c.tasks.invariant.1,
+    )
+
+pub tasks-smaller : goal.tasks-smaller
+tasks-smaller g c =
+    let popped = c.pop.new.self in
+    fewer_parts c.tasks.self.tasks popped c.open.new.tasks
+    (parts_with popped c.tasks.self.tasks c.in-Some.task c.in-Some.ensures ∙ ap (part_after (parts_on_top popped)) c.in-Through.is)
+    c.in_ok-open-in-Through.ensures.1

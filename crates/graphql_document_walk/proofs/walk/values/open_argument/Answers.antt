@@ -3,9 +3,9 @@ use Rattle.std.specs.Option.{option_map}
 use Rattle.graphql_schema.specs.Declarations.{declarations_of}
 use Rattle.graphql_occurrences.specs.Lookups.{argument_place}
 use Rattle.graphql_occurrences.specs.Events.{asked, value_events}
-use Rattle.graphql_occurrences.specs.Lent.{arguments_lent, around_of, owner_of, seen_of}
+use Rattle.graphql_occurrences.specs.Lent.{arguments_lent, around_of, owner_of}
 use Rattle.graphql_occurrences.specs.Nodes.{Inner, AtArgument}
-use Rattle.graphql_document_walk.proofs.PendingLemmas.{opens_it}
+use Rattle.graphql_document_walk.proofs.PendingLemmas.{opens_node}
 use Rattle.graphql_document_walk.proofs.walk.values.open_argument.Goals as goal
 
 pub returns : goal.returns
@@ -16,4 +16,4 @@ returns g c =
     let around = around_of c.args.around in
     let inside : around_of c.asking-inside.result ≡ asked around (argument_place declared a.0.item) =
     c.asking-inside.ensures ∙ ap (asked around) (c.place_of_argument.ensures ∙ ap (argument_place declared) c.as_str.ensures) in
-    opens_it (Inner (AtArgument (owner_of c.args.owner) declared a)) (value_events schema a.1) _ _ (seen_of c.enter.result) _ _ _ inside c.in_ok-add.ensures c.in_ok-add-2.ensures c.enter.ensures
+    opens_node schema c.tell-2.result (Inner (AtArgument (owner_of c.args.owner) declared a)) (value_events schema a.1) _ _ c.args.tasks.now c.add.new.tasks c.tell-2.new.tasks _ inside c.in_ok-tell.ensures.0 c.in_ok-add.ensures c.tell-2.ensures
