@@ -1,0 +1,4 @@
+pub mod ClonesAnswer
+pub mod Registries
+pub mod Resolvables
+pub mod TypeReferences
