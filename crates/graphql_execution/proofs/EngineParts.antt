@@ -1,5 +1,5 @@
 -- What the engine of a request and a resolver is made of.
-use Rattle.std.proofs.Common.{◌≡◌, refl, List}
+use Rattle.std.proofs.Common.{◌≡◌, refl, Bool, List}
 use Rattle.std.specs.List.{flat_map}
 use Rattle.graphql_scalars.specs.ScalarAnswers.{ScalarAnswer}
 use Rattle.graphql_names.specs.Names.{Bytes}
@@ -8,12 +8,14 @@ use Rattle.graphql_collect.specs.Requests.{drops_in, fields_in, is_below_in}
 use Rattle.graphql_written_out.specs.Trees.{Tree}
 use Rattle.graphql_evaluation.specs.Engines.{Engine}
 use Rattle.graphql_evaluation.specs.Evaluation.{found_in}
+use Rattle.graphql_execution.specs.Asked.{asked_type}
+use Rattle.graphql_execution.specs.declared.asked.Asked.{Asked}
 use Rattle.graphql_execution.specs.FieldDeclarations.{declared_type, is_leaf_named, is_possible_named}
 use Rattle.graphql_execution.specs.Engines.{Resolves, engine_of, engine_over}
 
-module _ {S C N : Type 0} (of_text : Bytes → S) (answer : S → ScalarAnswer) (request : Request S C) (concrete : N → Bytes) (resolves : Resolves S N) where
-  abbrev engine : Engine S N
-  engine = engine_of of_text answer request concrete resolves
+module _ {S C N : Type 0} (of_text : Bytes → S) (of_bool : Bool → S) (answer : S → ScalarAnswer) (request : Request S C) (concrete : N → Bytes) (resolves : Resolves S N) where
+  abbrev engine : Engine S (Asked S N C)
+  engine = engine_of of_text of_bool answer request concrete resolves
 
   pub engine-declared : engine.declared ≡ declared_type request.schema.now.types
   unfolding engine_over
@@ -27,7 +29,7 @@ module _ {S C N : Type 0} (of_text : Bytes → S) (answer : S → ScalarAnswer) 
   unfolding engine_over
   engine-is_possible = refl
 
-  pub engine-concrete : engine.concrete ≡ concrete
+  pub engine-concrete : engine.concrete ≡ asked_type concrete
   unfolding engine_over
   engine-concrete = refl
 

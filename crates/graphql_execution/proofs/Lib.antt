@@ -1,3 +1,4 @@
+pub mod AskedLemmas
 pub mod EngineParts
 pub mod OutcomeLemmas
 pub mod GroupLemmas

@@ -1,6 +1,7 @@
 pub mod Answered
 pub mod FieldDeclarations
 pub mod FieldPaths
+pub mod Asked
 pub mod Engines
 pub mod EngineAt
 pub mod Paths

@@ -6,18 +6,23 @@ ghost use Rattle.graphql_arguments.specs.GivenValues.{arguments_told};
 ghost use Rattle.graphql_collect.specs.Requests.{fragments_in};
 ghost use Rattle.graphql_written_out.specs.Written.{Settled, head_of};
 ghost use Rattle.graphql_execution.specs.Answered.{Answered};
+ghost use Rattle.graphql_execution.specs.Asked.{asked_type, told_of_itself};
+ghost use Rattle.graphql_execution.specs.declared.asked.Asked.TheVariants as asked;
 ghost use Rattle.graphql_execution.specs.EngineAt.{engine_at};
 ghost use Rattle.graphql_execution.specs.Engines.{arguments_in as values_in};
 ghost use Rattle.graphql_execution.specs.Standing.{IsTypeOf, StandsAt};
 ghost use Rattle.graphql_tree.specs.Documents.{arguments_in};
 
+use crate::asked::{Asked, of_resolver, of_schema};
 use crate::executor::Executor;
-use crate::fields::declared_arguments;
+use crate::fields::{declared_arguments, query_root_name};
 use crate::graphql_value::GraphQLValue;
 use graphql_arguments::Arguments;
 use graphql_collect::Request;
 use graphql_field_results::{FieldResult, Resolved};
+use graphql_introspection::{SchemaAnswer, SchemaPart, answer_of, type_asked};
 use graphql_meta::SchemaScalar;
+use graphql_schema::SchemaType;
 use graphql_text::{Spanning, Text, TextRef};
 use graphql_tree::Field;
 use graphql_values::InputValue;
@@ -51,34 +56,69 @@ pub fn arguments_of<'d, 'a, S: SchemaScalar + Drop>(
 }
 
 /// The scalar of a text. An error is want of memory.
-pub fn text_scalar<S: SchemaScalar>(alloc: Global, text: &str) -> Result<S, AllocError>
+fn text_scalar<S: SchemaScalar>(alloc: Global, text: &str) -> Result<S, AllocError>
     ensures { Gives result (S.of_text text.now) }
 {
     Ok(S::from_string(Text::from_str(alloc, text)?.into_string()))
 }
 
-/// What a node of an object type answers for the field at which an executor stands. The name of an object's
-/// type is told of each object, and the resolver is not asked (GraphQL October 2021, 4.1 Type Name
-/// Introspection). `FieldFault::Memory` is want of memory.
-#[tactic(auto, unfolding(crate::specs::Engines::engine_over))]
-pub(crate) fn ask<'d, 'a, S: SchemaScalar + Drop, R: GraphQLValue<S>>(
-    resolver: &R,
-    executor: &Executor<'_, 'd, 'a, R::Context, S>,
+/// What an object of the type of this name tells of itself, without being asked: to each field `__typename` the
+/// name of its type; an object of the type from which queries start the schema, too, to `__schema` and `__type`
+/// (GraphQL October 2021, 4.1 Type Name Introspection, 4.2 Schema Introspection). An error is want of memory.
+pub fn told_of_itself<'d, S: SchemaScalar>(
+    alloc: Global,
+    schema: &'d SchemaType<S>,
     object: &str,
-    node: &R::Node,
-    field: &'d Spanning<Field<'a, S>>,
-) -> FieldResult<Resolved<S, R::Node>, S>
+    name: &str,
+    arguments: &Arguments<'_, S>,
+) -> Result<Option<SchemaAnswer<'d, S>>, AllocError>
+    ensures { Gives result (told_of_itself S.of_text S.answer schema.now object.now name.now (arguments_told arguments.now)) }
+{
+    if name == "__typename" {
+        return Ok(Some(Resolved::Scalar(text_scalar(alloc, object)?)));
+    }
+    if name == "__schema" && object == query_root_name(schema) {
+        return Ok(Some(Resolved::Node(SchemaPart::Schema)));
+    }
+    if name == "__type" && object == query_root_name(schema) {
+        return Ok(Some(type_asked(schema, arguments)));
+    }
+    Ok(None)
+}
+
+/// What is answered for the field of an object type at which an executor stands: what each object tells of itself
+/// the resolver is not asked, nor what the schema answers (GraphQL October 2021, 4 Introspection).
+/// `FieldFault::Memory` is want of memory.
+#[tactic(auto, unfolding(crate::specs::Engines::engine_over))]
+pub(crate) fn ask<'p, 'd, 'a, S: SchemaScalar + Drop, R: GraphQLValue<S>>(
+    resolver: &R,
+    executor: &Executor<'_, 'p, 'a, R::Context, S>,
+    schema: &'d SchemaType<S>,
+    object: &str,
+    node: &Asked<'d, S, R::Node>,
+    field: &'p Spanning<Field<'a, S>>,
+) -> FieldResult<Resolved<S, Asked<'d, S, R::Node>>, S>
     requires settled { Settled (fragments_in executor.now.request.now) }
-    requires typed { IsTypeOf executor.now.request.now.schema.now.query (R.root_node resolver.now)
-        (R.type_of resolver.now executor.now.context.now) node.now object.now }
+    requires schema { schema.now ≡ executor.now.request.now.schema.now }
+    requires typed { IsTypeOf executor.now.request.now.schema.now.query (asked.Own (R.root_node resolver.now))
+        (asked_type (R.type_of resolver.now executor.now.context.now)) node.now object.now }
     requires stands { StandsAt executor.now object.now field.now }
-    ensures { let e = engine_at S.of_text S.answer (R.type_of resolver.now) (R.answer resolver.now) executor.now in
+    ensures { let e = engine_at S.of_text S.of_bool S.answer (R.type_of resolver.now) (R.answer resolver.now) executor.now in
         Answered (e.answer node.now object.now (head_of field.now).name (e.arguments object.now (head_of field.now))) result }
 {
     let name = field.item.name.item.as_str();
-    if name == "__typename" {
-        return Ok(Resolved::Scalar(text_scalar(executor.alloc, object)?));
-    }
     let arguments = arguments_of(executor.alloc, executor.request, object, field)?;
-    resolver.resolve_field(node, name, &arguments, executor)
+    if let Some(told) = told_of_itself(executor.alloc, schema, object, name, &arguments)? {
+        return Ok(of_schema(executor.alloc, told)?);
+    }
+    match node {
+        Asked::Own(node) => {
+            let answer = resolver.resolve_field(node, name, &arguments, executor)?;
+            Ok(of_resolver(executor.alloc, answer)?)
+        }
+        Asked::Part(part) => {
+            let answer = answer_of(executor.alloc, schema, part, name, &arguments)?;
+            Ok(of_schema(executor.alloc, answer)?)
+        }
+    }
 }

@@ -10,6 +10,7 @@ ghost use Rattle.graphql_execution.specs.EngineAt.{engine_at};
 ghost use Rattle.graphql_execution.specs.Parts.{IsListAround};
 ghost use Rattle.graphql_execution.specs.Sets.{AreKnown, sets_in};
 
+use crate::asked::{Asked, asked_type_name};
 use crate::executor::Executor;
 use crate::failing::{misfit, own_null};
 use crate::fields::{is_leaf, possible_name};
@@ -47,18 +48,18 @@ fn begin_node<'d, 'a, S: SchemaScalar + Drop, R: GraphQLValue<S>>(
     resolver: &R,
     executor: &Executor<'_, 'd, 'a, R::Context, S>,
     spot: &Spot<'_, 'd, 'a, S>,
-    node: R::Node,
-) -> FieldResult<Begun<'d, 'a, S, R::Node>, S>
+    node: Asked<'d, S, R::Node>,
+) -> FieldResult<Begun<'d, 'a, S, Asked<'d, S, R::Node>>, S>
     requires settled { Settled (fragments_in executor.now.request.now) }
-    requires known { let e = engine_at S.of_text S.answer (R.type_of resolver.now) (R.answer resolver.now) executor.now in
+    requires known { let e = engine_at S.of_text S.of_bool S.answer (R.type_of resolver.now) (R.answer resolver.now) executor.now in
         AreKnown (fragments_in executor.now.request.now) (λ o. found_in e o (sets_in executor.now.request.now spot.now.selected)) spot.now.known.now }
-    ensures { let e = engine_at S.of_text S.answer (R.type_of resolver.now) (R.answer resolver.now) executor.now in
-        Begins e (sets_in executor.now.request.now spot.now.selected) spot.now.name.now (fragments_in executor.now.request.now) spot.now.location [] (Ok (resolved.Node node)) result }
+    ensures { let e = engine_at S.of_text S.of_bool S.answer (R.type_of resolver.now) (R.answer resolver.now) executor.now in
+        Begins e (sets_in executor.now.request.now spot.now.selected) spot.now.name.now (fragments_in executor.now.request.now) spot.now.location [] (Ok (resolved.Node node.entry)) result }
 {
     let Some(object) = possible_name(
         executor.request.schema,
         spot.name.as_str(),
-        resolver.concrete_type_name(executor.context, &node),
+        asked_type_name(resolver, executor.context, &node),
     ) else {
         drop(node);
         return Err(FieldFault::Error(misfit(executor.alloc, spot.name.as_str(), &[])?));
@@ -86,13 +87,13 @@ fn begin_named<'d, 'a, S: SchemaScalar + Drop, R: GraphQLValue<S>>(
     resolver: &R,
     executor: &Executor<'_, 'd, 'a, R::Context, S>,
     spot: &Spot<'_, 'd, 'a, S>,
-    answer: Resolved<S, R::Node>,
-) -> FieldResult<Begun<'d, 'a, S, R::Node>, S>
+    answer: Resolved<S, Asked<'d, S, R::Node>>,
+) -> FieldResult<Begun<'d, 'a, S, Asked<'d, S, R::Node>>, S>
     requires settled { Settled (fragments_in executor.now.request.now) }
-    requires known { let e = engine_at S.of_text S.answer (R.type_of resolver.now) (R.answer resolver.now) executor.now in
+    requires known { let e = engine_at S.of_text S.of_bool S.answer (R.type_of resolver.now) (R.answer resolver.now) executor.now in
         AreKnown (fragments_in executor.now.request.now) (λ o. found_in e o (sets_in executor.now.request.now spot.now.selected)) spot.now.known.now }
-    ensures { let e = engine_at S.of_text S.answer (R.type_of resolver.now) (R.answer resolver.now) executor.now in
-        Begins e (sets_in executor.now.request.now spot.now.selected) spot.now.name.now (fragments_in executor.now.request.now) spot.now.location [] (Ok answer) result }
+    ensures { let e = engine_at S.of_text S.of_bool S.answer (R.type_of resolver.now) (R.answer resolver.now) executor.now in
+        Begins e (sets_in executor.now.request.now spot.now.selected) spot.now.name.now (fragments_in executor.now.request.now) spot.now.location [] (Ok answer.entry) result }
 {
     let name = spot.name.as_str();
     match answer {
@@ -116,11 +117,11 @@ fn begin_list<'d, 'a, S: SchemaScalar + Drop, R: GraphQLValue<S>>(
     spot: &Spot<'_, 'd, 'a, S>,
     whole: &[TypeModifier],
     wraps: &'d [TypeModifier],
-    answer: Resolved<S, R::Node>,
-) -> FieldResult<Begun<'d, 'a, S, R::Node>, S>
+    answer: Resolved<S, Asked<'d, S, R::Node>>,
+) -> FieldResult<Begun<'d, 'a, S, Asked<'d, S, R::Node>>, S>
     requires { IsListAround whole.now wraps.now }
-    ensures { let e = engine_at S.of_text S.answer (R.type_of resolver.now) (R.answer resolver.now) executor.now in
-        Begins e (sets_in executor.now.request.now spot.now.selected) spot.now.name.now (fragments_in executor.now.request.now) spot.now.location (reverse whole.now) (Ok answer) result }
+    ensures { let e = engine_at S.of_text S.of_bool S.answer (R.type_of resolver.now) (R.answer resolver.now) executor.now in
+        Begins e (sets_in executor.now.request.now spot.now.selected) spot.now.name.now (fragments_in executor.now.request.now) spot.now.location (reverse whole.now) (Ok answer.entry) result }
 {
     let name = spot.name.as_str();
     match answer {
@@ -151,13 +152,13 @@ pub(crate) fn begin<'d, 'a, S: SchemaScalar + Drop, R: GraphQLValue<S>>(
     executor: &Executor<'_, 'd, 'a, R::Context, S>,
     spot: &Spot<'_, 'd, 'a, S>,
     wraps: &'d [TypeModifier],
-    answer: Resolved<S, R::Node>,
-) -> FieldResult<Begun<'d, 'a, S, R::Node>, S>
+    answer: Resolved<S, Asked<'d, S, R::Node>>,
+) -> FieldResult<Begun<'d, 'a, S, Asked<'d, S, R::Node>>, S>
     requires settled { Settled (fragments_in executor.now.request.now) }
-    requires known { let e = engine_at S.of_text S.answer (R.type_of resolver.now) (R.answer resolver.now) executor.now in
+    requires known { let e = engine_at S.of_text S.of_bool S.answer (R.type_of resolver.now) (R.answer resolver.now) executor.now in
         AreKnown (fragments_in executor.now.request.now) (λ o. found_in e o (sets_in executor.now.request.now spot.now.selected)) spot.now.known.now }
-    ensures { let e = engine_at S.of_text S.answer (R.type_of resolver.now) (R.answer resolver.now) executor.now in
-        Begins e (sets_in executor.now.request.now spot.now.selected) spot.now.name.now (fragments_in executor.now.request.now) spot.now.location (reverse wraps.now) (Ok answer) result }
+    ensures { let e = engine_at S.of_text S.of_bool S.answer (R.type_of resolver.now) (R.answer resolver.now) executor.now in
+        Begins e (sets_in executor.now.request.now spot.now.selected) spot.now.name.now (fragments_in executor.now.request.now) spot.now.location (reverse wraps.now) (Ok answer.entry) result }
 {
     match take_apart(wraps) {
         Outer::Named => begin_named(resolver, executor, spot, answer),

@@ -4,6 +4,8 @@ ghost use Rattle.std.specs.Prelude.{◌≡◌, ◌++◌, IfOk, Ok, OnErr, OnOk, 
 ghost use Rattle.graphql_output_values.specs.declared.value.Value.TheVariants as value;
 ghost use Rattle.graphql_collect.specs.Requests.{fragments_in};
 ghost use Rattle.graphql_written_out.specs.Written.{Settled};
+ghost use Rattle.graphql_execution.specs.Asked.{map_nodes};
+ghost use Rattle.graphql_execution.specs.declared.asked.Asked.TheVariants as asked;
 ghost use Rattle.graphql_execution.specs.Begins.{Begins, Completes};
 ghost use Rattle.graphql_execution.specs.Completions.{own_error_here, outcome_here};
 ghost use Rattle.graphql_execution.specs.EngineAt.{engine_at};
@@ -11,6 +13,7 @@ ghost use Rattle.graphql_execution.specs.Engines.{engine_of};
 ghost use Rattle.graphql_execution.specs.FieldPaths.{place_of};
 ghost use Rattle.graphql_execution.specs.Sets.{sets_in};
 
+use crate::asked::{Asked, of_resolver};
 use crate::beginning::{Spot, begin};
 use crate::context::FromContext;
 use crate::executor::Executor;
@@ -30,11 +33,11 @@ use std::alloc::AllocError;
 fn begin_here<'d, 'a, S: SchemaScalar + Drop, R: GraphQLValue<S>>(
     resolver: &R,
     executor: &Executor<'_, 'd, 'a, R::Context, S>,
-    answer: Resolved<S, R::Node>,
-) -> FieldResult<Begun<'d, 'a, S, R::Node>, S>
+    answer: Resolved<S, Asked<'d, S, R::Node>>,
+) -> FieldResult<Begun<'d, 'a, S, Asked<'d, S, R::Node>>, S>
     requires { Settled (fragments_in executor.now.request.now) }
-    ensures { let e = engine_at S.of_text S.answer (R.type_of resolver.now) (R.answer resolver.now) executor.now in
-        Begins e (sets_in executor.now.request.now executor.now.selected) executor.now.current_type.name.now (fragments_in executor.now.request.now) (place_of executor.now.path) (reverse executor.now.current_type.modifiers.now) (Ok answer) result }
+    ensures { let e = engine_at S.of_text S.of_bool S.answer (R.type_of resolver.now) (R.answer resolver.now) executor.now in
+        Begins e (sets_in executor.now.request.now executor.now.selected) executor.now.current_type.name.now (fragments_in executor.now.request.now) (place_of executor.now.path) (reverse executor.now.current_type.modifiers.now) (Ok answer.entry) result }
 {
     let name = TextRef::new(executor.current_type.name);
     let known = NameMap::new(executor.alloc);
@@ -68,8 +71,25 @@ impl<'c, 'd, 'a, Context, S: SchemaScalar + Drop> Executor<'c, 'd, 'a, Context, 
         errors: &mut Items<ExecutionError<S>>,
     ) -> FieldResult<Option<Value<S>>, S>
         requires { Settled (fragments_in self.now.request.now) }
-        ensures { let e = engine_at S.of_text S.answer (R.type_of resolver.now) (R.answer resolver.now) self.now in
+        ensures { let e = engine_at S.of_text S.of_bool S.answer (R.type_of resolver.now) (R.answer resolver.now) self.now in
+            let answer = map_nodes asked.Own answer in
             Completes (own_error_here e self.now answer) (outcome_here e self.now answer) errors.old result errors.new }
+    {
+        let answer = of_resolver(self.alloc, answer)?;
+        self.resolve_asked(resolver, answer, errors)
+    }
+
+    /// The value of what is asked, where an answer has been made of one of a resolver or of the schema: as
+    /// `resolve` gives it.
+    pub fn resolve_asked<R: GraphQLValue<S, Context = Context>>(
+        &self,
+        resolver: &R,
+        answer: Resolved<S, Asked<'d, S, R::Node>>,
+        errors: &mut Items<ExecutionError<S>>,
+    ) -> FieldResult<Option<Value<S>>, S>
+        requires { Settled (fragments_in self.now.request.now) }
+        ensures { let e = engine_at S.of_text S.of_bool S.answer (R.type_of resolver.now) (R.answer resolver.now) self.now in
+            Completes (own_error_here e self.now answer.entry) (outcome_here e self.now answer.entry) errors.old result errors.new }
     {
         let begun = begin_here(resolver, self, answer)?;
         let mut report = Report {
@@ -93,7 +113,8 @@ impl<'c, 'd, 'a, Context, S: SchemaScalar + Drop> Executor<'c, 'd, 'a, Context, 
     ) -> FieldResult<Option<Value<S>>, S>
         requires { Settled (fragments_in self.now.request.now) }
         ensures { let context = Within.within self.now.context.now in
-            let e = engine_of S.of_text S.answer self.now.request.now (R.type_of resolver.now context) (R.answer resolver.now context) in
+            let e = engine_of S.of_text S.of_bool S.answer self.now.request.now (R.type_of resolver.now context) (R.answer resolver.now context) in
+            let answer = map_nodes asked.Own answer in
             Completes (own_error_here e self.now answer) (outcome_here e self.now answer) errors.old result errors.new }
     {
         let within = self.replaced_context(Within::from(self.context));
@@ -110,9 +131,11 @@ impl<'c, 'd, 'a, Context, S: SchemaScalar + Drop> Executor<'c, 'd, 'a, Context, 
         errors: &mut Items<ExecutionError<S>>,
     ) -> Result<Value<S>, AllocError>
         requires { Settled (fragments_in self.now.request.now) }
-        ensures value { let e = engine_at S.of_text S.answer (R.type_of resolver.now) (R.answer resolver.now) self.now in
+        ensures value { let e = engine_at S.of_text S.of_bool S.answer (R.type_of resolver.now) (R.answer resolver.now) self.now in
+            let answer = map_nodes asked.Own answer in
             IfOk result (λ v. v ≡ unwrap_or (outcome_here e self.now answer).value value.Null) }
-        ensures told { let e = engine_at S.of_text S.answer (R.type_of resolver.now) (R.answer resolver.now) self.now in
+        ensures told { let e = engine_at S.of_text S.of_bool S.answer (R.type_of resolver.now) (R.answer resolver.now) self.now in
+            let answer = map_nodes asked.Own answer in
             OnOk result (errors.new ≡ errors.old ++ (outcome_here e self.now answer).failures) }
         ensures kept { OnErr result (errors.new ≡ errors.old) }
     {

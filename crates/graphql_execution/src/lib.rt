@@ -2,6 +2,7 @@
 //! 2021, 6.3 Executing Selection Sets, 6.4 Executing Fields).
 #![tactic(auto)]
 
+mod asked;
 mod asking;
 mod beginning;
 mod completing;
@@ -22,7 +23,8 @@ mod shared;
 mod stack;
 mod steps;
 
-pub use asking::{arguments_of, text_scalar, written_arguments};
+pub use asked::{Asked, of_resolver, of_schema};
+pub use asking::{arguments_of, told_of_itself, written_arguments};
 pub use context::{Context, FromContext};
 pub use executor::Executor;
 pub use field_path::FieldPath;

@@ -6,11 +6,14 @@ ghost use Rattle.graphql_evaluation.specs.Completion.{object_members};
 ghost use Rattle.graphql_evaluation.specs.Evaluation.{evaluate};
 ghost use Rattle.graphql_evaluation.specs.Outcomes.{outcome_map};
 ghost use Rattle.graphql_written_out.specs.Written.{Settled};
+ghost use Rattle.graphql_execution.specs.Asked.{asked_type};
+ghost use Rattle.graphql_execution.specs.declared.asked.Asked.TheVariants as asked;
 ghost use Rattle.graphql_execution.specs.EngineAt.{engine_at};
 ghost use Rattle.graphql_execution.specs.GivesOutcome.{GivesOutcome};
 ghost use Rattle.graphql_execution.specs.Sets.{sets_in};
 ghost use Rattle.graphql_execution.specs.Standing.{IsTypeOf};
 
+use crate::asked::Asked;
 use crate::executor::Executor;
 use crate::frame_parts::object_of;
 use crate::graphql_value::GraphQLValue;
@@ -32,13 +35,13 @@ pub fn answer_selections<'d, 'a, S: SchemaScalar + Drop, R: GraphQLValue<S>>(
     resolver: &R,
     executor: &Executor<'_, 'd, 'a, R::Context, S>,
     object: &str,
-    node: &R::Node,
+    node: &Asked<'d, S, R::Node>,
     report: &mut Report<'d, S>,
 ) -> Result<Option<Value<S>>, AllocError>
     requires settled { Settled (fragments_in executor.now.request.now) }
-    requires typed { IsTypeOf executor.now.request.now.schema.now.query (R.root_node resolver.now)
-        (R.type_of resolver.now executor.now.context.now) node.now object.now }
-    ensures { let e = engine_at S.of_text S.answer (R.type_of resolver.now) (R.answer resolver.now) executor.now in
+    requires typed { IsTypeOf executor.now.request.now.schema.now.query (asked.Own (R.root_node resolver.now))
+        (asked_type (R.type_of resolver.now executor.now.context.now)) node.now object.now }
+    ensures { let e = engine_at S.of_text S.of_bool S.answer (R.type_of resolver.now) (R.answer resolver.now) executor.now in
         IfOk result (λ value. GivesOutcome (outcome_map object_members (evaluate e report.old.path object.now node.now (sets_in executor.now.request.now executor.now.selected))) report.old value report.new) }
 {
     let groups = groups_collected(executor.alloc, executor.request, object, executor.selected)?;

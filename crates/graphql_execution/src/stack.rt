@@ -7,6 +7,8 @@ ghost use Rattle.graphql_collect.specs.Requests.{fragments_in};
 ghost use Rattle.graphql_names.specs.Names.{Bytes};
 ghost use Rattle.graphql_written_out.specs.Written.{Settled};
 ghost use Rattle.graphql_execution.specs.declared.frames.Frame.TheVariants as frame;
+ghost use Rattle.graphql_execution.specs.Asked.{asked_type};
+ghost use Rattle.graphql_execution.specs.declared.asked.Asked.TheVariants as asked;
 ghost use Rattle.graphql_execution.specs.EngineAt.{engine_at};
 ghost use Rattle.graphql_evaluation.specs.Evaluation.{evaluate, group};
 ghost use Rattle.graphql_execution.specs.FrameTurns.{all_waiting, begun_turns, rest_turns, turned_turns};
@@ -15,6 +17,7 @@ ghost use Rattle.graphql_execution.specs.GivesOutcome.{GivesOutcome};
 ghost use Rattle.graphql_execution.specs.Sets.{HasKey};
 ghost use Rattle.graphql_execution.specs.Standing.{IsTypeOf};
 
+use crate::asked::Asked;
 use crate::beginning::{Spot, begin};
 use crate::executor::Executor;
 use crate::failing::begun_or_told;
@@ -82,19 +85,19 @@ fn wait_for_item<'d, 'a, S: SchemaScalar + Drop, N: Drop>(
 fn advance_object<'d, 'a, S: SchemaScalar + Drop, R: GraphQLValue<S>>(
     resolver: &R,
     executor: &Executor<'_, 'd, 'a, R::Context, S>,
-    object_frame: ObjectFrameIn<'d, 'a, S, R::Node>,
-    waiting: &mut Items<FrameIn<'d, 'a, S, R::Node>>,
+    object_frame: ObjectFrameIn<'d, 'a, S, Asked<'d, S, R::Node>>,
+    waiting: &mut Items<FrameIn<'d, 'a, S, Asked<'d, S, R::Node>>>,
     report: &mut Report<'d, S>,
-) -> Result<Begun<'d, 'a, S, R::Node>, AllocError>
+) -> Result<Begun<'d, 'a, S, Asked<'d, S, R::Node>>, AllocError>
     requires settled { Settled (fragments_in executor.now.request.now) }
-    requires fine { let e = engine_at S.of_text S.answer (R.type_of resolver.now) (R.answer resolver.now) executor.now in
+    requires fine { let e = engine_at S.of_text S.of_bool S.answer (R.type_of resolver.now) (R.answer resolver.now) executor.now in
         Fine e (fragments_in executor.now.request.now) (frame.Object object_frame) × AllFine e (fragments_in executor.now.request.now) waiting.now }
-    ensures steps { let e = engine_at S.of_text S.answer (R.type_of resolver.now) (R.answer resolver.now) executor.now in
+    ensures steps { let e = engine_at S.of_text S.of_bool S.answer (R.type_of resolver.now) (R.answer resolver.now) executor.now in
         let fr = fragments_in executor.now.request.now in
         IfOk result (λ b. (path : List Bytes) → report.old.path ≡ path_of path waiting.old → Steps e fr path (resume e fr path waiting.old (λ q. rest e fr q (frame.Object object_frame.entry))) report.old waiting.new (comes_to e fr b) report.new) }
-    ensures turns { let e = engine_at S.of_text S.answer (R.type_of resolver.now) (R.answer resolver.now) executor.now in
+    ensures turns { let e = engine_at S.of_text S.of_bool S.answer (R.type_of resolver.now) (R.answer resolver.now) executor.now in
         IfOk result (λ b. all_waiting e (fragments_in executor.now.request.now) waiting.new + begun_turns e (fragments_in executor.now.request.now) b < all_waiting e (fragments_in executor.now.request.now) waiting.old + rest_turns e (fragments_in executor.now.request.now) (frame.Object object_frame.entry)) }
-    ensures fine { let e = engine_at S.of_text S.answer (R.type_of resolver.now) (R.answer resolver.now) executor.now in
+    ensures fine { let e = engine_at S.of_text S.of_bool S.answer (R.type_of resolver.now) (R.answer resolver.now) executor.now in
         IfOk result (λ b. AllFine e (fragments_in executor.now.request.now) waiting.new × FineBegun e (fragments_in executor.now.request.now) b) }
 {
     let ObjectFrame {
@@ -125,19 +128,19 @@ fn advance_object<'d, 'a, S: SchemaScalar + Drop, R: GraphQLValue<S>>(
 fn advance_list<'d, 'a, S: SchemaScalar + Drop, R: GraphQLValue<S>>(
     resolver: &R,
     executor: &Executor<'_, 'd, 'a, R::Context, S>,
-    list_frame: ListFrameIn<'d, 'a, S, R::Node>,
-    waiting: &mut Items<FrameIn<'d, 'a, S, R::Node>>,
+    list_frame: ListFrameIn<'d, 'a, S, Asked<'d, S, R::Node>>,
+    waiting: &mut Items<FrameIn<'d, 'a, S, Asked<'d, S, R::Node>>>,
     report: &mut Report<'d, S>,
-) -> Result<Begun<'d, 'a, S, R::Node>, AllocError>
+) -> Result<Begun<'d, 'a, S, Asked<'d, S, R::Node>>, AllocError>
     requires settled { Settled (fragments_in executor.now.request.now) }
-    requires fine { let e = engine_at S.of_text S.answer (R.type_of resolver.now) (R.answer resolver.now) executor.now in
+    requires fine { let e = engine_at S.of_text S.of_bool S.answer (R.type_of resolver.now) (R.answer resolver.now) executor.now in
         Fine e (fragments_in executor.now.request.now) (frame.List list_frame) × AllFine e (fragments_in executor.now.request.now) waiting.now }
-    ensures steps { let e = engine_at S.of_text S.answer (R.type_of resolver.now) (R.answer resolver.now) executor.now in
+    ensures steps { let e = engine_at S.of_text S.of_bool S.answer (R.type_of resolver.now) (R.answer resolver.now) executor.now in
         let fr = fragments_in executor.now.request.now in
         IfOk result (λ b. (path : List Bytes) → report.old.path ≡ path_of path waiting.old → Steps e fr path (resume e fr path waiting.old (λ q. rest e fr q (frame.List list_frame.entry))) report.old waiting.new (comes_to e fr b) report.new) }
-    ensures turns { let e = engine_at S.of_text S.answer (R.type_of resolver.now) (R.answer resolver.now) executor.now in
+    ensures turns { let e = engine_at S.of_text S.of_bool S.answer (R.type_of resolver.now) (R.answer resolver.now) executor.now in
         IfOk result (λ b. all_waiting e (fragments_in executor.now.request.now) waiting.new + begun_turns e (fragments_in executor.now.request.now) b < all_waiting e (fragments_in executor.now.request.now) waiting.old + rest_turns e (fragments_in executor.now.request.now) (frame.List list_frame.entry)) }
-    ensures fine { let e = engine_at S.of_text S.answer (R.type_of resolver.now) (R.answer resolver.now) executor.now in
+    ensures fine { let e = engine_at S.of_text S.of_bool S.answer (R.type_of resolver.now) (R.answer resolver.now) executor.now in
         IfOk result (λ b. AllFine e (fragments_in executor.now.request.now) waiting.new × FineBegun e (fragments_in executor.now.request.now) b) }
 {
     let ListFrame {
@@ -178,19 +181,19 @@ fn advance_list<'d, 'a, S: SchemaScalar + Drop, R: GraphQLValue<S>>(
 fn turn<'d, 'a, S: SchemaScalar + Drop, R: GraphQLValue<S>>(
     resolver: &R,
     executor: &Executor<'_, 'd, 'a, R::Context, S>,
-    now: Begun<'d, 'a, S, R::Node>,
-    waiting: &mut Items<FrameIn<'d, 'a, S, R::Node>>,
+    now: Begun<'d, 'a, S, Asked<'d, S, R::Node>>,
+    waiting: &mut Items<FrameIn<'d, 'a, S, Asked<'d, S, R::Node>>>,
     report: &mut Report<'d, S>,
-) -> Result<Turned<'d, 'a, S, R::Node>, AllocError>
+) -> Result<Turned<'d, 'a, S, Asked<'d, S, R::Node>>, AllocError>
     requires settled { Settled (fragments_in executor.now.request.now) }
-    requires fine { let e = engine_at S.of_text S.answer (R.type_of resolver.now) (R.answer resolver.now) executor.now in
+    requires fine { let e = engine_at S.of_text S.of_bool S.answer (R.type_of resolver.now) (R.answer resolver.now) executor.now in
         AllFine e (fragments_in executor.now.request.now) waiting.now × FineBegun e (fragments_in executor.now.request.now) now }
-    ensures steps { let e = engine_at S.of_text S.answer (R.type_of resolver.now) (R.answer resolver.now) executor.now in
+    ensures steps { let e = engine_at S.of_text S.of_bool S.answer (R.type_of resolver.now) (R.answer resolver.now) executor.now in
         let fr = fragments_in executor.now.request.now in
         IfOk result (λ t. (path : List Bytes) → report.old.path ≡ path_of path waiting.old → Steps e fr path (resume e fr path waiting.old (comes_to e fr now.entry)) report.old waiting.new (turned_to e fr t) report.new) }
-    ensures turns { let e = engine_at S.of_text S.answer (R.type_of resolver.now) (R.answer resolver.now) executor.now in
+    ensures turns { let e = engine_at S.of_text S.of_bool S.answer (R.type_of resolver.now) (R.answer resolver.now) executor.now in
         IfOk result (λ t. all_waiting e (fragments_in executor.now.request.now) waiting.new + turned_turns e (fragments_in executor.now.request.now) t < all_waiting e (fragments_in executor.now.request.now) waiting.old + begun_turns e (fragments_in executor.now.request.now) now.entry) }
-    ensures fine { let e = engine_at S.of_text S.answer (R.type_of resolver.now) (R.answer resolver.now) executor.now in
+    ensures fine { let e = engine_at S.of_text S.of_bool S.answer (R.type_of resolver.now) (R.answer resolver.now) executor.now in
         IfOk result (λ t. FineTurned e (fragments_in executor.now.request.now) t waiting.new) }
 {
     match now {
@@ -216,13 +219,13 @@ fn turn<'d, 'a, S: SchemaScalar + Drop, R: GraphQLValue<S>>(
 pub(crate) fn drive<'d, 'a, S: SchemaScalar + Drop, R: GraphQLValue<S>>(
     resolver: &R,
     executor: &Executor<'_, 'd, 'a, R::Context, S>,
-    first: Begun<'d, 'a, S, R::Node>,
+    first: Begun<'d, 'a, S, Asked<'d, S, R::Node>>,
     report: &mut Report<'d, S>,
 ) -> Result<Option<Value<S>>, AllocError>
     requires settled { Settled (fragments_in executor.now.request.now) }
-    requires fine { let e = engine_at S.of_text S.answer (R.type_of resolver.now) (R.answer resolver.now) executor.now in
+    requires fine { let e = engine_at S.of_text S.of_bool S.answer (R.type_of resolver.now) (R.answer resolver.now) executor.now in
         FineBegun e (fragments_in executor.now.request.now) first }
-    ensures { let e = engine_at S.of_text S.answer (R.type_of resolver.now) (R.answer resolver.now) executor.now in
+    ensures { let e = engine_at S.of_text S.of_bool S.answer (R.type_of resolver.now) (R.answer resolver.now) executor.now in
         IfOk result (λ value. GivesOutcome (comes_to e (fragments_in executor.now.request.now) first.entry report.old.path) report.old value report.new) }
 {
     let mut waiting = Items::new(executor.alloc);
@@ -240,15 +243,15 @@ pub(crate) fn answer<'d, 'a, S: SchemaScalar + Drop, R: GraphQLValue<S>>(
     resolver: &R,
     executor: &Executor<'_, 'd, 'a, R::Context, S>,
     object: &str,
-    node: &R::Node,
+    node: &Asked<'d, S, R::Node>,
     these: &Group<'d, 'a, S>,
     report: &mut Report<'d, S>,
 ) -> Result<Option<Value<S>>, AllocError>
     requires settled { Settled (fragments_in executor.now.request.now) }
-    requires typed { IsTypeOf executor.now.request.now.schema.now.query (R.root_node resolver.now)
-        (R.type_of resolver.now executor.now.context.now) node.now object.now }
+    requires typed { IsTypeOf executor.now.request.now.schema.now.query (asked.Own (R.root_node resolver.now))
+        (asked_type (R.type_of resolver.now executor.now.context.now)) node.now object.now }
     requires keyed { HasKey these.now }
-    ensures { let e = engine_at S.of_text S.answer (R.type_of resolver.now) (R.answer resolver.now) executor.now in
+    ensures { let e = engine_at S.of_text S.of_bool S.answer (R.type_of resolver.now) (R.answer resolver.now) executor.now in
         IfOk result (λ value. GivesOutcome (group e (evaluate e) report.old.path object.now node.now these.now.0 (all_found (fragments_in executor.now.request.now) these.now.1)) report.old value report.new) }
 {
     let started = start(resolver, executor, object, node, these, report)?;

@@ -13,12 +13,15 @@ ghost use Rattle.graphql_evaluation.specs.Outcomes.{show_place};
 ghost use Rattle.graphql_evaluation.specs.Turns.{all_turns, turns_of_group};
 ghost use Rattle.graphql_execution.specs.declared.frames.Frame.TheVariants as frame;
 ghost use Rattle.graphql_execution.specs.Begins.{Begins};
+ghost use Rattle.graphql_execution.specs.Asked.{asked_type};
+ghost use Rattle.graphql_execution.specs.declared.asked.Asked.TheVariants as asked;
 ghost use Rattle.graphql_execution.specs.EngineAt.{engine_at};
 ghost use Rattle.graphql_execution.specs.FrameTurns.{begun_turns, rest_turns, waiting_turns};
 ghost use Rattle.graphql_execution.specs.Frames.{Fine, FineBegun, Leads, close, comes_to, down, rest, shows};
 ghost use Rattle.graphql_execution.specs.Sets.{HasKey};
 ghost use Rattle.graphql_execution.specs.Standing.{IsPlaceOf, IsTypeOf};
 
+use crate::asked::Asked;
 use crate::asking::ask;
 use crate::beginning::{Spot, begin};
 use crate::executor::Executor;
@@ -48,18 +51,18 @@ fn begin_field<'p, 'd, 'a, S: SchemaScalar + Drop, R: GraphQLValue<S>>(
     resolver: &R,
     executor: &Executor<'_, 'd, 'a, R::Context, S>,
     object: &str,
-    node: &R::Node,
+    node: &Asked<'d, S, R::Node>,
     fields: &'p [CollectedField<'d, 'a, S>],
     first: &'d Spanning<Field<'a, S>>,
     declared: TypeLiteral<'d>,
     keys: &'p [TextRef<'d>],
-) -> FieldResult<Begun<'d, 'a, S, R::Node>, S>
+) -> FieldResult<Begun<'d, 'a, S, Asked<'d, S, R::Node>>, S>
     requires settled { Settled (fragments_in executor.now.request.now) }
-    requires typed { IsTypeOf executor.now.request.now.schema.now.query (R.root_node resolver.now)
-        (R.type_of resolver.now executor.now.context.now) node.now object.now }
+    requires typed { IsTypeOf executor.now.request.now.schema.now.query (asked.Own (R.root_node resolver.now))
+        (asked_type (R.type_of resolver.now executor.now.context.now)) node.now object.now }
     requires place { IsPlaceOf executor.now.request.now object.now first.now (literal_of declared) first.now.span.start keys.now
         (sets_below (all_found (fragments_in executor.now.request.now) fields.now)) }
-    ensures { let e = engine_at S.of_text S.answer (R.type_of resolver.now) (R.answer resolver.now) executor.now in
+    ensures { let e = engine_at S.of_text S.of_bool S.answer (R.type_of resolver.now) (R.answer resolver.now) executor.now in
         Begins e (sets_below (all_found (fragments_in executor.now.request.now) fields.now)) declared.entry.name.now (fragments_in executor.now.request.now) first.now.span.start (reverse declared.entry.modifiers.now) (e.answer node.now object.now (head_of first.now).name (e.arguments object.now (head_of first.now))) result }
 {
     let name = TextRef::new(declared.name);
@@ -67,7 +70,14 @@ fn begin_field<'p, 'd, 'a, S: SchemaScalar + Drop, R: GraphQLValue<S>>(
     let location = first.span.start;
     let here = executor.at_field(keys, location, declared, Selected::Below(fields));
     let field: &'p Spanning<Field<'a, S>> = first;
-    let answer = ask(resolver, &here, object, node, field)?;
+    let answer = ask(
+        resolver,
+        &here,
+        executor.request.schema,
+        object,
+        node,
+        field,
+    )?;
     let known = NameMap::new(executor.alloc);
     let spot = Spot {
         name: &name,
@@ -83,21 +93,21 @@ pub(crate) fn start<'d, 'a, S: SchemaScalar + Drop, R: GraphQLValue<S>>(
     resolver: &R,
     executor: &Executor<'_, 'd, 'a, R::Context, S>,
     object: &str,
-    node: &R::Node,
+    node: &Asked<'d, S, R::Node>,
     these: &Group<'d, 'a, S>,
     report: &mut Report<'d, S>,
-) -> Result<Started<'d, 'a, S, R::Node>, AllocError>
+) -> Result<Started<'d, 'a, S, Asked<'d, S, R::Node>>, AllocError>
     requires settled { Settled (fragments_in executor.now.request.now) }
-    requires typed { IsTypeOf executor.now.request.now.schema.now.query (R.root_node resolver.now)
-        (R.type_of resolver.now executor.now.context.now) node.now object.now }
+    requires typed { IsTypeOf executor.now.request.now.schema.now.query (asked.Own (R.root_node resolver.now))
+        (asked_type (R.type_of resolver.now executor.now.context.now)) node.now object.now }
     requires keyed { HasKey these.now }
-    ensures leads { let e = engine_at S.of_text S.answer (R.type_of resolver.now) (R.answer resolver.now) executor.now in
+    ensures leads { let e = engine_at S.of_text S.of_bool S.answer (R.type_of resolver.now) (R.answer resolver.now) executor.now in
         IfOk result (λ s. Leads (group e (evaluate e) report.old.path object.now node.now these.now.0 (all_found (fragments_in executor.now.request.now) these.now.1))
         report.old (show_place s.is_needed (comes_to e (fragments_in executor.now.request.now) s.begun (report.old.path ++ these.now.0 ∷ []))) report.new) }
     ensures path { OnOk result (report.new.path ≡ report.old.path ++ these.now.0 ∷ []) }
-    ensures turns { let e = engine_at S.of_text S.answer (R.type_of resolver.now) (R.answer resolver.now) executor.now in
+    ensures turns { let e = engine_at S.of_text S.of_bool S.answer (R.type_of resolver.now) (R.answer resolver.now) executor.now in
         IfOk result (λ s. begun_turns e (fragments_in executor.now.request.now) s.begun ≡ turns_of_group e (all_turns e) object.now node.now (all_found (fragments_in executor.now.request.now) these.now.1)) }
-    ensures fine { let e = engine_at S.of_text S.answer (R.type_of resolver.now) (R.answer resolver.now) executor.now in
+    ensures fine { let e = engine_at S.of_text S.of_bool S.answer (R.type_of resolver.now) (R.answer resolver.now) executor.now in
         IfOk result (λ s. FineBegun e (fragments_in executor.now.request.now) s.begun) }
 {
     report.enter(&these.0)?;

@@ -1,2 +1,3 @@
 mod Exclusive
 mod Running
+mod SameAsking

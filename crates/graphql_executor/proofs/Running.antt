@@ -1,5 +1,5 @@
 -- What an operation gives and leaves, over a request that is put together of a document and of final values.
-use Rattle.std.proofs.Common.{◌≡◌, refl, ap, ◌∙◌, subst, List, [], ◌∷◌, ◌++◌, Option, Some, None, Result, Ok, Err, OnErr}
+use Rattle.std.proofs.Common.{◌≡◌, refl, ap, ◌∙◌, subst, Bool, List, [], ◌∷◌, ◌++◌, Option, Some, None, Result, Ok, Err, OnErr}
 use Rattle.std.specs.Prelude.{IsPermutation, unwrap_or}
 use Rattle.std.specs.declared.cmp.Ordering.{Ordering}
 use Rattle.std.specs.List.Sorted.{IsSorted}
@@ -20,6 +20,7 @@ use Rattle.graphql_collect.specs.declared.request.Request.{Request}
 use Rattle.graphql_field_results.specs.declared.execution_error.ExecutionError.{ExecutionError}
 use Rattle.graphql_evaluation.specs.Completion.{Members, object_members}
 use Rattle.graphql_execution.specs.Engines.{Resolves}
+use Rattle.graphql_execution.specs.declared.asked.Asked.{Asked}
 use Rattle.graphql_execution.specs.Sets.{sets_in}
 use Rattle.graphql_execution.specs.declared.selected.Selected.{Selected}
 use Rattle.graphql_mutation.specs.Mutations.{Changes, mutation_of, mutation_over}
@@ -56,7 +57,7 @@ responds-by cmp run v old failures errors answered new none h is all sorted = re
 }
 
 -- an executor at the root stands over the request, at an object of the type, and selects the set
-module _ {S C N X : Type 0} (of_text : Bytes → S) (answer : S → ScalarAnswer) (types : X → N → Bytes)
+module _ {S C N X : Type 0} (of_text : Bytes → S) (of_bool : Bool → S) (answer : S → ScalarAnswer) (types : X → N → Bytes)
     (resolves : X → Resolves S N) (changes : Changes S N X) (at r : Request S C) (here object : Bytes)
     (selected : Selected S) (set : List (Selection S)) (over : at ≡ r) (of : here ≡ object)
     (selects : sets_in r selected ≡ written_in r set ∷ []) where
@@ -66,8 +67,8 @@ module _ {S C N X : Type 0} (of_text : Bytes → S) (answer : S → ScalarAnswer
       subst (λ sets. P r object sets) selects
       (subst (λ name. P r name (sets_in r selected)) of (subst (λ q. P q here (sets_in q selected)) over h))
 
-  abbrev asked : Request S C → Mutation S N X
-  asked q = mutation_of of_text answer q types resolves changes
+  abbrev asked : Request S C → Mutation S (Asked S N C) X
+  asked q = mutation_of of_text of_bool answer q types resolves changes
 
   pub mutation-responds : (cmp : ExecutionError S → ExecutionError S → Ordering) (c new : X) (v : Option (Value S))
       (old failures errors : List (ExecutionError S)) (answered : Value S) → old ≡ []
@@ -95,11 +96,11 @@ over-document cmp m query node root c new answered errors at document there set 
     (subst (λ d. Responds cmp (run_at m query node (written (fragments_listed d) there ∷ []) root c) answered errors new) over h)
 
 -- the same values of variables
-module _ {S C N X : Type 0} (of_text : Bytes → S) (answer : S → ScalarAnswer) (schema : SchemaType S C) (types : X → N → Bytes)
-    (resolves : X → Resolves S N) (changes : Changes S N X) (node : N) (sets : List (Tree S)) (root : Option Bytes) (c new : X)
+module _ {S C N X : Type 0} (of_text : Bytes → S) (of_bool : Bool → S) (answer : S → ScalarAnswer) (schema : SchemaType S C) (types : X → N → Bytes)
+    (resolves : X → Resolves S N) (changes : Changes S N X) (node : Asked S N C) (sets : List (Tree S)) (root : Option Bytes) (c new : X)
     (at values : Bytes → Option (InputValue S)) (over : at ≡ values) where
-  abbrev asked_over : (Bytes → Option (InputValue S)) → Mutation S N X
-  asked_over v = mutation_over of_text answer schema.types v types resolves changes
+  abbrev asked_over : (Bytes → Option (InputValue S)) → Mutation S (Asked S N C) X
+  asked_over v = mutation_over of_text of_bool answer schema v types resolves changes
 
   pub values-respond : (cmp : ExecutionError S → ExecutionError S → Ordering) (answered : Value S)
       (errors : List (ExecutionError S))

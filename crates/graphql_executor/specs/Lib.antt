@@ -1,4 +1,5 @@
 pub mod Resolvers
 pub mod Executed
 pub mod Answered
+pub mod IntrospectionQuery
 pub mod Laws

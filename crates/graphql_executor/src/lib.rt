@@ -1,6 +1,7 @@
 //! Execution of requests (GraphQL October 2021, 6 Execution).
 #![tactic(auto)]
 
+mod introspection_query;
 pub mod laws;
 mod operation;
 mod request;
@@ -17,9 +18,12 @@ pub use graphql_field_results::{
 };
 pub use graphql_final_variables::FinalVariables;
 pub use graphql_input_types::{ID, Nullable};
+pub use graphql_introspection::{introspection_metadata, kind_name, location_name};
+pub use graphql_meta::IntrospectionChecks;
 pub use graphql_mutation::GraphQLMutationValue;
 pub use graphql_requests::{GraphQLError, Meaning, get_operation};
 pub use graphql_values::{FromInputValueArrayError, FromInputValueVecError};
+pub use introspection_query::{IntrospectionFormat, introspect};
 pub use operation::Response;
 pub use request::execute_sync;
 pub use resolving::Resolving;

@@ -8,6 +8,7 @@ ghost use Rattle.graphql_collect.specs.Requests.{fragments_in, written_in};
 ghost use Rattle.graphql_evaluation.specs.Evaluation.{evaluate};
 ghost use Rattle.graphql_written_out.specs.Written.{Settled, written};
 ghost use Rattle.graphql_execution.specs.Engines.{engine_of};
+ghost use Rattle.graphql_execution.specs.declared.asked.Asked.TheVariants as asked;
 ghost use Rattle.graphql_mutation.specs.Mutations.{mutation_of, mutation_over};
 ghost use Rattle.graphql_mutation.specs.Serial.{AfterBeginning, mutate, root_groups};
 ghost use Rattle.graphql_executor.specs.Executed.{IsBegun, IsBegunAt, IsResponse, Responds, run_at, runs};
@@ -15,7 +16,7 @@ ghost use Rattle.graphql_executor.specs.Executed.{IsBegun, IsBegunAt, IsResponse
 use crate::resolving::Resolving;
 use graphql_collect::{Fragments, Request};
 use graphql_execution::{
-    Executor, GraphQLValue, Report, answer_selections, or_null, query_root_name,
+    Asked, Executor, GraphQLValue, Report, answer_selections, or_null, query_root_name,
 };
 use graphql_field_results::{ExecutionError, in_order};
 use graphql_final_variables::FinalVariables;
@@ -45,14 +46,14 @@ fn answer_query<'d, 'a, S: SchemaScalar + Drop, R: GraphQLValue<S>>(
 ) -> Result<Response<S>, AllocError>
     requires settled { Settled (fragments_in request.now) }
     requires query { object.now ≡ request.now.schema.now.query }
-    ensures { let e = engine_of S.of_text S.answer request.now
+    ensures { let e = engine_of S.of_text S.of_bool S.answer request.now
         (R.type_of resolver.now context.now) (R.answer resolver.now context.now) in
         let sets = written_in request.now set.now ∷ [] in
-        let outcome = evaluate e [] object.now (R.root_node resolver.now) sets in
+        let outcome = evaluate e [] object.now (asked.Own (R.root_node resolver.now)) sets in
         IfOk result (λ r. IsResponse ⟦<ExecutionError<S> as Ord>⟧.cmp outcome r.0 r.1) }
 {
     let executor = Executor::at_root(alloc, request, context, object, start, set);
-    let root = resolver.root();
+    let root = Asked::Own(resolver.root());
     let mut report = Report::new(alloc);
     let value = answer_selections(resolver, &executor, object, &root, &mut report)?;
     Ok((or_null(value), in_order(report.errors)))
@@ -70,11 +71,11 @@ fn answer_mutation<'d, 'a, S: SchemaScalar + Drop, R: GraphQLMutationValue<S>>(
     set: &'d [Selection<'a, S>],
 ) -> Result<Response<S>, AllocError>
     requires { Settled (fragments_in request.now) }
-    ensures run { let m = mutation_of S.of_text S.answer request.now
+    ensures run { let m = mutation_of S.of_text S.of_bool S.answer request.now
         (R.type_of resolver.now) (R.answer resolver.now) (R.changes resolver.now) in
         let run = mutate m object.now context.old (written_in request.now set.now ∷ []) in
         IfOk result (λ r. Responds ⟦<ExecutionError<S> as Ord>⟧.cmp run r.0 r.1 context.new) }
-    ensures begun { let m = mutation_of S.of_text S.answer request.now
+    ensures begun { let m = mutation_of S.of_text S.of_bool S.answer request.now
         (R.type_of resolver.now) (R.answer resolver.now) (R.changes resolver.now) in
         let groups = root_groups m object.now context.old (written_in request.now set.now ∷ []) in
         OnErr result (AfterBeginning m object.now context.old groups context.new) }
@@ -98,18 +99,18 @@ fn answer_operation<'d, 'a, S: SchemaScalar + Drop, R: GraphQLMutationValue<S>>(
     set: &'d [Selection<'a, S>],
 ) -> Result<Response<S>, AllocError>
     requires { Settled (fragments_in request.now) }
-    ensures responds { let m = mutation_of S.of_text S.answer request.now
+    ensures responds { let m = mutation_of S.of_text S.of_bool S.answer request.now
         (R.type_of resolver.now) (R.answer resolver.now) (R.changes resolver.now) in
         let sets = written_in request.now set.now ∷ [] in
         let root = option_map (λ name. name.now) mutation_root.entry in
-        let run = run_at m request.now.schema.now.query (R.root_node resolver.now) sets root context.old in
+        let run = run_at m request.now.schema.now.query (asked.Own (R.root_node resolver.now)) sets root context.old in
         IfOk result (λ r. Responds ⟦<ExecutionError<S> as Ord>⟧.cmp run r.0 r.1 context.new) }
-    ensures begun { let m = mutation_of S.of_text S.answer request.now
+    ensures begun { let m = mutation_of S.of_text S.of_bool S.answer request.now
         (R.type_of resolver.now) (R.answer resolver.now) (R.changes resolver.now) in
         let sets = written_in request.now set.now ∷ [] in
         let root = option_map (λ name. name.now) mutation_root.entry in
         let query = request.now.schema.now.query in
-        OnErr result (IsBegunAt m query (R.root_node resolver.now) sets root context.old context.new) }
+        OnErr result (IsBegunAt m query (asked.Own (R.root_node resolver.now)) sets root context.old context.new) }
 {
     match mutation_root {
         None => {
@@ -133,17 +134,17 @@ fn answer_over<'d, 'a, S: SchemaScalar + Drop, R: GraphQLMutationValue<S>>(
     context: &mut R::Context,
 ) -> Result<Response<S>, AllocError>
     requires { Settled (fragments_listed document.now) }
-    ensures responds { let m = mutation_over S.of_text S.answer schema.now.types (value_in variables.entry)
+    ensures responds { let m = mutation_over S.of_text S.of_bool S.answer schema.now (value_in variables.entry)
         (R.type_of resolver.now) (R.answer resolver.now) (R.changes resolver.now) in
         let sets = written (fragments_listed document.now) operation.now.item.selection_set ∷ [] in
         let root = option_map (λ name. name.now) mutation_root.entry in
-        let run = run_at m schema.now.query (R.root_node resolver.now) sets root context.old in
+        let run = run_at m schema.now.query (asked.Own (R.root_node resolver.now)) sets root context.old in
         IfOk result (λ r. Responds ⟦<ExecutionError<S> as Ord>⟧.cmp run r.0 r.1 context.new) }
-    ensures begun { let m = mutation_over S.of_text S.answer schema.now.types (value_in variables.entry)
+    ensures begun { let m = mutation_over S.of_text S.of_bool S.answer schema.now (value_in variables.entry)
         (R.type_of resolver.now) (R.answer resolver.now) (R.changes resolver.now) in
         let sets = written (fragments_listed document.now) operation.now.item.selection_set ∷ [] in
         let root = option_map (λ name. name.now) mutation_root.entry in
-        OnErr result (IsBegunAt m schema.now.query (R.root_node resolver.now) sets root context.old context.new) }
+        OnErr result (IsBegunAt m schema.now.query (asked.Own (R.root_node resolver.now)) sets root context.old context.new) }
 {
     let fragments = Fragments::new(alloc, document)?;
     let request = Request {

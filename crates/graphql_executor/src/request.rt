@@ -1,6 +1,6 @@
 //! Requests.
 
-ghost use Rattle.std.specs.Prelude.{true, IfErr, IfOk};
+ghost use Rattle.std.specs.Prelude.{IfErr, IfOk};
 ghost use Rattle.std.specs.HashMap.{get_by_text};
 ghost use Rattle.std.specs.Option.{option_map};
 ghost use Rattle.std.specs.Str.{chars};
@@ -25,8 +25,7 @@ use std::alloc::Global;
 ///
 /// The request is worked on in this order, and the first step that fails decides the error, with which
 /// nothing is executed, so that the context stays as it was: the text is parsed; all rules for documents are
-/// asked, among them the rule against introspection, since nothing answers `__schema` and `__type` yet; the
-/// operation is chosen; the values of its variables are checked; a subscription is refused; a mutation is refused
+/// asked, among them, where the root node has introspection disabled, the rule against it; the operation is chosen; the values of its variables are checked; a subscription is refused; a mutation is refused
 /// where the schema has no type for mutations. `GraphQLError::Memory` comes only where memory ran out, which may
 /// be at any step; a mutation has then changed the context by a beginning of its response keys, by none in part.
 pub fn execute_sync<S: SchemaScalar + Drop, R: GraphQLMutationValue<S>>(
@@ -40,19 +39,19 @@ pub fn execute_sync<S: SchemaScalar + Drop, R: GraphQLMutationValue<S>>(
 ) -> Result<Response<S>, GraphQLError>
     ensures answered { let name = option_map (λ name. name.now) operation_name.entry in
         let given = get_by_text variables.now in
-        let schema = root_node.now.schema in
-        let asked = asking schema true (chars source.now) name given in
+        let root = root_node.now in
+        let asked = asking root.schema root.introspection_disabled (chars source.now) name given in
         IfOk result (λ r. IsAnswered ⟦<S as Meaning>⟧.meaning asked (⟦<R as Resolving<S>>⟧.resolving resolver.now)
         ⟦<ExecutionError<S> as Ord>⟧.cmp context.old r.0 r.1 context.new) }
     ensures refused { let name = option_map (λ name. name.now) operation_name.entry in
         let given = get_by_text variables.now in
-        let schema = root_node.now.schema in
-        let asked = asking schema true (chars source.now) name given in
+        let root = root_node.now in
+        let asked = asking root.schema root.introspection_disabled (chars source.now) name given in
         IfErr result (IsRefused ⟦<S as Meaning>⟧.meaning asked ⟦<RuleError as Ord>⟧.cmp) }
     ensures unanswered { let name = option_map (λ name. name.now) operation_name.entry in
         let given = get_by_text variables.now in
-        let schema = root_node.now.schema in
-        let asked = asking schema true (chars source.now) name given in
+        let root = root_node.now in
+        let asked = asking root.schema root.introspection_disabled (chars source.now) name given in
         let resolving = ⟦<R as Resolving<S>>⟧.resolving resolver.now in
         IfErr result (λ error. LeftUnanswered ⟦<S as Meaning>⟧.meaning asked resolving error context.old context.new) }
 {

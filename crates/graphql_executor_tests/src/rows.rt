@@ -53,6 +53,31 @@ const ANSWERED: &[Row<'_>] = &[
     ),
 ];
 
+/// What the schema tells of itself: an interface, a union, an input object, an object; of an object of the query
+/// root's type wherever it stands.
+const TOLD: &[Row<'_>] = &[
+    (
+        "{ __type(name: \"Pet\") { kind fields { name } interfaces { name } possibleTypes { name } } }",
+        "{\"__type\": {\"kind\": \"INTERFACE\", \"fields\": [{\"name\": \"name\"}, {\"name\": \"owner\"}], \"interfaces\": [], \"possibleTypes\": [{\"name\": \"Cat\"}, {\"name\": \"Dog\"}]}}",
+    ),
+    (
+        "{ __type(name: \"Being\") { kind fields { name } interfaces { name } possibleTypes { name } } }",
+        "{\"__type\": {\"kind\": \"UNION\", \"fields\": null, \"interfaces\": null, \"possibleTypes\": [{\"name\": \"Human\"}, {\"name\": \"Dog\"}]}}",
+    ),
+    (
+        "{ __type(name: \"Point\") { kind fields { name } inputFields { name defaultValue type { name } } } }",
+        "{\"__type\": {\"kind\": \"INPUT_OBJECT\", \"fields\": null, \"inputFields\": [{\"name\": \"x\", \"defaultValue\": null, \"type\": {\"name\": \"Int\"}}]}}",
+    ),
+    (
+        "{ __type(name: \"Dog\") { kind interfaces { name } fields { name type { kind name ofType { name } } } } }",
+        "{\"__type\": {\"kind\": \"OBJECT\", \"interfaces\": [{\"name\": \"Pet\"}], \"fields\": [{\"name\": \"name\", \"type\": {\"kind\": \"SCALAR\", \"name\": \"String\", \"ofType\": null}}, {\"name\": \"owner\", \"type\": {\"kind\": \"NON_NULL\", \"name\": null, \"ofType\": {\"name\": \"Human\"}}}]}}",
+    ),
+    (
+        "{ self { __schema { queryType { name } mutationType { name } } } }",
+        "{\"self\": {\"__schema\": {\"queryType\": {\"name\": \"Query\"}, \"mutationType\": null}}}",
+    ),
+];
+
 /// Fields without a value.
 const FAILED: &[Row<'_>] = &[
     (
@@ -128,6 +153,11 @@ fn mutations_are_counted(rt: HostRuntime) {
 #[test]
 fn requests_are_answered(rt: HostRuntime) {
     over(&rt, rt.alloc(), Asked::Texts(ANSWERED));
+}
+
+#[test]
+fn the_schema_is_told(rt: HostRuntime) {
+    over(&rt, rt.alloc(), Asked::Texts(TOLD));
 }
 
 #[test]

@@ -6,6 +6,7 @@ ghost use Rattle.graphql_scalars.specs.declared.check_error.CheckError.TheVarian
 ghost use Rattle.graphql_meta.specs.ScalarChecks.{IsInt, IsString, IsBoolean};
 
 use crate::answered::{Asked, ask};
+use graphql_executor::{IntrospectionChecks, introspection_metadata};
 use graphql_names::NamedItems;
 use graphql_text::{Items, Text};
 use graphql_type_references::{Type, TypeModifier};
@@ -73,8 +74,6 @@ const COUNTED: &[FieldRow] = &[
     ("lose", "Int", NON_NULL),
     ("starve", "Int", NULLABLE),
 ];
-
-const TOLD_OF_ITSELF: &[FieldRow] = &[("description", "String", NULLABLE)];
 
 fn text(rt: &impl Abort, alloc: Global, words: &str) -> Text {
     Text::from_str(alloc, words).expect(rt, "memory")
@@ -198,11 +197,19 @@ fn with_objects(rt: &impl Abort, alloc: Global, types: Items<Meta>) -> Items<Met
     let members = with(rt, Items::new(alloc), text(rt, alloc, "Human"));
     let members = with(rt, members, text(rt, alloc, "Dog"));
     let beings = UnionMeta::new(text(rt, alloc, "Being"), members);
-    let types = with(rt, types, beings.into_meta());
-    let of_types = object(rt, alloc, "__Type", fields(rt, alloc, TOLD_OF_ITSELF));
-    let types = with(rt, types, of_types.into_meta());
-    let of_schemas = object(rt, alloc, "__Schema", fields(rt, alloc, TOLD_OF_ITSELF));
-    with(rt, types, of_schemas.into_meta())
+    with(rt, types, beings.into_meta())
+}
+
+/// The types of introspection behind these.
+fn with_introspection(
+    rt: &impl Abort,
+    alloc: Global,
+    mut types: Items<Meta>,
+    checks: IntrospectionChecks<TypeCheck>,
+) -> Items<Meta> {
+    let mut told = introspection_metadata(alloc, checks).expect(rt, "memory");
+    types.append(&mut told).expect(rt, "memory");
+    types
 }
 
 /// The mutation root of the schema over which this is asked: only mutations of the counter have one.
@@ -250,12 +257,31 @@ pub fn over(rt: &impl Abort, alloc: Global, asked: Asked<'_>) {
         { Ok(()) },
     )
     .expect(rt, "memory"));
+    let type_kind = TypeCheck::new(Box::new(
+        alloc,
+        |_value: &Value|
+            ensures { result ≡ Ok tt }
+        { Ok(()) },
+    )
+    .expect(rt, "memory"));
+    let directive_location = TypeCheck::new(Box::new(
+        alloc,
+        |_value: &Value|
+            ensures { result ≡ Ok tt }
+        { Ok(()) },
+    )
+    .expect(rt, "memory"));
+    let checks = IntrospectionChecks {
+        type_kind,
+        directive_location,
+    };
     let types = with(rt, Items::new(alloc), scalar(rt, alloc, "String", string));
     let types = with(rt, types, scalar(rt, alloc, "Boolean", boolean));
     let types = with(rt, types, scalar(rt, alloc, "Int", int));
     let types = with(rt, types, scalar(rt, alloc, "Any", any));
     let types = with(rt, types, point(rt, alloc, points));
     let types = with_objects(rt, alloc, types);
+    let types = with_introspection(rt, alloc, types, checks);
     let mutation = mutation_root(asked);
     let schema = SchemaType::new(alloc, types, "Query", mutation, None).expect(rt, "a schema");
     ask(rt, alloc, &RootNode::new(schema), asked);

@@ -40,15 +40,6 @@ module _ {S C : Type 0} where
   abbrev pub type_asked : (S → ScalarAnswer) → List (MetaType S C) → Given S → Answer S C
   type_asked answer types given = found types (name_asked answer given)
 
-  -- the name of the type of a part
-  abbrev pub part_type_name : SchemaPart S C → Bytes
-  part_type_name part.Schema = codes "__Schema"
-  part_type_name (part.Type m wraps) = codes "__Type"
-  part_type_name (part.Field f) = codes "__Field"
-  part_type_name (part.InputValue a) = codes "__InputValue"
-  part_type_name (part.EnumValue v) = codes "__EnumValue"
-  part_type_name (part.Directive d) = codes "__Directive"
-
 -- `of_text`, `of_bool`: the scalar of a text, of a truth value; `answer`: what a scalar answers
 module _ {S C : Type 0} (of_text : Bytes → S) (of_bool : Bool → S) (answer : S → ScalarAnswer) (schema : SchemaType S C) where
   -- what a part answers for a field

@@ -5,4 +5,6 @@ pub mod Nodes
 pub mod Leaves
 pub mod TypeAnswers
 pub mod MemberAnswers
+pub mod Parts
 pub mod Answers
+pub mod Metadata

@@ -4,6 +4,7 @@ ghost use Rattle.std.specs.Prelude.{◌≡◌};
 ghost use Rattle.graphql_items.specs.Memory.{Gives};
 ghost use Rattle.graphql_arguments.specs.GivenValues.{arguments_told};
 ghost use Rattle.graphql_introspection.specs.Answers as spec;
+ghost use Rattle.graphql_introspection.specs.Parts.{part_type_name};
 
 use crate::directive_answers::of_directive;
 use crate::given::text_of;
@@ -20,16 +21,9 @@ use std::alloc::{AllocError, Global};
 
 /// The name of the type of a part (GraphQL October 2021, 4.2 Schema Introspection).
 pub fn part_type_name<S: SchemaScalar>(part: &SchemaPart<'_, S>) -> &'static str
-    ensures { result.now ≡ spec.part_type_name part.now }
+    ensures { result.now ≡ part_type_name part.now }
 {
-    match part {
-        SchemaPart::Schema => "__Schema",
-        SchemaPart::Type(_, _) => "__Type",
-        SchemaPart::Field(_) => "__Field",
-        SchemaPart::InputValue(_) => "__InputValue",
-        SchemaPart::EnumValue(_) => "__EnumValue",
-        SchemaPart::Directive(_) => "__Directive",
-    }
+    part.kind().name()
 }
 
 /// What a part of the schema answers for a field of its type, with these argument values; `null`

@@ -1,5 +1,8 @@
 //! The parts of a schema.
 
+ghost use Rattle.std.specs.Prelude.{◌≡◌};
+ghost use Rattle.graphql_introspection.specs.Parts as spec;
+
 use crate::lent::{Lent, LentWraps};
 use graphql_meta::{Argument, DirectiveType, EnumValue, Field, MetaType, SchemaScalar};
 
@@ -24,4 +27,58 @@ pub enum SchemaPart<'s, S, C = <S as SchemaScalar>::Check> {
 
     /// A directive.
     Directive(Lent<'s, DirectiveType<S>>),
+}
+
+/// The types of parts (GraphQL October 2021, 4.2 Schema Introspection).
+#[derive(Clone, Copy)]
+pub enum PartKind {
+    /// `__Schema`.
+    Schema,
+
+    /// `__Type`.
+    Type,
+
+    /// `__Field`.
+    Field,
+
+    /// `__InputValue`.
+    InputValue,
+
+    /// `__EnumValue`.
+    EnumValue,
+
+    /// `__Directive`.
+    Directive,
+}
+
+impl PartKind {
+    /// The name of the type.
+    pub fn name(self) -> &'static str
+        ensures { result.now ≡ spec.name_of_kind self }
+    {
+        match self {
+            PartKind::Schema => "__Schema",
+            PartKind::Type => "__Type",
+            PartKind::Field => "__Field",
+            PartKind::InputValue => "__InputValue",
+            PartKind::EnumValue => "__EnumValue",
+            PartKind::Directive => "__Directive",
+        }
+    }
+}
+
+impl<S: SchemaScalar> SchemaPart<'_, S> {
+    /// The type of a part.
+    pub fn kind(&self) -> PartKind
+        ensures { result ≡ spec.kind_of self.now }
+    {
+        match self {
+            SchemaPart::Schema => PartKind::Schema,
+            SchemaPart::Type(_, _) => PartKind::Type,
+            SchemaPart::Field(_) => PartKind::Field,
+            SchemaPart::InputValue(_) => PartKind::InputValue,
+            SchemaPart::EnumValue(_) => PartKind::EnumValue,
+            SchemaPart::Directive(_) => PartKind::Directive,
+        }
+    }
 }

@@ -1,6 +1,6 @@
 //! What requests are answered, as a call has answered.
 
-ghost use Rattle.std.specs.Prelude.{IfErr, IfOk, true};
+ghost use Rattle.std.specs.Prelude.{IfErr, IfOk};
 ghost use Rattle.std.specs.HashMap.{get_by_text};
 ghost use Rattle.std.specs.Option.{option_map};
 ghost use Rattle.std.specs.Str.{chars};
@@ -32,16 +32,19 @@ pub fn answered_alone<S: SchemaScalar + Drop, R: GraphQLMutationValue<S>>(
 ) -> Result<Response<S>, GraphQLError>
     ensures answered { let name = option_map (λ name. name.now) operation_name.entry in
         let given = get_by_text variables.now in
-        let asked = asking root_node.now.schema true (chars source.now) name given in
+        let root = root_node.now in
+        let asked = asking root.schema root.introspection_disabled (chars source.now) name given in
         IfOk result (λ r. OnlyResponse ⟦<S as Meaning>⟧.meaning asked (⟦<R as Resolving<S>>⟧.resolving resolver.now)
         ⟦<ExecutionError<S> as Ord>⟧.cmp context.old r.0 context.new) }
     ensures not_refused { let name = option_map (λ name. name.now) operation_name.entry in
         let given = get_by_text variables.now in
-        let asked = asking root_node.now.schema true (chars source.now) name given in
+        let root = root_node.now in
+        let asked = asking root.schema root.introspection_disabled (chars source.now) name given in
         IfOk result (λ r. OnlyRefusedForMemory ⟦<S as Meaning>⟧.meaning asked ⟦<RuleError as Ord>⟧.cmp) }
     ensures refused { let name = option_map (λ name. name.now) operation_name.entry in
         let given = get_by_text variables.now in
-        let asked = asking root_node.now.schema true (chars source.now) name given in
+        let root = root_node.now in
+        let asked = asking root.schema root.introspection_disabled (chars source.now) name given in
         IfErr result (NeverExecuted ⟦<S as Meaning>⟧.meaning asked) }
 {
     answers_are_one::<S, R>();

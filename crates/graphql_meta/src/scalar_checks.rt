@@ -10,12 +10,14 @@ ghost use Rattle.graphql_items.specs.Memory.{Told};
 ghost use Rattle.graphql_meta.specs.ScalarChecks.{IsInt, IsString, IsBoolean, IsId, SaysWhy};
 
 use crate::check::TypeCheck;
+use crate::introspection_checks::IntrospectionChecks;
 use graphql_scalars::{CheckError, Scalar, WrongInputScalarTypeError};
 use graphql_text::TextRef;
 use graphql_values::{DefaultScalarValue, InputValue, no_scalar};
 use std::alloc::Global;
 
-/// The checks of the built-in scalars, made of closures that call the functions of this module (GraphQL October 2021, 3.5 Scalars).
+/// The checks of the built-in scalars, made of closures that call the functions of this module (GraphQL October
+/// 2021, 3.5 Scalars), and those of the enums of introspection.
 #[derive(Drop)]
 pub struct StandardChecks {
     /// Which values `Int` accepts.
@@ -29,6 +31,9 @@ pub struct StandardChecks {
 
     /// Which values `ID` accepts.
     pub id: TypeCheck,
+
+    /// Which values the enums of introspection accept.
+    pub introspection: IntrospectionChecks<TypeCheck>,
 }
 
 /// Why a value is none of the type of this name, or want of memory.

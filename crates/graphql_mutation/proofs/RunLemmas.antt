@@ -1,5 +1,5 @@
 -- What a field of a mutation's root shows, and leaves.
-use Rattle.std.proofs.Common.{◌≡◌, ◌⊎◌, inr, refl, sym, ◌∙◌, ap, subst, List, [], ◌∷◌, ◌++◌, append-nil, Option, Some, None, Result, Ok, Err, reverse, slice_get}
+use Rattle.std.proofs.Common.{◌≡◌, ◌⊎◌, inr, Bool, refl, sym, ◌∙◌, ap, subst, List, [], ◌∷◌, ◌++◌, append-nil, Option, Some, None, Result, Ok, Err, reverse, slice_get}
 use Rattle.std.specs.Prelude.{IfOk, OnErr}
 use Rattle.graphql_scalars.specs.ScalarAnswers.{ScalarAnswer}
 use Rattle.graphql_names.specs.Names.{Bytes}
@@ -26,7 +26,9 @@ use Rattle.graphql_evaluation.specs.Evaluation.{at_type, evaluate, sets_below}
 use Rattle.graphql_evaluation.specs.Outcomes.{Outcome, fails, shown}
 use Rattle.graphql_execution.specs.Begins.{Completes, outcome_at, own_error_at}
 use Rattle.graphql_execution.specs.Completions.{outcome_here, own_error_here}
+use Rattle.graphql_execution.specs.Asked.{AskedAnswer}
 use Rattle.graphql_execution.specs.Engines.{Resolves, engine_of}
+use Rattle.graphql_execution.specs.declared.asked.Asked.{Asked}
 use Rattle.graphql_execution.specs.FieldDeclarations.{declared_type}
 use Rattle.graphql_execution.specs.FieldPaths.{keys_of, place_of}
 use Rattle.graphql_execution.specs.Sets.{sets_in}
@@ -63,14 +65,14 @@ leaves-either old after new (Err (fault.Error x)) h = inr h
 leaves-either old after new (Err fault.Memory) h = h
 
 -- an answer is completed over another context as at the same place over this one
-module _ {S C N X Context : Type 0} (of_text : Bytes → S) (answer : S → ScalarAnswer) (concrete : X → N → Bytes)
+module _ {S C N X Context : Type 0} (of_text : Bytes → S) (of_bool : Bool → S) (answer : S → ScalarAnswer) (concrete : X → N → Bytes)
     (resolves : X → Resolves S N) (executor : Executor Context S C) (over : Executor X S C)
     (request : over.request.now ≡ executor.request.now) (path : over.path ≡ executor.path)
     (type : over.current_type ≡ executor.current_type) (selected : over.selected ≡ executor.selected) where
-  abbrev engine_on : Request S C → X → Engine S N
-  engine_on request c = engine_of of_text answer request (concrete c) (resolves c)
+  abbrev engine_on : Request S C → X → Engine S (Asked S N C)
+  engine_on request c = engine_of of_text of_bool answer request (concrete c) (resolves c)
 
-  pub completes-over : (now after : X) (wanted : Result (Resolved S N) (FieldError S)) (r : Resolved S N)
+  pub completes-over : (now after : X) (wanted : AskedAnswer S N C) (r : Resolved S (Asked S N C))
       (old new : List (ExecutionError S)) (result : Result (Option (Value S)) (FieldFault S))
       → over.context.now ≡ now → now ≡ after → wanted ≡ Ok r
       → Completes (own_error_here (engine_on over.request.now over.context.now) over r)
@@ -183,17 +185,17 @@ module _ {S N X : Type 0} (m : Mutation S N X) (object : Bytes) (fragments : Lis
     group-declared type d = rw (group-first, d) refl
 
 -- a group of which the schema declares the first field is what the place of that field shows
-module _ {S C N X Context : Type 0} (of_text : Bytes → S) (answer : S → ScalarAnswer) (concrete : X → N → Bytes)
+module _ {S C N X Context : Type 0} (of_text : Bytes → S) (of_bool : Bool → S) (answer : S → ScalarAnswer) (concrete : X → N → Bytes)
     (resolves : X → Resolves S N) (changes : Changes S N X) (rq : Request S C) (here : Executor Context S C) where
-  abbrev mutation_at : Request S C → Mutation S N X
-  mutation_at request = mutation_of of_text answer request concrete resolves changes
+  abbrev mutation_at : Request S C → Mutation S (Asked S N C) X
+  mutation_at request = mutation_of of_text of_bool answer request concrete resolves changes
 
   -- what the schema declares of a field
   pub declared-known : (object : Bytes) (c : X) (x : CollectedField S) (name : Bytes) → name ≡ (head_of x.field.now).name
       → ((mutation_at rq).engine c).declared object (head_of x.field.now).name
       ≡ declared_type rq.schema.now.types object name
   declared-known object c x name is =
-      ap (λ f. f object (head_of x.field.now).name) (engine-declared of_text answer rq (concrete c) (resolves c))
+      ap (λ f. f object (head_of x.field.now).name) (engine-declared of_text of_bool answer rq (concrete c) (resolves c))
       ∙ ap (declared_type rq.schema.now.types object) (sym is)
 
   pub shown-group : (object : Bytes) (c : X) (key : Bytes) (fields : Lent S) (x : CollectedField S) (type : TypeOf)

@@ -61,12 +61,12 @@ pub(crate) fn answer_group<'d, 'a, S: SchemaScalar + Drop, R: GraphQLMutationVal
     errors: &mut Items<ExecutionError<S>>,
 ) -> Result<Option<Value<S>>, AllocError>
     requires { Settled (fragments_in root.now.request.now) }
-    ensures run { let m = mutation_of S.of_text S.answer root.now.request.now
+    ensures run { let m = mutation_of S.of_text S.of_bool S.answer root.now.request.now
         (R.type_of resolver.now) (R.answer resolver.now) (R.changes resolver.now) in
         let run = root_group m root.now.current_type.name.now context.old these.now.0
         (all_found (fragments_in root.now.request.now) these.now.1) in
         IfOk result (λ v. HasRun run v errors.old errors.new context.new) }
-    ensures begun { let m = mutation_of S.of_text S.answer root.now.request.now
+    ensures begun { let m = mutation_of S.of_text S.of_bool S.answer root.now.request.now
         (R.type_of resolver.now) (R.answer resolver.now) (R.changes resolver.now) in
         let run = root_group m root.now.current_type.name.now context.old these.now.0
         (all_found (fragments_in root.now.request.now) these.now.1) in

@@ -31,18 +31,18 @@ fn complete_field<'d, 'a, S: SchemaScalar + Drop, R: GraphQLMutationValue<S>>(
     errors: &mut Items<ExecutionError<S>>,
 ) -> FieldResult<Option<Value<S>>, S>
     requires { Settled (fragments_in executor.now.request.now) }
-    ensures completes { let m = mutation_of S.of_text S.answer executor.now.request.now
+    ensures completes { let m = mutation_of S.of_text S.of_bool S.answer executor.now.request.now
         (R.type_of resolver.now) (R.answer resolver.now) (R.changes resolver.now) in
         let step = step_of m object.now context.old (head_of field.now) in
         Completes (own_error_of_result (m.engine step.after) executor.now step.answer)
         (outcome_of_result (m.engine step.after) executor.now step.answer) errors.old result errors.new }
-    ensures after { let m = mutation_of S.of_text S.answer executor.now.request.now
+    ensures after { let m = mutation_of S.of_text S.of_bool S.answer executor.now.request.now
         (R.type_of resolver.now) (R.answer resolver.now) (R.changes resolver.now) in
         LeavesOrKeeps context.old (step_of m object.now context.old (head_of field.now)).after result context.new }
 {
     let answer = ask_root(resolver, executor, object, context, field)?;
     let over = executor.replaced_context(&*context);
-    over.resolve(resolver, answer, errors)
+    over.resolve_asked(resolver, answer, errors)
 }
 
 /// The value of the place at which an executor stands, or none where the place itself fails, which is told. An
@@ -75,11 +75,11 @@ pub(crate) fn show_field<'d, 'a, S: SchemaScalar + Drop, R: GraphQLMutationValue
     errors: &mut Items<ExecutionError<S>>,
 ) -> Result<Option<Value<S>>, AllocError>
     requires { Settled (fragments_in executor.now.request.now) }
-    ensures run { let m = mutation_of S.of_text S.answer executor.now.request.now
+    ensures run { let m = mutation_of S.of_text S.of_bool S.answer executor.now.request.now
         (R.type_of resolver.now) (R.answer resolver.now) (R.changes resolver.now) in
         let step = step_of m object.now context.old (head_of field.now) in
         IfOk result (λ v. HasRun (step_shown m executor.now step) v errors.old errors.new context.new) }
-    ensures begun { let m = mutation_of S.of_text S.answer executor.now.request.now
+    ensures begun { let m = mutation_of S.of_text S.of_bool S.answer executor.now.request.now
         (R.type_of resolver.now) (R.answer resolver.now) (R.changes resolver.now) in
         let step = step_of m object.now context.old (head_of field.now) in
         OnErr result ((context.new ≡ context.old) ⊎ (context.new ≡ step.after)) }

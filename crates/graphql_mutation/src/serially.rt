@@ -50,12 +50,12 @@ pub fn answer_serially<'d, 'a, S: SchemaScalar + Drop, R: GraphQLMutationValue<S
     errors: &mut Items<ExecutionError<S>>,
 ) -> Result<Option<Value<S>>, AllocError>
     requires { Settled (fragments_in root.now.request.now) }
-    ensures run { let m = mutation_of S.of_text S.answer root.now.request.now
+    ensures run { let m = mutation_of S.of_text S.of_bool S.answer root.now.request.now
         (R.type_of resolver.now) (R.answer resolver.now) (R.changes resolver.now) in
         let sets = sets_in root.now.request.now root.now.selected in
         let run = run_map object_members (mutate m root.now.current_type.name.now context.old sets) in
         IfOk result (λ v. HasRun run v errors.old errors.new context.new) }
-    ensures begun { let m = mutation_of S.of_text S.answer root.now.request.now
+    ensures begun { let m = mutation_of S.of_text S.of_bool S.answer root.now.request.now
         (R.type_of resolver.now) (R.answer resolver.now) (R.changes resolver.now) in
         let sets = sets_in root.now.request.now root.now.selected in
         let groups = root_groups m root.now.current_type.name.now context.old sets in

@@ -1,6 +1,6 @@
 //! Requests, until they can be executed.
 
-ghost use Rattle.std.specs.Prelude.{true, IfErr, IfOk};
+ghost use Rattle.std.specs.Prelude.{IfErr, IfOk};
 ghost use Rattle.std.specs.HashMap.{get_by_text};
 ghost use Rattle.std.specs.List.Sorted.{IsSorted};
 ghost use Rattle.std.specs.Option.{option_map};
@@ -18,7 +18,7 @@ use graphql_rule_errors::RuleError;
 use graphql_schema::RootNode;
 use graphql_text::Spanning;
 use graphql_tree::{Definition, Operation, OwnedDocument};
-use graphql_validation::request_errors;
+use graphql_validation::root_node_errors;
 use graphql_values::Variables;
 use graphql_variable_checks::validate_input_values;
 use std::alloc::Global;
@@ -27,26 +27,26 @@ use std::alloc::Global;
 /// Executing Requests). Its names are borrowed from the text.
 ///
 /// An error is `GraphQLError::ParseError` where the text is no document: its first fault. Where it is one,
-/// the error is `GraphQLError::ValidationError` with what all rules have against it, the rule against
-/// introspection among them, in order: by their places, then by their messages. That rule is asked whether
-/// or not the root node has introspection disabled, since nothing answers `__schema` and `__type` yet.
+/// the error is `GraphQLError::ValidationError` with what all rules have against it, in order: by their
+/// places, then by their messages. Where the root node has introspection disabled, the rule against
+/// `__schema` and `__type` is among them.
 /// `GraphQLError::Memory` comes only where memory ran out, and no other error comes.
 pub fn read_request<'a, S: SchemaScalar>(
     alloc: Global,
     source: &'a str,
     root_node: &RootNode<S>,
 ) -> Result<OwnedDocument<'a, S>, GraphQLError>
-    ensures read { let schema = declarations_of root_node.now.schema in
-        IfOk result (IsRead ⟦<S as Meaning>⟧.meaning schema true (chars source.now)) }
-    ensures refused { let schema = declarations_of root_node.now.schema in
-        IfErr result (IsUnread ⟦<S as Meaning>⟧.meaning schema true (chars source.now)) }
+    ensures read { let root = root_node.now in let schema = declarations_of root.schema in
+        IfOk result (IsRead ⟦<S as Meaning>⟧.meaning schema root.introspection_disabled (chars source.now)) }
+    ensures refused { let root = root_node.now in let schema = declarations_of root.schema in
+        IfErr result (IsUnread ⟦<S as Meaning>⟧.meaning schema root.introspection_disabled (chars source.now)) }
     ensures sorted { IfErr result (λ error. IsSorted ⟦<RuleError as Ord>⟧.cmp (errors_of error)) }
 {
     let document = match parse_document_source(alloc, source) {
         Ok(document) => document,
         Err(fault) => return Err(GraphQLError::from(fault)),
     };
-    let errors = request_errors(alloc, root_node.schema(), document.as_slice(), true)?;
+    let errors = root_node_errors(alloc, root_node, document.as_slice())?;
     if !errors.is_empty() {
         return Err(GraphQLError::from(errors));
     }

@@ -1,10 +1,13 @@
 -- The types of the schema of the sample (GraphQL October 2021, 3.4 Types).
-use Rattle.std.specs.Prelude.{◌∷◌, [], List, Some, None, codes, map}
+use Rattle.std.specs.Prelude.{◌++◌, ◌∷◌, [], List, Some, None, codes, map}
 use Rattle.std.specs.Borrow.{Bor}
 use Rattle.graphql_names.specs.Names.{Bytes}
 use Rattle.graphql_scalars.specs.declared.default_scalar.DefaultScalarValue.{DefaultScalarValue}
+use Rattle.graphql_scalars.specs.declared.default_scalar.DefaultScalarValue.TheVariants as scalar_value
 use Rattle.graphql_type_references.specs.declared.type_modifier.TypeModifier.{TypeModifier}
 use Rattle.graphql_type_references.specs.declared.type_modifier.TypeModifier.TheVariants as modifier
+use Rattle.graphql_introspection.specs.Metadata.{introspection_types}
+use Rattle.graphql_meta.specs.declared.introspection_checks.IntrospectionChecks.{IntrospectionChecks}
 use Rattle.graphql_meta.specs.declared.meta.argument.Argument.{Argument}
 use Rattle.graphql_meta.specs.declared.meta.deprecation.DeprecationStatus.TheVariants as status
 use Rattle.graphql_meta.specs.declared.meta.field.Field.{Field}
@@ -56,20 +59,18 @@ abbrev pub mutation : List (Field DefaultScalarValue)
 mutation =
     field (codes "rename") (codes "Human") nullable (argument (codes "id") (codes "String") non_null ∷ argument (codes "name") (codes "String") non_null ∷ []) ∷ []
 
--- `description: String`
-abbrev pub told_of_itself : List (Field DefaultScalarValue)
-told_of_itself = field (codes "description") (codes "String") nullable [] ∷ []
-
 module _ {C : Type 0} where
   abbrev pub scalar : Bytes → C → MetaType DefaultScalarValue C
   scalar name check = meta.Scalar (record { name = name; description = None; specified_by_url = None; check = check })
 
-  -- of the checks of `Int`, `String`, `Boolean` and `ID`
-  abbrev pub types : C → C → C → C → List (MetaType DefaultScalarValue C)
-  types int string boolean id =
-      scalar (codes "Int") int ∷ scalar (codes "String") string ∷ scalar (codes "Boolean") boolean ∷ scalar (codes "ID") id
-      ∷ meta.Object (object (codes "Query") query) ∷ meta.Object (object (codes "Human") human) ∷ meta.Object (object (codes "Mutation") mutation)
-      ∷ meta.Object (object (codes "__Schema") told_of_itself) ∷ meta.Object (object (codes "__Type") told_of_itself) ∷ []
+  -- with the types of introspection; of the checks of `Int`, `String`, `Boolean` and `ID`, and of theirs
+  abbrev pub types : C → C → C → C → IntrospectionChecks C → List (MetaType DefaultScalarValue C)
+  types int string boolean id introspection =
+      (scalar (codes "Int") int ∷ scalar (codes "String") string
+      ∷ scalar (codes "Boolean") boolean ∷ scalar (codes "ID") id
+      ∷ meta.Object (object (codes "Query") query) ∷ meta.Object (object (codes "Human") human)
+      ∷ meta.Object (object (codes "Mutation") mutation) ∷ [])
+      ++ introspection_types scalar_value.Boolean introspection
 
 -- the roots: `Query` and `Mutation` (3.3.1 Root Operation Types)
 abbrev pub roots : Roots

@@ -6,6 +6,7 @@ ghost use Rattle.graphql_schema.specs.Schemas.{Makes};
 ghost use Rattle.graphql_schema_faults.specs.Lookups.{type_named};
 ghost use Rattle.graphql_sample.specs.SampleTypes as spec;
 
+use graphql_introspection::{introspection_metadata, type_reference};
 use graphql_meta::scalar_checks::StandardChecks;
 use graphql_meta::{
     Argument, DeprecationStatus, Field, MetaType, ObjectMeta, ScalarMeta, TypeCheck,
@@ -14,7 +15,7 @@ use graphql_names::NamedItems;
 use graphql_schema::SchemaType;
 use graphql_schema_faults::SchemaError;
 use graphql_text::{Items, Text};
-use graphql_type_references::{Type, TypeModifier};
+use graphql_type_references::TypeModifier;
 use graphql_values::{DefaultScalarValue, ScalarValue};
 use std::alloc::{AllocError, Global};
 
@@ -49,26 +50,12 @@ const HUMAN: &[FieldRow] = &[
 
 const MUTATION: &[FieldRow] = &[("rename", "Human", NULLABLE, RENAME)];
 
-const TOLD_OF_ITSELF: &[FieldRow] = &[("description", "String", NULLABLE, NO_ARGUMENTS)];
-
-/// The type of this name and these wraps. An error is want of memory.
-fn reference(alloc: Global, name: &str, wraps: &[TypeModifier]) -> Result<Type<Text>, AllocError>
-    ensures { Gives result (record { name = name.now; modifiers = wraps.now }) }
-{
-    let mut modifiers = Items::new(alloc);
-    modifiers.extend_from_slice(wraps)?;
-    Ok(Type {
-        name: Text::from_str(alloc, name)?,
-        modifiers,
-    })
-}
-
 /// The argument of this row. An error is want of memory.
 fn argument(alloc: Global, row: ArgumentRow) -> Result<Argument<DefaultScalarValue>, AllocError>
     ensures { Gives result (spec.argument_of row.entry) }
 {
     let name = Text::from_str(alloc, row.0)?;
-    Ok(Argument::new(name, reference(alloc, row.1, row.2)?))
+    Ok(Argument::new(name, type_reference(alloc, row.1, row.2)?))
 }
 
 /// The arguments of these rows. An error is want of memory.
@@ -93,7 +80,7 @@ fn field(alloc: Global, row: FieldRow) -> Result<Field<DefaultScalarValue>, Allo
         name: Text::from_str(alloc, row.0)?,
         description: None,
         arguments: Some(arguments(alloc, row.3)?),
-        field_type: reference(alloc, row.1, row.2)?,
+        field_type: type_reference(alloc, row.1, row.2)?,
         deprecation_status: DeprecationStatus::Current,
     })
 }
@@ -122,9 +109,9 @@ fn scalar(alloc: Global, name: &str, check: TypeCheck) -> Result<Meta, AllocErro
     Ok(ScalarMeta::new(name, check).into_meta())
 }
 
-/// The types of the sample. An error is want of memory.
+/// The types of the sample, with those of introspection. An error is want of memory.
 fn metadata(alloc: Global, checks: StandardChecks) -> Result<Items<Meta>, AllocError>
-    ensures { Gives result (spec.types checks.int checks.string checks.boolean checks.id) }
+    ensures { Gives result (spec.types checks.int checks.string checks.boolean checks.id checks.introspection) }
 {
     let mut types = Items::new(alloc);
     types.push(scalar(alloc, "Int", checks.int)?)?;
@@ -134,19 +121,20 @@ fn metadata(alloc: Global, checks: StandardChecks) -> Result<Items<Meta>, AllocE
     types.push(object(alloc, "Query", QUERY)?.into_meta())?;
     types.push(object(alloc, "Human", HUMAN)?.into_meta())?;
     types.push(object(alloc, "Mutation", MUTATION)?.into_meta())?;
-    types.push(object(alloc, "__Schema", TOLD_OF_ITSELF)?.into_meta())?;
-    types.push(object(alloc, "__Type", TOLD_OF_ITSELF)?.into_meta())?;
+    let mut told = introspection_metadata(alloc, checks.introspection)?;
+    types.append(&mut told)?;
     Ok(types)
 }
 
 /// The schema of the sample, with the roots `Query` and `Mutation` (GraphQL October 2021, 3.3.1 Root
-/// Operation Types). Its `Boolean` has the check that is given for it. `SchemaError::Memory` is want of
-/// memory.
+/// Operation Types), which tells of itself (4.2 Schema Introspection). Its `Boolean` has the check that is given
+/// for it. `SchemaError::Memory` is want of memory.
 pub fn schema_s(
     alloc: Global,
     checks: StandardChecks,
 ) -> Result<SchemaType<DefaultScalarValue>, SchemaError>
-    ensures made { Makes ⟦<DefaultScalarValue as ScalarValue>⟧.of_text (spec.types checks.int checks.string checks.boolean checks.id) spec.roots result }
+    ensures made { let types = spec.types checks.int checks.string checks.boolean checks.id checks.introspection in
+        Makes ⟦<DefaultScalarValue as ScalarValue>⟧.of_text types spec.roots result }
     ensures boolean { IfOk result (λ schema. type_named schema.types (codes "Boolean") ≡ Some (spec.scalar (codes "Boolean") checks.boolean)) }
 {
     let types = metadata(alloc, checks)?;

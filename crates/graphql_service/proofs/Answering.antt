@@ -15,8 +15,9 @@ use Rattle.graphql_mutation.specs.Serial.{Mutation, root_groups}
 use Rattle.graphql_written_out.specs.Trees.{Tree}
 use Rattle.graphql_executor.specs.Answered.{Asking, IsAnswered, IsBrokenOff, IsRefused, LeftUnanswered, asking}
 use Rattle.graphql_written_out.specs.Written.{written}
+use Rattle.graphql_execution.specs.declared.asked.Asked.TheVariants as asked
 use Rattle.graphql_collect.specs.FragmentLists.{fragments_listed}
-use Rattle.graphql_executor.specs.Executed.{IsBegunAt, asked_of_resolver, run_at}
+use Rattle.graphql_executor.specs.Executed.{IsBegunAt, what_is_asked, run_at}
 use Rattle.graphql_executor.specs.Resolvers.{Resolver}
 use Rattle.graphql_lines.specs.Request.{HoldsRequest, Request, request_of}
 use Rattle.graphql_lines.specs.Variables.{IsDue}
@@ -72,7 +73,7 @@ broken-at-the-end s a r cmp old new found errors h = record {
   broken = record {
     root = h.yields.root;
     served = h.yields.served;
-    begun = begun-at-the-end (asked_of_resolver s a.schema r h.document a.given h.operation.item) a.schema.query r.root
+    begun = begun-at-the-end (what_is_asked s a.schema r h.document a.given h.operation.item) a.schema.query (asked.Own r.root)
         (written (fragments_listed h.document) h.operation.item.selection_set ∷ []) h.yields.root old new h.yields.responds.after;
   };
 }

@@ -1,5 +1,5 @@
 -- What a line is answered, and what it changes (GraphQL October 2021, 6.1 Executing Requests, 7.1 Response Format).
-use Rattle.std.specs.Prelude.{◌≡◌, ◌⊎◌, ◌++◌, ◌<◌, ◌≤◌, ℕ, true, Bool, List, length, Option, Some, None, IsSome, option_and_then}
+use Rattle.std.specs.Prelude.{◌≡◌, ◌⊎◌, ◌++◌, ◌<◌, ◌≤◌, ℕ, Bool, List, length, Option, Some, None, IsSome, option_and_then}
 use Rattle.std.specs.declared.cmp.Ordering.{Ordering}
 use Rattle.std.specs.Str.{chars}
 use Rattle.serde_json.specs.Find.{get_member}
@@ -39,7 +39,6 @@ pub record Answerer (S C N X : Type 0) : Type 1 where
   pub limit : ℕ
   pub resolver : Resolver S N X
 
--- a service refuses all introspection, since nothing answers it yet
 abbrev pub answerer_of : {S C N X R : Type 0} → Scalars S C → (RuleError → RuleError → Ordering)
     → (ExecutionError S → ExecutionError S → Ordering) → (R → Resolver S N X) → Service S R X C → Answerer S C N X
 answerer_of scalars by_rules by_fields resolving service = record {
@@ -47,7 +46,7 @@ answerer_of scalars by_rules by_fields resolving service = record {
   by_rules = by_rules;
   by_fields = by_fields;
   schema = service.root_node.schema;
-  introspection_disabled = true;
+  introspection_disabled = service.root_node.introspection_disabled;
   limit = service.line_limit;
   resolver = resolving service.resolver;
 }

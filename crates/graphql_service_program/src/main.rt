@@ -3,13 +3,13 @@
 
 mod failure;
 
-ghost use Rattle.std.specs.Prelude.{◌≡◌};
+ghost use Rattle.std.specs.Prelude.{◌≡◌, Ok};
 ghost use Rattle.graphql_items.specs.Memory.{Told};
 ghost use Rattle.graphql_scalars.specs.declared.check_error.CheckError.TheVariants.{Memory};
 ghost use Rattle.graphql_meta.specs.ScalarChecks.{IsBoolean, IsId, IsInt, IsString};
 
 use failure::Failure;
-use graphql_meta::TypeCheck;
+use graphql_meta::{IntrospectionChecks, TypeCheck};
 use graphql_schema::RootNode;
 use graphql_service::sample::{SampleResolver, sample_records, schema_s};
 use graphql_service::scalar_checks::{boolean_check, id_check, int_check, string_check};
@@ -42,7 +42,7 @@ fn check_arguments(rt: &(impl env::Env + AllocGlobal)) -> Result<(), Failure> {
     }
 }
 
-/// Serves the sample, with these checks of its scalars.
+/// Serves the sample, with these checks of its types.
 fn serve_sample(rt: &HostRuntime, checks: StandardChecks) -> Result<(), Failure> {
     let alloc = rt.alloc();
     let root_node = RootNode::new(schema_s(alloc, checks)?);
@@ -95,6 +95,23 @@ fn run(rt: &HostRuntime) -> Result<(), Failure> {
     ) else {
         return Err(Failure::Memory);
     };
+    // Each value that an enum of introspection declares is accepted.
+    let Ok(type_kind) = Box::new(
+        alloc,
+        |_value: &Value|
+            ensures { result ≡ Ok tt }
+        { Ok(()) },
+    ) else {
+        return Err(Failure::Memory);
+    };
+    let Ok(directive_location) = Box::new(
+        alloc,
+        |_value: &Value|
+            ensures { result ≡ Ok tt }
+        { Ok(()) },
+    ) else {
+        return Err(Failure::Memory);
+    };
     serve_sample(
         rt,
         StandardChecks {
@@ -102,6 +119,10 @@ fn run(rt: &HostRuntime) -> Result<(), Failure> {
             string: TypeCheck::new(string),
             boolean: TypeCheck::new(boolean),
             id: TypeCheck::new(id),
+            introspection: IntrospectionChecks {
+                type_kind: TypeCheck::new(type_kind),
+                directive_location: TypeCheck::new(directive_location),
+            },
         },
     )
 }

@@ -74,6 +74,20 @@ const OTHERS: &[Row<'_>] = &[
     ),
 ];
 
+/// What the schema tells of itself, where it may not be asked.
+const HIDDEN: &[Row<'_>] = &[
+    (
+        r#"{"query":"{ __type(name: \"Nobody\") { name } }"}"#,
+        r#"{"errors":[{"message":"Introspection is not allowed, but the operation contains \"__type\"","locations":[{"line":1,"column":3}]}]}"#,
+        0,
+    ),
+    (
+        r#"{"query":"{ __typename }"}"#,
+        r#"{"data":{"__typename":"Query"}}"#,
+        0,
+    ),
+];
+
 #[test]
 fn a_field_that_fails_is_told(rt: HostRuntime) {
     over(&rt, rt.alloc(), Asked::Nameless("h2", FAILED));
@@ -83,6 +97,12 @@ fn a_field_that_fails_is_told(rt: HostRuntime) {
 fn mutations_are_seen_by_later_lines(rt: HostRuntime) {
     over(&rt, rt.alloc(), Asked::Lines(65_536, CHANGED));
     over(&rt, rt.alloc(), Asked::Nameless("h1", OTHERS));
+}
+
+#[test]
+fn the_schema_is_told_where_it_may_be_asked(rt: HostRuntime) {
+    over(&rt, rt.alloc(), Asked::Introspected);
+    over(&rt, rt.alloc(), Asked::Hidden(HIDDEN));
 }
 
 #[test]

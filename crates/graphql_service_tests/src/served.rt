@@ -1,13 +1,14 @@
 //! Services over the sample, and what is asserted of them.
 
-ghost use Rattle.std.specs.Prelude.{◌≡◌};
+ghost use Rattle.std.specs.Prelude.{◌≡◌, Ok};
 ghost use Rattle.graphql_items.specs.Memory.{Told};
 ghost use Rattle.graphql_scalars.specs.declared.check_error.CheckError.TheVariants.{Memory};
 ghost use Rattle.graphql_meta.specs.ScalarChecks.{IsBoolean, IsId, IsInt, IsString};
 
+use crate::introspected::is_told;
 use crate::schemas::{is_refused, unkept, with_other_skip};
 use crate::serving::{Run, are_served};
-use graphql_meta::TypeCheck;
+use graphql_meta::{IntrospectionChecks, TypeCheck};
 use graphql_schema::{RootNode, SchemaType};
 use graphql_service::sample::{SampleRecords, SampleResolver, sample_records, schema_s};
 use graphql_service::scalar_checks::{boolean_check, id_check, int_check, string_check};
@@ -33,6 +34,12 @@ pub enum Asked<'a> {
 
     /// The same where the human of this `id` has no name.
     Nameless(&'a str, &'a [Row<'a>]),
+
+    /// What lines are answered where introspection is disabled.
+    Hidden(&'a [Row<'a>]),
+
+    /// That the introspection query is answered.
+    Introspected,
 
     /// How runs over input end, and what they write.
     Runs(&'a [Run<'a>]),
@@ -78,14 +85,17 @@ fn service(
     records: SampleRecords,
     limit: usize,
 ) -> SampleService {
-    Service::new(
-        RootNode::new(schema),
-        SampleResolver,
-        records,
-        limit,
-        10_000,
-    )
-    .expect(rt, "a service")
+    service_of(rt, RootNode::new(schema), records, limit)
+}
+
+/// The same of a root node.
+fn service_of(
+    rt: &impl Abort,
+    root: RootNode<DefaultScalarValue>,
+    records: SampleRecords,
+    limit: usize,
+) -> SampleService {
+    Service::new(root, SampleResolver, records, limit, 10_000).expect(rt, "a service")
 }
 
 /// Asserts of services over the sample's schema what lines are answered, and how runs end.
@@ -104,6 +114,11 @@ fn with_schema(
             let records = nameless(alloc, id).expect(rt, "memory");
             are_answered(rt, alloc, &mut service(rt, schema, records, 65_536), rows);
         }
+        Asked::Hidden(rows) => {
+            let root = RootNode::new(schema).disable_introspection();
+            are_answered(rt, alloc, &mut service_of(rt, root, records, 65_536), rows);
+        }
+        Asked::Introspected => is_told(rt, alloc, schema),
         Asked::Runs(runs) => are_served(rt, alloc, &mut service(rt, schema, records, 64), runs),
         Asked::Unkept | Asked::OtherSkip => {
             let schema = with_other_skip(rt, alloc, schema);
@@ -152,6 +167,25 @@ pub fn over(rt: &impl Abort, alloc: Global, asked: Asked<'_>) {
         { id_check(alloc, value) },
     )
     .expect(rt, "memory"));
+    // Each value that an enum of introspection declares is accepted.
+    let type_kind = TypeCheck::new(Box::new(
+        alloc,
+        |_value: &Value|
+            ensures { result ≡ Ok tt }
+        { Ok(()) },
+    )
+    .expect(rt, "memory"));
+    let directive_location = TypeCheck::new(Box::new(
+        alloc,
+        |_value: &Value|
+            ensures { result ≡ Ok tt }
+        { Ok(()) },
+    )
+    .expect(rt, "memory"));
+    let introspection = IntrospectionChecks {
+        type_kind,
+        directive_location,
+    };
     with_checks(
         rt,
         alloc,
@@ -160,6 +194,7 @@ pub fn over(rt: &impl Abort, alloc: Global, asked: Asked<'_>) {
             string,
             boolean,
             id,
+            introspection,
         },
         asked,
     );

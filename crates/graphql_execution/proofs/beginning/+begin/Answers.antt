@@ -11,7 +11,7 @@ use Rattle.graphql_execution.proofs.beginning.+begin.Goals as goal
 pub returns-else-is_null : goal.returns-else-is_null
 returns-else-is_null g t c =
     let rq = c.args.executor.now.request.now in
-    let e = engine_at g.S.ScalarValue.of_text g.S.ScalarValue.answer (g.R.GraphQLValue.type_of c.args.resolver.now) (g.R.GraphQLValue.answer c.args.resolver.now) c.args.executor.now in
+    let e = engine_at g.S.ScalarValue.of_text g.S.ScalarValue.of_bool g.S.ScalarValue.answer (g.R.GraphQLValue.type_of c.args.resolver.now) (g.R.GraphQLValue.answer c.args.resolver.now) c.args.executor.now in
     let spot = c.args.spot.now in
     let some : null_here c.args.answer ≡ false = sym c.is_null.ensures ∙ c.if-is_null.false in
     rw (outer-wraps c.args.wraps.now c.in-NonNull.rest.now modifier.NonNull c.in-NonNull.ensures)

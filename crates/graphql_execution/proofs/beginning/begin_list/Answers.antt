@@ -19,7 +19,7 @@ pub returns-in_ok-selected-in-List : goal.returns-in_ok-selected-in-List
 returns-in_ok-selected-in-List g c =
     let rq = c.args.executor.now.request.now in
     let fr = fragments_in rq in
-    let e = engine_at g.S.ScalarValue.of_text g.S.ScalarValue.answer (g.R.GraphQLValue.type_of c.args.resolver.now) (g.R.GraphQLValue.answer c.args.resolver.now) c.args.executor.now in
+    let e = engine_at g.S.ScalarValue.of_text g.S.ScalarValue.of_bool g.S.ScalarValue.answer (g.R.GraphQLValue.type_of c.args.resolver.now) (g.R.GraphQLValue.answer c.args.resolver.now) c.args.executor.now in
     let ts = sets_in rq c.args.spot.now.selected in
     let name = c.args.spot.now.name.now in
     let wraps = reverse c.args.wraps.now in

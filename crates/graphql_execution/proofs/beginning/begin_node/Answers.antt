@@ -24,11 +24,11 @@ returns-in_default g c =
     let rq = c.args.executor.now.request.now in
     let ty = g.R.GraphQLValue.type_of c.args.resolver.now c.args.executor.now.context.now in
     let an = g.R.GraphQLValue.answer c.args.resolver.now c.args.executor.now.context.now in
-    let e = engine_of g.S.ScalarValue.of_text g.S.ScalarValue.answer rq ty an in
+    let e = engine_of g.S.ScalarValue.of_text g.S.ScalarValue.of_bool g.S.ScalarValue.answer rq ty an in
     let name = c.args.spot.now.name.now in
     let never : e.is_possible name (e.concrete c.args.node) ≡ false =
-    (λ i. engine-is_possible g.S.ScalarValue.of_text g.S.ScalarValue.answer rq ty an i name (engine-concrete g.S.ScalarValue.of_text g.S.ScalarValue.answer rq ty an i c.args.node))
-    ∙ (λ i. is_possible_named rq.schema.now.types (sym c.as_str.ensures i) (sym c.concrete_type_name.ensures i)) ∙ sym c.possible_name.ensures.possible ∙ ap is_some c.in_default.is in
+    (λ i. engine-is_possible g.S.ScalarValue.of_text g.S.ScalarValue.of_bool g.S.ScalarValue.answer rq ty an i name (engine-concrete g.S.ScalarValue.of_text g.S.ScalarValue.of_bool g.S.ScalarValue.answer rq ty an i c.args.node))
+    ∙ (λ i. is_possible_named rq.schema.now.types (sym c.as_str.ensures i) (sym c.asked_type_name.ensures i)) ∙ sym c.possible_name.ensures.possible ∙ ap is_some c.in_default.is in
     rw (resolved.outs-Node, never) (ap Some (sym (rw c.as_str-in_default.ensures at c.in_ok-misfit.ensures)))
 
 -- what is known for the engine is known for the request
@@ -39,27 +39,27 @@ groups_selected-requires-clause-known g c =
     let an = g.R.GraphQLValue.answer c.args.resolver.now c.args.executor.now.context.now in
     let fr = fragments_in rq in
     let ts = sets_in rq c.args.spot.now.selected in
-    subst (λ (selected : Bytes → List (Found _)). AreKnown fr selected c.args.spot.now.known.now) (λ i o. sym (engine-found g.S.ScalarValue.of_text g.S.ScalarValue.answer rq ty an o ts) i) c.requires.known
+    subst (λ (selected : Bytes → List (Found _)). AreKnown fr selected c.args.spot.now.known.now) (λ i o. sym (engine-found g.S.ScalarValue.of_text g.S.ScalarValue.of_bool g.S.ScalarValue.answer rq ty an o ts) i) c.requires.known
 
 pub returns : goal.returns
 returns g c =
     let rq = c.args.executor.now.request.now in
     let ty = g.R.GraphQLValue.type_of c.args.resolver.now c.args.executor.now.context.now in
     let an = g.R.GraphQLValue.answer c.args.resolver.now c.args.executor.now.context.now in
-    let e = engine_of g.S.ScalarValue.of_text g.S.ScalarValue.answer rq ty an in
+    let e = engine_of g.S.ScalarValue.of_text g.S.ScalarValue.of_bool g.S.ScalarValue.answer rq ty an in
     let fr = fragments_in rq in
     let ts = sets_in rq c.args.spot.now.selected in
     let name = c.args.spot.now.name.now in
     let node = c.args.node in
     let possible : e.is_possible name (e.concrete node) ≡ true =
-    (λ i. engine-is_possible g.S.ScalarValue.of_text g.S.ScalarValue.answer rq ty an i name (engine-concrete g.S.ScalarValue.of_text g.S.ScalarValue.answer rq ty an i node))
-    ∙ (λ i. is_possible_named rq.schema.now.types (sym c.as_str.ensures i) (sym c.concrete_type_name.ensures i)) ∙ sym c.possible_name.ensures.possible ∙ ap is_some c.in-Some.is in
+    (λ i. engine-is_possible g.S.ScalarValue.of_text g.S.ScalarValue.of_bool g.S.ScalarValue.answer rq ty an i name (engine-concrete g.S.ScalarValue.of_text g.S.ScalarValue.of_bool g.S.ScalarValue.answer rq ty an i node))
+    ∙ (λ i. is_possible_named rq.schema.now.types (sym c.as_str.ensures i) (sym c.asked_type_name.ensures i)) ∙ sym c.possible_name.ensures.possible ∙ ap is_some c.in-Some.is in
     let object = c.in-Some.object.now in
-    let named : object ≡ c.concrete_type_name.result.now = rw c.in-Some.is at c.possible_name.ensures.name in
-    let same : e.concrete node ≡ object = ap (λ f. f node) (engine-concrete g.S.ScalarValue.of_text g.S.ScalarValue.answer rq ty an) ∙ sym c.concrete_type_name.ensures ∙ sym named in
+    let named : object ≡ c.asked_type_name.result.now = rw c.in-Some.is at c.possible_name.ensures.name in
+    let same : e.concrete node ≡ object = ap (λ f. f node) (engine-concrete g.S.ScalarValue.of_text g.S.ScalarValue.of_bool g.S.ScalarValue.answer rq ty an) ∙ sym c.asked_type_name.ensures ∙ sym named in
     let gs = c.in_ok-groups.groups in
     let are = c.in_ok-groups.ensures in
-    let repeats : Repeats are.found (found_in e object ts) = rw (engine-found g.S.ScalarValue.of_text g.S.ScalarValue.answer rq ty an object ts) at are.repeats in
+    let repeats : Repeats are.found (found_in e object ts) = rw (engine-found g.S.ScalarValue.of_text g.S.ScalarValue.of_bool g.S.ScalarValue.answer rq ty an object ts) at are.repeats in
     record {
       own = rw (resolved.outs-Node, possible) refl;
       gives = λ path.
@@ -71,5 +71,5 @@ returns g c =
           (ap (λ o. 2 + groups_turns e fr o node gs) c.new-2.ensures ∙ ap (λ n. 2 + n) (groups-begin e fr object node ts are.found gs are.groups repeats ∙ ap (λ o. all_turns e o node ts) (sym same)));
       fine = rw c.new.ensures (c.new-2.ensures ∙ sym same, groups-keyed fr are.found gs are.groups, distinct-begins fr are.found gs are.groups);
       known = subst (λ o. AreGroups fr (found_in e o ts) gs) (sym c.new-2.ensures)
-          (subst (λ xs. AreGroups fr xs gs) (engine-found g.S.ScalarValue.of_text g.S.ScalarValue.answer rq ty an object ts) are);
+          (subst (λ xs. AreGroups fr xs gs) (engine-found g.S.ScalarValue.of_text g.S.ScalarValue.of_bool g.S.ScalarValue.answer rq ty an object ts) are);
     }

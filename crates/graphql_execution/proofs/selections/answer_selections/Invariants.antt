@@ -8,5 +8,5 @@ use Rattle.graphql_execution.proofs.selections.answer_selections.Given as goal
 abbrev pub invariant-groups : goal.invariant-groups
 invariant-groups g l =
     let rq = l.executor.request.now in
-    let e = engine_at g.S.ScalarValue.of_text g.S.ScalarValue.answer (g.R.GraphQLValue.type_of l.resolver) (g.R.GraphQLValue.answer l.resolver) l.executor in
+    let e = engine_at g.S.ScalarValue.of_text g.S.ScalarValue.of_bool g.S.ScalarValue.answer (g.R.GraphQLValue.type_of l.resolver) (g.R.GraphQLValue.answer l.resolver) l.executor in
     GivesOutcome (by_groups (fragments_in rq) e l.fn.report.path l.object l.node (take l.group-index l.group-items)) l.fn.report l.members l.report

@@ -26,7 +26,7 @@ start-requires-clause-typed g c =
     let ty = g.R.GraphQLValue.type_of c.args.resolver.now c.args.executor.now.context.now in
     let an = g.R.GraphQLValue.answer c.args.resolver.now c.args.executor.now.context.now in
     let f = c.args.object_frame in
-    inl (c.as_str.ensures ∙ c.requires.fine.0.0 ∙ ap (λ h. h f.node) (engine-concrete g.S.ScalarValue.of_text g.S.ScalarValue.answer rq ty an))
+    inl (c.as_str.ensures ∙ c.requires.fine.0.0 ∙ ap (λ h. h f.node) (engine-concrete g.S.ScalarValue.of_text g.S.ScalarValue.of_bool g.S.ScalarValue.answer rq ty an))
 
 pub start-requires-clause-keyed : goal.start-requires-clause-keyed
 start-requires-clause-keyed g c =
@@ -40,7 +40,7 @@ returns-in-None-clause-steps g c = λ path at.
     let rq = c.args.executor.now.request.now in
     let ty = g.R.GraphQLValue.type_of c.args.resolver.now c.args.executor.now.context.now in
     let an = g.R.GraphQLValue.answer c.args.resolver.now c.args.executor.now.context.now in
-    let e = engine_of g.S.ScalarValue.of_text g.S.ScalarValue.answer rq ty an in
+    let e = engine_of g.S.ScalarValue.of_text g.S.ScalarValue.of_bool g.S.ScalarValue.answer rq ty an in
     let fr = fragments_in rq in
     let old = c.args.report.now in
     let f = c.args.object_frame in
@@ -54,7 +54,7 @@ returns-clause-steps g c = λ path at.
     let rq = c.args.executor.now.request.now in
     let ty = g.R.GraphQLValue.type_of c.args.resolver.now c.args.executor.now.context.now in
     let an = g.R.GraphQLValue.answer c.args.resolver.now c.args.executor.now.context.now in
-    let e = engine_of g.S.ScalarValue.of_text g.S.ScalarValue.answer rq ty an in
+    let e = engine_of g.S.ScalarValue.of_text g.S.ScalarValue.of_bool g.S.ScalarValue.answer rq ty an in
     let fr = fragments_in rq in
     let old = c.args.report.now in
     let f = c.args.object_frame in
@@ -74,7 +74,7 @@ returns-clause-steps g c = λ path at.
 pub returns-clause-fine : goal.returns-clause-fine
 returns-clause-fine g c =
     let rq = c.args.executor.now.request.now in
-    let e = engine_at g.S.ScalarValue.of_text g.S.ScalarValue.answer (g.R.GraphQLValue.type_of c.args.resolver.now) (g.R.GraphQLValue.answer c.args.resolver.now) c.args.executor.now in
+    let e = engine_at g.S.ScalarValue.of_text g.S.ScalarValue.of_bool g.S.ScalarValue.answer (g.R.GraphQLValue.type_of c.args.resolver.now) (g.R.GraphQLValue.answer c.args.resolver.now) c.args.executor.now in
     let fr = fragments_in rq in
     let f = c.args.object_frame in
     rw c.in_ok-wait.ensures (fine-last e fr c.args.waiting.now (frame.Object (record { node = f.node; object = f.object; groups = f.groups; next = f.next; is_needed = c.in_ok-started-in-Some.started.is_needed; members = f.members })) c.requires.fine.1 c.requires.fine.0, c.in_ok-started-in-Some.ensures.fine)
@@ -87,7 +87,7 @@ returns-clause-turns g c =
     let rq = c.args.executor.now.request.now in
     let ty = g.R.GraphQLValue.type_of c.args.resolver.now c.args.executor.now.context.now in
     let an = g.R.GraphQLValue.answer c.args.resolver.now c.args.executor.now.context.now in
-    let e = engine_of g.S.ScalarValue.of_text g.S.ScalarValue.answer rq ty an in
+    let e = engine_of g.S.ScalarValue.of_text g.S.ScalarValue.of_bool g.S.ScalarValue.answer rq ty an in
     let fr = fragments_in rq in
     let f = c.args.object_frame in
     let fs = c.args.waiting.now in

@@ -15,7 +15,7 @@ returns-in-None-clause-steps g c = λ path at.
     let rq = c.args.executor.now.request.now in
     let ty = g.R.GraphQLValue.type_of c.args.resolver.now c.args.executor.now.context.now in
     let an = g.R.GraphQLValue.answer c.args.resolver.now c.args.executor.now.context.now in
-    let e = engine_of g.S.ScalarValue.of_text g.S.ScalarValue.answer rq ty an in
+    let e = engine_of g.S.ScalarValue.of_text g.S.ScalarValue.of_bool g.S.ScalarValue.answer rq ty an in
     let fr = fragments_in rq in
     let old = c.args.report.now in
     let fs = c.args.waiting.now in
@@ -29,7 +29,7 @@ returns-in_ok-given-in-Some-clause-steps g c = λ path at.
     let rq = c.args.executor.now.request.now in
     let ty = g.R.GraphQLValue.type_of c.args.resolver.now c.args.executor.now.context.now in
     let an = g.R.GraphQLValue.answer c.args.resolver.now c.args.executor.now.context.now in
-    let e = engine_of g.S.ScalarValue.of_text g.S.ScalarValue.answer rq ty an in
+    let e = engine_of g.S.ScalarValue.of_text g.S.ScalarValue.of_bool g.S.ScalarValue.answer rq ty an in
     let fr = fragments_in rq in
     let old = c.args.report.now in
     let fs = c.pop.new.self in
@@ -43,7 +43,7 @@ returns-in_ok-given-in-Some-clause-steps g c = λ path at.
 pub returns-in_ok-given-in-Some-clause-fine : goal.returns-in_ok-given-in-Some-clause-fine
 returns-in_ok-given-in-Some-clause-fine g c =
     let rq = c.args.executor.now.request.now in
-    let e = engine_at g.S.ScalarValue.of_text g.S.ScalarValue.answer (g.R.GraphQLValue.type_of c.args.resolver.now) (g.R.GraphQLValue.answer c.args.resolver.now) c.args.executor.now in
+    let e = engine_at g.S.ScalarValue.of_text g.S.ScalarValue.of_bool g.S.ScalarValue.answer (g.R.GraphQLValue.type_of c.args.resolver.now) (g.R.GraphQLValue.answer c.args.resolver.now) c.args.executor.now in
     let fr = fragments_in rq in
     let popped : c.args.waiting.now ≡ c.pop.new.self ++ c.in-Some.waits ∷ [] = rw c.in-Some.is at c.pop.ensures in
     let parts = fine-pop e fr c.pop.new.self c.in-Some.waits (rw popped at c.requires.fine.0) in
@@ -55,14 +55,14 @@ returns-in_ok-begun-in-Frame-List-clause-steps g c =
     rw is c.in_ok-begun-in-Frame-List.ensures.steps
 
 pub returns-in-None-clause-turns : goal.returns-in-None-clause-turns
-returns-in-None-clause-turns g c = rw c.in-Value.is (omega (arith, ap (all_waiting (engine_at g.S.ScalarValue.of_text g.S.ScalarValue.answer (g.R.GraphQLValue.type_of c.args.resolver.now) (g.R.GraphQLValue.answer c.args.resolver.now) c.args.executor.now) (fragments_in c.args.executor.now.request.now)) ((rw c.in-None.is at c.pop.ensures).0 ∙ sym (rw c.in-None.is at c.pop.ensures).1)))
+returns-in-None-clause-turns g c = rw c.in-Value.is (omega (arith, ap (all_waiting (engine_at g.S.ScalarValue.of_text g.S.ScalarValue.of_bool g.S.ScalarValue.answer (g.R.GraphQLValue.type_of c.args.resolver.now) (g.R.GraphQLValue.answer c.args.resolver.now) c.args.executor.now) (fragments_in c.args.executor.now.request.now)) ((rw c.in-None.is at c.pop.ensures).0 ∙ sym (rw c.in-None.is at c.pop.ensures).1)))
 
 pub returns-in_ok-given-in-Some-clause-turns : goal.returns-in_ok-given-in-Some-clause-turns
 returns-in_ok-given-in-Some-clause-turns g c =
     let rq = c.args.executor.now.request.now in
     let ty = g.R.GraphQLValue.type_of c.args.resolver.now c.args.executor.now.context.now in
     let an = g.R.GraphQLValue.answer c.args.resolver.now c.args.executor.now.context.now in
-    let e = engine_of g.S.ScalarValue.of_text g.S.ScalarValue.answer rq ty an in
+    let e = engine_of g.S.ScalarValue.of_text g.S.ScalarValue.of_bool g.S.ScalarValue.answer rq ty an in
     let fr = fragments_in rq in
     let fs = c.pop.new.self in
     let f = c.in-Some.waits in

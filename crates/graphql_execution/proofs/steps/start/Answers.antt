@@ -47,7 +47,7 @@ returns-in_default-clause-leads g c =
     let rq = c.args.executor.now.request.now in
     let ty = g.R.GraphQLValue.type_of c.args.resolver.now c.args.executor.now.context.now in
     let an = g.R.GraphQLValue.answer c.args.resolver.now c.args.executor.now.context.now in
-    let e = engine_of g.S.ScalarValue.of_text g.S.ScalarValue.answer rq ty an in
+    let e = engine_of g.S.ScalarValue.of_text g.S.ScalarValue.of_bool g.S.ScalarValue.answer rq ty an in
     let fr = fragments_in rq in
     let old = c.args.report.now in
     none-leads fr e old.path c.args.object.now c.args.node.now c.args.these.now.0 c.args.these.now.1 old c.enter.new.self (rw c.in_default.is at c.first.ensures) c.in_ok-enter.ensures.errors
@@ -57,7 +57,7 @@ returns-in_default-declared_type-clause-leads g c =
     let rq = c.args.executor.now.request.now in
     let ty = g.R.GraphQLValue.type_of c.args.resolver.now c.args.executor.now.context.now in
     let an = g.R.GraphQLValue.answer c.args.resolver.now c.args.executor.now.context.now in
-    let e = engine_of g.S.ScalarValue.of_text g.S.ScalarValue.answer rq ty an in
+    let e = engine_of g.S.ScalarValue.of_text g.S.ScalarValue.of_bool g.S.ScalarValue.answer rq ty an in
     let fr = fragments_in rq in
     let old = c.args.report.now in
     let object = c.args.object.now in
@@ -65,7 +65,7 @@ returns-in_default-declared_type-clause-leads g c =
     let fields = c.args.these.now.1 in
     let x = c.in-Some.first.now in
     let first : Some x ≡ slice_get fields 0 = rw c.in-Some.is at c.first.ensures in
-    let named = ap (λ f. f object (head_of x.field.now).name) (engine-declared g.S.ScalarValue.of_text g.S.ScalarValue.answer rq ty an) ∙ ap (declared_type rq.schema.now.types object) (sym c.as_str.ensures) in
+    let named = ap (λ f. f object (head_of x.field.now).name) (engine-declared g.S.ScalarValue.of_text g.S.ScalarValue.of_bool g.S.ScalarValue.answer rq ty an) ∙ ap (declared_type rq.schema.now.types object) (sym c.as_str.ensures) in
     let declared : e.declared object (head_of x.field.now).name ≡ None = named ∙ sym (rw c.in_default-declared_type.is at c.declared_type.ensures) in
     undeclared-leads fr e old.path object c.args.node.now key fields x first old c.enter.new.self declared c.in_ok-enter.ensures.errors
 
@@ -74,7 +74,7 @@ returns-clause-leads g c =
     let rq = c.args.executor.now.request.now in
     let ty = g.R.GraphQLValue.type_of c.args.resolver.now c.args.executor.now.context.now in
     let an = g.R.GraphQLValue.answer c.args.resolver.now c.args.executor.now.context.now in
-    let e = engine_of g.S.ScalarValue.of_text g.S.ScalarValue.answer rq ty an in
+    let e = engine_of g.S.ScalarValue.of_text g.S.ScalarValue.of_bool g.S.ScalarValue.answer rq ty an in
     let fr = fragments_in rq in
     let old = c.args.report.now in
     let object = c.args.object.now in
@@ -83,7 +83,7 @@ returns-clause-leads g c =
     let fields = c.args.these.now.1 in
     let x = c.in-Some.first.now in
     let first : Some x ≡ slice_get fields 0 = rw c.in-Some.is at c.first.ensures in
-    let named = ap (λ f. f object (head_of x.field.now).name) (engine-declared g.S.ScalarValue.of_text g.S.ScalarValue.answer rq ty an) ∙ ap (declared_type rq.schema.now.types object) (sym c.as_str.ensures) in
+    let named = ap (λ f. f object (head_of x.field.now).name) (engine-declared g.S.ScalarValue.of_text g.S.ScalarValue.of_bool g.S.ScalarValue.answer rq ty an) ∙ ap (declared_type rq.schema.now.types object) (sym c.as_str.ensures) in
     let found = c.in-Some-declared_type.declared in
     let type : TypeOf = record { name = found.name.now; modifiers = found.modifiers.now } in
     let declared : e.declared object (head_of x.field.now).name ≡ Some type = named ∙ sym (rw c.in-Some-declared_type.is at c.declared_type.ensures) in
@@ -105,12 +105,12 @@ returns-in_default-declared_type-clause-turns g c =
     let rq = c.args.executor.now.request.now in
     let ty = g.R.GraphQLValue.type_of c.args.resolver.now c.args.executor.now.context.now in
     let an = g.R.GraphQLValue.answer c.args.resolver.now c.args.executor.now.context.now in
-    let e = engine_of g.S.ScalarValue.of_text g.S.ScalarValue.answer rq ty an in
+    let e = engine_of g.S.ScalarValue.of_text g.S.ScalarValue.of_bool g.S.ScalarValue.answer rq ty an in
     let object = c.args.object.now in
     let fields = c.args.these.now.1 in
     let x = c.in-Some.first.now in
     let first : Some x ≡ slice_get fields 0 = rw c.in-Some.is at c.first.ensures in
-    let named = ap (λ f. f object (head_of x.field.now).name) (engine-declared g.S.ScalarValue.of_text g.S.ScalarValue.answer rq ty an) ∙ ap (declared_type rq.schema.now.types object) (sym c.as_str.ensures) in
+    let named = ap (λ f. f object (head_of x.field.now).name) (engine-declared g.S.ScalarValue.of_text g.S.ScalarValue.of_bool g.S.ScalarValue.answer rq ty an) ∙ ap (declared_type rq.schema.now.types object) (sym c.as_str.ensures) in
     let declared : e.declared object (head_of x.field.now).name ≡ None = named ∙ sym (rw c.in_default-declared_type.is at c.declared_type.ensures) in
     rw (group-turns (fragments_in rq) e object c.args.node.now fields x first, declared) refl
 
@@ -119,14 +119,14 @@ returns-clause-turns g c =
     let rq = c.args.executor.now.request.now in
     let ty = g.R.GraphQLValue.type_of c.args.resolver.now c.args.executor.now.context.now in
     let an = g.R.GraphQLValue.answer c.args.resolver.now c.args.executor.now.context.now in
-    let e = engine_of g.S.ScalarValue.of_text g.S.ScalarValue.answer rq ty an in
+    let e = engine_of g.S.ScalarValue.of_text g.S.ScalarValue.of_bool g.S.ScalarValue.answer rq ty an in
     let fr = fragments_in rq in
     let object = c.args.object.now in
     let node = c.args.node.now in
     let fields = c.args.these.now.1 in
     let x = c.in-Some.first.now in
     let first : Some x ≡ slice_get fields 0 = rw c.in-Some.is at c.first.ensures in
-    let named = ap (λ f. f object (head_of x.field.now).name) (engine-declared g.S.ScalarValue.of_text g.S.ScalarValue.answer rq ty an) ∙ ap (declared_type rq.schema.now.types object) (sym c.as_str.ensures) in
+    let named = ap (λ f. f object (head_of x.field.now).name) (engine-declared g.S.ScalarValue.of_text g.S.ScalarValue.of_bool g.S.ScalarValue.answer rq ty an) ∙ ap (declared_type rq.schema.now.types object) (sym c.as_str.ensures) in
     let found = c.in-Some-declared_type.declared in
     let type : TypeOf = record { name = found.name.now; modifiers = found.modifiers.now } in
     let declared : e.declared object (head_of x.field.now).name ≡ Some type = named ∙ sym (rw c.in-Some-declared_type.is at c.declared_type.ensures) in

@@ -14,7 +14,7 @@ returns-in_err-value-clause-begun g c =
     let resolver = c.args.resolver.now in
     let root = c.at_root-root.result in
     on_err c.from_residual.result _
-    (mutation-begun s.of_text s.answer (r.type_of resolver) (r.answer resolver) (g.R.GraphQLMutationValue.changes resolver)
+    (mutation-begun s.of_text s.of_bool s.answer (r.type_of resolver) (r.answer resolver) (g.R.GraphQLMutationValue.changes resolver)
     root.request.now c.args.request.now root.current_type.name.now c.args.object.now root.selected c.args.set.now
     c.at_root-root.ensures.request (ap (λ t. t.name) c.at_root-root.ensures.current_type) c.at_root-root.ensures.selected
     c.args.context.now c.answer_serially.new.context c.in_err-value.ensures.begun)
@@ -25,7 +25,7 @@ returns-clause-run g c =
     let r = g.R.GraphQLValue in
     let resolver = c.args.resolver.now in
     let root = c.at_root-root.result in
-    mutation-responds s.of_text s.answer (r.type_of resolver) (r.answer resolver) (g.R.GraphQLMutationValue.changes resolver)
+    mutation-responds s.of_text s.of_bool s.answer (r.type_of resolver) (r.answer resolver) (g.R.GraphQLMutationValue.changes resolver)
     root.request.now c.args.request.now root.current_type.name.now c.args.object.now root.selected c.args.set.now
     c.at_root-root.ensures.request (ap (λ t. t.name) c.at_root-root.ensures.current_type) c.at_root-root.ensures.selected
     _ c.args.context.now c.answer_serially.new.context c.in_ok-value.value c.new-errors.result c.answer_serially.new.errors

@@ -22,7 +22,7 @@ returns-in_default-clause-run g c =
     let rq = c.args.root.now.request.now in
     let ctx = c.args.context.now in
     let object = c.args.root.now.current_type.name.now in
-    let m = mutation_of s.of_text s.answer rq type_of answer changes in
+    let m = mutation_of s.of_text s.of_bool s.answer rq type_of answer changes in
     none-run m object (fragments_in rq) ctx c.args.these.now.0 c.args.these.now.1 c.args.errors.now
     (rw c.in_default.is at c.first.ensures)
 
@@ -39,8 +39,8 @@ returns-in_default-declared_type-clause-run g c =
     let x = c.in-Some.first.now in
     let first : Some x ≡ slice_get c.args.these.now.1 0 = rw c.in-Some.is at c.first.ensures in
     let known =
-    declared-known s.of_text s.answer type_of answer changes rq c.args.root.now object ctx x _ c.as_str-name.ensures in
-    let m = mutation_of s.of_text s.answer rq type_of answer changes in
+    declared-known s.of_text s.of_bool s.answer type_of answer changes rq c.args.root.now object ctx x _ c.as_str-name.ensures in
+    let m = mutation_of s.of_text s.of_bool s.answer rq type_of answer changes in
     undeclared-run m object (fragments_in rq) ctx c.args.these.now.0 c.args.these.now.1 x first c.args.errors.now
     (known ∙ sym (rw c.in_default-declared_type.is at c.declared_type.ensures))
 
@@ -60,7 +60,7 @@ returns-clause-run g c =
     let x = c.in-Some.first.now in
     let first : Some x ≡ slice_get c.args.these.now.1 0 = rw c.in-Some.is at c.first.ensures in
     let known =
-    declared-known s.of_text s.answer type_of answer changes rq c.args.root.now object ctx x _ c.as_str-name.ensures in
+    declared-known s.of_text s.of_bool s.answer type_of answer changes rq c.args.root.now object ctx x _ c.as_str-name.ensures in
     let type = literal_of c.in-Some-declared_type.declared in
     let declared = known ∙ sym (rw c.in-Some-declared_type.is at c.declared_type.ensures) in
     let here = c.at_field-here.ensures in
@@ -68,7 +68,7 @@ returns-clause-run g c =
     (λ i. sets_in (here.request i) (here.selected i))
     ∙ ap (λ xs. sets_below (all_found (fragments_in rq) xs)) c.as_slice.ensures in
     let same =
-    shown-group s.of_text s.answer type_of answer changes rq c.at_field-here.result object ctx c.args.these.now.0
+    shown-group s.of_text s.of_bool s.answer type_of answer changes rq c.at_field-here.result object ctx c.args.these.now.0
     c.args.these.now.1 x type first declared here.request here.location
     (here.path ∙ ap (λ k. k ∷ []) c.copied.ensures) (ap literal_of here.current_type) selects in
     let errors = c.show_field.new.errors in
@@ -89,7 +89,7 @@ returns-clause-begun g c =
     let x = c.in-Some.first.now in
     let first : Some x ≡ slice_get c.args.these.now.1 0 = rw c.in-Some.is at c.first.ensures in
     let known =
-    declared-known s.of_text s.answer type_of answer changes rq c.args.root.now object ctx x _ c.as_str-name.ensures in
+    declared-known s.of_text s.of_bool s.answer type_of answer changes rq c.args.root.now object ctx x _ c.as_str-name.ensures in
     let type = literal_of c.in-Some-declared_type.declared in
     let declared = known ∙ sym (rw c.in-Some-declared_type.is at c.declared_type.ensures) in
     let here = c.at_field-here.ensures in
@@ -97,7 +97,7 @@ returns-clause-begun g c =
     (λ i. sets_in (here.request i) (here.selected i))
     ∙ ap (λ xs. sets_below (all_found (fragments_in rq) xs)) c.as_slice.ensures in
     let same =
-    shown-group s.of_text s.answer type_of answer changes rq c.at_field-here.result object ctx c.args.these.now.0
+    shown-group s.of_text s.of_bool s.answer type_of answer changes rq c.at_field-here.result object ctx c.args.these.now.0
     c.args.these.now.1 x type first declared here.request here.location
     (here.path ∙ ap (λ k. k ∷ []) c.copied.ensures) (ap literal_of here.current_type) selects in
     let after = c.show_field.new.context in

@@ -11,7 +11,7 @@ returns-clause-run g c =
     let here = c.args.executor.now in
     let changes = g.R.GraphQLMutationValue.changes r in
     let type_of = g.R.GraphQLValue.type_of r in
-    let m = mutation_of s.of_text s.answer here.request.now type_of (g.R.GraphQLValue.answer r) changes in
+    let m = mutation_of s.of_text s.of_bool s.answer here.request.now type_of (g.R.GraphQLValue.answer r) changes in
     let step = step_of m c.args.object.now c.args.context.now (head_of c.args.field.now) in
     let completed = c.complete_field-completed in
     rw (c.shown.ensures, c.is_required.ensures)

@@ -5,6 +5,7 @@ use Rattle.graphql_output_values.specs.DistinctKeys.{HasDistinctKeysThroughout}
 use Rattle.graphql_answers.specs.Responses.{refusal_of, response_of}
 use Rattle.graphql_collect.specs.FragmentLists.{fragments_listed}
 use Rattle.graphql_written_out.specs.Written.{written}
+use Rattle.graphql_execution.specs.declared.asked.Asked.TheVariants as asked
 use Rattle.graphql_mutation.specs.Mutations.{mutation_over}
 use Rattle.graphql_requests.specs.Scalars.{Scalars}
 use Rattle.graphql_executor.specs.Executed.{run_at}
@@ -42,14 +43,16 @@ returns g c = λ service line answered old new is.
           let operation = answers.operation.item in
           let values = final_value (given meaning ex.request) (variables_in operation.variable_definitions) in
           let sets = written (fragments_listed answers.document) operation.selection_set ∷ [] in
-          let types = service.root_node.schema.types in
-          let query = service.root_node.schema.query in
-          let asked = mutation_over s.of_text s.answer types values (r.type_of resolver) (r.answer resolver) changes in
-          let run = run_at asked query (r.root_node resolver) sets yields.root old in
+          let schema = service.root_node.schema in
+          let query = schema.query in
+          let m =
+          mutation_over s.of_text s.of_bool s.answer schema values (r.type_of resolver) (r.answer resolver) changes in
+          let root = asked.Own (r.root_node resolver) in
+          let run = run_at m query root sets yields.root old in
           let distinct =
-          run-distinct s.of_text s.answer types values (r.type_of resolver) (r.answer resolver) changes tells
+          run-distinct s.of_text s.of_bool s.answer schema values (r.type_of resolver) (r.answer resolver) changes tells
           c.data_have_distinct_keys.ensures c.failures_tell_distinct_keys.ensures c.runs_have_distinct_keys.ensures
-          query (r.root_node resolver) sets yields.root old in
+          query root sets yields.root old in
           record {
             found = response_of s.answer found errors;
             is = e;

@@ -1,0 +1,208 @@
+-- The types of introspection, without descriptions (GraphQL October 2021, 4.2 Schema
+-- Introspection).
+use Rattle.std.specs.Prelude.{◌++◌, ◌∷◌, [], Bool, false, List, map, Some, None, codes}
+use Rattle.std.specs.Borrow.{Bor}
+use Rattle.graphql_names.specs.Names.{Bytes}
+use Rattle.graphql_values.specs.declared.input_value.InputValue.TheVariants as value
+use Rattle.graphql_type_references.specs.declared.type_modifier.TypeModifier.{TypeModifier}
+use Rattle.graphql_type_references.specs.declared.type_modifier.TypeModifier.TheVariants as modifier
+use Rattle.graphql_meta.specs.declared.directive_location.DirectiveLocation.{DirectiveLocation}
+use Rattle.graphql_meta.specs.declared.directive_location.DirectiveLocation.TheVariants as location
+use Rattle.graphql_meta.specs.declared.introspection_checks.IntrospectionChecks.{IntrospectionChecks}
+use Rattle.graphql_meta.specs.declared.meta.argument.Argument.{Argument}
+use Rattle.graphql_meta.specs.declared.meta.deprecation.DeprecationStatus.{DeprecationStatus}
+use Rattle.graphql_meta.specs.declared.meta.deprecation.DeprecationStatus.TheVariants as status
+use Rattle.graphql_meta.specs.declared.meta.enum_value.EnumValue.{EnumValue}
+use Rattle.graphql_meta.specs.declared.meta.field.Field.{Field}
+use Rattle.graphql_meta.specs.declared.meta.MetaType.{MetaType}
+use Rattle.graphql_meta.specs.declared.meta.MetaType.TheVariants as meta
+use Rattle.graphql_meta.specs.declared.meta.type_kind.TypeKind.{TypeKind}
+use Rattle.graphql_meta.specs.declared.meta.type_kind.TypeKind.TheVariants as kind
+use Rattle.graphql_introspection.specs.declared.part.PartKind.{PartKind}
+use Rattle.graphql_introspection.specs.declared.part.PartKind.TheVariants as object
+use Rattle.graphql_introspection.specs.declared.rows.FieldForm.{FieldForm}
+use Rattle.graphql_introspection.specs.declared.rows.FieldForm.TheVariants as form
+use Rattle.graphql_introspection.specs.Names.{kind_name, location_name}
+use Rattle.graphql_introspection.specs.Parts.{name_of_kind}
+
+abbrev pub Wraps : Type 0
+Wraps = List TypeModifier
+
+-- a field in short: its name, the name of its type, the wraps of that, and its form
+abbrev pub Row : Type 0
+Row = Bytes × Bytes × Wraps × FieldForm
+
+-- what the code lends for it
+abbrev pub row : Bor Bytes × Bor Bytes × Bor Wraps × FieldForm → Row
+row lent = (lent.0.now, lent.1.now, lent.2.now, lent.3)
+
+abbrev pub nullable : Wraps
+nullable = []
+
+abbrev pub non_null : Wraps
+non_null = modifier.NonNull ∷ []
+
+abbrev pub list : Wraps
+list = modifier.NonNull ∷ modifier.List None ∷ []
+
+abbrev pub non_null_list : Wraps
+non_null_list = modifier.NonNull ∷ modifier.List None ∷ modifier.NonNull ∷ []
+
+-- 4.2.1 The __Schema Type
+abbrev pub schema : List Row
+schema =
+    (codes "description", codes "String", nullable, form.Plain)
+    ∷ (codes "types", codes "__Type", non_null_list, form.Plain)
+    ∷ (codes "queryType", codes "__Type", non_null, form.Plain)
+    ∷ (codes "mutationType", codes "__Type", nullable, form.Plain)
+    ∷ (codes "subscriptionType", codes "__Type", nullable, form.Plain)
+    ∷ (codes "directives", codes "__Directive", non_null_list, form.Plain)
+    ∷ []
+
+-- 4.2.2 The __Type Type
+abbrev pub of_type : List Row
+of_type =
+    (codes "name", codes "String", nullable, form.Plain)
+    ∷ (codes "description", codes "String", nullable, form.Plain)
+    ∷ (codes "specifiedByUrl", codes "String", nullable, form.Plain)
+    ∷ (codes "kind", codes "__TypeKind", non_null, form.Plain)
+    ∷ (codes "fields", codes "__Field", list, form.Including)
+    ∷ (codes "ofType", codes "__Type", nullable, form.Plain)
+    ∷ (codes "inputFields", codes "__InputValue", list, form.Plain)
+    ∷ (codes "interfaces", codes "__Type", list, form.Plain)
+    ∷ (codes "possibleTypes", codes "__Type", list, form.Plain)
+    ∷ (codes "enumValues", codes "__EnumValue", list, form.Including)
+    ∷ []
+
+-- 4.2.3 The __Field Type
+abbrev pub field : List Row
+field =
+    (codes "name", codes "String", non_null, form.Plain)
+    ∷ (codes "description", codes "String", nullable, form.Plain)
+    ∷ (codes "args", codes "__InputValue", non_null_list, form.Plain)
+    ∷ (codes "type", codes "__Type", non_null, form.Plain)
+    ∷ (codes "isDeprecated", codes "Boolean", non_null, form.Plain)
+    ∷ (codes "deprecationReason", codes "String", nullable, form.Plain)
+    ∷ []
+
+-- 4.2.4 The __InputValue Type
+abbrev pub input_value : List Row
+input_value =
+    (codes "name", codes "String", non_null, form.Plain)
+    ∷ (codes "description", codes "String", nullable, form.Plain)
+    ∷ (codes "type", codes "__Type", non_null, form.Plain)
+    ∷ (codes "defaultValue", codes "String", nullable, form.Plain)
+    ∷ []
+
+-- 4.2.5 The __EnumValue Type
+abbrev pub enum_value : List Row
+enum_value =
+    (codes "name", codes "String", non_null, form.Plain)
+    ∷ (codes "description", codes "String", nullable, form.Plain)
+    ∷ (codes "isDeprecated", codes "Boolean", non_null, form.Plain)
+    ∷ (codes "deprecationReason", codes "String", nullable, form.Plain)
+    ∷ []
+
+-- 4.2.6 The __Directive Type, with three fields that are deprecated
+abbrev pub directive : List Row
+directive =
+    (codes "name", codes "String", non_null, form.Plain)
+    ∷ (codes "description", codes "String", nullable, form.Plain)
+    ∷ (codes "locations", codes "__DirectiveLocation", non_null_list, form.Plain)
+    ∷ (codes "isRepeatable", codes "Boolean", non_null, form.Plain)
+    ∷ (codes "args", codes "__InputValue", non_null_list, form.Plain)
+    ∷ (codes "onOperation", codes "Boolean", non_null, form.Deprecated)
+    ∷ (codes "onFragment", codes "Boolean", non_null, form.Deprecated)
+    ∷ (codes "onField", codes "Boolean", non_null, form.Deprecated)
+    ∷ []
+
+abbrev pub rows_of : PartKind → List Row
+rows_of object.Schema = schema
+rows_of object.Type = of_type
+rows_of object.Field = field
+rows_of object.InputValue = input_value
+rows_of object.EnumValue = enum_value
+rows_of object.Directive = directive
+
+abbrev pub objects : List PartKind
+objects =
+    object.Schema ∷ object.Type ∷ object.Field ∷ object.InputValue ∷ object.EnumValue
+    ∷ object.Directive ∷ []
+
+-- the values of `__TypeKind`
+abbrev pub kinds : List TypeKind
+kinds =
+    kind.Scalar ∷ kind.Object ∷ kind.Interface ∷ kind.Union ∷ kind.Enum ∷ kind.InputObject
+    ∷ kind.List ∷ kind.NonNull ∷ []
+
+-- the values of `__DirectiveLocation`
+abbrev pub places : List DirectiveLocation
+places =
+    location.Query ∷ location.Mutation ∷ location.Subscription ∷ location.Field
+    ∷ location.FragmentDefinition ∷ location.FragmentSpread ∷ location.InlineFragment
+    ∷ location.VariableDefinition ∷ location.Scalar ∷ location.FieldDefinition
+    ∷ location.EnumValue ∷ []
+
+abbrev pub value_of : Bytes → EnumValue
+value_of name = record { name = name; description = None; deprecation_status = status.Current }
+
+abbrev pub kind_value : TypeKind → EnumValue
+kind_value k = value_of (kind_name k)
+
+abbrev pub location_value : DirectiveLocation → EnumValue
+location_value place = value_of (location_name place)
+
+abbrev pub status_of : FieldForm → DeprecationStatus
+status_of form.Deprecated = status.Deprecated (Some (codes "Use the locations array instead"))
+status_of form.Plain = status.Current
+status_of form.Including = status.Current
+
+-- `of_bool`: the scalar of a truth value
+module _ {S : Type 0} (of_bool : Bool → S) where
+  -- `includeDeprecated: Boolean = false`
+  abbrev pub include_deprecated : Argument S
+  include_deprecated =
+      record {
+        name = codes "includeDeprecated";
+        description = None;
+        arg_type = record { name = codes "Boolean"; modifiers = [] };
+        default_value = Some (value.Scalar (of_bool false));
+      }
+
+  abbrev pub arguments_of : FieldForm → List (Argument S)
+  arguments_of form.Including = include_deprecated ∷ []
+  arguments_of form.Plain = []
+  arguments_of form.Deprecated = []
+
+  -- the field of a row
+  abbrev pub field_of : Row → Field S
+  field_of row =
+      record {
+        name = row.0;
+        description = None;
+        arguments = Some (arguments_of row.3);
+        field_type = record { name = row.1; modifiers = row.2 };
+        deprecation_status = status_of row.3;
+      }
+
+module _ {S C : Type 0} where
+  abbrev pub object_of : (Bool → S) → PartKind → MetaType S C
+  object_of of_bool kind =
+      meta.Object (record {
+        name = name_of_kind kind;
+        description = None;
+        fields = map (field_of of_bool) (rows_of kind);
+        interface_names = [];
+      })
+
+  abbrev pub enumeration : Bytes → List EnumValue → C → MetaType S C
+  enumeration name values check =
+      meta.Enum (record { name = name; description = None; values = values; check = check })
+
+  -- six objects and two enums, of these checks
+  abbrev pub introspection_types : (Bool → S) → IntrospectionChecks C → List (MetaType S C)
+  introspection_types of_bool checks =
+      map (object_of of_bool) objects
+      ++ enumeration (codes "__TypeKind") (map kind_value kinds) checks.type_kind
+      ∷ enumeration (codes "__DirectiveLocation") (map location_value places) checks.directive_location
+      ∷ []
