@@ -1,0 +1,11 @@
+pub mod Applies
+pub mod Children
+pub mod Told
+pub mod Selections
+pub mod Open
+pub mod FirstChild
+pub mod Seen
+pub mod Values
+pub mod NamesLeft
+pub mod Equality
+pub mod EqualityLaws

@@ -1,0 +1,90 @@
+//! Children of a field that is looked at.
+
+ghost use Rattle.std.specs.Prelude.{◌≡◌, ◌↔◌, ◌<◌, ◌^◌, [], IsTrue, length, map};
+ghost use Rattle.std.specs.List.{find};
+ghost use Rattle.std.specs.Option.{is_some, option_copied};
+ghost use Rattle.std.specs.Slice.Iter.{iter_rest, iter_steps};
+ghost use Rattle.std.specs.Iterator.Runs.{EveryRun, ItemsMapTo};
+ghost use Rattle.graphql_look_ahead.specs.declared.selection.LookAheadSelection.{LookAheadSelection};
+ghost use Rattle.graphql_look_ahead.specs.NamesLeft.{key_at, names_left};
+ghost use Rattle.graphql_look_ahead.specs.Told.{has_key};
+
+mod names;
+mod traits;
+
+use crate::selection::LookAheadSelection;
+use graphql_meta::SchemaScalar;
+use graphql_text::Items;
+pub use names::Names;
+use std::alloc::Global;
+use std::slice::Iter;
+
+/// The children of a field that is looked at, in order.
+#[derive(Drop)]
+pub struct LookAheadChildren<'d, 'a, S, C = <S as SchemaScalar>::Check> {
+    pub(crate) children: Items<LookAheadSelection<'d, 'a, S, C>>,
+}
+
+impl<'d, 'a, S, C> LookAheadChildren<'d, 'a, S, C> {
+    /// No children.
+    pub fn new(alloc: Global) -> LookAheadChildren<'d, 'a, S, C>
+        ensures { result.children ≡ [] }
+    {
+        LookAheadChildren {
+            children: Items::new(alloc),
+        }
+    }
+
+    /// The children, in order.
+    pub fn as_slice(&self) -> &[LookAheadSelection<'d, 'a, S, C>]
+        ensures { result.now ≡ self.now.children }
+    {
+        self.children.as_slice()
+    }
+
+    /// How many there are.
+    pub fn len(&self) -> usize
+        ensures { result ≡ length self.now.children }
+    {
+        self.as_slice().len()
+    }
+
+    /// Whether there is none.
+    pub fn is_empty(&self) -> bool
+        ensures { IsTrue result ↔ (self.now.children ≡ []) }
+    {
+        self.as_slice().is_empty()
+    }
+
+    /// The first child of this response key.
+    pub fn select(&self, key: &str) -> Option<&LookAheadSelection<'d, 'a, S, C>>
+        ensures { option_copied result ≡ find (has_key key.now) self.now.children }
+    {
+        self.as_slice()
+            .iter()
+            .find(|child| child.field_name() == key)
+    }
+
+    /// Whether there is a child of this response key.
+    pub fn has_child(&self, key: &str) -> bool
+        ensures { result ≡ is_some (find (has_key key.now) self.now.children) }
+    {
+        self.select(key).is_some()
+    }
+
+    /// The response keys, in order: of two children of one key it has the key twice.
+    pub fn names(&self) -> Names<'_, 'd, 'a, S, C>
+        ensures { names_left result ≡ map key_at self.now.children }
+    {
+        Names { rest: self.iter() }
+    }
+
+    /// The children, in order, from both ends.
+    pub fn iter(&self) -> Iter<'_, LookAheadSelection<'d, 'a, S, C>>
+        ensures rest { iter_rest result ≡ self.now.children }
+        ensures bound { length (iter_rest result) < 2 ^ 64 }
+        ensures runs { EveryRun (iter_steps {A = LookAheadSelection S C}) (λ p. ItemsMapTo p (λ y. y.now) (iter_rest p.from)) }
+    {
+        self.as_slice().iter()
+    }
+}
