@@ -1,3 +1,4 @@
+pub mod AheadLemmas
 pub mod AskedLemmas
 pub mod EngineParts
 pub mod OutcomeLemmas

@@ -1,5 +1,5 @@
 -- Where fields stand (GraphQL October 2021, 7.1.2 Errors).
-use Rattle.std.specs.Prelude.{List, [], ◌∷◌, ◌++◌}
+use Rattle.std.specs.Prelude.{List, [], ◌∷◌, ◌++◌, ◌-◌, length, Option, slice_get}
 use Rattle.graphql_names.specs.Names.{Bytes}
 use Rattle.graphql_text.specs.declared.position.SourcePosition.{SourcePosition}
 use Rattle.graphql_field_results.specs.declared.execution_error.ExecutionError.{ExecutionError}
@@ -24,6 +24,10 @@ keys_layer (FieldPath-F.Keys keys place) = keys.now
 -- the response keys from the root of the data down to the field
 abbrev pub keys_of : FieldPath → List Bytes
 keys_of = fold-FieldPath (List Bytes) keys_layer
+
+-- the field's own, the last of them; the root has none
+abbrev pub own_key : FieldPath → Option Bytes
+own_key path = slice_get (keys_of path) (length (keys_of path) - 1)
 
 -- the error of the field, told of another place
 abbrev pub error_at : {S : Type 0} → SourcePosition → FieldPath → FieldError S → ExecutionError S

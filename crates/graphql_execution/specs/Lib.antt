@@ -15,3 +15,4 @@ pub mod OwnErrors
 pub mod Begins
 pub mod Completions
 pub mod Standing
+pub mod LookedAhead

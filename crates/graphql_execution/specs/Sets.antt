@@ -18,8 +18,8 @@ use Rattle.graphql_tree.specs.declared.document.Fragment.{Fragment}
 use Rattle.graphql_tree.specs.declared.selection.Selection.{Selection}
 use Rattle.graphql_meta.specs.Types.{TypeOf}
 use Rattle.graphql_execution.specs.declared.frames.Known.{Known}
-use Rattle.graphql_execution.specs.declared.selected.Selected.{Selected}
-use Rattle.graphql_execution.specs.declared.selected.Selected.TheVariants as selected
+use Rattle.graphql_look_ahead.specs.declared.selected.Selected.{Selected}
+use Rattle.graphql_look_ahead.specs.declared.selected.Selected.TheVariants as selected
 use Rattle.graphql_execution.specs.declared.selected.KeptSelected.{KeptSelected}
 use Rattle.graphql_execution.specs.declared.selected.KeptSelected.TheVariants as kept
 

@@ -1,10 +1,12 @@
 -- Where the executor of a field stands, and what a resolver is asked there (GraphQL October 2021, 6.4 Executing Fields).
 use Rattle.std.specs.Prelude.{◌≡◌, ◌⊎◌, List, [], ◌∷◌, ◌++◌, Some}
-use Rattle.std.specs.List.{All}
+use Rattle.std.specs.List.{All, Contains}
 use Rattle.graphql_names.specs.Names.{Bytes}
 use Rattle.graphql_text.specs.declared.position.SourcePosition.{SourcePosition}
 use Rattle.graphql_values.specs.InputValues.{Placed}
 use Rattle.graphql_tree.specs.declared.selection.Field.{Field}
+use Rattle.graphql_tree.specs.declared.selection.Selection.{Selection}
+use Rattle.graphql_tree.specs.declared.selection.Selection.TheVariants as selection
 use Rattle.graphql_meta.specs.Types.{TypeOf}
 use Rattle.graphql_declarations.specs.Lent.{literal_of}
 use Rattle.graphql_arguments.specs.ArgumentValues.{Given}
@@ -15,6 +17,7 @@ use Rattle.graphql_collect.specs.declared.request.Request.{Request}
 use Rattle.graphql_collect.specs.Occurrences.{found}
 use Rattle.graphql_collect.specs.Requests.{fragments_in}
 use Rattle.graphql_evaluation.specs.Evaluation.{sets_below}
+use Rattle.graphql_look_ahead.specs.Selections.{none_or}
 use Rattle.graphql_execution.specs.declared.executor.Executor.{Executor}
 use Rattle.graphql_execution.specs.Engines.{arguments_in}
 use Rattle.graphql_execution.specs.FieldDeclarations.{declared_type}
@@ -27,7 +30,9 @@ IsTypeOf query root type_of node object = (object ≡ type_of node) ⊎ ((object
 
 -- the place of a field of an object type, which is the first of its response key
 pub record IsPlaceOf {S C : Type 0} (request : Request S C) (object : Bytes) (field : Placed (Field S))
-    (type : TypeOf) (start : SourcePosition) (path : List Bytes) (sets : List (Tree S)) : Type 0 where
+    (among : List (Selection S)) (type : TypeOf) (start : SourcePosition) (path : List Bytes) (sets : List (Tree S)) : Type 0 where
+  -- the list in which it directly stands
+  pub stands : Contains among (selection.Field field)
   -- the type that is declared for it
   pub declared : declared_type request.schema.now.types object (head_of field).name ≡ Some type
   -- where it starts
@@ -44,7 +49,7 @@ module _ {S C Context : Type 0} (executor : Executor Context S C) where
   -- the executor stands at a field of an object type
   abbrev pub StandsAt : Bytes → Placed (Field S) → Type 0
   StandsAt object field =
-      IsPlaceOf executor.request.now object field (literal_of executor.current_type) (place_of executor.path) (keys_of executor.path)
+      IsPlaceOf executor.request.now object field (none_or executor.among) (literal_of executor.current_type) (place_of executor.path) (keys_of executor.path)
       (sets_in executor.request.now executor.selected)
 
   -- where the executor stands at a field of a node, that field is asked for, by its name and the values of its arguments

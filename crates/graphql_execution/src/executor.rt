@@ -1,22 +1,26 @@
 //! What a resolver sees of an execution.
 
-ghost use Rattle.std.specs.Prelude.{◌≡◌, ◌++◌, ◌∷◌, [], IsSome, OnErr, OnOk, Some};
-ghost use Rattle.std.specs.Option.{option_copied};
+ghost use Rattle.std.specs.Prelude.{◌≡◌, ◌++◌, ◌∷◌, [], IsSome, None, OnErr, OnOk, Some};
+ghost use Rattle.std.specs.Option.{option_copied, option_map};
 ghost use Rattle.graphql_collect.specs.Requests.{fragments_in, written_in};
 ghost use Rattle.graphql_declarations.specs.Lent.{literal_of};
 ghost use Rattle.graphql_items.specs.Memory.{Gives};
+ghost use Rattle.graphql_look_ahead.specs.Selections.{none_or};
+ghost use Rattle.graphql_look_ahead.specs.Told.{looked_at};
 ghost use Rattle.graphql_written_out.specs.Written.{fragment_meant};
 ghost use Rattle.graphql_execution.specs.FieldDeclarations.{declared_type};
 ghost use Rattle.graphql_execution.specs.FieldPaths.{error_at, keys_of, place_of};
+ghost use Rattle.graphql_execution.specs.LookedAhead.{FindsField, looked_ahead};
 ghost use Rattle.graphql_execution.specs.Sets.{set_given, sets_in, type_given};
 
 use crate::field_path::FieldPath;
 use crate::fields::declared_type;
-use crate::selected::{Selected, selections_of};
+use crate::selected::selections_of;
 use graphql_collect::Request;
 use graphql_declarations::TypeLiteral;
 use graphql_field_results::{ExecutionError, FieldError};
 use graphql_final_variables::FinalVariables;
+use graphql_look_ahead::{LookAheadSelection, Selected};
 use graphql_meta::SchemaScalar;
 use graphql_schema::SchemaType;
 use graphql_text::{Items, SourcePosition, TextRef};
@@ -45,6 +49,10 @@ pub struct Executor<'c, 'd, 'a, Context, S, C = <S as SchemaScalar>::Check> {
 
     /// What is selected from the objects of its answer; at the root what the operation selects.
     pub selected: Selected<'d, 'd, 'a, S>,
+
+    /// Where the field is looked for that is answered, when it is looked at: the list in which it directly
+    /// stands, or what the executor selects that was asked for this one; at the root nothing.
+    pub among: Option<Selected<'d, 'd, 'a, S>>,
 }
 
 impl<'c, 'd, 'a, Context, S, C> Executor<'c, 'd, 'a, Context, S, C> {
@@ -64,6 +72,7 @@ impl<'c, 'd, 'a, Context, S, C> Executor<'c, 'd, 'a, Context, S, C> {
         ensures path { keys_of result.path ≡ [] }
         ensures current_type { literal_of result.current_type ≡ record { name = object.now; modifiers = [] } }
         ensures selected { sets_in request.now result.selected ≡ written_in request.now set.now ∷ [] }
+        ensures among { result.among ≡ None }
     {
         Executor {
             alloc,
@@ -75,16 +84,19 @@ impl<'c, 'd, 'a, Context, S, C> Executor<'c, 'd, 'a, Context, S, C> {
                 modifiers: &[],
             },
             selected: Selected::Set(set),
+            among: None,
         }
     }
 
     /// The executor of a field, by all the response keys that lead to it, its start, the type that the
-    /// schema declares for it, and what is selected from the objects of its answer.
+    /// schema declares for it, the list in which it directly stands, and what is selected from the objects of
+    /// its answer.
     pub fn at_field<'p>(
         &self,
         keys: &'p [TextRef<'d>],
         start: SourcePosition,
         declared: TypeLiteral<'p>,
+        among: &'p [Selection<'a, S>],
         selected: Selected<'p, 'p, 'a, S>,
     ) -> Executor<'c, 'p, 'a, Context, S, C>
         ensures request { result.request.now ≡ self.now.request.now }
@@ -93,6 +105,7 @@ impl<'c, 'd, 'a, Context, S, C> Executor<'c, 'd, 'a, Context, S, C> {
         ensures path { keys_of result.path ≡ keys.now }
         ensures current_type { result.current_type ≡ declared.entry }
         ensures selected { result.selected ≡ selected.entry }
+        ensures among { none_or result.among ≡ among.now }
     {
         Executor {
             alloc: self.alloc,
@@ -101,13 +114,14 @@ impl<'c, 'd, 'a, Context, S, C> Executor<'c, 'd, 'a, Context, S, C> {
             path: FieldPath::Keys(keys, start),
             current_type: declared,
             selected,
+            among: Some(Selected::Set(among)),
         }
     }
 
     /// The executor of a field of the current type, whose wraps do not count: the field of this name, to which
     /// all these response keys lead, its own the last, which starts at this place, and has this selection set,
     /// if it has one. `lent_keys` of the path gives the keys above it. The type must have a field of this name,
-    /// which may be `__typename`; `declared_type` tells.
+    /// which may be `__typename`; `declared_type` tells. Its `look_ahead` looks among what this one selects.
     pub fn field_sub_executor<'p>(
         &self,
         keys: &'p [TextRef<'d>],
@@ -122,17 +136,25 @@ impl<'c, 'd, 'a, Context, S, C> Executor<'c, 'd, 'a, Context, S, C> {
         ensures path { keys_of result.path ≡ keys.now }
         ensures current_type { Some (literal_of result.current_type) ≡ declared_type self.now.request.now.schema.now.types self.now.current_type.name.now name.now }
         ensures selected { sets_in self.now.request.now result.selected ≡ written_in self.now.request.now (set_given set.entry) ∷ [] }
+        ensures among { result.among ≡ Some self.now.selected }
     {
         let Some(declared) = declared_type(self.request.schema, self.current_type.name, name) else {
             unreachable!()
         };
-        let set = selections_of(set);
-        self.at_field(keys, location, declared, Selected::Set(set))
+        Executor {
+            alloc: self.alloc,
+            request: self.request,
+            context: self.context,
+            path: FieldPath::Keys(keys, location),
+            current_type: declared,
+            selected: Selected::Set(selections_of(set)),
+            among: Some(self.selected),
+        }
     }
 
     /// The executor of the same field at the type of this name, or at the same type where no name is given,
     /// from whose objects this set selects, if there is one. Nothing fits a type that the schema does not
-    /// have.
+    /// have. Its `look_ahead` looks among what this one selects.
     pub fn type_sub_executor(
         &self,
         type_name: Option<&'d str>,
@@ -143,6 +165,7 @@ impl<'c, 'd, 'a, Context, S, C> Executor<'c, 'd, 'a, Context, S, C> {
         ensures path { result.path ≡ self.now.path }
         ensures current_type { literal_of result.current_type ≡ type_given type_name.entry (literal_of self.now.current_type) }
         ensures selected { sets_in self.now.request.now result.selected ≡ written_in self.now.request.now (set_given set.entry) ∷ [] }
+        ensures among { result.among ≡ Some self.now.selected }
     {
         let current_type = match type_name {
             Some(name) => TypeLiteral {
@@ -158,6 +181,7 @@ impl<'c, 'd, 'a, Context, S, C> Executor<'c, 'd, 'a, Context, S, C> {
             path: self.path,
             current_type,
             selected: Selected::Set(selections_of(set)),
+            among: Some(self.selected),
         }
     }
 
@@ -171,6 +195,7 @@ impl<'c, 'd, 'a, Context, S, C> Executor<'c, 'd, 'a, Context, S, C> {
         ensures path { result.path ≡ self.now.path }
         ensures current_type { result.current_type ≡ self.now.current_type }
         ensures selected { result.selected ≡ self.now.selected }
+        ensures among { result.among ≡ self.now.among }
     {
         Executor {
             alloc: self.alloc,
@@ -179,7 +204,25 @@ impl<'c, 'd, 'a, Context, S, C> Executor<'c, 'd, 'a, Context, S, C> {
             path: self.path,
             current_type: self.current_type,
             selected: self.selected,
+            among: self.among,
         }
+    }
+
+    /// The field that is answered, to look at what is selected below it; at the root, which is no field, `None`.
+    /// It is the first field of its response key, left out or not, in the list in which the field directly stands
+    /// that a resolver is asked for, where there always is one. In an executor that `field_sub_executor` or
+    /// `type_sub_executor` gave, it is looked for in what the executor selects that was asked for this one. Where
+    /// no field of the key directly stands there, the key stands for it, as its name, without alias and arguments,
+    /// with what this executor selects.
+    pub fn look_ahead(&self) -> Option<LookAheadSelection<'d, 'a, S, C>>
+        ensures told { option_map looked_at result ≡ looked_ahead self.now }
+        ensures found { FindsField self.now result }
+    {
+        let Some(key) = self.path.key() else {
+            return None;
+        };
+        let found = LookAheadSelection::of_key(self.request, self.among, key, self.selected);
+        Some(found)
     }
 
     /// Where memory is taken.

@@ -1,8 +1,9 @@
 //! Where fields stand.
 
 ghost use Rattle.std.specs.Prelude.{◌≡◌};
+ghost use Rattle.std.specs.Option.{option_copied};
 ghost use Rattle.graphql_items.specs.Memory.{Gives};
-ghost use Rattle.graphql_execution.specs.FieldPaths.{keys_of, place_of};
+ghost use Rattle.graphql_execution.specs.FieldPaths.{keys_of, own_key, place_of};
 
 use graphql_text::{Items, SourcePosition, Text, TextRef};
 use std::alloc::{AllocError, Global};
@@ -30,6 +31,20 @@ impl<'p> FieldPath<'p> {
             FieldPath::Root(place) => place,
             FieldPath::Field(_, place, _) => place,
             FieldPath::Keys(_, place) => place,
+        }
+    }
+
+    /// The field's own response key, the last of those that lead to it; `None` at the root.
+    pub fn key(&self) -> Option<&'p str>
+        ensures { option_copied result ≡ own_key self.now }
+    {
+        match *self {
+            FieldPath::Root(_) => None,
+            FieldPath::Field(key, _, _) => Some(key),
+            FieldPath::Keys(keys, _) => match keys.last() {
+                Some(key) => Some(key.as_str()),
+                None => None,
+            },
         }
     }
 

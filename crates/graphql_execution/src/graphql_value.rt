@@ -45,9 +45,9 @@ pub trait GraphQLValue<S: SchemaScalar> {
 
     /// What it answers for a field of a node. The executor stands at a field of this name of the node's object
     /// type, over a request whose fragments are without a cycle: its current type is the one declared for the
-    /// field, its start and its response keys are the field's, and it selects from the objects of the answer what
-    /// the field does. The argument values are the field's. `FieldFault::Memory` is want of memory, and tells
-    /// nothing.
+    /// field, its start and its response keys are the field's, it selects from the objects of the answer what the
+    /// field does, and its `look_ahead` finds a field of the same key. The argument values are the field's.
+    /// `FieldFault::Memory` is want of memory, and tells nothing.
     fn resolve_field(
         &self,
         node: &Self::Node,

@@ -8,9 +8,9 @@ ghost use Rattle.graphql_written_out.specs.Written.{Settled};
 ghost use Rattle.graphql_execution.specs.Sets.{AreGroups, AreKnown, selected_in, sets_in};
 
 use crate::frames::{KnownGroups, SharedGroups};
-use crate::selected::Selected;
 use crate::shared::Shared;
 use graphql_collect::{CollectedField, Group, Request, fields_below, fields_of_set, grouped};
+use graphql_look_ahead::Selected;
 use graphql_meta::SchemaScalar;
 use graphql_text::Items;
 use std::alloc::{AllocError, Global};

@@ -5,20 +5,10 @@ ghost use Rattle.graphql_tree.specs.declared.document.Fragment.{Fragment};
 ghost use Rattle.graphql_execution.specs.Sets.{kept_sets, set_given, sets_of};
 
 use graphql_collect::CollectedField;
+use graphql_look_ahead::Selected;
 use graphql_text::Items;
 use graphql_tree::Selection;
 use std::alloc::{AllocError, Global};
-
-/// What is selected from the objects of an answer (GraphQL October 2021, 6.4.3 Value Completion, Merging
-/// Selection Sets), lent.
-#[derive_where(Clone, Copy)]
-pub enum Selected<'p, 'd, 'a, S> {
-    /// The selections of a set.
-    Set(&'d [Selection<'a, S>]),
-
-    /// Those of the sets of these fields together.
-    Below(&'p [CollectedField<'d, 'a, S>]),
-}
 
 /// What is selected from the items of a list, kept while the list is in progress.
 #[derive(Drop)]

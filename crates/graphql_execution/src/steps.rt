@@ -34,10 +34,10 @@ use crate::frames::{
 use crate::graphql_value::GraphQLValue;
 use crate::parts::{is_required, shown, with_item, with_member};
 use crate::report::Report;
-use crate::selected::Selected;
 use graphql_collect::{CollectedField, Group};
 use graphql_declarations::TypeLiteral;
 use graphql_field_results::FieldResult;
+use graphql_look_ahead::Selected;
 use graphql_meta::SchemaScalar;
 use graphql_names::NameMap;
 use graphql_output_values::Value;
@@ -53,23 +53,24 @@ fn begin_field<'p, 'd, 'a, S: SchemaScalar + Drop, R: GraphQLValue<S>>(
     object: &str,
     node: &Asked<'d, S, R::Node>,
     fields: &'p [CollectedField<'d, 'a, S>],
-    first: &'d Spanning<Field<'a, S>>,
+    first: &CollectedField<'d, 'a, S>,
     declared: TypeLiteral<'d>,
     keys: &'p [TextRef<'d>],
 ) -> FieldResult<Begun<'d, 'a, S, Asked<'d, S, R::Node>>, S>
     requires settled { Settled (fragments_in executor.now.request.now) }
     requires typed { IsTypeOf executor.now.request.now.schema.now.query (asked.Own (R.root_node resolver.now))
         (asked_type (R.type_of resolver.now executor.now.context.now)) node.now object.now }
-    requires place { IsPlaceOf executor.now.request.now object.now first.now (literal_of declared) first.now.span.start keys.now
+    requires place { IsPlaceOf executor.now.request.now object.now first.now.field.now first.now.among.now (literal_of declared) first.now.field.now.span.start keys.now
         (sets_below (all_found (fragments_in executor.now.request.now) fields.now)) }
     ensures { let e = engine_at S.of_text S.of_bool S.answer (R.type_of resolver.now) (R.answer resolver.now) executor.now in
-        Begins e (sets_below (all_found (fragments_in executor.now.request.now) fields.now)) declared.entry.name.now (fragments_in executor.now.request.now) first.now.span.start (reverse declared.entry.modifiers.now) (e.answer node.now object.now (head_of first.now).name (e.arguments object.now (head_of first.now))) result }
+        Begins e (sets_below (all_found (fragments_in executor.now.request.now) fields.now)) declared.entry.name.now (fragments_in executor.now.request.now) first.now.field.now.span.start (reverse declared.entry.modifiers.now) (e.answer node.now object.now (head_of first.now.field.now).name (e.arguments object.now (head_of first.now.field.now))) result }
 {
     let name = TextRef::new(declared.name);
     let wraps = declared.modifiers;
-    let location = first.span.start;
-    let here = executor.at_field(keys, location, declared, Selected::Below(fields));
-    let field: &'p Spanning<Field<'a, S>> = first;
+    let field: &'p Spanning<Field<'a, S>> = first.field;
+    let location = field.span.start;
+    let below = Selected::Below(fields);
+    let here = executor.at_field(keys, location, declared, first.among, below);
     let answer = ask(
         resolver,
         &here,
@@ -117,11 +118,10 @@ pub(crate) fn start<'d, 'a, S: SchemaScalar + Drop, R: GraphQLValue<S>>(
             begun: Begun::Value(None),
         });
     };
-    let first = first.field;
     let Some(declared) = declared_type(
         executor.request.schema,
         object,
-        first.item.name.item.as_str(),
+        first.field.item.name.item.as_str(),
     ) else {
         return Ok(Started {
             is_needed: false,
@@ -134,7 +134,7 @@ pub(crate) fn start<'d, 'a, S: SchemaScalar + Drop, R: GraphQLValue<S>>(
     let begins = begin_field(
         resolver, executor, object, node, fields, first, declared, keys,
     );
-    let begun = begun_or_told(executor.alloc, first.span.start, begins, report)?;
+    let begun = begun_or_told(executor.alloc, first.field.span.start, begins, report)?;
     Ok(Started { is_needed, begun })
 }
 

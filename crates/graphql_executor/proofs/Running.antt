@@ -22,7 +22,7 @@ use Rattle.graphql_evaluation.specs.Completion.{Members, object_members}
 use Rattle.graphql_execution.specs.Engines.{Resolves}
 use Rattle.graphql_execution.specs.declared.asked.Asked.{Asked}
 use Rattle.graphql_execution.specs.Sets.{sets_in}
-use Rattle.graphql_execution.specs.declared.selected.Selected.{Selected}
+use Rattle.graphql_look_ahead.specs.declared.selected.Selected.{Selected}
 use Rattle.graphql_mutation.specs.Mutations.{Changes, mutation_of, mutation_over}
 use Rattle.graphql_mutation.specs.Runs.{HasRun, run_map}
 use Rattle.graphql_mutation.specs.Serial.{AfterBeginning, Mutation, Run, mutate, root_groups}

@@ -19,6 +19,7 @@ pub use graphql_field_results::{
 pub use graphql_final_variables::FinalVariables;
 pub use graphql_input_types::{ID, Nullable};
 pub use graphql_introspection::{introspection_metadata, kind_name, location_name};
+pub use graphql_look_ahead::{Applies, LookAheadChildren, LookAheadSelection, Selected};
 pub use graphql_meta::IntrospectionChecks;
 pub use graphql_mutation::GraphQLMutationValue;
 pub use graphql_requests::{GraphQLError, Meaning, get_operation};

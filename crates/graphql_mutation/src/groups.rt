@@ -76,6 +76,7 @@ pub(crate) fn answer_group<'d, 'a, S: SchemaScalar + Drop, R: GraphQLMutationVal
     let Some(first) = these.1.first() else {
         return Ok(None);
     };
+    let among = first.among;
     let first = first.field;
     let name = first.item.name.item.as_str();
     let Some(declared) = declared_type(root.request.schema, object, name) else {
@@ -83,6 +84,6 @@ pub(crate) fn answer_group<'d, 'a, S: SchemaScalar + Drop, R: GraphQLMutationVal
     };
     let keys = [these.0.copied()];
     let selected = Selected::Below(these.1.as_slice());
-    let here = root.at_field(&keys, first.span.start, declared, selected);
+    let here = root.at_field(&keys, first.span.start, declared, among, selected);
     show_field(resolver, &here, object, context, first, errors)
 }

@@ -15,4 +15,4 @@ ask-requires-clause-typed g c = rw (c.at_field-here.ensures.request, c.at_field-
 pub ask-requires-clause-stands : goal.ask-requires-clause-stands
 ask-requires-clause-stands g c =
     let here = c.at_field-here.ensures in
-    rw (here.request, here.location, here.path, here.current_type, here.selected) c.requires.place
+    rw (here.request, here.location, here.path, here.current_type, here.among, here.selected) c.requires.place

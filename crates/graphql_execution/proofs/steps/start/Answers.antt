@@ -5,6 +5,7 @@ use Rattle.graphql_collect.specs.Grouped.{all_found, key_at}
 use Rattle.graphql_collect.specs.Requests.{fragments_in}
 use Rattle.graphql_evaluation.specs.Evaluation.{sets_below}
 use Rattle.graphql_meta.specs.Types.{TypeOf}
+use Rattle.graphql_tree.specs.declared.selection.Selection.TheVariants as selection
 use Rattle.graphql_written_out.specs.Written.{head_of}
 use Rattle.graphql_execution.specs.Begins.{outcome_at}
 use Rattle.graphql_execution.specs.Engines.{engine_of}
@@ -14,7 +15,7 @@ use Rattle.graphql_execution.proofs.BeginLemmas.{told-begins}
 use Rattle.graphql_execution.proofs.EngineParts.{engine-declared}
 use Rattle.graphql_execution.proofs.FrameLemmas.{group-leads, none-leads, undeclared-leads}
 use Rattle.graphql_execution.proofs.GroupLemmas.{group-turns, head_first, nothing_first}
-use Rattle.graphql_execution.proofs.KeyLemmas.{IsUnder, all-at, found-under}
+use Rattle.graphql_execution.proofs.KeyLemmas.{IsUnder, all-at, contains-at, found-under}
 use Rattle.graphql_execution.proofs.steps.start.Goals as goal
 
 -- the first field of the group stands where its executor does
@@ -33,6 +34,7 @@ begin_field-begins-requires-clause-place g c =
     let alike : All (IsUnder key) (all_found fr parts.0) =
     found-under fr key parts.0 (All-tail (λ y. key_at y ≡ key) x parts.0 keyed) in
     record {
+      stands = contains-at x.among.now x.place (selection.Field x.field.now) x.stands;
       declared = ap (declared_type rq.schema.now.types c.args.object.now) (sym c.as_str.ensures) ∙ sym (rw c.in-Some-declared_type.is at c.declared_type.ensures);
       starts = refl;
       above = old.path;
