@@ -10,11 +10,13 @@ mod display;
 mod equality;
 mod let_go;
 mod parts;
+pub(crate) mod pushed;
 mod variables;
 mod walk;
 
 use graphql_scalars::DefaultScalarValue;
 use graphql_text::{Items, Spanning, Text};
+use pushed::{unlocated_fields, unlocated_items};
 use std::alloc::{AllocError, Global};
 pub use variables::Variables;
 
@@ -56,14 +58,6 @@ impl<S: Drop> Drop for InputValue<S> {
     }
 }
 
-/// The field whose name and value stand in no text.
-fn unlocated_field<S>(field: (Text, InputValue<S>)) -> (Spanning<Text>, Spanning<InputValue<S>>)
-    ensures { result ≡ unplaced_pair field }
-{
-    let (name, item) = field;
-    (Spanning::unlocated(name), Spanning::unlocated(item))
-}
-
 impl<S> InputValue<S> {
     /// The value `null`.
     pub fn null() -> InputValue<S>
@@ -99,11 +93,7 @@ impl<S> InputValue<S> {
         S: Drop,
         ensures { Gives result (value.List (map unplaced values.items)) }
     {
-        let mut items = Items::with_capacity(alloc, values.len())?;
-        for item in values {
-            items.push(Spanning::unlocated(item))?;
-        }
-        Ok(InputValue::List(items))
+        Ok(InputValue::List(unlocated_items(alloc, values)?))
     }
 
     /// The list of these values, at their places. Takes no memory.
@@ -123,11 +113,7 @@ impl<S> InputValue<S> {
         S: Drop,
         ensures { Gives result (value.Object (map unplaced_pair fields.items)) }
     {
-        let mut pairs = Items::with_capacity(alloc, fields.len())?;
-        for field in fields {
-            pairs.push(unlocated_field(field))?;
-        }
-        Ok(InputValue::Object(pairs))
+        Ok(InputValue::Object(unlocated_fields(alloc, fields)?))
     }
 
     /// The input object of these fields, in order, at their places. Takes no memory.

@@ -1,12 +1,14 @@
 //! The input values that stand for values of other types.
 
-ghost use Rattle.std.specs.Prelude.{string_bytes};
+ghost use Rattle.std.specs.Prelude.{◌≡◌, [], map, OnOk, string_bytes};
 ghost use Rattle.graphql_items.specs.Memory.{Gives};
 ghost use Rattle.graphql_values.specs.Conversions as spec;
+ghost use Rattle.graphql_values.specs.InputValues.{unplaced};
 ghost use Rattle.graphql_values.specs.declared.input_value.InputValue.{InputValue};
 ghost use Rattle.graphql_values.specs.declared.input_value.InputValue.TheVariants as value;
 
 use crate::input_value::InputValue;
+use crate::input_value::pushed::push_unlocated;
 use graphql_scalars::{ScalarValue, ToScalarValue};
 use graphql_text::{Items, Spanning};
 use std::alloc::{AllocError, Global};
@@ -70,15 +72,28 @@ impl<S, T: ToInputValue<S>> ToInputValue<S> for Option<T> {
     }
 }
 
+/// Puts the items' input values into a list that is empty. An error is want of memory.
+fn add_inputs<S: Drop, T: ToInputValue<S>>(
+    values: &mut Items<Spanning<InputValue<S>>>,
+    items: &[T],
+    alloc: Global,
+) -> Result<(), AllocError>
+    requires { values.old ≡ [] }
+    ensures { OnOk result (values.new ≡ map (λ x. unplaced (T.input x)) items.now) }
+{
+    'items: for item in items {
+        push_unlocated(values, item.to_input_value(alloc)?)?;
+    }
+    Ok(())
+}
+
 /// The list of the items' input values, in order.
 impl<S: Drop, T: ToInputValue<S>> ToInputValue<S> for &[T] {
     ghost input = { λ items. spec.list_of T.input items.now };
 
     fn to_input_value(&self, alloc: Global) -> Result<InputValue<S>, AllocError> {
         let mut values = Items::with_capacity(alloc, self.len())?;
-        'items: for item in *self {
-            values.push(Spanning::unlocated(item.to_input_value(alloc)?))?;
-        }
+        add_inputs(&mut values, *self, alloc)?;
         Ok(InputValue::List(values))
     }
 }

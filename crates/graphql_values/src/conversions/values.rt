@@ -7,6 +7,7 @@ ghost use Rattle.graphql_values.specs.InputValues.{unplaced, unplaced_pair};
 
 use super::ToInputValue;
 use crate::input_value::InputValue;
+use crate::input_value::pushed::{push_unlocated, push_unlocated_field};
 use graphql_output_values::{Object, Value};
 use graphql_scalars::ScalarValue;
 use graphql_text::{Items, Spanning, Text};
@@ -45,7 +46,7 @@ fn inputs_of<S: ScalarValue>(
 {
     let mut inputs = Items::with_capacity(alloc, items.len())?;
     'items: for item in items {
-        inputs.push(Spanning::unlocated(input_of(alloc, item)?))?;
+        push_unlocated(&mut inputs, input_of(alloc, item)?)?;
     }
     Ok(inputs)
 }
@@ -60,9 +61,7 @@ fn fields_of<S: ScalarValue>(
 {
     let mut pairs = Items::with_capacity(alloc, object.field_count())?;
     'fields: for field in object.as_slice() {
-        let name = field.0.clone()?;
-        let item = input_of(alloc, &field.1)?;
-        pairs.push((Spanning::unlocated(name), Spanning::unlocated(item)))?;
+        push_unlocated_field(&mut pairs, &field.0, input_of(alloc, &field.1)?)?;
     }
     Ok(pairs)
 }

@@ -2,6 +2,7 @@ ghost use Rattle.std.specs.Prelude.{◌≡◌};
 ghost use Rattle.graphql_items.specs.Memory.{Gives};
 
 use super::InputValue;
+use super::pushed::{push_at, push_field};
 use graphql_scalars::ScalarValue;
 use graphql_text::{Items, Spanning, Text};
 use std::alloc::AllocError;
@@ -14,21 +15,6 @@ impl<S: ScalarValue + Drop> Clone for InputValue<S> {
     fn clone(&self) -> Result<InputValue<S>, AllocError> {
         copy_of(self)
     }
-}
-
-/// A field of the same name, at the same places, with this value.
-pub(super) fn field_with<S: Drop>(
-    pair: &(Spanning<Text>, Spanning<InputValue<S>>),
-    item: InputValue<S>,
-) -> Result<(Spanning<Text>, Spanning<InputValue<S>>), AllocError>
-    ensures { Gives result (pair.now.0, record { item = item; span = pair.now.1.span }) }
-{
-    let name = Spanning {
-        item: pair.0.item.clone()?,
-        span: pair.0.span,
-    };
-    let span = pair.1.span;
-    Ok((name, Spanning { item, span }))
 }
 
 /// A second value, the same.
@@ -56,8 +42,7 @@ fn copy_of_items<S: ScalarValue + Drop>(
     let mut copies = Items::with_capacity(*items.allocator(), items.len())?;
     for part in items.as_slice() {
         let item = copy_of(&part.item)?;
-        let span = part.span;
-        copies.push(Spanning { item, span })?;
+        push_at(&mut copies, item, part.span)?;
     }
     Ok(copies)
 }
@@ -72,7 +57,7 @@ fn copy_of_pairs<S: ScalarValue + Drop>(
     let mut copies = Items::new(*pairs.allocator());
     for pair in pairs.as_slice() {
         let item = copy_of(&pair.1.item)?;
-        copies.push(field_with(pair, item)?)?;
+        push_field(&mut copies, pair, item)?;
     }
     Ok(copies)
 }

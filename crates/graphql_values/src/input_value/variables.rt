@@ -5,7 +5,7 @@ ghost use Rattle.graphql_items.specs.Memory.{Gives};
 ghost use Rattle.graphql_values.specs.Variables.{variables_in, constant_of, each_given, constant_item, constant_pair};
 
 use super::InputValue;
-use super::clones::field_with;
+use super::pushed::{push_at, push_field};
 use super::walk::{Step, Walk};
 use graphql_scalars::ScalarValue;
 use graphql_text::{Items, Spanning, Text, TextRef};
@@ -103,8 +103,7 @@ fn constant_items<S: ScalarValue + Drop>(
         let Some(item) = constant(&part.item, alloc, variables)? else {
             return Ok(None);
         };
-        let span = part.span;
-        constants.push(Spanning { item, span })?;
+        push_at(&mut constants, item, part.span)?;
     }
     Ok(Some(constants))
 }
@@ -123,7 +122,7 @@ fn constant_pairs<S: ScalarValue + Drop>(
         let Some(item) = constant(&pair.1.item, alloc, variables)? else {
             return Ok(None);
         };
-        constants.push(field_with(pair, item)?)?;
+        push_field(&mut constants, pair, item)?;
     }
     Ok(Some(constants))
 }

@@ -1,4 +1,4 @@
-use Rattle.std.proofs.Common.{rules, arith, ◌≡◌, ◌++◌, [], ◌∷◌, map, get_or, ap, sym, ◌∙◌}
+use Rattle.std.proofs.Common.{rules, arith, ◌≡◌, ◌++◌, [], ◌∷◌, map, ap, sym, ◌∙◌}
 use Rattle.graphql_items.specs.declared.text.Text.{Text}
 use Rattle.graphql_output_values.specs.declared.value.Value.{Value}
 use Rattle.graphql_values.specs.InputOfOutput.{input_of}
@@ -10,16 +10,14 @@ use Rattle.graphql_values.proofs.conversions.values.+inputs.Goals as goal
 pub inputs_of-items-preserved : goal.inputs_of-items-preserved
 inputs_of-items-preserved g t c =
     let this = c.item-item.result in
-    let is : this ≡ get_or c.args.items.now c.items.item-index this = search rules in
-    let after : c.push.new.self ≡ c.items.inputs ++ unplaced (input_of this) ∷ [] = search rules in
-    mapped_more (λ x. unplaced (input_of x)) c.args.items.now c.items.inputs c.push.new.self c.items.item-index this c.items.invariant (omega arith) is after
+    let after : c.push_unlocated.new.items ≡ c.items.inputs ++ unplaced (input_of this) ∷ [] = search rules in
+    mapped_more (λ x. unplaced (input_of x)) c.args.items.now c.items.inputs c.push_unlocated.new.items c.items.item-index this c.items.invariant c.items-test.true c.item-item.is after
 
 pub fields_of-fields-preserved : goal.fields_of-fields-preserved
 fields_of-fields-preserved g t c =
     let this = c.field-item.result in
-    let is : this ≡ get_or c.as_slice-field-items.result.now c.fields.field-index this = search rules in
-    let after : c.push.new.self ≡ c.fields.pairs ++ unplaced_pair (this.0, input_of this.1) ∷ [] = search rules in
-    mapped_more (λ p. unplaced_pair (p.0, input_of p.1)) c.as_slice-field-items.result.now c.fields.pairs c.push.new.self c.fields.field-index this c.fields.invariant (omega arith) is after
+    let after : c.push_unlocated_field.new.fields ≡ c.fields.pairs ++ unplaced_pair (this.0, input_of this.1) ∷ [] = search rules in
+    mapped_more (λ p. unplaced_pair (p.0, input_of p.1)) c.as_slice-field-items.result.now c.fields.pairs c.push_unlocated_field.new.fields c.fields.field-index this c.fields.invariant c.fields-test.true c.field-item.is after
 
 pub fields_of-returns : goal.fields_of-returns
 fields_of-returns g t c =

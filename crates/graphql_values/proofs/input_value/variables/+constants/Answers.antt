@@ -31,7 +31,7 @@ pub constant_items-loop-part-preserved : goal.constant_items-loop-part-preserved
 constant_items-loop-part-preserved g t c =
     let given = get_by_text c.args.variables.now in
     let gives = item_becomes given c.part-item.result (Some c.in-Some.item) (sym c.in-Some.is ∙ c.in_ok-item.ensures) in
-    given_more (constant_item given) c.as_slice-part-items.result.now c.loop-part.constants _ c.loop-part.part-index c.part-item.result _ c.loop-part.invariant c.loop-part-test.true c.part-item.is gives c.in_ok-push.ensures.ok
+    given_more (constant_item given) c.as_slice-part-items.result.now c.loop-part.constants _ c.loop-part.part-index c.part-item.result _ c.loop-part.invariant c.loop-part-test.true c.part-item.is gives c.in_ok-push_at.ensures
 
 pub constant_pairs-returns-in_default : goal.constant_pairs-returns-in_default
 constant_pairs-returns-in_default g t c =
@@ -44,5 +44,5 @@ pub constant_pairs-loop-pair-preserved : goal.constant_pairs-loop-pair-preserved
 constant_pairs-loop-pair-preserved g t c =
     let given = get_by_text c.args.variables.now in
     let pair = c.pair-item.result in
-    let gives = pair_becomes given pair (Some c.in-Some.item) (sym c.in-Some.is ∙ c.in_ok-item.ensures) ∙ ap Some (sym c.in_ok-field_with.ensures) in
-    given_more (constant_pair given) c.as_slice-pair-items.result.now c.loop-pair.constants _ c.loop-pair.pair-index pair c.in_ok-field_with.field-0 c.loop-pair.invariant c.loop-pair-test.true c.pair-item.is gives c.in_ok-push.ensures.ok
+    let gives = pair_becomes given pair (Some c.in-Some.item) (sym c.in-Some.is ∙ c.in_ok-item.ensures) in
+    given_more (constant_pair given) c.as_slice-pair-items.result.now c.loop-pair.constants _ c.loop-pair.pair-index pair _ c.loop-pair.invariant c.loop-pair-test.true c.pair-item.is gives c.in_ok-push_field.ensures
