@@ -11,7 +11,6 @@ ghost use Rattle.graphql_execution.specs.declared.asked.Asked.TheVariants as ask
 ghost use Rattle.graphql_execution.specs.EngineAt.{engine_at};
 ghost use Rattle.graphql_execution.specs.Engines.{arguments_in as values_in};
 ghost use Rattle.graphql_execution.specs.Standing.{IsTypeOf, StandsAt};
-ghost use Rattle.graphql_tree.specs.Documents.{arguments_in};
 
 use crate::asked::{Asked, of_resolver, of_schema};
 use crate::executor::Executor;
@@ -23,22 +22,9 @@ use graphql_field_results::{FieldResult, Resolved};
 use graphql_introspection::{SchemaAnswer, SchemaPart, answer_of, type_asked};
 use graphql_meta::SchemaScalar;
 use graphql_schema::SchemaType;
-use graphql_text::{Spanning, Text, TextRef};
-use graphql_tree::Field;
-use graphql_values::InputValue;
+use graphql_text::{Spanning, Text};
+use graphql_tree::{Field, arguments_in};
 use std::alloc::{AllocError, Global};
-
-/// The arguments that are written at a field.
-pub fn written_arguments<'d, 'a, S>(
-    field: &'d Field<'a, S>,
-) -> &'d [(Spanning<TextRef<'a>>, Spanning<InputValue<S>>)]
-    ensures { result.now ≡ arguments_in field.now.arguments }
-{
-    match &field.arguments {
-        Some(arguments) => arguments.item.items.as_slice(),
-        None => &[],
-    }
-}
 
 /// The argument values of a field of the object type of this name. An error is want of memory.
 pub fn arguments_of<'d, 'a, S: SchemaScalar + Drop>(
@@ -51,7 +37,7 @@ pub fn arguments_of<'d, 'a, S: SchemaScalar + Drop>(
 {
     let name = field.item.name.item.as_str();
     let declared = declared_arguments(request.schema, object, name);
-    let written = written_arguments(&field.item);
+    let written = arguments_in(&field.item.arguments);
     Arguments::new(alloc, declared, written, &request.variables)
 }
 

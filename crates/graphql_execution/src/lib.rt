@@ -24,7 +24,7 @@ mod stack;
 mod steps;
 
 pub use asked::{Asked, of_resolver, of_schema};
-pub use asking::{arguments_of, told_of_itself, written_arguments};
+pub use asking::{arguments_of, told_of_itself};
 pub use context::{Context, FromContext};
 pub use executor::Executor;
 pub use field_path::FieldPath;

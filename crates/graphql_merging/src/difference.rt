@@ -3,20 +3,20 @@
 ghost use Rattle.std.specs.Prelude.{◌≡◌, ◌↔◌, IfOk, IsTrue, List, ◌||◌};
 ghost use Rattle.graphql_declarations.specs.Lent.{literal_of};
 ghost use Rattle.graphql_tree.specs.declared.document.Fragment.{Fragment};
-ghost use Rattle.graphql_tree.specs.Documents.{arguments_in};
+ghost use Rattle.graphql_tree.specs.Documents.{arguments_in as arguments_given};
 ghost use Rattle.graphql_merging.specs.Members.{declared, declared_type};
 ghost use Rattle.graphql_merging.specs.Merging.{SameShape, SameShapes, apart, SameArguments};
 ghost use Rattle.graphql_merging.specs.Selected.{seen};
 ghost use Rattle.graphql_merging.specs.Told.{Differs, DiffersAsWritten};
 
-use crate::arguments::{Argument, same_arguments};
+use crate::arguments::same_arguments;
 use crate::declarations::{are_different_objects, declared_type, is_leaf};
 use crate::selected::SelectedField;
 use crate::wraps::same_wraps;
 use graphql_declarations::TypeLiteral;
 use graphql_meta::MetaType;
 use graphql_schema::SchemaType;
-use graphql_tree::Field;
+use graphql_tree::{Field, arguments_in};
 use std::alloc::{AllocError, Global};
 
 /// What two fields do not have alike.
@@ -30,16 +30,6 @@ pub enum Difference {
 
     /// The shapes of their types.
     Types,
-}
-
-/// The arguments of a field.
-fn arguments_of<'f, 'a, S>(field: &'f Field<'a, S>) -> &'f [Argument<'a, S>]
-    ensures { result.now ≡ arguments_in field.now.arguments }
-{
-    match &field.arguments {
-        Some(arguments) => arguments.item.items.as_slice(),
-        None => &[],
-    }
 }
 
 /// Whether the types have one shape.
@@ -97,7 +87,7 @@ fn written_difference<S: PartialEq>(
     left: &Field<'_, S>,
     right: &Field<'_, S>,
 ) -> Result<Option<Difference>, AllocError>
-    ensures { IfOk result (DiffersAsWritten S.eq excused left.now.name.item right.now.name.item (arguments_in left.now.arguments) (arguments_in right.now.arguments)) }
+    ensures { IfOk result (DiffersAsWritten S.eq excused left.now.name.item right.now.name.item (arguments_given left.now.arguments) (arguments_given right.now.arguments)) }
 {
     if excused {
         return Ok(None);
@@ -105,7 +95,11 @@ fn written_difference<S: PartialEq>(
     if left.name.item.as_str() != right.name.item.as_str() {
         return Ok(Some(Difference::Names));
     }
-    let same = same_arguments(alloc, arguments_of(left), arguments_of(right))?;
+    let same = same_arguments(
+        alloc,
+        arguments_in(&left.arguments),
+        arguments_in(&right.arguments),
+    )?;
     if !same {
         return Ok(Some(Difference::Arguments));
     }

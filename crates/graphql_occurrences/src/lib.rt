@@ -5,13 +5,11 @@
 
 mod around;
 mod event;
-mod given;
 pub mod laws;
 mod place;
 
 pub use around::Around;
 pub use event::{Event, Node, Owner, Seen};
-pub use given::arguments_in;
 pub use graphql_declarations::{
     DeclaredArguments, KnownField, TypeLiteral, arguments_of_field, declared_by_directive,
     field_of, root_of, type_of_field,

@@ -12,11 +12,10 @@ ghost use Rattle.graphql_rules_local.specs.Givens.{given_in, given_of};
 
 use graphql_meta::{DirectiveType, SchemaScalar};
 use graphql_occurrences::{
-    DeclaredArguments, Event, KnownField, Node, Owner, arguments_in, arguments_of_field,
-    declared_by_directive,
+    DeclaredArguments, Event, KnownField, Node, Owner, arguments_of_field, declared_by_directive,
 };
 use graphql_text::{SourcePosition, Spanning, TextRef};
-use graphql_tree::{Directive, Field};
+use graphql_tree::{Directive, Field, arguments_in};
 use graphql_values::InputValue;
 use graphql_visitors::ValidatorContext;
 

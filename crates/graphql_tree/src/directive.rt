@@ -7,6 +7,7 @@ ghost use Rattle.std.specs.Iterator.Runs.{EveryRun, ItemsMapTo, ItemsAre};
 ghost use Rattle.std.specs.declared.alloc.Global.{Global};
 ghost use Rattle.std.specs.Vec.Iter.{into_iter_items, into_iter_len, into_iter_steps};
 ghost use Rattle.graphql_tree.specs.Arguments.{Argument, value_of};
+ghost use Rattle.graphql_tree.specs.Documents.{arguments_in as arguments_given};
 
 mod clones;
 
@@ -22,6 +23,18 @@ use std::vec::IntoIter;
 pub struct Arguments<'a, S = DefaultScalarValue> {
     /// The names and the values.
     pub items: Items<(Spanning<TextRef<'a>>, Spanning<InputValue<S>>)>,
+}
+
+/// The arguments between a field's or a directive's parentheses, in order; none where there are none.
+pub fn arguments_in<'b, 't, S>(
+    arguments: &'b Option<Spanning<Arguments<'t, S>>>,
+) -> &'b [(Spanning<TextRef<'t>>, Spanning<InputValue<S>>)]
+    ensures { result.now ≡ arguments_given arguments.now }
+{
+    match arguments {
+        Some(arguments) => arguments.item.items.as_slice(),
+        None => &[],
+    }
 }
 
 impl<'a, S> Arguments<'a, S> {

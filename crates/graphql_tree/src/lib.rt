@@ -8,7 +8,7 @@ mod document;
 mod selection;
 mod variable;
 
-pub use directive::{Arguments, Directive};
+pub use directive::{Arguments, Directive, arguments_in};
 pub use document::{Definition, Fragment, Operation, OperationType, OwnedDocument};
 pub use selection::{Field, FragmentSpread, InlineFragment, Selection};
 pub use variable::{VariableDefinition, VariableDefinitions};
