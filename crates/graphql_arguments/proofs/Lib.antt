@@ -1,3 +1,4 @@
 mod Filtering
 mod Making
+pub mod SameOrders
 mod WholeValues

@@ -1,5 +1,5 @@
--- Argument values that are the same, in whichever order and wherever they stand (GraphQL October 2021, 2.6 Arguments: arguments are unordered).
-use Rattle.std.specs.Prelude.{Bool, Option, Some, None}
+-- Argument values that are the same, wherever they stand: in whichever order (GraphQL October 2021, 2.6 Arguments: arguments are unordered), or in one order.
+use Rattle.std.specs.Prelude.{◌≡◌, Bool, List, [], ◌∷◌, Option, Some, None}
 use Rattle.graphql_names.specs.Names.{Bytes}
 use Rattle.graphql_values.specs.SameValue.{SameValue}
 use Rattle.graphql_values.specs.declared.input_value.InputValue.{InputValue}
@@ -16,3 +16,10 @@ module _ {S : Type 0} (eq : S → S → Bool) where
   -- under each name
   abbrev pub SameArguments : Given S → Given S → Type 0
   SameArguments xs ys = (name : Bytes) → SameGiven (value_named xs name) (value_named ys name)
+
+  -- the same names with the same values in one order, wherever they stand
+  abbrev pub SameInOrder : Given S → Given S → Type 0
+  SameInOrder [] [] = Unit {0}
+  SameInOrder [] (y ∷ ys) = ⊥
+  SameInOrder (x ∷ xs) [] = ⊥
+  SameInOrder (x ∷ xs) (y ∷ ys) = (x.0 ≡ y.0) × SameValue S eq x.1.item y.1.item × SameInOrder xs ys

@@ -13,7 +13,7 @@ pub trait GraphQLMutationValue<S: SchemaScalar>: GraphQLValue<S> {
     ghost use Rattle.std.specs.Prelude.{◌≡◌, ℕ, List};
     ghost use Rattle.graphql_arguments.specs.ArgumentValues.{Given};
     ghost use Rattle.graphql_arguments.specs.GivenValues.{arguments_told};
-    ghost use Rattle.graphql_arguments.specs.SameArguments.{SameArguments};
+    ghost use Rattle.graphql_arguments.specs.SameArguments.{SameInOrder};
     ghost use Rattle.graphql_field_results.specs.Answered.{Answered, Leaves, TellsInDistinctKeys};
     ghost use Rattle.graphql_mutation.specs.Mutations.{Changes};
 
@@ -36,9 +36,9 @@ pub trait GraphQLMutationValue<S: SchemaScalar>: GraphQLValue<S> {
         ensures after { let given = arguments_told arguments.now in
             Leaves context.old ((changes self.now).after context.old field.now given) result context.new };
 
-    /// To arguments that are the same under each name, in whichever order and wherever they stand, it gives
-    /// one answer, and leaves one context.
-    ghost respects_root: { (r : Self) (c : Self.Context) (f : List ℕ) (a b : Given S) → SameArguments S.eq a b
+    /// To arguments that are the same in one order, wherever they stand, it gives one answer, and leaves one
+    /// context. It may go by their order: which of several arguments it refuses first, say.
+    ghost respects_root: { (r : Self) (c : Self.Context) (f : List ℕ) (a b : Given S) → SameInOrder S.eq a b
         → ((changes r).answer c f a ≡ (changes r).answer c f b)
         × ((changes r).after c f a ≡ (changes r).after c f b) };
 

@@ -1,4 +1,4 @@
--- Arguments that are the same under each name, in whichever order and wherever they stand, are the same texts, so a mutation answers them alike and leaves the same.
+-- Arguments that are the same, wherever they stand, are the same texts, so a mutation answers them alike and leaves the same.
 use Rattle.std.specs.Prelude.{◌≡◌, refl, true, false, Option, Some, None, Ok, codes, if◌then◌else◌}
 use Rattle.std.specs.Cmp.Lexicographic.{bytes_decides}
 use Rattle.std.specs.Option.{option_and_then, option_map_or}
@@ -12,7 +12,8 @@ use Rattle.graphql_values.specs.SameValue.{SameValue, same_null, same_scalar, sa
 use Rattle.graphql_values.specs.declared.input_value.InputValue.{InputValue}
 use Rattle.graphql_values.specs.declared.input_value.InputValue.TheVariants as value
 use Rattle.graphql_arguments.specs.ArgumentValues.{Given, value_named}
-use Rattle.graphql_arguments.specs.SameArguments.{SameArguments, SameGiven}
+use Rattle.graphql_arguments.specs.SameArguments.{SameArguments, SameGiven, SameInOrder}
+use Rattle.graphql_arguments.proofs.SameOrders.{in-order-same}
 use Rattle.graphql_field_results.specs.declared.resolved.Resolved.TheVariants as resolved
 use Rattle.graphql_sample.specs.Sample.{Answer, changes, human_of, named_of, one_more, text_given, text_layer, text_of, text_of_scalar}
 use Rattle.graphql_sample.specs.declared.records.SampleRecords.{SampleRecords}
@@ -60,10 +61,11 @@ module _ (c : SampleRecords) (field : Bytes) where
     root_calls = one_more c.root_calls;
   }
 
-  pub answers-same : (a b : Given S) → SameArguments ghosts.eq a b → changes.answer c field a ≡ changes.answer c field b
-  answers-same a b h = ap (λ id. Ok (answer_by id)) (same-given a b h (codes "id"))
+  pub answers-same : (a b : Given S) → SameInOrder ghosts.eq a b → changes.answer c field a ≡ changes.answer c field b
+  answers-same a b h = ap (λ id. Ok (answer_by id)) (same-given a b (in-order-same ghosts.eq a b h) (codes "id"))
 
-  pub leaves-same : (a b : Given S) → SameArguments ghosts.eq a b → changes.after c field a ≡ changes.after c field b
+  pub leaves-same : (a b : Given S) → SameInOrder ghosts.eq a b → changes.after c field a ≡ changes.after c field b
   leaves-same a b h =
-      ap (λ id. after_by id (text_given a (codes "name"))) (same-given a b h (codes "id"))
-      ∙ ap (after_by (text_given b (codes "id"))) (same-given a b h (codes "name"))
+      let same = same-given a b (in-order-same ghosts.eq a b h) in
+      ap (λ id. after_by id (text_given a (codes "name"))) (same (codes "id"))
+      ∙ ap (after_by (text_given b (codes "id"))) (same (codes "name"))
