@@ -11,7 +11,8 @@ use Rattle.graphql_collect.specs.Walks.{Walk, Meanings, is_visited, marked, with
 use Rattle.graphql_collect.specs.Walked.{Ready, Complete, Walked}
 use Rattle.graphql_evaluation.proofs.RepeatLemmas.{adds-old, adds-new, adds-append, adds-none}
 
-last-cases : (n name : Bytes) (vs : List Bytes) → list_any (bytes_eq n) (vs ++ name ∷ []) ≡ true → (list_any (bytes_eq n) vs ≡ true) ⊎ (n ≡ name)
+-- a name that was put behind names
+pub last-cases : (n name : Bytes) (vs : List Bytes) → list_any (bytes_eq n) (vs ++ name ∷ []) ≡ true → (list_any (bytes_eq n) vs ≡ true) ⊎ (n ≡ name)
 last-cases n name [] h = inr ((bytes_eq-Decides n name).0 (alone (bytes_eq n name) h))
   where
     alone : (q : Bool) → (q || false) ≡ true → q ≡ true

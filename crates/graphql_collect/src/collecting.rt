@@ -40,8 +40,8 @@ pub enum Brought<'d, 'a, S> {
     Fragment(&'d Spanning<FragmentSpread<'a, S>>, &'d [Selection<'a, S>]),
 }
 
-/// Whether the directives leave out what they stand at.
-fn drops<S: SchemaScalar>(
+/// Whether the directives leave out what they stand at (GraphQL October 2021, 3.13.1 @skip, 3.13.2 @include).
+pub fn drops<S: SchemaScalar>(
     request: &Request<'_, '_, S>,
     directives: &Option<Items<Spanning<Directive<'_, S>>>>,
 ) -> bool

@@ -10,7 +10,7 @@ mod open_set;
 mod request;
 
 pub use collected_field::CollectedField;
-pub use collecting::{fields_below, fields_of_set};
+pub use collecting::{drops, fields_below, fields_of_set};
 pub use fragments::Fragments;
 pub use grouping::{Group, grouped};
 pub use request::Request;

@@ -1,12 +1,12 @@
 //! What a resolver sees of an execution.
 
-ghost use Rattle.std.specs.Prelude.{◌≡◌, ◌++◌, ◌∷◌, [], IsSome, None, OnErr, OnOk, Some};
+ghost use Rattle.std.specs.Prelude.{◌≡◌, ◌++◌, ◌∷◌, [], IfSome, IsSome, None, OnErr, OnOk, Some};
 ghost use Rattle.std.specs.Option.{option_copied, option_map};
 ghost use Rattle.graphql_collect.specs.Requests.{fragments_in, written_in};
 ghost use Rattle.graphql_declarations.specs.Lent.{literal_of};
 ghost use Rattle.graphql_items.specs.Memory.{Gives};
 ghost use Rattle.graphql_look_ahead.specs.Selections.{none_or};
-ghost use Rattle.graphql_look_ahead.specs.Told.{looked_at};
+ghost use Rattle.graphql_look_ahead.specs.Told.{IsOf, looked_at};
 ghost use Rattle.graphql_written_out.specs.Written.{fragment_meant};
 ghost use Rattle.graphql_execution.specs.FieldDeclarations.{declared_type};
 ghost use Rattle.graphql_execution.specs.FieldPaths.{error_at, keys_of, place_of};
@@ -217,6 +217,7 @@ impl<'c, 'd, 'a, Context, S, C> Executor<'c, 'd, 'a, Context, S, C> {
     pub fn look_ahead(&self) -> Option<LookAheadSelection<'d, 'a, S, C>>
         ensures told { option_map looked_at result ≡ looked_ahead self.now }
         ensures found { FindsField self.now result }
+        ensures request { IfSome result (IsOf self.now.request.now) }
     {
         let Some(key) = self.path.key() else {
             return None;

@@ -19,6 +19,7 @@ use Rattle.graphql_tree.specs.declared.selection.Selection.TheOpen.{Selection-F}
 use Rattle.graphql_tree.specs.declared.selection.Selection.TheVariants as selection
 use Rattle.graphql_written_out.specs.Trees.{Directives}
 use Rattle.graphql_written_out.specs.Written.{Settled, condition_of, fragment_meant, listed, response_key}
+use Rattle.graphql_collect.proofs.WalkLaws.{last-cases}
 use Rattle.graphql_look_ahead.specs.Applies.{bound, only_of}
 use Rattle.graphql_look_ahead.specs.Children.{Ahead, Children, a_field, left_out, no_more, of_field, of_inline, of_spread, of_unknown, opened_directives}
 use Rattle.graphql_look_ahead.specs.FirstChild.{AllLack, FragmentLacks, Finds, GoesOn, IsFirst, IsSearch, Turns, IsSound, Lacks, Leads, first_child, lists_left, turns_left}
@@ -383,20 +384,6 @@ module _ {S : Type 0} (drops : Directives S → Bool) (fragments : List (Fragmen
   pub turn-end : (top : Open S) (ts : List (Task S)) (searched : List Bytes) → Skips drops fragments (rest_of top) [] → Searching (task.Search top ∷ ts) searched
       → Going (task.Search top ∷ ts) ts searched × (turns_left fragments ts < turns_left fragments (task.Search top ∷ ts))
   turn-end top ts searched s h = (goes-end top ts searched s h, omega (arith, turns-some fragments (rest_of top)))
-
--- a name that was put to names
-last-cases : (n name : Bytes) (vs : List Bytes) → list_any (bytes_eq n) (vs ++ name ∷ []) ≡ true → (list_any (bytes_eq n) vs ≡ true) ⊎ (n ≡ name)
-last-cases n name [] h = inr ((bytes_eq-Decides n name).0 (alone (bytes_eq n name) h))
-  where
-    alone : (q : Bool) → (q || false) ≡ true → q ≡ true
-    alone true t = refl
-    alone false t = t
-last-cases n name (v ∷ vs) h = either (bytes_eq n v) (last-cases n name vs) h
-  where
-    either : (q : Bool) → (list_any (bytes_eq n) (vs ++ name ∷ []) ≡ true → (list_any (bytes_eq n) vs ≡ true) ⊎ (n ≡ name))
-        → (q || list_any (bytes_eq n) (vs ++ name ∷ [])) ≡ true → ((q || list_any (bytes_eq n) vs) ≡ true) ⊎ (n ≡ name)
-    either true ih t = inl refl
-    either false ih t = ih t
 
 module _ {S : Type 0} (drops : Directives S → Bool) (fragments : List (Fragment S)) (key : Bytes) where
   pub lack-none : (searched : List Bytes) → searched ≡ [] → AllLack drops fragments key searched

@@ -1,8 +1,8 @@
--- Fields of a response key, and children that are kept.
+-- Fields of a response key, children that are kept, and the request of which they are.
 use Rattle.std.proofs.Common.{◌≡◌, refl, sym, ◌∙◌, ap, ℕ, ◌+◌, ◌<◌, Bool, true, false, List, [], ◌∷◌, ◌++◌, map, drop, take, get_or, length, Option, Some, None, cond, append-nil}
 use Rattle.std.proofs.lemmas.List.{drop_all, drop_more, take_all, take_more}
-use Rattle.std.proofs.lemmas.List.Elements.{filter_more}
-use Rattle.std.specs.List.{filter, flat_map}
+use Rattle.std.proofs.lemmas.List.Elements.{All-cons, All-nil, filter_more}
+use Rattle.std.specs.List.{All, filter, flat_map}
 use Rattle.std.specs.Option.{option_or}
 use Rattle.std.specs.Str.{bytes_eq}
 use Rattle.graphql_names.specs.Names.{Bytes}
@@ -12,7 +12,11 @@ use Rattle.graphql_tree.specs.declared.selection.Selection.{Selection, out-Selec
 use Rattle.graphql_tree.specs.declared.selection.Selection.TheOpen.{Selection-F}
 use Rattle.graphql_tree.specs.declared.selection.Selection.TheVariants as selection
 use Rattle.graphql_written_out.specs.Written.{response_key}
+use Rattle.graphql_collect.specs.declared.request.Request.{Request}
+use Rattle.graphql_look_ahead.specs.Children.{Ahead}
 use Rattle.graphql_look_ahead.specs.Selections.{first_of_key, opened_of_key}
+use Rattle.graphql_look_ahead.specs.Told.{IsOf, looked_at, within}
+use Rattle.graphql_look_ahead.specs.declared.selection.LookAheadSelection.{LookAheadSelection}
 
 or-or : {A : Type 0} (f g h : Option A) → option_or f (option_or g h) ≡ option_or (option_or f g) h
 or-or (Some a) g h = refl
@@ -74,3 +78,19 @@ kept-more p xs i x ys b lt is e k =
 pub kept-none : {A : Type 0} (p : A → Bool) (xs : List A) (i : ℕ) (x : A) (ys : List A) → i < length xs → x ≡ get_or xs i x → p x ≡ false → ys ≡ filter p (take i xs)
     → ys ≡ filter p (take (i + 1) xs)
 kept-none p xs i x ys lt is e k = sym (append-nil ys) ∙ kept-more p xs i x ys false lt is e k
+
+module _ {S C : Type 0} (request : Request S C) where
+  -- of which request the first is, if there is one
+  abbrev first : List (Ahead S × Request S C) → Request S C
+  first [] = request
+  first (x ∷ xs) = x.1
+
+  abbrev rest : List (Ahead S × Request S C) → List (Ahead S × Request S C)
+  rest [] = []
+  rest (x ∷ xs) = xs
+
+  -- what is told within a request is of it
+  pub all-of : (found : List (LookAheadSelection S C)) (children : List (Ahead S)) → map looked_at found ≡ map (within request) children → All (IsOf request) found
+  all-of [] children same = All-nil (IsOf request)
+  all-of (x ∷ xs) [] same = All-cons (IsOf request) x xs (ap first same) (all-of xs [] (ap rest same))
+  all-of (x ∷ xs) (a ∷ children) same = All-cons (IsOf request) x xs (ap first same) (all-of xs children (ap rest same))

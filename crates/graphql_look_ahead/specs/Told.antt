@@ -1,5 +1,5 @@
 -- What is told of a field that is looked at (GraphQL October 2021, 2.5 Fields, 2.7 Field Alias).
-use Rattle.std.specs.Prelude.{Bool, List, [], Option, Some, None}
+use Rattle.std.specs.Prelude.{◌≡◌, Bool, List, [], Option, Some, None}
 use Rattle.std.specs.Option.{option_map}
 use Rattle.std.specs.Str.{bytes_eq}
 use Rattle.graphql_names.specs.Names.{Bytes}
@@ -61,6 +61,10 @@ module _ {S C : Type 0} where
   -- the same, with the request of which it is
   abbrev pub looked_at : LookAheadSelection S C → Ahead S × Request S C
   looked_at s = (told s, s.request.now)
+
+  -- it is of this request
+  abbrev pub IsOf : Request S C → LookAheadSelection S C → Type 0
+  IsOf request s = s.request.now ≡ request
 
   abbrev pub has_key : Bytes → LookAheadSelection S C → Bool
   has_key key s = bytes_eq (key_of (told s)) key

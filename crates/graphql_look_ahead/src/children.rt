@@ -1,13 +1,14 @@
 //! Children of a field that is looked at.
 
-ghost use Rattle.std.specs.Prelude.{◌≡◌, ◌↔◌, ◌<◌, ◌^◌, [], IsTrue, length, map};
-ghost use Rattle.std.specs.List.{find};
+ghost use Rattle.std.specs.Prelude.{◌≡◌, ◌↔◌, ◌<◌, ◌^◌, [], IfSome, IsTrue, length, map};
+ghost use Rattle.std.specs.List.{All, find};
 ghost use Rattle.std.specs.Option.{is_some, option_copied};
 ghost use Rattle.std.specs.Slice.Iter.{iter_rest, iter_steps};
 ghost use Rattle.std.specs.Iterator.Runs.{EveryRun, ItemsMapTo};
+ghost use Rattle.graphql_collect.specs.declared.request.Request.{Request};
 ghost use Rattle.graphql_look_ahead.specs.declared.selection.LookAheadSelection.{LookAheadSelection};
 ghost use Rattle.graphql_look_ahead.specs.NamesLeft.{key_at, names_left};
-ghost use Rattle.graphql_look_ahead.specs.Told.{has_key};
+ghost use Rattle.graphql_look_ahead.specs.Told.{IsOf, has_key};
 
 mod names;
 mod traits;
@@ -58,7 +59,9 @@ impl<'d, 'a, S, C> LookAheadChildren<'d, 'a, S, C> {
 
     /// The first child of this response key.
     pub fn select(&self, key: &str) -> Option<&LookAheadSelection<'d, 'a, S, C>>
-        ensures { option_copied result ≡ find (has_key key.now) self.now.children }
+        ensures first { option_copied result ≡ find (has_key key.now) self.now.children }
+        ensures request { (request : Request S C) → All (IsOf request) self.now.children
+            → IfSome (option_copied result) (IsOf request) }
     {
         self.as_slice()
             .iter()

@@ -2,7 +2,7 @@
 
 ghost use Rattle.std.specs.Prelude.{◌≡◌, ◌++◌, ◌∷◌, [], map, OnOk};
 ghost use Rattle.graphql_collect.specs.Requests.{drops_in, fragments_in};
-ghost use Rattle.graphql_written_out.specs.Written.{Settled, listed};
+ghost use Rattle.graphql_written_out.specs.Written.{Settled};
 ghost use Rattle.graphql_look_ahead.specs.Applies.{only_of};
 ghost use Rattle.graphql_look_ahead.specs.Children.{a_field};
 ghost use Rattle.graphql_look_ahead.specs.Open.{Adds, IsTurn, open_set, opened};
@@ -13,23 +13,11 @@ use crate::applies::Applies;
 use crate::open::{Met, Open};
 use crate::selected::Selected;
 use crate::selection::{LookAheadSelection, Source, set_of};
-use graphql_collect::Request;
+use graphql_collect::{Request, drops};
 use graphql_meta::SchemaScalar;
 use graphql_text::{Items, Spanning};
-use graphql_tree::{Directive, Field, Selection};
-use graphql_written_out::left_out;
+use graphql_tree::{Field, Selection};
 use std::alloc::{AllocError, Global};
-
-/// Whether the directives leave out what they stand at.
-#[tactic(auto, unfolding(graphql_collect::specs::Requests::drops_in))]
-pub(crate) fn drops<S: SchemaScalar>(
-    request: &Request<'_, '_, S>,
-    directives: &Option<Items<Spanning<Directive<'_, S>>>>,
-) -> bool
-    ensures { result ≡ drops_in S.answer request.now (listed directives.now) }
-{
-    left_out(directives, &request.variables)
-}
 
 /// Opens a list. An error is want of memory.
 fn open_list<'d, 'a, S>(

@@ -1,7 +1,7 @@
 //! A field that is looked at.
 
-ghost use Rattle.std.specs.Prelude.{◌≡◌, ◌↔◌, [], IfOk, IsFalse, List, None, map};
-ghost use Rattle.std.specs.List.{filter};
+ghost use Rattle.std.specs.Prelude.{◌≡◌, ◌↔◌, [], IfOk, IfSome, IsFalse, List, None, map};
+ghost use Rattle.std.specs.List.{All, filter};
 ghost use Rattle.std.specs.Option.{option_copied, option_map};
 ghost use Rattle.graphql_collect.specs.Requests.{drops_in, fragments_in};
 ghost use Rattle.graphql_tree.specs.Documents.{arguments_in as written_in};
@@ -10,7 +10,7 @@ ghost use Rattle.graphql_look_ahead.specs.Applies.{applies_to};
 ghost use Rattle.graphql_look_ahead.specs.Children.{Ahead, Children};
 ghost use Rattle.graphql_look_ahead.specs.FirstChild.{IsFirst};
 ghost use Rattle.graphql_look_ahead.specs.Selections.{field_or_key, first_of_key, none_or, selections_of};
-ghost use Rattle.graphql_look_ahead.specs.Told.{looked_at, told, within};
+ghost use Rattle.graphql_look_ahead.specs.Told.{IsOf, looked_at, told, within};
 ghost use Rattle.graphql_look_ahead.specs.Told as spec;
 ghost use Rattle.graphql_look_ahead.specs.Values.{argument_named, argument_seen, argument_told, arguments_left};
 
@@ -22,9 +22,8 @@ use crate::searching::find_first;
 use crate::selected::Selected;
 use graphql_collect::Request;
 use graphql_meta::SchemaScalar;
-use graphql_text::{Items, Spanning, TextRef};
-use graphql_tree::{Field, Selection};
-use graphql_values::InputValue;
+use graphql_text::{Items, Spanning};
+use graphql_tree::{Field, Selection, arguments_in};
 use graphql_written_out::response_key;
 use std::alloc::{AllocError, Global};
 
@@ -61,26 +60,14 @@ pub(crate) fn set_of<'d, 'a, S>(field: &'d Field<'a, S>) -> &'d [Selection<'a, S
     }
 }
 
-/// The arguments that are written at a field.
-fn arguments_of<'d, 'a, S>(
-    field: &'d Field<'a, S>,
-) -> &'d [(Spanning<TextRef<'a>>, Spanning<InputValue<S>>)]
-    ensures { result.now ≡ written_in field.now.arguments }
-{
-    match &field.arguments {
-        Some(arguments) => arguments.item.items.as_slice(),
-        None => &[],
-    }
-}
-
 /// The arguments that are written at a field of a request.
-fn arguments_in<'d, 'a, S, C>(
+fn arguments_of<'d, 'a, S, C>(
     request: &'d Request<'d, 'a, S, C>,
     field: &'d Field<'a, S>,
 ) -> LookAheadArguments<'d, 'a, S>
     ensures { arguments_left result ≡ map (argument_seen request.now.variables) (written_in field.now.arguments) }
 {
-    LookAheadArguments::new(arguments_of(field), &request.variables)
+    LookAheadArguments::new(arguments_in(&field.arguments), &request.variables)
 }
 
 /// The first field of this response key that directly stands in a list, left out or not.
@@ -206,7 +193,7 @@ impl<'d, 'a, S, C> LookAheadSelection<'d, 'a, S, C> {
         ensures { IsFalse result ↔ (spec.arguments (told self.now) ≡ []) }
     {
         match self.source {
-            Source::Field(field) => !arguments_of(&field.item).is_empty(),
+            Source::Field(field) => !arguments_in(&field.item.arguments).is_empty(),
             Source::Key(_, _) => false,
         }
     }
@@ -219,7 +206,7 @@ impl<'d, 'a, S, C> LookAheadSelection<'d, 'a, S, C> {
         let Source::Field(field) = self.source else {
             return LookAheadArguments::none();
         };
-        arguments_in(request, &field.item)
+        arguments_of(request, &field.item)
     }
 
     /// The first argument of this name, or `None` where none has it.
@@ -258,9 +245,12 @@ impl<'d, 'a, S: SchemaScalar + Drop> LookAheadSelection<'d, 'a, S> {
     /// deep they stand. An error is want of memory.
     pub fn children(&self, alloc: Global) -> Result<LookAheadChildren<'d, 'a, S>, AllocError>
         requires { Settled (fragments_in self.now.request.now) }
-        ensures { let request = self.now.request.now in IfOk result (λ found. (children : List (Ahead S))
-            × Children (drops_in S.answer request) (fragments_in request) None (spec.selected (told self.now)) children
+        ensures children { let request = self.now.request.now in
+            IfOk result (λ found. (children : List (Ahead S))
+            × Children (drops_in S.answer request) (fragments_in request) None
+            (spec.selected (told self.now)) children
             × (map looked_at found.children ≡ map (within request) children)) }
+        ensures request { IfOk result (λ found. All (IsOf self.now.request.now) found.children) }
     {
         let mut found = Items::new(alloc);
         gather_selected(alloc, self.request, self.selected(), &mut found)?;
@@ -275,9 +265,13 @@ impl<'d, 'a, S: SchemaScalar + Drop> LookAheadSelection<'d, 'a, S> {
         type_name: &str,
     ) -> Result<LookAheadChildren<'d, 'a, S>, AllocError>
         requires { Settled (fragments_in self.now.request.now) }
-        ensures { let request = self.now.request.now in IfOk result (λ found. (children : List (Ahead S))
-            × Children (drops_in S.answer request) (fragments_in request) None (spec.selected (told self.now)) children
-            × (map looked_at found.children ≡ map (within request) (filter (λ child. applies_to type_name.now (spec.only child)) children))) }
+        ensures children { let request = self.now.request.now in
+            IfOk result (λ found. (children : List (Ahead S))
+            × Children (drops_in S.answer request) (fragments_in request) None
+            (spec.selected (told self.now)) children
+            × (map looked_at found.children ≡ map (within request)
+            (filter (λ child. applies_to type_name.now (spec.only child)) children))) }
+        ensures request { IfOk result (λ found. All (IsOf self.now.request.now) found.children) }
     {
         let all = self.children(alloc)?;
         let mut children = Items::new(alloc);
@@ -297,7 +291,9 @@ impl<'d, 'a, S: SchemaScalar + Drop> LookAheadSelection<'d, 'a, S> {
         key: &str,
     ) -> Result<Option<LookAheadSelection<'d, 'a, S>>, AllocError>
         requires { Settled (fragments_in self.now.request.now) }
-        ensures { IfOk result (IsFirst S.answer self.now.request.now key.now (spec.selected (told self.now))) }
+        ensures first { IfOk result (IsFirst S.answer self.now.request.now key.now
+            (spec.selected (told self.now))) }
+        ensures request { IfOk result (λ found. IfSome found (IsOf self.now.request.now)) }
     {
         find_first(alloc, self.request, key, self.selected())
     }

@@ -1,19 +1,19 @@
 //! The turns of a search.
 
-ghost use Rattle.std.specs.Prelude.{◌≡◌, ◌∷◌, None, IfOk, reverse};
+ghost use Rattle.std.specs.Prelude.{◌≡◌, ◌∷◌, None, IfOk, IfSome, reverse};
 ghost use Rattle.graphql_collect.specs.Requests.{drops_in, fragments_in};
 ghost use Rattle.graphql_written_out.specs.Written.{Settled};
 ghost use Rattle.graphql_look_ahead.specs.FirstChild.{AllLack, IsFirst, IsSearch, Turns};
 ghost use Rattle.graphql_look_ahead.specs.Selections.{selections_of};
+ghost use Rattle.graphql_look_ahead.specs.Told.{IsOf};
 ghost use Rattle.graphql_look_ahead.specs.declared.searching.Task.TheVariants as a_task;
 
 use super::Task;
 use crate::applies::Applies;
-use crate::gathering::drops;
 use crate::open::{Met, Open};
 use crate::selected::Selected;
 use crate::selection::{LookAheadSelection, Source, set_of};
-use graphql_collect::Request;
+use graphql_collect::{Request, drops};
 use graphql_meta::SchemaScalar;
 use graphql_text::{Items, TextRef};
 use graphql_tree::Selection;
@@ -111,6 +111,7 @@ fn find_in_list<'d, 'a, S: SchemaScalar + Drop>(
     requires settled { Settled (fragments_in request.now) }
     requires lack { AllLack (drops_in S.answer request.now) (fragments_in request.now) key.now searched.old.keys }
     ensures first { IfOk result (IsFirst S.answer request.now key.now list.now) }
+    ensures request { IfOk result (λ found. IfSome found (IsOf request.now)) }
     ensures lack { IfOk result (λ found. found ≡ None → AllLack (drops_in S.answer request.now) (fragments_in request.now) key.now searched.new.keys) }
 {
     let mut tasks = Items::new(alloc);
@@ -136,7 +137,8 @@ pub(crate) fn find_first<'d, 'a, S: SchemaScalar + Drop>(
     selected: Selected<'d, 'd, 'a, S>,
 ) -> Result<Option<LookAheadSelection<'d, 'a, S>>, AllocError>
     requires { Settled (fragments_in request.now) }
-    ensures { IfOk result (IsFirst S.answer request.now key.now (selections_of selected.entry)) }
+    ensures first { IfOk result (IsFirst S.answer request.now key.now (selections_of selected.entry)) }
+    ensures request { IfOk result (λ found. IfSome found (IsOf request.now)) }
 {
     let mut searched: IndexSet<TextRef<'a>> = IndexSet::new(alloc);
     let fields = match selected {
