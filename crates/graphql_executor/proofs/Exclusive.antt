@@ -12,13 +12,13 @@ use Rattle.graphql_rule_errors.specs.Places.{places}
 use Rattle.graphql_rule_errors.specs.declared.rule_error.RuleError.{RuleError}
 use Rattle.graphql_visitors.specs.Subjects.{Subject}
 use Rattle.graphql_language.proofs.TextLaws.{not_both}
-use Rattle.graphql_validation.specs.AllRules.{RequestTold}
-use Rattle.graphql_validation.proofs.AllRulesLemmas.{root_exactly}
 use Rattle.graphql_variable_checks.proofs.RefusalLemmas.{told_one, told_none}
 use Rattle.graphql_variable_checks.proofs.Sorted.{none_moved}
+use Rattle.graphql_requests.proofs.ValidityLemmas.{root_exactly}
 use Rattle.graphql_requests.specs.Operations.{chosen, mutation_root}
 use Rattle.graphql_requests.specs.Refusals.{AreRefused, IsReady, IsStopped, IsHeld, IsUnread}
 use Rattle.graphql_requests.specs.Scalars.{Scalars}
+use Rattle.graphql_requests.specs.Validity.{RequestTold}
 use Rattle.graphql_requests.specs.declared.graphql_error.GraphQLError.{GraphQLError}
 use Rattle.graphql_requests.specs.declared.graphql_error.GraphQLError.TheVariants as error
 use Rattle.graphql_executor.specs.Answered.{Asking, IsAnswered, IsExecutable, IsRefused, Reads}

@@ -3,3 +3,4 @@ pub mod Executed
 pub mod Answered
 pub mod IntrospectionQuery
 pub mod Laws
+pub mod Requests

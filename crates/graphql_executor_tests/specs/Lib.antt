@@ -1,5 +1,6 @@
 pub mod Beings
 pub mod Counters
 pub mod Kinds
+pub mod OnlyResponses
 pub mod SameKinds
 pub mod ToldKeys

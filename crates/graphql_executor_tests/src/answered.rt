@@ -5,12 +5,11 @@ use crate::costly::{nested, spread_twice};
 use crate::counter::Counter;
 use crate::told::errors_told;
 use graphql_executor::{
-    GraphQLError, Response, execute_sync, execute_validated_query, get_operation,
+    GraphQLError, Response, documents_without_a_fault_are_settled, execute_sync,
+    execute_validated_query, get_operation, read_request,
 };
 use graphql_mutation::WithoutMutations;
-use graphql_requests::read_request;
-use graphql_validation::RootNode;
-use graphql_validation::laws::documents_without_a_fault_are_settled;
+use graphql_schema::RootNode;
 use graphql_values::{DefaultScalarValue, Variables};
 use std::alloc::{AllocError, Global};
 use std::process::Abort;

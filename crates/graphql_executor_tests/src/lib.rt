@@ -3,6 +3,7 @@
 
 #[cfg(test)]
 mod answered;
+pub mod answered_alone;
 pub mod beings;
 mod completed;
 #[cfg(test)]

@@ -7,14 +7,15 @@ ghost use Rattle.graphql_meta.specs.ScalarChecks.{IsInt, IsString, IsBoolean};
 
 use crate::answered::{Asked, ask};
 use graphql_executor::{IntrospectionChecks, introspection_metadata};
+use graphql_meta::scalar_checks::{boolean_check, int_check, string_check};
+use graphql_meta::{
+    Argument, DeprecationStatus, Field, InputObjectMeta, InterfaceMeta, MetaType, ObjectMeta,
+    ScalarMeta, TypeCheck, UnionMeta,
+};
 use graphql_names::NamedItems;
+use graphql_schema::{RootNode, SchemaType};
 use graphql_text::{Items, Text};
 use graphql_type_references::{Type, TypeModifier};
-use graphql_validation::scalar_checks::{boolean_check, int_check, string_check};
-use graphql_validation::{
-    Argument, DeprecationStatus, Field, InputObjectMeta, InterfaceMeta, MetaType, ObjectMeta,
-    RootNode, ScalarMeta, SchemaType, TypeCheck, UnionMeta,
-};
 use graphql_values::{DefaultScalarValue, InputValue};
 use std::alloc::Global;
 use std::process::Abort;

@@ -5,4 +5,3 @@ pub mod SampleLiterals
 pub mod SampleTexts
 pub mod Parsed
 pub mod Told
-pub mod Answered

@@ -8,7 +8,6 @@
 pub mod documents;
 pub mod literals;
 pub mod parsers;
-pub mod requests;
 pub mod scalars;
 pub mod tokens;
 pub mod values;

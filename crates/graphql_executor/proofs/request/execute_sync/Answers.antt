@@ -1,6 +1,6 @@
 use Rattle.std.proofs.Common.{sym, subst}
 use Rattle.graphql_schema.specs.Declarations.{declarations_of}
-use Rattle.graphql_validation.specs.Valid.{HasNoFault}
+use Rattle.graphql_requests.specs.Validity.{HasNoFault}
 use Rattle.graphql_executor.proofs.request.execute_sync.Goals as goal
 
 pub execute_validated_query-requires : goal.execute_validated_query-requires

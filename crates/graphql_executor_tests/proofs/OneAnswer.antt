@@ -4,12 +4,11 @@ use Rattle.std.specs.declared.cmp.Ordering.{Ordering}
 use Rattle.graphql_output_values.specs.declared.value.Value.{Value}
 use Rattle.graphql_rule_errors.specs.declared.rule_error.RuleError.{RuleError}
 use Rattle.graphql_field_results.specs.declared.execution_error.ExecutionError.{ExecutionError}
-use Rattle.graphql_requests.specs.Scalars.{Scalars}
-use Rattle.graphql_requests.specs.declared.graphql_error.GraphQLError.{GraphQLError}
 use Rattle.graphql_executor.specs.Answered.{Asking, IsAnswered, IsRefused}
 use Rattle.graphql_executor.specs.Laws.{AnswersAreOne, ExecutableAreNotRefused}
+use Rattle.graphql_executor.specs.Requests.{GraphQLError, Scalars}
 use Rattle.graphql_executor.specs.Resolvers.{Resolver}
-use Rattle.graphql_law_rows.specs.OnlyResponses.{NeverExecuted, OnlyRefusedForMemory, OnlyResponse}
+use Rattle.graphql_executor_tests.specs.OnlyResponses.{NeverExecuted, OnlyRefusedForMemory, OnlyResponse}
 
 module _ {S C : Type 0} (s : Scalars S C) (a : Asking S C) where
   abbrev Answer : Type 0

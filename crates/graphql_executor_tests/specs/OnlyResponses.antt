@@ -7,22 +7,20 @@ use Rattle.graphql_rule_errors.specs.declared.rule_error.RuleError.{RuleError}
 use Rattle.graphql_tree.specs.declared.document.Definition.{Definition}
 use Rattle.graphql_tree.specs.declared.document.Operation.{Operation}
 use Rattle.graphql_field_results.specs.declared.execution_error.ExecutionError.{ExecutionError}
-use Rattle.graphql_requests.specs.Scalars.{Scalars}
-use Rattle.graphql_requests.specs.declared.graphql_error.GraphQLError.{GraphQLError}
-use Rattle.graphql_requests.specs.declared.graphql_error.GraphQLError.TheVariants as error
 use Rattle.graphql_executor.specs.Answered.{Asking, IsAnswered, IsExecutable, IsRefused}
+use Rattle.graphql_executor.specs.Requests.{GraphQLError, Memory, Scalars}
 use Rattle.graphql_executor.specs.Resolvers.{Resolver}
 
 -- by what scalars mean
 module _ {S C : Type 0} (s : Scalars S C) (a : Asking S C) where
   -- nothing but want of memory refuses it
   abbrev pub OnlyRefusedForMemory : (RuleError → RuleError → Ordering) → Type 0
-  OnlyRefusedForMemory cmp = (refusal : GraphQLError) → IsRefused s a cmp refusal → refusal ≡ error.Memory
+  OnlyRefusedForMemory cmp = (refusal : GraphQLError) → IsRefused s a cmp refusal → refusal ≡ Memory
 
   -- where it is refused, but for want of memory, no operation of it is executed
   abbrev pub NeverExecuted : GraphQLError → Type 0
   NeverExecuted refusal =
-      refusal ≢ error.Memory → (document : List (Definition S)) (operation : Placed (Operation S))
+      refusal ≢ Memory → (document : List (Definition S)) (operation : Placed (Operation S))
       → IsExecutable s a document operation → ⊥
 
   -- each answer to it on this context has these data, and leaves this context

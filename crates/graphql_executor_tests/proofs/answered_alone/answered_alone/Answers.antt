@@ -1,5 +1,5 @@
-use Rattle.graphql_law_rows.proofs.Answered.{never_executed, only_for_memory, only_response}
-use Rattle.graphql_law_rows.proofs.requests.answered_alone.Goals as goal
+use Rattle.graphql_executor_tests.proofs.OneAnswer.{never_executed, only_for_memory, only_response}
+use Rattle.graphql_executor_tests.proofs.answered_alone.answered_alone.Goals as goal
 
 pub returns-clause-answered : goal.returns-clause-answered
 returns-clause-answered g c =

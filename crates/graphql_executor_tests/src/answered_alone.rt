@@ -5,14 +5,13 @@ ghost use Rattle.std.specs.HashMap.{get_by_text};
 ghost use Rattle.std.specs.Option.{option_map};
 ghost use Rattle.std.specs.Str.{chars};
 ghost use Rattle.graphql_executor.specs.Answered.{asking};
-ghost use Rattle.graphql_law_rows.specs.OnlyResponses.{NeverExecuted, OnlyRefusedForMemory, OnlyResponse};
+ghost use Rattle.graphql_executor_tests.specs.OnlyResponses.{NeverExecuted, OnlyRefusedForMemory, OnlyResponse};
 
 use graphql_executor::laws::{answers_are_one, executable_requests_are_not_refused};
-use graphql_executor::{Resolving, Response, execute_sync};
+use graphql_executor::{GraphQLError, Meaning, Resolving, Response, execute_sync};
 use graphql_field_results::ExecutionError;
 use graphql_meta::SchemaScalar;
 use graphql_mutation::GraphQLMutationValue;
-use graphql_requests::{GraphQLError, Meaning};
 use graphql_rule_errors::RuleError;
 use graphql_schema::RootNode;
 use graphql_values::Variables;
