@@ -7,9 +7,8 @@ use Rattle.graphql_scalars.specs.ScalarAnswers.{ScalarAnswer}
 use Rattle.graphql_values.specs.declared.input_value.InputValue.{InputValue}
 use Rattle.graphql_output_values.specs.declared.value.Value.{Value}
 use Rattle.graphql_field_results.specs.declared.execution_error.ExecutionError.{ExecutionError}
-use Rattle.graphql_requests.specs.Scalars.{Scalars}
-use Rattle.graphql_requests.specs.declared.graphql_error.GraphQLError.{GraphQLError}
-use Rattle.graphql_requests.specs.declared.graphql_error.GraphQLError.TheVariants as request_error
+use Rattle.graphql_executor.specs.Requests.{GraphQLError, Scalars}
+use Rattle.graphql_executor.specs.Requests as request_error
 use Rattle.std.specs.declared.cmp.Ordering.{Ordering}
 use Rattle.graphql_mutation.specs.Serial.{Mutation, root_groups}
 use Rattle.graphql_written_out.specs.Trees.{Tree}
@@ -187,6 +186,16 @@ module _ {S C N X : Type 0} (a : Answerer S C N X) (line : Bytes) where
       asks = asks;
       broken = as_asked (λ q. IsBrokenOff a.scalars q a.resolver c after) broken;
     })
+
+  -- what an answer leaves, want of memory may leave
+  pub answer-broken : (old new : X) (answered : Bytes) → Answer old new answered → LeavesBroken a line old new
+  answer-broken old new answered (no_request refusal h e kept) = inl kept
+  answer-broken old new answered (not_executed refusal h e kept) = inl kept
+  answer-broken old new answered (executed_to found errors h e) = inr (record {
+    request = h.request;
+    asks = h.asks;
+    broken = broken-at-the-end a.scalars (asked_by a line h.request) a.resolver a.by_fields old new found errors h.answers;
+  })
 
   -- an answer is one line
   pub answer_is_line : ((v : Value ScalarAnswer) → IsLine (line_of v)) → (old new : X) (answered : Bytes) → Answer old new answered

@@ -1,3 +1,3 @@
 mod DistinctAnswers
 mod Answering
-mod Kept
+mod ServedContexts

@@ -9,9 +9,8 @@ use Rattle.graphql_output_values.specs.declared.value.Value.{Value}
 use Rattle.graphql_schema.specs.declared.schema.SchemaType.{SchemaType}
 use Rattle.graphql_field_results.specs.declared.execution_error.ExecutionError.{ExecutionError}
 use Rattle.graphql_rule_errors.specs.declared.rule_error.RuleError.{RuleError}
-use Rattle.graphql_requests.specs.Scalars.{Scalars}
-use Rattle.graphql_requests.specs.declared.graphql_error.GraphQLError.{GraphQLError}
-use Rattle.graphql_requests.specs.declared.graphql_error.GraphQLError.TheVariants as request_error
+use Rattle.graphql_executor.specs.Requests.{GraphQLError, Scalars}
+use Rattle.graphql_executor.specs.Requests as request_error
 use Rattle.graphql_lines.specs.declared.refusal.LineRefusal.{LineRefusal}
 use Rattle.graphql_lines.specs.declared.refusal.LineRefusal.TheVariants.{LineTooLong, NotARequest, BadNumber, Memory}
 use Rattle.graphql_executor.specs.Answered.{Asking, IsAnswered, IsBrokenOff, IsRefused, asking}

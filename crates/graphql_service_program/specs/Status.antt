@@ -2,8 +2,8 @@
 use Rattle.std.specs.Prelude.{ℕ}
 use Rattle.graphql_schema_faults.specs.declared.error.SchemaError.{SchemaError}
 use Rattle.graphql_schema_faults.specs.declared.error.SchemaError.TheVariants as fault
-use Rattle.graphql_service.specs.declared.serving.ServeError.{ServeError}
-use Rattle.graphql_service.specs.declared.serving.ServeError.TheVariants as error
+use Rattle.graphql_streams.specs.declared.serve_error.ServeError.{ServeError}
+use Rattle.graphql_streams.specs.declared.serve_error.ServeError.TheVariants as error
 use Rattle.graphql_service_program.specs.declared.failure.Failure.{Failure}
 use Rattle.graphql_service_program.specs.declared.failure.Failure.TheVariants.{Usage, Sample, Read, Write, Memory}
 

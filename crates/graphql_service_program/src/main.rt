@@ -13,7 +13,7 @@ use graphql_meta::{IntrospectionChecks, TypeCheck};
 use graphql_schema::RootNode;
 use graphql_service::sample::{SampleResolver, sample_records, schema_s};
 use graphql_service::scalar_checks::{boolean_check, id_check, int_check, string_check};
-use graphql_service::{Service, StandardChecks, serve};
+use graphql_service::{Piped, Service, StandardChecks};
 use graphql_values::{DefaultScalarValue, InputValue};
 use std::process::ExitCode;
 use std::{env, io};
@@ -54,9 +54,9 @@ fn serve_sample(rt: &HostRuntime, checks: StandardChecks) -> Result<(), Failure>
         LINE_LIMIT,
         SELECTION_LIMIT,
     )?;
-    let mut reader = rt.reader();
-    let mut writer = io::writer(rt);
-    serve(alloc, &mut service, &mut reader, &mut writer)?;
+    let mut reader = Piped::new(rt.reader());
+    let mut writer = Piped::new(io::writer(rt));
+    service.serve(alloc, &mut reader, &mut writer)?;
     Ok(())
 }
 

@@ -1,8 +1,8 @@
 //! What the introspection query is answered over the sample.
 
-use graphql_executor::{IntrospectionFormat, introspect};
 use graphql_schema::{RootNode, SchemaType};
 use graphql_service::sample::{SampleResolver, sample_records};
+use graphql_service::{IntrospectionFormat, introspect};
 use graphql_values::DefaultScalarValue;
 use std::alloc::{AllocError, Global};
 use std::process::Abort;

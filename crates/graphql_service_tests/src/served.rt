@@ -119,7 +119,7 @@ fn with_schema(
             are_answered(rt, alloc, &mut service_of(rt, root, records, 65_536), rows);
         }
         Asked::Introspected => is_told(rt, alloc, schema),
-        Asked::Runs(runs) => are_served(rt, alloc, &mut service(rt, schema, records, 64), runs),
+        Asked::Runs(runs) => are_served(rt, alloc, &mut service(rt, schema, records, 80), runs),
         Asked::Unkept | Asked::OtherSkip => {
             let schema = with_other_skip(rt, alloc, schema);
             is_refused(rt, alloc, schema, ServiceFault::OtherConditions);

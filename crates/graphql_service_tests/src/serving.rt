@@ -1,33 +1,61 @@
 //! How lines are read and answers written.
 
 use crate::served::{Asked, SampleService, over};
-use graphql_service::{ServeError, serve};
+use graphql_service::{Piped, ServeError};
 use std::alloc::Global;
-use std::io::{self, Read, Write};
+use std::io::{self, ErrorKind, Read, Write};
 use std::process::Abort;
 
-/// A source over bytes that gives a few at a time, and fails once they are all read if it is told to.
+/// A reader of bytes that gives a few at a time, and fails once it has given so many.
 #[derive(Drop)]
 struct Source<'a> {
     left: &'a [u8],
     step: usize,
-    fails: bool,
+    readable: usize,
 }
 
 impl Read for Source<'_> {
     fn read(&mut self, buf: &mut [u8]) -> io::Result<usize> {
-        if self.left.is_empty() && self.fails {
-            return Err(io::Error::from(io::ErrorKind::Other));
+        if self.readable == 0 {
+            return Err(io::Error::from(ErrorKind::Other));
         }
-        let n = self.step.min(self.left.len()).min(buf.len());
+        let most = self.step.min(self.readable).min(buf.len());
+        let n = most.min(self.left.len());
         let (front, rest) = self.left.split_at(n);
         buf[..n].copy_from_slice(front);
         self.left = rest;
+        self.readable -= n;
         Ok(n)
     }
 }
 
-/// A sink that takes nothing.
+/// A writer that takes a few bytes at a time, and fails once it has taken so many.
+#[derive(Drop)]
+struct Sink {
+    taken: Vec<u8>,
+    step: usize,
+    writable: usize,
+}
+
+impl Write for Sink {
+    fn write(&mut self, bytes: &[u8]) -> io::Result<usize> {
+        if self.writable == 0 {
+            return Err(io::Error::from(ErrorKind::Other));
+        }
+        let n = self.step.min(self.writable).min(bytes.len());
+        if self.taken.extend_from_slice(&bytes[..n]).is_err() {
+            return Err(io::Error::from(ErrorKind::OutOfMemory));
+        }
+        self.writable -= n;
+        Ok(n)
+    }
+
+    fn flush(&mut self) -> io::Result<()> {
+        Ok(())
+    }
+}
+
+/// A writer that takes nothing.
 #[derive(Drop)]
 struct Full;
 
@@ -41,50 +69,131 @@ impl Write for Full {
     }
 }
 
-/// An empty line, one that is no request, and one that no line feed ends.
-const INPUT: &[u8] = b"\n{\"query\":5}\n{\"query\":\"{ hero { name } }\"}";
+/// An empty line, one of a lone carriage return, two that are no requests, and one that no line feed ends.
+const INPUT: &[u8] = b"\n\r\n{\"query\":5}\n\
+{\"query\":\"{ hero { name } }\",\"variables\":{\"x\":1.0}}\n{\"query\":\"{ hero { name } }\"}";
 
-const FIRST_ANSWER: &[u8] = b"{\"errors\":[{\"message\":\"Line is not a request\"}]}\n";
+const ANSWERS: &[u8] = b"{\"errors\":[{\"message\":\"Line is not a request\"}]}\n\
+{\"errors\":[{\"message\":\"Line is not a request\"}]}\n\
+{\"errors\":[{\"message\":\"A number in variables is not whole or does not fit 32 bits\"}]}\n\
+{\"data\":{\"hero\":{\"name\":\"Ann\"}}}\n";
 
-const BOTH_ANSWERS: &[u8] =
-    b"{\"errors\":[{\"message\":\"Line is not a request\"}]}\n{\"data\":{\"hero\":{\"name\":\"Ann\"}}}\n";
+/// The answers to the whole lines among the first 20 bytes of that input.
+const FIRST_ANSWERS: &[u8] = b"{\"errors\":[{\"message\":\"Line is not a request\"}]}\n\
+{\"errors\":[{\"message\":\"Line is not a request\"}]}\n";
 
-/// A run over that input: how many bytes are given at a time, whether the source fails in the end, why the
-/// run ends, and what it writes.
-pub type Run<'a> = (usize, bool, Option<ServeError>, &'a [u8]);
+/// The first 60 bytes of the answers.
+const BEGUN_ANSWERS: &[u8] = b"{\"errors\":[{\"message\":\"Line is not a request\"}]}\n\
+{\"errors\":[";
+
+/// A mutation, and a query that sees what it changed.
+const CHANGES: &[u8] =
+    b"{\"query\":\"mutation { rename(id: \\\"h1\\\", name: \\\"Eve\\\") { name } }\"}\n\
+{\"query\":\"{ hero { name } }\"}\n";
+
+const CHANGED: &[u8] =
+    b"{\"data\":{\"rename\":{\"name\":\"Eve\"}}}\n{\"data\":{\"hero\":{\"name\":\"Eve\"}}}\n";
+
+/// More bytes than a run reads or writes.
+const ALWAYS: usize = 65_536;
+
+/// A run over input.
+pub struct Run<'a> {
+    input: &'a [u8],
+
+    /// How many bytes a call reads or writes, at most.
+    step: usize,
+
+    /// After how many bytes reads fail.
+    readable: usize,
+
+    /// After how many bytes writes fail.
+    writable: usize,
+
+    /// Why it ends, if not at the end of the input.
+    why: Option<ServeError>,
+
+    /// What it writes.
+    written: &'a [u8],
+}
 
 const RUNS: &[Run<'_>] = &[
-    (1, false, None, BOTH_ANSWERS),
-    (7, false, None, BOTH_ANSWERS),
-    (4096, false, None, BOTH_ANSWERS),
-    (9, true, Some(ServeError::Read), FIRST_ANSWER),
+    Run {
+        input: INPUT,
+        step: 1,
+        readable: ALWAYS,
+        writable: ALWAYS,
+        why: None,
+        written: ANSWERS,
+    },
+    Run {
+        input: INPUT,
+        step: ALWAYS,
+        readable: ALWAYS,
+        writable: ALWAYS,
+        why: None,
+        written: ANSWERS,
+    },
+    Run {
+        input: INPUT,
+        step: 3,
+        readable: 20,
+        writable: ALWAYS,
+        why: Some(ServeError::Read),
+        written: FIRST_ANSWERS,
+    },
+    Run {
+        input: INPUT,
+        step: 1,
+        readable: ALWAYS,
+        writable: 60,
+        why: Some(ServeError::Write),
+        written: BEGUN_ANSWERS,
+    },
+    Run {
+        input: CHANGES,
+        step: 7,
+        readable: ALWAYS,
+        writable: ALWAYS,
+        why: None,
+        written: CHANGED,
+    },
 ];
 
-/// Why it ends to answer that input, of which so many bytes are given at a time.
+/// Why it ends to answer what this reader gives.
 fn ended<W: Write>(
     alloc: Global,
     service: &mut SampleService,
-    step: usize,
-    fails: bool,
-    writer: &mut W,
+    source: Source<'_>,
+    writer: &mut Piped<W>,
 ) -> Option<ServeError> {
-    let mut source = Source {
-        left: INPUT,
-        step,
-        fails,
-    };
-    serve(alloc, service, &mut source, writer).err()
+    service.serve(alloc, &mut Piped::new(source), writer).err()
 }
 
-/// Asserts how runs end, what they write, and that a writer that takes nothing ends one.
+/// Asserts how runs end and what they write, and that a writer that takes nothing ends one.
 pub fn are_served(rt: &impl Abort, alloc: Global, service: &mut SampleService, runs: &[Run<'_>]) {
     for run in runs {
-        let mut out = Vec::new(alloc);
-        let why = ended(alloc, service, run.0, run.1, &mut out);
-        assert!(rt; why == run.2);
-        assert_eq!(rt; out.as_slice(), run.3);
+        let source = Source {
+            left: run.input,
+            step: run.step,
+            readable: run.readable,
+        };
+        let mut writer = Piped::new(Sink {
+            taken: Vec::new(alloc),
+            step: run.step,
+            writable: run.writable,
+        });
+        let why = ended(alloc, service, source, &mut writer);
+        assert!(rt; why == run.why);
+        let Sink { taken, .. } = writer.into_inner();
+        assert_eq!(rt; taken.as_slice(), run.written);
     }
-    let why = ended(alloc, service, 9, false, &mut Full);
+    let source = Source {
+        left: INPUT,
+        step: ALWAYS,
+        readable: ALWAYS,
+    };
+    let why = ended(alloc, service, source, &mut Piped::new(Full));
     assert!(rt; why == Some(ServeError::Write));
 }
 

@@ -7,7 +7,7 @@ use Rattle.graphql_collect.specs.FragmentLists.{fragments_listed}
 use Rattle.graphql_written_out.specs.Written.{written}
 use Rattle.graphql_execution.specs.declared.asked.Asked.TheVariants as asked
 use Rattle.graphql_mutation.specs.Mutations.{mutation_over}
-use Rattle.graphql_requests.specs.Scalars.{Scalars}
+use Rattle.graphql_executor.specs.Requests.{Scalars}
 use Rattle.graphql_executor.specs.Executed.{run_at}
 use Rattle.graphql_service.specs.Answers.{given, no_request, not_executed, executed_to}
 use Rattle.graphql_service.specs.Texts.{told_of_line, told_of_request}

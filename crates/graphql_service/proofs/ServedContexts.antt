@@ -1,0 +1,104 @@
+-- What a service answers lines, as its context shows it, and answers that are written behind others.
+use Rattle.std.proofs.Common.{◌≡◌, ℕ, List, ◌++◌, Option, Result, Ok, Err, OnOk, OnErr, cond, is_ok, refl, subst, ap, ◌∙◌}
+use Rattle.std.specs.Prelude.{IfErr}
+use Rattle.std.specs.declared.cmp.Ordering.{Ordering}
+use Rattle.graphql_names.specs.Names.{Bytes}
+use Rattle.graphql_field_results.specs.declared.execution_error.ExecutionError.{ExecutionError}
+use Rattle.graphql_rule_errors.specs.declared.rule_error.RuleError.{RuleError}
+use Rattle.graphql_schema.specs.declared.root_node.RootNode.{RootNode}
+use Rattle.graphql_executor.specs.Requests.{Scalars}
+use Rattle.graphql_executor.specs.Resolvers.{Resolver}
+use Rattle.graphql_streams.specs.Served.{Ends, ServedAll}
+use Rattle.graphql_streams.specs.declared.serve_error.ServeError.{ServeError}
+use Rattle.graphql_streams.proofs.ShownRuns.{all-shown_if, ends-shown_if, stays_if}
+use Rattle.graphql_service.specs.Answers.{Answerer, answerer_of}
+use Rattle.graphql_service.specs.Serving.{AnswersLine, BreaksAtLine, HasPartsOf, ServiceAnswers, ServiceBreaks}
+use Rattle.graphql_service.specs.declared.service.Service.{Service}
+
+pub own-parts : {S R X C : Type 0} (service : Service S R X C) → HasPartsOf service service
+own-parts service = record { root_node = refl; resolver = refl; context = refl; line_limit = refl; selection_limit = refl }
+
+parts-more : {S R X C : Type 0} (old between new : Service S R X C) → HasPartsOf old between → HasPartsOf between new → HasPartsOf old new
+parts-more old between new a b = record {
+  root_node = b.root_node ∙ a.root_node;
+  resolver = b.resolver ∙ a.resolver;
+  context = refl;
+  line_limit = b.line_limit ∙ a.line_limit;
+  selection_limit = b.selection_limit ∙ a.selection_limit;
+}
+
+module _ {S C N X R : Type 0} (scalars : Scalars S C) (by_rules : RuleError → RuleError → Ordering)
+    (by_fields : ExecutionError S → ExecutionError S → Ordering) (resolving : R → Resolver S N X) where
+  abbrev its_answerer : Service S R X C → Answerer S C N X
+  its_answerer service = answerer_of scalars by_rules by_fields resolving service
+
+  abbrev answerer_with : RootNode S C → R → ℕ → Answerer S C N X
+  answerer_with root_node by limit = record {
+    scalars = scalars;
+    by_rules = by_rules;
+    by_fields = by_fields;
+    schema = root_node.schema;
+    introspection_disabled = root_node.introspection_disabled;
+    limit = limit;
+    resolver = resolving by;
+  }
+
+  -- services of the same parts answer by the same
+  same-answerer : (P : Answerer S C N X → Type 0) (old between : Service S R X C) → HasPartsOf old between → P (its_answerer between)
+      → P (its_answerer old)
+  same-answerer P old between same h =
+      subst (λ n. P (answerer_with n old.resolver old.line_limit)) same.root_node
+      (subst (λ r. P (answerer_with between.root_node r old.line_limit)) same.resolver
+      (subst (λ l. P (answerer_with between.root_node between.resolver l)) same.line_limit h))
+
+  pub context-answers : (old between : Service S R X C) (line text : Bytes) (new : Service S R X C) → HasPartsOf old between
+      → ServiceAnswers scalars by_rules by_fields resolving between line text new
+      → AnswersLine (its_answerer old) between.context line text new.context × HasPartsOf old new
+  context-answers old between line text new same h = (
+    same-answerer (λ a. AnswersLine a between.context line text new.context) old between same h.0,
+    parts-more old between new same h.1,
+  )
+
+  pub context-breaks : (old between : Service S R X C) (line : Bytes) (new : Service S R X C) → HasPartsOf old between
+      → ServiceBreaks scalars by_rules by_fields resolving between line new
+      → BreaksAtLine (its_answerer old) between.context line new.context × HasPartsOf old new
+  context-breaks old between line new same h = (
+    same-answerer (λ a. BreaksAtLine a between.context line new.context) old between same h.0,
+    parts-more old between new same h.1,
+  )
+
+  module _ {A : Type 0} (result : Result A ServeError) (old new : Service S R X C) (left rest had has : Option Bytes) where
+    pub serves-contexts : OnOk result (ServedAll (ServiceAnswers scalars by_rules by_fields resolving) old left rest had has new)
+        → OnOk result (ServedAll (AnswersLine (its_answerer old)) old.context left rest had has new.context)
+    serves-contexts =
+        all-shown_if (λ (service : Service S R X C). service.context) (HasPartsOf old)
+        (ServiceAnswers scalars by_rules by_fields resolving) (AnswersLine (its_answerer old)) (context-answers old) result
+        old new left rest had has (own-parts old)
+
+    pub ends-contexts : IfErr result (λ e. Ends (ServiceAnswers scalars by_rules by_fields resolving) (ServiceBreaks scalars by_rules by_fields resolving) e old left rest had has new)
+        → IfErr result (λ e. Ends (AnswersLine (its_answerer old)) (BreaksAtLine (its_answerer old)) e old.context left rest had has new.context)
+    ends-contexts =
+        ends-shown_if (λ (service : Service S R X C). service.context) (HasPartsOf old)
+        (ServiceAnswers scalars by_rules by_fields resolving) (AnswersLine (its_answerer old)) (context-answers old)
+        (ServiceBreaks scalars by_rules by_fields resolving) (BreaksAtLine (its_answerer old)) (context-breaks old) result
+        old new left rest had has (own-parts old)
+
+    pub parts-stay : OnOk result (ServedAll (ServiceAnswers scalars by_rules by_fields resolving) old left rest had has new)
+        → IfErr result (λ e. Ends (ServiceAnswers scalars by_rules by_fields resolving) (ServiceBreaks scalars by_rules by_fields resolving) e old left rest had has new)
+        → HasPartsOf old new
+    parts-stay =
+        stays_if (λ (service : Service S R X C). service.context) (HasPartsOf old)
+        (ServiceAnswers scalars by_rules by_fields resolving) (AnswersLine (its_answerer old)) (context-answers old)
+        (ServiceBreaks scalars by_rules by_fields resolving) (BreaksAtLine (its_answerer old)) (context-breaks old) result
+        old new left rest had has (own-parts old)
+
+-- what is appended, or is not
+pub appended : {A E : Type 0} (result : Result A E) (old new slice piece : Bytes) (P : Bytes → Type 0) → slice ≡ piece
+    → new ≡ cond (is_ok result) (old ++ slice) old → P piece → OnOk result ((text : List ℕ) × (new ≡ old ++ text) × P text)
+appended (Ok x) old new slice piece P same is h = (piece, is ∙ ap (λ xs. old ++ xs) same, h)
+appended (Err e) old new slice piece P same is h = tt
+
+pub not-appended : {A E : Type 0} (result : Result A E) (old new slice : Bytes) (P : Type 0)
+    → new ≡ cond (is_ok result) (old ++ slice) old → P → OnErr result ((new ≡ old) × P)
+not-appended (Ok x) old new slice P is h = tt
+not-appended (Err e) old new slice P is h = (is, h)

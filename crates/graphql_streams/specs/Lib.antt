@@ -1,0 +1,5 @@
+pub mod Counts
+pub mod Lines
+pub mod Runs
+pub mod Waiting
+pub mod Served
