@@ -1,0 +1,136 @@
+//! What arguments set in the fields of a record.
+
+ghost use Rattle.std.specs.Prelude.{◌≡◌};
+ghost use Rattle.graphql_items.specs.Memory.{Gives};
+ghost use Rattle.graphql_arguments.specs.GivenValues.{arguments_told};
+ghost use Rattle.graphql_field_results.specs.Answered.{Answered};
+ghost use Rattle.graphql_records.specs.Settings as spec;
+
+use crate::field_value::FieldValue;
+use crate::lookups::known_field;
+use crate::record::{Fields, with_field};
+use crate::table_type::TableType;
+use graphql_arguments::Arguments;
+use graphql_field_results::{FieldError, FieldFault, FieldResult};
+use graphql_items::Text;
+use graphql_names::NamedItems;
+use graphql_scalars::DefaultScalarValue;
+use graphql_values::InputValue;
+use std::alloc::{AllocError, Global};
+
+/// The value that an argument sets: a scalar itself, an enum value its name, null where it is null,
+/// an object or a variable; none where its own value is a list. An error is want of memory.
+fn set_by(value: &InputValue<DefaultScalarValue>) -> Result<Option<FieldValue>, AllocError>
+    ensures { Gives result (spec.set_by value.now) }
+{
+    match value {
+        InputValue::Scalar(scalar) => Ok(Some(FieldValue::Scalar(scalar.clone()?))),
+        InputValue::Enum(name) => {
+            let name = name.clone()?;
+            Ok(Some(FieldValue::Scalar(DefaultScalarValue::String(name))))
+        }
+        InputValue::List(_) => Ok(None),
+        InputValue::Null | InputValue::Variable(_) | InputValue::Object(_) => {
+            Ok(Some(FieldValue::Null))
+        }
+    }
+}
+
+/// Whether a mutation may set a field of an object type.
+fn is_settable(types: &NamedItems<TableType>, object: &str, name: &str) -> bool
+    ensures { result ≡ spec.is_settable types.now object.now name.now }
+{
+    match known_field(types, object, name) {
+        Some(field) => field.is_settable,
+        None => false,
+    }
+}
+
+/// The value that an argument may set in a field of an object type, if it may. An error is want of
+/// memory.
+fn settable(
+    types: &NamedItems<TableType>,
+    object: &str,
+    name: &str,
+    value: &InputValue<DefaultScalarValue>,
+) -> Result<Option<FieldValue>, AllocError>
+    ensures { Gives result (spec.settable types.now object.now name.now value.now) }
+{
+    if is_settable(types, object, name) {
+        set_by(value)
+    } else {
+        Ok(None)
+    }
+}
+
+/// An object type has no such field that an argument may set. An error is want of memory.
+fn no_scalar_field(
+    alloc: Global,
+    object: &str,
+    name: &str,
+) -> Result<FieldError<DefaultScalarValue>, AllocError>
+    ensures { Gives result (spec.no_scalar_field object.now name.now) }
+{
+    let message = format!(in alloc; "Type {object} has no scalar field \"{name}\"")?;
+    Ok(FieldError::of(Text::from_string(message)))
+}
+
+/// The fields of an object once an argument has set the field of its name: `id` sets none. An error
+/// says that it may not, or is want of memory.
+fn set_one(
+    alloc: Global,
+    types: &NamedItems<TableType>,
+    object: &str,
+    name: &str,
+    value: &InputValue<DefaultScalarValue>,
+    fields: Fields,
+) -> FieldResult<Fields, DefaultScalarValue>
+    ensures { Answered (spec.set_one types.now object.now name.now value.now fields) result }
+{
+    if name == "id" {
+        return Ok(fields);
+    }
+    match settable(types, object, name, value)? {
+        Some(value) => Ok(with_field(alloc, fields, name, value)?),
+        None => Err(FieldFault::Error(no_scalar_field(alloc, object, name)?)),
+    }
+}
+
+/// The fields of an object once the argument at a place has set its field.
+fn set_at(
+    alloc: Global,
+    types: &NamedItems<TableType>,
+    object: &str,
+    arguments: &Arguments<'_, DefaultScalarValue>,
+    place: usize,
+    fields: Fields,
+) -> FieldResult<Fields, DefaultScalarValue>
+    ensures { let given = arguments_told arguments.now in
+        Answered (spec.set_at types.now object.now given place fields) result }
+{
+    match arguments.get_index(place) {
+        Some((name, value)) => set_one(alloc, types, object, name, value, fields),
+        None => Ok(fields),
+    }
+}
+
+/// The fields of an object once each argument, in order, has set its field. An error says which is
+/// the first that may not, or is want of memory.
+pub(crate) fn set_all(
+    alloc: Global,
+    types: &NamedItems<TableType>,
+    object: &str,
+    arguments: &Arguments<'_, DefaultScalarValue>,
+    mut fields: Fields,
+) -> FieldResult<Fields, DefaultScalarValue>
+    ensures { let given = arguments_told arguments.now in
+        Answered (spec.set_all types.now object.now given fields) result }
+{
+    'arguments: for place in 0..arguments.len() {
+        match set_at(alloc, types, object, arguments, place, fields) {
+            Ok(set) => fields = set,
+            Err(fault) => return Err(fault),
+        }
+    }
+    Ok(fields)
+}

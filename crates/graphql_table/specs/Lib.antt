@@ -1,0 +1,4 @@
+pub mod TableTypes
+pub mod Resolvers
+pub mod Changes
+pub mod ChangeLaws
