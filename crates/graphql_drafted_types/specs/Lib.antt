@@ -1,0 +1,2 @@
+pub mod SpelledTexts
+pub mod DraftedTypes

@@ -1,0 +1,56 @@
+-- Texts and lists under the keys of a JSON object (RFC 8259).
+use Rattle.std.specs.Prelude.{List, [], ◌∷◌, Option, Some, None}
+use Rattle.std.specs.Option.{option_and_then}
+use Rattle.serde_json.specs.Data.{Data, Items, no_items, item}
+use Rattle.serde_json.specs.Find.{get, as_str, as_array}
+use Rattle.graphql_names.specs.Names.{Bytes}
+
+-- a step that may find nothing, and then one that needs what it found
+infixl 10 ◌>>=◌
+abbrev pub ◌>>=◌ : {A B : Type 0} → Option A → (A → Option B) → Option B
+found >>= next = option_and_then next found
+
+abbrev pub text_of : Data → Option Bytes
+text_of = as_str
+
+-- what each item of a list is; none where one of them is not
+abbrev pub each : {A : Type 0} → (Data → Option A) → Items → Option (List A)
+each read no_items = Some []
+each read (item d ds) = do
+  x ← read d
+  xs ← each read ds
+  Some (x ∷ xs)
+
+-- a text that must stand under a key
+abbrev pub text_at : Bytes → Data → Option Bytes
+text_at key d = get key d >>= text_of
+
+abbrev pub present : {A : Type 0} → (Data → Option A) → Option Data → Option (Option A)
+present read None = Some None
+present read (Some d) = do
+  x ← read d
+  Some (Some x)
+
+-- one that may be missing
+abbrev pub text_if : Bytes → Data → Option (Option Bytes)
+text_if key d = present text_of (get key d)
+
+-- a list that must stand under a key
+abbrev pub array_at : Bytes → Data → Option Items
+array_at key d = get key d >>= as_array
+
+-- what each item of JSON is that must be a list
+abbrev pub list_of : {A : Type 0} → (Data → Option A) → Data → Option (List A)
+list_of read d = as_array d >>= each read
+
+-- the same of what must stand under a key
+abbrev pub list_at : {A : Type 0} → (Data → Option A) → Bytes → Data → Option (List A)
+list_at read key d = get key d >>= list_of read
+
+abbrev pub or_none : {A : Type 0} → (Data → Option A) → Option Data → Option (List A)
+or_none read None = Some []
+or_none read (Some d) = list_of read d
+
+-- the same where it may be missing, which is the same as an empty list
+abbrev pub list_if : {A : Type 0} → (Data → Option A) → Bytes → Data → Option (List A)
+list_if read key d = or_none read (get key d)

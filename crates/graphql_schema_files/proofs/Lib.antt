@@ -1,0 +1,4 @@
+pub mod Conformed
+pub mod MadeSchemas
+pub mod Readings
+pub mod Scalars

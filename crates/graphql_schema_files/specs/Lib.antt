@@ -1,0 +1,4 @@
+pub mod Builtin
+pub mod Refusals
+pub mod Conforming
+pub mod SchemaFiles
