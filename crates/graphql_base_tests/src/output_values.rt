@@ -3,7 +3,7 @@ ghost use Rattle.graphql_items.specs.Memory.{Gives};
 
 use crate::told::check;
 use graphql_items::{Items, Text};
-use graphql_output_values::{DefaultScalarValue, IntoValue, Object, Value, laws};
+use graphql_output_values::{DefaultScalarValue, IntoValue, Object, Value};
 use graphql_scalars::ToScalarValue;
 use std::alloc::{AllocError, Global};
 use std::borrow::CowStr;
@@ -259,18 +259,4 @@ fn other_values_become_values(rt: HostRuntime) {
     check(&rt, becoming(alloc, Ok(true)), "true");
     check(&rt, becoming(alloc, Ok(CowStr::Borrowed("b"))), "\"b\"");
     check(&rt, becoming(alloc, String::from_str(alloc, "a")), "\"a\"");
-}
-
-#[test]
-fn laws_hold_of_the_default_scalars() {
-    laws::equal_by_fields::<DefaultScalarValue>();
-    laws::equal_in_any_order::<DefaultScalarValue>();
-    laws::made_distinct::<DefaultScalarValue>();
-    laws::put_under::<DefaultScalarValue>();
-    laws::keys_keep_places::<DefaultScalarValue>();
-    laws::distinct_by_forms::<DefaultScalarValue>();
-    laws::distinct_under_keys::<DefaultScalarValue>();
-    laws::distinct_once_written::<DefaultScalarValue>();
-    laws::made_distinct_throughout::<DefaultScalarValue>();
-    laws::mapped_keeps_keys::<DefaultScalarValue, DefaultScalarValue>();
 }
