@@ -1,0 +1,5 @@
+pub mod ValueTurns
+pub mod DraftTurns
+pub mod LinkLemmas
+pub mod Judging
+pub mod ReadSteps
