@@ -3,6 +3,8 @@ use Rattle.std.proofs.Common.{◌≡◌, ℕ, ◌+◌, ◌<◌, List, ◌∷◌,
 use Rattle.std.proofs.lemmas.List.{drop_more}
 use Rattle.graphql_names.specs.Names.{Bytes}
 use Rattle.graphql_lines.specs.Json.{joined}
+use Rattle.graphql_lines.specs.Writing.{KeepsFront}
+use Rattle.graphql_lines.proofs.Fronts.{front_then}
 
 -- what is yet to be written of parts, from an index on, behind what parts it from what was
 abbrev pub left_of : {A : Type 0} → (A → Bytes) → Bytes → ℕ → List A → Bytes
@@ -16,6 +18,10 @@ one_more text whole o gap a b i xs x h is e f g =
     let split : left_of text gap i xs ≡ (gap ++ text x) ++ rest = ap (λ ys. joined gap (map text ys)) (drop_more xs i x h ∙ ap (λ y. y ∷ drop (i + 1) xs) (sym is)) in
     let written : b ≡ o ++ (gap ++ text x) = g ∙ ap (λ z. z ++ text x) f ∙ append_assoc o gap (text x) in
     ap (λ z. z ++ rest) written ∙ append_assoc o (gap ++ text x) rest ∙ ap (λ z. o ++ z) (sym split) ∙ e
+
+-- what stands in front stays there while a part is written behind what parts it from those before
+pub front_more : (front o gap a b : Bytes) → KeepsFront front o → a ≡ o ++ gap → KeepsFront a b → KeepsFront front b
+front_more front o gap a b h e k = front_then front o b h (front_then o a b (record { behind = gap; is = e }) k)
 
 -- the parts of a text, one after another, of which the writing of the last may fail
 module _ {A E : Type 0} (r : Result A E) where

@@ -1,10 +1,12 @@
 //! Answers to requests that are not executed.
+#![tactic(auto, using(graphql_lines::proofs::Fronts::fronts))]
 
 ghost use Rattle.std.specs.Prelude.{◌≡◌, ◌∷◌, [], ◌++◌, map, OnOk};
 ghost use Rattle.graphql_answers.specs.Lines.{answer_json};
 ghost use Rattle.graphql_answers.specs.Responses.{refusal_of};
 ghost use Rattle.graphql_answers.specs.Texts as spec;
 ghost use Rattle.graphql_lines.specs.Json.{joined};
+ghost use Rattle.graphql_lines.specs.Writing.{KeepsFront};
 
 use crate::places::push_locations;
 use graphql_lines::text_to_json;
@@ -18,7 +20,8 @@ fn push_request_error(
     message: &str,
     places: &[SourcePosition],
 ) -> Result<(), AllocError>
-    ensures { OnOk result (out.new.items ≡ out.old.items ++ spec.request_error_text (record { locations = places.now; message = message.now })) }
+    ensures written { OnOk result (out.new.items ≡ out.old.items ++ spec.request_error_text (record { locations = places.now; message = message.now })) }
+    ensures front { KeepsFront out.old.items out.new.items }
 {
     out.extend_from_slice(b"{\"message\":")?;
     text_to_json(out, message)?;
@@ -28,7 +31,8 @@ fn push_request_error(
 
 /// Writes errors, with a comma between any two.
 fn push_request_errors(out: &mut Vec<u8>, errors: &[RuleError]) -> Result<(), AllocError>
-    ensures { OnOk result (out.new.items ≡ out.old.items ++ joined [] (map spec.request_error_text errors.now)) }
+    ensures written { OnOk result (out.new.items ≡ out.old.items ++ joined [] (map spec.request_error_text errors.now)) }
+    ensures front { KeepsFront out.old.items out.new.items }
 {
     let mut gap: &[u8] = b"";
     'errors: for error in errors {
@@ -41,9 +45,11 @@ fn push_request_errors(out: &mut Vec<u8>, errors: &[RuleError]) -> Result<(), Al
 
 /// Writes the answer to a request that is refused with these errors, at the end of `out`, as JSON without
 /// spaces (GraphQL October 2021, 7.1.2 Errors): what each says and, where it has places, their lines and
-/// columns from one. An error is want of memory: then `out` may hold a part of it.
+/// columns from one. An error is want of memory: then `out` may hold a part of it, behind what it
+/// held.
 pub fn errors_to_json(out: &mut Vec<u8>, errors: &[RuleError]) -> Result<(), AllocError>
-    ensures { OnOk result (out.new.items ≡ out.old.items ++ answer_json (refusal_of errors.now)) }
+    ensures written { OnOk result (out.new.items ≡ out.old.items ++ answer_json (refusal_of errors.now)) }
+    ensures front { KeepsFront out.old.items out.new.items }
 {
     out.extend_from_slice(b"{\"errors\":[")?;
     push_request_errors(out, errors)?;
@@ -57,7 +63,8 @@ pub fn refusal_to_json(
     message: &str,
     places: &[SourcePosition],
 ) -> Result<(), AllocError>
-    ensures { OnOk result (out.new.items ≡ out.old.items ++ answer_json (refusal_of (record { locations = places.now; message = message.now } ∷ []))) }
+    ensures written { OnOk result (out.new.items ≡ out.old.items ++ answer_json (refusal_of (record { locations = places.now; message = message.now } ∷ []))) }
+    ensures front { KeepsFront out.old.items out.new.items }
 {
     out.extend_from_slice(b"{\"errors\":[")?;
     push_request_error(out, message, places)?;

@@ -1,10 +1,12 @@
 //! Answers to requests that are executed.
+#![tactic(auto, using(graphql_lines::proofs::Fronts::fronts))]
 
 ghost use Rattle.std.specs.Prelude.{◌≡◌, [], ◌++◌, map, OnOk};
 ghost use Rattle.graphql_answers.specs.Lines.{answer_json};
 ghost use Rattle.graphql_answers.specs.Responses.{response_of};
 ghost use Rattle.graphql_answers.specs.Texts as spec;
 ghost use Rattle.graphql_lines.specs.Json.{joined, json_text};
+ghost use Rattle.graphql_lines.specs.Writing.{KeepsFront};
 
 use crate::places::push_location;
 use graphql_field_results::ExecutionError;
@@ -16,7 +18,8 @@ use std::alloc::AllocError;
 
 /// Writes response keys, with a comma between any two.
 fn push_path(out: &mut Vec<u8>, path: &[Text]) -> Result<(), AllocError>
-    ensures { OnOk result (out.new.items ≡ out.old.items ++ joined [] (map json_text path.now)) }
+    ensures written { OnOk result (out.new.items ≡ out.old.items ++ joined [] (map json_text path.now)) }
+    ensures front { KeepsFront out.old.items out.new.items }
 {
     let mut gap: &[u8] = b"";
     'keys: for key in path {
@@ -29,7 +32,8 @@ fn push_path(out: &mut Vec<u8>, path: &[Text]) -> Result<(), AllocError>
 
 /// Writes the member of what is told beside an error, unless that is null.
 fn push_extensions<S: ScalarValue>(out: &mut Vec<u8>, beside: &Value<S>) -> Result<(), AllocError>
-    ensures { OnOk result (out.new.items ≡ out.old.items ++ spec.extensions_text S.answer beside.now) }
+    ensures written { OnOk result (out.new.items ≡ out.old.items ++ spec.extensions_text S.answer beside.now) }
+    ensures front { KeepsFront out.old.items out.new.items }
 {
     if beside.is_null() {
         return Ok(());
@@ -43,7 +47,8 @@ fn push_where<S: ScalarValue>(
     out: &mut Vec<u8>,
     error: &ExecutionError<S>,
 ) -> Result<(), AllocError>
-    ensures { OnOk result (out.new.items ≡ out.old.items ++ spec.where_text error.now) }
+    ensures written { OnOk result (out.new.items ≡ out.old.items ++ spec.where_text error.now) }
+    ensures front { KeepsFront out.old.items out.new.items }
 {
     out.extend_from_slice(b",\"locations\":[")?;
     push_location(out, error.location())?;
@@ -57,7 +62,8 @@ fn push_field_error<S: ScalarValue>(
     out: &mut Vec<u8>,
     error: &ExecutionError<S>,
 ) -> Result<(), AllocError>
-    ensures { OnOk result (out.new.items ≡ out.old.items ++ spec.field_error_text S.answer error.now) }
+    ensures written { OnOk result (out.new.items ≡ out.old.items ++ spec.field_error_text S.answer error.now) }
+    ensures front { KeepsFront out.old.items out.new.items }
 {
     out.extend_from_slice(b"{\"message\":")?;
     text_to_json(out, error.error().message())?;
@@ -71,7 +77,8 @@ fn push_field_errors<S: ScalarValue>(
     out: &mut Vec<u8>,
     errors: &[ExecutionError<S>],
 ) -> Result<(), AllocError>
-    ensures { OnOk result (out.new.items ≡ out.old.items ++ joined [] (map (spec.field_error_text S.answer) errors.now)) }
+    ensures written { OnOk result (out.new.items ≡ out.old.items ++ joined [] (map (spec.field_error_text S.answer) errors.now)) }
+    ensures front { KeepsFront out.old.items out.new.items }
 {
     let mut gap: &[u8] = b"";
     'errors: for error in errors {
@@ -87,7 +94,8 @@ fn push_errors<S: ScalarValue>(
     out: &mut Vec<u8>,
     errors: &[ExecutionError<S>],
 ) -> Result<(), AllocError>
-    ensures { OnOk result (out.new.items ≡ out.old.items ++ spec.errors_text S.answer errors.now) }
+    ensures written { OnOk result (out.new.items ≡ out.old.items ++ spec.errors_text S.answer errors.now) }
+    ensures front { KeepsFront out.old.items out.new.items }
 {
     if errors.is_empty() {
         return Ok(());
@@ -101,13 +109,14 @@ fn push_errors<S: ScalarValue>(
 /// October 2021, 7.1 Response Format): the value as its data and, where there are any, its errors, each with what it
 /// says, the line and the column of its field from one, the response keys down to that field and, unless
 /// that is null, what is told beside it. An error of the call is want of memory: then `out` may hold a
-/// part of it.
+/// part of it, behind what it held.
 pub fn response_to_json<S: ScalarValue>(
     out: &mut Vec<u8>,
     value: &Value<S>,
     errors: &[ExecutionError<S>],
 ) -> Result<(), AllocError>
-    ensures { OnOk result (out.new.items ≡ out.old.items ++ answer_json (response_of S.answer value.now errors.now)) }
+    ensures written { OnOk result (out.new.items ≡ out.old.items ++ answer_json (response_of S.answer value.now errors.now)) }
+    ensures front { KeepsFront out.old.items out.new.items }
 {
     out.extend_from_slice(b"{\"data\":")?;
     value_to_json(out, value)?;

@@ -1,4 +1,5 @@
 pub mod Turns
+pub mod Fronts
 pub mod Named
 pub mod Requests
 pub mod JsonSteps

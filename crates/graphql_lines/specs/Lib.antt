@@ -1,4 +1,5 @@
 pub mod Variables
 pub mod Request
 pub mod Json
+pub mod Writing
 pub mod Laws

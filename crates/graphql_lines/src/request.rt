@@ -1,7 +1,7 @@
 //! Requests, one a line.
 
 ghost use Rattle.std.specs.Prelude.{◌≡◌, option_map, option_and_then, Some, IsNone, string_bytes};
-ghost use Rattle.graphql_items.specs.Memory.{Answers};
+ghost use Rattle.graphql_text.specs.Memory.{Answers};
 ghost use Rattle.serde_json.specs.Find.{as_object, as_str, get_member};
 ghost use Rattle.serde_json.specs.View.{view, members_view};
 ghost use Rattle.graphql_lines.specs.declared.refusal.LineRefusal.TheVariants.{NotARequest, Memory};

@@ -1,8 +1,10 @@
 //! JSON texts (RFC 8259; GraphQL October 2021, 7.2 Serialization Format).
+#![tactic(auto, using(crate::proofs::Fronts::fronts))]
 
 ghost use Rattle.std.specs.Prelude.{◌≡◌, ◌<◌, ◌≤◌, false, [], ◌∷◌, ◌++◌, length, take, OnOk};
 ghost use Rattle.std.specs.List.{flat_map};
 ghost use Rattle.graphql_lines.specs.Json as spec;
+ghost use Rattle.graphql_lines.specs.Writing.{KeepsFront};
 ghost use Rattle.graphql_output_values.specs.Pending.{ahead, told};
 
 use graphql_output_values::{Step, Value, Walk};
@@ -18,7 +20,8 @@ fn hex_digit(n: u8) -> u8
 }
 
 fn push_escaped(out: &mut Vec<u8>, byte: u8) -> Result<(), AllocError>
-    ensures { OnOk result (out.new.items ≡ out.old.items ++ spec.escaped byte) }
+    ensures written { OnOk result (out.new.items ≡ out.old.items ++ spec.escaped byte) }
+    ensures front { KeepsFront out.old.items out.new.items }
 {
     match byte {
         b'"' => out.extend_from_slice(b"\\\""),
@@ -62,9 +65,10 @@ fn plain_len(bytes: &[u8]) -> usize
 
 /// Writes a text between quotes, at the end of `out`. The quote, the backslash and the characters
 /// below the space are escaped, and no others. An error is want of memory: then `out` may hold a part
-/// of it.
+/// of it, behind what it held.
 pub fn text_to_json(out: &mut Vec<u8>, text: &str) -> Result<(), AllocError>
-    ensures { OnOk result (out.new.items ≡ out.old.items ++ spec.json_text text.now) }
+    ensures written { OnOk result (out.new.items ≡ out.old.items ++ spec.json_text text.now) }
+    ensures front { KeepsFront out.old.items out.new.items }
 {
     out.extend_from_slice(b"\"")?;
     let mut rest = text.as_bytes();
@@ -83,7 +87,8 @@ pub fn text_to_json(out: &mut Vec<u8>, text: &str) -> Result<(), AllocError>
 
 /// Writes a scalar by what it answers: an integer, else a boolean, else a text, else `null`.
 fn scalar_to_json<S: ScalarValue>(out: &mut Vec<u8>, scalar: &S) -> Result<(), AllocError>
-    ensures { OnOk result (out.new.items ≡ out.old.items ++ spec.scalar_json S.answer scalar.now) }
+    ensures written { OnOk result (out.new.items ≡ out.old.items ++ spec.scalar_json S.answer scalar.now) }
+    ensures front { KeepsFront out.old.items out.new.items }
 {
     if let Some(value) = scalar.try_to_int() {
         let mut digits = Buffer::new();
@@ -101,7 +106,8 @@ fn scalar_to_json<S: ScalarValue>(out: &mut Vec<u8>, scalar: &S) -> Result<(), A
 
 /// Writes what a walk tells next.
 fn step_to_json<S: ScalarValue>(out: &mut Vec<u8>, step: Step<'_, S>) -> Result<(), AllocError>
-    ensures { OnOk result (out.new.items ≡ out.old.items ++ spec.step_json S.answer (told step.entry)) }
+    ensures written { OnOk result (out.new.items ≡ out.old.items ++ spec.step_json S.answer (told step.entry)) }
+    ensures front { KeepsFront out.old.items out.new.items }
 {
     match step {
         Step::Null => out.extend_from_slice(b"null"),
@@ -120,7 +126,8 @@ fn step_to_json<S: ScalarValue>(out: &mut Vec<u8>, step: Step<'_, S>) -> Result<
 
 /// Writes what a walk has yet to tell.
 fn steps_to_json<S: ScalarValue>(out: &mut Vec<u8>, walk: Walk<'_, S>) -> Result<(), AllocError>
-    ensures { OnOk result (out.new.items ≡ out.old.items ++ flat_map (spec.step_json S.answer) (ahead walk.entry)) }
+    ensures written { OnOk result (out.new.items ≡ out.old.items ++ flat_map (spec.step_json S.answer) (ahead walk.entry)) }
+    ensures front { KeepsFront out.old.items out.new.items }
 {
     let mut walk = walk;
     'steps: while let Some(step) = walk.next()? {
@@ -132,9 +139,10 @@ fn steps_to_json<S: ScalarValue>(out: &mut Vec<u8>, walk: Walk<'_, S>) -> Result
 /// Writes a value as JSON, at the end of `out`: without spaces, the fields of an object in their
 /// order, a scalar by what it answers (an integer, else a boolean, else a text). What is yet to be
 /// written stands on the heap, so a deep value takes no more stack. An error is want of memory: then
-/// `out` may hold a part of it.
+/// `out` may hold a part of it, behind what it held.
 pub fn value_to_json<S: ScalarValue>(out: &mut Vec<u8>, value: &Value<S>) -> Result<(), AllocError>
-    ensures { OnOk result (out.new.items ≡ out.old.items ++ spec.json S.answer value.now) }
+    ensures written { OnOk result (out.new.items ≡ out.old.items ++ spec.json S.answer value.now) }
+    ensures front { KeepsFront out.old.items out.new.items }
 {
     let walk = Walk::new(*out.allocator(), value)?;
     steps_to_json(out, walk)

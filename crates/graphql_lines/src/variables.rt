@@ -3,15 +3,14 @@
 ghost use Rattle.std.specs.Prelude.{◌≡◌, Some, None, OnOk, option_map};
 ghost use Rattle.std.specs.HashMap.{Updates};
 ghost use Rattle.std.specs.String.{string_eq};
-ghost use Rattle.graphql_items.specs.Memory.{Answers, Gives};
+ghost use Rattle.graphql_text.specs.Memory.{Answers, Gives};
 ghost use Rattle.serde_json.specs.View.{view, number_view, items_view, members_view};
 ghost use Rattle.graphql_values.specs.declared.input_value.InputValue.TheVariants as value;
 ghost use Rattle.graphql_lines.specs.declared.refusal.LineRefusal.TheVariants.{BadNumber, Memory};
 ghost use Rattle.graphql_lines.specs.Variables as spec;
 
 use crate::refusal::LineRefusal;
-use graphql_items::{Items, Text};
-use graphql_text::Spanning;
+use graphql_text::{Items, Spanning, Text};
 use graphql_values::{InputValue, ScalarValue, Variables};
 use serde_json::{Map, Number, Value};
 use std::alloc::{AllocError, Global};

@@ -26,6 +26,8 @@ use Rattle.graphql_lines.specs.declared.request.GraphQLRequest.{GraphQLRequest}
 use Rattle.graphql_answers.specs.Lines.{IsLine, line_of}
 use Rattle.graphql_answers.specs.Responses.{refusal_of, response_of}
 use Rattle.graphql_service.specs.Answers.{Answerer, Appends, Asks, asked_by, given, IsNoRequest, IsAnswer, LeavesBroken, no_request, not_executed, executed_to}
+use Rattle.graphql_service.specs.Laws.{IsLineOfDistinctKeys}
+use Rattle.graphql_service.specs.Serving.{AnswersLine}
 use Rattle.graphql_service.specs.Texts.{told_of_line, told_of_request}
 
 -- a fact on `Ok` gives another
@@ -187,19 +189,35 @@ module _ {S C N X : Type 0} (a : Answerer S C N X) (line : Bytes) where
       broken = as_asked (λ q. IsBrokenOff a.scalars q a.resolver c after) broken;
     })
 
-  -- what an answer leaves, want of memory may leave
-  pub answer-broken : (old new : X) (answered : Bytes) → Answer old new answered → LeavesBroken a line old new
-  answer-broken old new answered (no_request refusal h e kept) = inl kept
-  answer-broken old new answered (not_executed refusal h e kept) = inl kept
-  answer-broken old new answered (executed_to found errors h e) = inr (record {
-    request = h.request;
-    asks = h.asks;
-    broken = broken-at-the-end a.scalars (asked_by a line h.request) a.resolver a.by_fields old new found errors h.answers;
-  })
-
   -- an answer is one line
   pub answer_is_line : ((v : Value ScalarAnswer) → IsLine (line_of v)) → (old new : X) (answered : Bytes) → Answer old new answered
       → IsLine answered
   answer_is_line lines old new answered (no_request refusal h e kept) = subst IsLine (sym e) (lines (refusal_of (told_of_line a.limit refusal)))
   answer_is_line lines old new answered (not_executed refusal h e kept) = subst IsLine (sym e) (lines (refusal_of (told_of_request refusal)))
   answer_is_line lines old new answered (executed_to found errors h e) = subst IsLine (sym e) (lines (response_of a.scalars.answer found errors))
+
+  -- the answer that is written behind others is one line, with distinct keys
+  pub answer_as_line : ((v : Value ScalarAnswer) → IsLine (line_of v)) → (old new : X)
+      → ((text : Bytes) → Answer old new text → IsLineOfDistinctKeys text) → (before after : Bytes) → Appends (Answer old new) before after
+      → Appends (λ text. AnswersLine a old line text new) before after
+  answer_as_line lines old new distinct before after h = (
+    h.0,
+    h.1,
+    record { answer = h.2; one_line = answer_is_line lines old new h.0 h.2; distinct = distinct h.0 h.2 },
+  )
+
+  -- where nothing stood before, it is all that is written
+  module _ {A E : Type 0} (r : Result A E) (old new : X) (before after : Bytes) (nothing : before ≡ []) where
+    all_written : OnOk r (Appends (λ text. AnswersLine a old line text new) before after) → OnOk r (AnswersLine a old line after new)
+    all_written h =
+        on_ok r (Appends (λ text. AnswersLine a old line text new) before after) (AnswersLine a old line after new)
+        (alone (λ text. AnswersLine a old line text new) before after nothing) h
+
+    pub written_answer : OnOk r (Appends (λ text. AnswersLine a old line text new) before after) → OnOk r (Answer old new after)
+    written_answer h = on_ok r (AnswersLine a old line after new) (Answer old new after) (λ k. k.answer) (all_written h)
+
+    pub written_line : OnOk r (Appends (λ text. AnswersLine a old line text new) before after) → OnOk r (IsLine after)
+    written_line h = on_ok r (AnswersLine a old line after new) (IsLine after) (λ k. k.one_line) (all_written h)
+
+    pub written_distinct : OnOk r (Appends (λ text. AnswersLine a old line text new) before after) → OnOk r (IsLineOfDistinctKeys after)
+    written_distinct h = on_ok r (AnswersLine a old line after new) (IsLineOfDistinctKeys after) (λ k. k.distinct) (all_written h)

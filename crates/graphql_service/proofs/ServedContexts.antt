@@ -1,5 +1,5 @@
 -- What a service answers lines, as its context shows it, and answers that are written behind others.
-use Rattle.std.proofs.Common.{◌≡◌, ℕ, List, ◌++◌, Option, Result, Ok, Err, OnOk, OnErr, cond, is_ok, refl, subst, ap, ◌∙◌}
+use Rattle.std.proofs.Common.{◌≡◌, ℕ, List, ◌++◌, Option, Result, Ok, Err, OnOk, OnErr, refl, subst, ◌∙◌}
 use Rattle.std.specs.Prelude.{IfErr}
 use Rattle.std.specs.declared.cmp.Ordering.{Ordering}
 use Rattle.graphql_names.specs.Names.{Bytes}
@@ -11,7 +11,7 @@ use Rattle.graphql_executor.specs.Resolvers.{Resolver}
 use Rattle.graphql_streams.specs.Served.{Ends, ServedAll}
 use Rattle.graphql_streams.specs.declared.serve_error.ServeError.{ServeError}
 use Rattle.graphql_streams.proofs.ShownRuns.{all-shown_if, ends-shown_if, stays_if}
-use Rattle.graphql_service.specs.Answers.{Answerer, answerer_of}
+use Rattle.graphql_service.specs.Answers.{Answerer, Appends, answerer_of}
 use Rattle.graphql_service.specs.Serving.{AnswersLine, BreaksAtLine, HasPartsOf, ServiceAnswers, ServiceBreaks}
 use Rattle.graphql_service.specs.declared.service.Service.{Service}
 
@@ -92,13 +92,13 @@ module _ {S C N X R : Type 0} (scalars : Scalars S C) (by_rules : RuleError → 
         (ServiceBreaks scalars by_rules by_fields resolving) (BreaksAtLine (its_answerer old)) (context-breaks old) result
         old new left rest had has (own-parts old)
 
--- what is appended, or is not
-pub appended : {A E : Type 0} (result : Result A E) (old new slice piece : Bytes) (P : Bytes → Type 0) → slice ≡ piece
-    → new ≡ cond (is_ok result) (old ++ slice) old → P piece → OnOk result ((text : List ℕ) × (new ≡ old ++ text) × P text)
-appended (Ok x) old new slice piece P same is h = (piece, is ∙ ap (λ xs. old ++ xs) same, h)
-appended (Err e) old new slice piece P same is h = tt
+-- what is appended, or is not, with a fact that holds in either case
+pub appended : {A E : Type 0} (result : Result A E) (P : Bytes → Type 0) (Q : Type 0) (old new : Bytes) → Q → OnOk result (Appends P old new)
+    → OnOk result ((text : List ℕ) × (new ≡ old ++ text) × (P text × Q))
+appended (Ok x) P Q old new q h = (h.0, h.1, (h.2, q))
+appended (Err e) P Q old new q h = tt
 
-pub not-appended : {A E : Type 0} (result : Result A E) (old new slice : Bytes) (P : Type 0)
-    → new ≡ cond (is_ok result) (old ++ slice) old → P → OnErr result ((new ≡ old) × P)
-not-appended (Ok x) old new slice P is h = tt
-not-appended (Err e) old new slice P is h = (is, h)
+pub not-appended : {A E : Type 0} (result : Result A E) (P Q : Type 0) (old new : Bytes) → Q → OnErr result P → OnErr result (new ≡ old)
+    → OnErr result ((new ≡ old) × (P × Q))
+not-appended (Ok x) P Q old new q h is = tt
+not-appended (Err e) P Q old new q h is = (is, (h, q))

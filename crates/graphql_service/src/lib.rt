@@ -10,13 +10,12 @@ mod serving;
 pub use graphql_executor::{
     Applies, Arguments, Executor, FieldError, FieldFault, FieldResult, GraphQLMutationValue,
     GraphQLValue, IntrospectionChecks, IntrospectionFormat, LookAheadChildren, LookAheadSelection,
-    Resolved, introspect, introspection_metadata,
+    Meaning, Resolved, Resolving, introspect, introspection_metadata,
 };
 pub use graphql_lines::{
     GraphQLRequest, LineRefusal, json_of_line, request_from_line, request_in, text_to_json,
     value_to_json, variables_from_json,
 };
 pub use graphql_meta::scalar_checks::{self, StandardChecks};
-pub use graphql_sample as sample;
 pub use graphql_streams::{ByteSink, ByteSource, Piped, ReadFailed, ServeError, WriteFailed};
 pub use service::{Service, ServiceFault};

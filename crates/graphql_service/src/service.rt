@@ -66,10 +66,12 @@ impl<S: SchemaScalar + Drop, R: GraphQLMutationValue<S>> Service<S, R, R::Contex
     ghost use Rattle.std.specs.Prelude.{[], OnErr, OnOk};
     ghost use Rattle.graphql_answers.specs.Lines.{IsLine};
     ghost use Rattle.graphql_lines.specs.Request.{HoldsRequest, Request};
+    ghost use Rattle.graphql_lines.specs.Writing.{KeepsFront};
     ghost use Rattle.graphql_names.specs.Names.{Bytes};
     ghost use Rattle.graphql_service.specs.Answers.{Appends, Asks, IsAnswer, LeavesBroken, answerer_of};
     ghost use Rattle.graphql_service.specs.Laws.{IsLineOfDistinctKeys};
     ghost use Rattle.graphql_service.specs.Made.{IsOf, Makes};
+    ghost use Rattle.graphql_service.specs.Serving.{AnswersLine};
 
     /// A service over this root node, this resolver and this context. Its lines have at most `line_limit`
     /// bytes, and plain texts at most `selection_limit` fields and inline fragments.
@@ -149,19 +151,43 @@ impl<S: SchemaScalar + Drop, R: GraphQLMutationValue<S>> Service<S, R, R::Contex
             OnErr result (LeavesBroken a line.now self.old.context self.new.context) }
         ensures emptied { OnErr result (out.new.items ≡ []) }
     {
+        out.clear();
+        self.append_line(alloc, line, out)
+    }
+
+    /// Writes the answer line of a request line behind what `out` holds, as [`Service::answer`]
+    /// gives it. The only error is want of memory, after which `out` is as it was.
+    pub(crate) fn append_line(
+        &mut self,
+        alloc: Global,
+        line: &[u8],
+        out: &mut Vec<u8>,
+    ) -> Result<(), AllocError>
+        ensures answers { let a = answerer_of ⟦<S as Meaning>⟧.meaning ⟦<RuleError as Ord>⟧.cmp
+            ⟦<ExecutionError<S> as Ord>⟧.cmp ⟦<R as Resolving<S>>⟧.resolving self.old in
+            OnOk result (Appends (λ text. AnswersLine a self.old.context line.now text self.new.context)
+            out.old.items out.new.items) }
+        ensures parts { IsOf self.old.root_node self.old.resolver self.new.context
+            self.old.line_limit self.old.selection_limit self.new }
+        ensures broken { let a = answerer_of ⟦<S as Meaning>⟧.meaning ⟦<RuleError as Ord>⟧.cmp
+            ⟦<ExecutionError<S> as Ord>⟧.cmp ⟦<R as Resolving<S>>⟧.resolving self.old in
+            OnErr result (LeavesBroken a line.now self.old.context self.new.context) }
+        ensures kept { OnErr result (out.new.items ≡ out.old.items) }
+    {
         values_are_lines();
         answer_lines_have_distinct_keys::<S, R>();
-        out.clear();
+        let length = out.len();
         match self.push_answer(alloc, line, out) {
             Ok(()) => Ok(()),
             Err(error) => {
-                out.clear();
+                out.truncate(length);
                 Err(error)
             }
         }
     }
 
-    /// Writes the answer line of a request line, at the end of `out`.
+    /// Writes the answer line of a request line, at the end of `out`. An error is want of memory:
+    /// then `out` may hold a part of it, behind what it held.
     fn push_answer(
         &mut self,
         alloc: Global,
@@ -177,6 +203,7 @@ impl<S: SchemaScalar + Drop, R: GraphQLMutationValue<S>> Service<S, R, R::Contex
         ensures broken { let a = answerer_of ⟦<S as Meaning>⟧.meaning ⟦<RuleError as Ord>⟧.cmp
             ⟦<ExecutionError<S> as Ord>⟧.cmp ⟦<R as Resolving<S>>⟧.resolving self.old in
             OnErr result (LeavesBroken a line.now self.old.context self.new.context) }
+        ensures front { KeepsFront out.old.items out.new.items }
     {
         if line.len() > self.line_limit {
             return push_line_refusal(alloc, out, LineRefusal::LineTooLong, self.line_limit);
@@ -187,7 +214,8 @@ impl<S: SchemaScalar + Drop, R: GraphQLMutationValue<S>> Service<S, R, R::Contex
         }
     }
 
-    /// Writes the answer line of a request, at the end of `out`.
+    /// Writes the answer line of a request, at the end of `out`. An error is want of memory: then
+    /// `out` may hold a part of it, behind what it held.
     fn push_executed(
         &mut self,
         alloc: Global,
@@ -206,6 +234,7 @@ impl<S: SchemaScalar + Drop, R: GraphQLMutationValue<S>> Service<S, R, R::Contex
             OnErr result ((line : Bytes) (asked : Request) → Asks a line asked
             → HoldsRequest S.of_bool S.of_int S.of_text asked request.now
             → LeavesBroken a line self.old.context self.new.context) }
+        ensures front { KeepsFront out.old.items out.new.items }
     {
         let name = lent(&request.operation_name);
         let query = request.query.as_str();

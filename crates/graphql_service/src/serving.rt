@@ -80,10 +80,8 @@ impl<S: SchemaScalar + Drop, R: GraphQLMutationValue<S>> LineEngine for Service<
         &mut self,
         alloc: Global,
         line: &[u8],
-        scratch: &mut Vec<u8>,
         out: &mut Vec<u8>,
     ) -> Result<(), AllocError> {
-        self.answer(alloc, line, scratch)?;
-        out.extend_from_slice(scratch.as_slice())
+        self.append_line(alloc, line, out)
     }
 }

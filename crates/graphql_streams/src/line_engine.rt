@@ -21,15 +21,13 @@ pub trait LineEngine {
         ensures { result ≡ limit self.now };
 
     /// Writes the answer of a line behind what `out` holds. The line is given without its line
-    /// feed; of one that is too long one byte more than the limit is given at least. `scratch` is a
-    /// buffer of the caller, to write to first: what it holds before and after counts for nothing.
+    /// feed; of one that is too long one byte more than the limit is given at least.
     ///
     /// The only error is want of memory, and `out` is as it was then.
     fn append_answer(
         &mut self,
         alloc: Global,
         line: &[u8],
-        scratch: &mut Vec<u8>,
         out: &mut Vec<u8>,
     ) -> Result<(), AllocError>
         ensures answers { OnOk result ((text : List ℕ) × (out.new.items ≡ out.old.items ++ text)

@@ -14,9 +14,6 @@ pub struct Buffers {
     /// What is kept of the line that has begun.
     pub line: Vec<u8>,
 
-    /// Where an answer is written first.
-    pub scratch: Vec<u8>,
-
     /// The answers that wait to be written.
     pub answers: Vec<u8>,
 }
@@ -29,7 +26,6 @@ impl Buffers {
     {
         Buffers {
             line: Vec::new(alloc),
-            scratch: Vec::new(alloc),
             answers: Vec::new(alloc),
         }
     }
@@ -75,7 +71,6 @@ fn answer<E: LineEngine>(
     alloc: Global,
     engine: &mut E,
     line: &[u8],
-    scratch: &mut Vec<u8>,
     answers: &mut Vec<u8>,
 ) -> Result<(), AllocError>
     ensures ok { OnOk result
@@ -87,7 +82,7 @@ fn answer<E: LineEngine>(
     if line.is_empty() {
         return Ok(());
     }
-    engine.append_answer(alloc, line, scratch, answers)
+    engine.append_answer(alloc, line, answers)
 }
 
 /// Answers the line that has begun, which ends with these bytes; the next has not begun then. An
@@ -109,16 +104,12 @@ pub fn end_line<E: LineEngine>(
         × Broken E.answers E.breaks engine.old ((begun ++ bytes.now) ∷ []) engine.new) }
     ensures limit { E.limit engine.new ≡ E.limit engine.old }
 {
-    let Buffers {
-        line,
-        scratch,
-        answers,
-    } = buffers;
+    let Buffers { line, answers } = buffers;
     if line.is_empty() {
-        return answer(alloc, engine, bytes, scratch, answers);
+        return answer(alloc, engine, bytes, answers);
     }
     keep(line, bytes, limit)?;
-    answer(alloc, engine, line.as_slice(), scratch, answers)?;
+    answer(alloc, engine, line.as_slice(), answers)?;
     line.clear();
     Ok(())
 }

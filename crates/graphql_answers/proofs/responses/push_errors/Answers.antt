@@ -6,8 +6,8 @@ use Rattle.graphql_answers.proofs.Parts.{three_parts}
 use Rattle.graphql_answers.proofs.Written.{some_errors}
 use Rattle.graphql_answers.proofs.responses.push_errors.Goals as goal
 
-pub returns : goal.returns
-returns g c =
+pub returns-clause-written : goal.returns-clause-written
+returns-clause-written g c =
     let answer = g.S.ScalarValue.answer in
     let o = c.args.out.now.items in
     let a = c.extend_from_slice.new.self.items in
@@ -15,6 +15,6 @@ returns g c =
     let n = c.extend_from_slice-2.new.self.items in
     let first : a ≡ o ++ codes ",\"errors\":[" = c.in_ok-extend_from_slice.ensures.items in
     let end : OnOk c.extend_from_slice-2.result (n ≡ b ++ codes "]") = search rules in
-    let whole = three_parts c.extend_from_slice-2.result o (codes ",\"errors\":[") a (joined [] (map (field_error_text answer) c.args.errors.now)) b (codes "]") n first c.in_ok-push_field_errors.ensures end in
+    let whole = three_parts c.extend_from_slice-2.result o (codes ",\"errors\":[") a (joined [] (map (field_error_text answer) c.args.errors.now)) b (codes "]") n first c.in_ok-push_field_errors.ensures.written end in
     let P : Bytes → Type 0 = λ t. OnOk c.extend_from_slice-2.result (n ≡ o ++ t) in
     subst P (some_errors answer c.args.errors.now (sym c.is_empty.ensures ∙ c.if-is_empty.false)) whole

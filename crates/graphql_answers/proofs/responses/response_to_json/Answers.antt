@@ -6,8 +6,8 @@ use Rattle.graphql_answers.proofs.Parts.{four_parts}
 use Rattle.graphql_answers.proofs.Written.{of_response}
 use Rattle.graphql_answers.proofs.responses.response_to_json.Goals as goal
 
-pub returns : goal.returns
-returns g c =
+pub returns-clause-written : goal.returns-clause-written
+returns-clause-written g c =
     let s = g.S.ScalarValue in
     let o = c.args.out.now.items in
     let v = c.args.value.now in
@@ -17,6 +17,6 @@ returns g c =
     let n = c.extend_from_slice-2.new.self.items in
     let first : a ≡ o ++ codes "{\"data\":" = c.in_ok-extend_from_slice.ensures.items in
     let end : OnOk c.extend_from_slice-2.result (n ≡ d ++ codes "}") = search rules in
-    let whole = four_parts c.extend_from_slice-2.result o (codes "{\"data\":") a (json s.answer v) b (errors_text s.answer c.args.errors.now) d (codes "}") n first c.in_ok-value_to_json.ensures c.in_ok-push_errors.ensures end in
+    let whole = four_parts c.extend_from_slice-2.result o (codes "{\"data\":") a (json s.answer v) b (errors_text s.answer c.args.errors.now) d (codes "}") n first c.in_ok-value_to_json.ensures.written c.in_ok-push_errors.ensures.written end in
     let P : Bytes → Type 0 = λ t. OnOk c.extend_from_slice-2.result (n ≡ o ++ t) in
     subst P (sym (of_response s.answer v c.args.errors.now)) whole

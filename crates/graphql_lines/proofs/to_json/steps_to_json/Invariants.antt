@@ -1,6 +1,7 @@
 use Rattle.std.proofs.Common.{◌≡◌, ◌++◌, length}
 use Rattle.std.specs.List.{flat_map}
 use Rattle.graphql_lines.specs.Json.{step_json}
+use Rattle.graphql_lines.specs.Writing.{KeepsFront}
 use Rattle.graphql_output_values.specs.Pending.{ahead}
 use Rattle.graphql_lines.proofs.to_json.steps_to_json.Given as goal
 
@@ -8,7 +9,10 @@ use Rattle.graphql_lines.proofs.to_json.steps_to_json.Given as goal
 abbrev pub invariant-steps : goal.invariant-steps
 invariant-steps g l =
     let texts = flat_map (step_json g.S.ScalarValue.answer) in
-    l.out.items ++ texts (ahead l.walk) ≡ l.initial.out.items ++ texts (ahead l.initial.walk)
+    record {
+      written : l.out.items ++ texts (ahead l.walk) ≡ l.initial.out.items ++ texts (ahead l.initial.walk);
+      front : KeepsFront l.fn.out.items l.out.items;
+    }
 
 abbrev pub decreases-steps : goal.decreases-steps
 decreases-steps g l = length (ahead l.walk)

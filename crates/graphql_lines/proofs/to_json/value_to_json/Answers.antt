@@ -4,9 +4,9 @@ use Rattle.graphql_lines.specs.Json.{step_json}
 use Rattle.graphql_lines.proofs.JsonSteps.{steps_are_json}
 use Rattle.graphql_lines.proofs.to_json.value_to_json.Goals as goal
 
-pub returns : goal.returns
-returns g c =
+pub returns-clause-written : goal.returns-clause-written
+returns-clause-written g c =
     let answer = g.S.ScalarValue.answer in
     subst (λ text. OnOk c.steps_to_json.result (c.steps_to_json.new.out.items ≡ c.args.out.now.items ++ text))
     (ap (flat_map (step_json answer)) c.in_ok-walk.ensures ∙ steps_are_json answer c.args.value.now)
-    c.steps_to_json.ensures
+    c.steps_to_json.ensures.written

@@ -1,16 +1,23 @@
-use Rattle.graphql_service.proofs.Answering.{alone, answer_is_line}
+use Rattle.std.proofs.Common.{◌≡◌, [], ◌∙◌}
+use Rattle.graphql_service.proofs.Answering.{also_on_err, written_answer, written_line, written_distinct}
 use Rattle.graphql_service.proofs.service.Service+S+R+R+Context.answer.Goals as goal
 
-pub returns-in-Ok-clause-answers : goal.returns-in-Ok-clause-answers
-returns-in-Ok-clause-answers g c = alone _ c.clear.new.self.items c.push_answer.new.out.items c.clear.ensures.items c.in-Ok.ensures.answers
+pub returns-clause-answers : goal.returns-clause-answers
+returns-clause-answers g c =
+    written_answer _ c.args.line.now c.append_line.result c.args.self.now.context c.append_line.new.self.context c.clear.new.self.items
+    c.append_line.new.out.items c.clear.ensures.items c.append_line.ensures.answers
 
-pub returns-in-Ok-clause-line : goal.returns-in-Ok-clause-line
-returns-in-Ok-clause-line g c =
-    answer_is_line _ c.args.line.now c.values_are_lines.ensures c.args.self.now.context c.push_answer.new.self.context c.push_answer.new.out.items
-    (alone _ c.clear.new.self.items c.push_answer.new.out.items c.clear.ensures.items c.in-Ok.ensures.answers)
+pub returns-clause-line : goal.returns-clause-line
+returns-clause-line g c =
+    written_line _ c.args.line.now c.append_line.result c.args.self.now.context c.append_line.new.self.context c.clear.new.self.items
+    c.append_line.new.out.items c.clear.ensures.items c.append_line.ensures.answers
 
-pub returns-in-Ok-clause-distinct : goal.returns-in-Ok-clause-distinct
-returns-in-Ok-clause-distinct g c =
-    c.answer_lines_have_distinct_keys.ensures c.args.self.now c.args.line.now c.push_answer.new.out.items c.args.self.now.context
-    c.push_answer.new.self.context
-    (alone _ c.clear.new.self.items c.push_answer.new.out.items c.clear.ensures.items c.in-Ok.ensures.answers)
+pub returns-clause-distinct : goal.returns-clause-distinct
+returns-clause-distinct g c =
+    written_distinct _ c.args.line.now c.append_line.result c.args.self.now.context c.append_line.new.self.context c.clear.new.self.items
+    c.append_line.new.out.items c.clear.ensures.items c.append_line.ensures.answers
+
+pub returns-clause-emptied : goal.returns-clause-emptied
+returns-clause-emptied g c =
+    also_on_err c.append_line.result (c.append_line.new.out.items ≡ c.clear.new.self.items) (c.append_line.new.out.items ≡ [])
+    (λ kept. kept ∙ c.clear.ensures.items) c.append_line.ensures.kept

@@ -10,7 +10,7 @@ returns-in-Ok-clause-answers g c =
     (option_map (λ t. t.now) c.lent-name.result) holds c.as_str-query.ensures.value c.lent-name.ensures asks
     response.0 response.1 c.args.self.now.context c.execute_sync.new.context c.args.out.now.items c.push_response.new.out.items
     c.in-Ok.ensures.answered e)
-    c.push_response.ensures
+    c.push_response.ensures.written
 
 pub returns-in-Ok-clause-broken : goal.returns-in-Ok-clause-broken
 returns-in-Ok-clause-broken g c =
