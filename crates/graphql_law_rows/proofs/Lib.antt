@@ -5,3 +5,4 @@ pub mod SampleLiterals
 pub mod SampleTexts
 pub mod Parsed
 pub mod Told
+pub mod KeptRules

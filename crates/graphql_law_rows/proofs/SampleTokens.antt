@@ -8,7 +8,7 @@ use Rattle.graphql_text.specs.Tokens.{Tokens, FirstFault, cut, token, ahead, nam
 use Rattle.graphql_text.specs.declared.token.Token.TheVariants.{Name, CurlyOpen, CurlyClose, EndOfFile}
 use Rattle.graphql_text.specs.declared.token.LexerError.{LexerError}
 use Rattle.graphql_text.specs.declared.token.LexerError.TheVariants.{UnknownCharacter, Memory}
-use Rattle.graphql_text.specs.Laws.{GivesInTurn, HadMemory}
+use Rattle.graphql_lexer.specs.Laws.{GivesInTurn, HadMemory}
 use Rattle.graphql_text.specs.Reading.{start_of}
 use Rattle.graphql_law_rows.specs.SampleTokens.{answers, at, before_end, broken, done, ended, fault, located, one_line, opened, others, tokens, two_lines}
 

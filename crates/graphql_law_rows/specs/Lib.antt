@@ -5,3 +5,6 @@ pub mod SampleLiterals
 pub mod SampleTexts
 pub mod OnlyAnswers
 pub mod OnlyTold
+pub mod KeptRules
+pub mod SampleFailures
+pub mod SampleWraps

@@ -1,6 +1,6 @@
 -- What a parser answers is all that may be answered where it stands.
 use Rattle.std.specs.Prelude.{◌≡◌, Some, Result, Ok, Err}
-use Rattle.graphql_items.specs.Memory.{UnlessMemory}
+use Rattle.graphql_text.specs.Memory.{UnlessMemory}
 use Rattle.graphql_grammar.specs.Input.{Input, Fault, IsMemory}
 use Rattle.graphql_parser.specs.Parser.{Rule, State}
 

@@ -7,7 +7,7 @@ use Rattle.graphql_text.specs.declared.token.Token.TheVariants.{Name, CurlyOpen,
 use Rattle.graphql_text.specs.declared.token.LexerError.TheVariants.{UnknownCharacter}
 use Rattle.graphql_text.specs.Reading.{Refusal}
 use Rattle.graphql_text.specs.Tokens.{Located}
-use Rattle.graphql_text.specs.OneByOne.{Answer, Remains}
+use Rattle.graphql_lexer.specs.OneByOne.{Answer, Remains}
 
 abbrev pub at : ℕ → ℕ → ℕ → SourcePosition
 at index line column = record { index = index; line = line; column = column }

@@ -6,9 +6,12 @@
 #![tactic(auto)]
 
 pub mod documents;
+pub mod failures;
 pub mod literals;
 pub mod parsers;
+pub mod rules;
 pub mod scalars;
+pub mod schemas;
 pub mod tokens;
 pub mod values;
 pub mod visitors;

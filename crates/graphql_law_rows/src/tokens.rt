@@ -3,15 +3,15 @@
 ghost use Rattle.std.specs.Prelude.{◌≡◌, ◌<◌, ◌≤◌, ◌+◌, ◌⊎◌, ◌++◌, [], ◌∷◌, Ok, Err, Some, List};
 ghost use Rattle.std.specs.Prelude.{false, encode_utf8_all, length, map};
 ghost use Rattle.graphql_text.specs.Grammar.{IsBroken, IsDivided, Spells};
-ghost use Rattle.graphql_text.specs.Laws.{Every, InOrder, placed, slice_of};
-ghost use Rattle.graphql_text.specs.OneByOne.{Answer, GivesNext};
+ghost use Rattle.graphql_lexer.specs.Laws.{Every, InOrder, placed, slice_of};
+ghost use Rattle.graphql_lexer.specs.OneByOne.{Answer, GivesNext};
 ghost use Rattle.graphql_text.specs.Position.{position_at};
 ghost use Rattle.graphql_text.specs.Reading.{Refusal};
 ghost use Rattle.graphql_text.specs.Spelling.{source_of};
 ghost use Rattle.graphql_text.specs.Tokens.{Located, is_end};
 ghost use Rattle.graphql_law_rows.specs.SampleTokens as spec;
 
-use graphql_text::laws;
+use graphql_lexer::laws;
 
 /// A text of two lines is divided into its four tokens and no others, and has no fault.
 pub fn two_lines_are_divided()
