@@ -1,0 +1,4 @@
+pub mod FullSets
+pub mod SpelledSets
+pub mod WrittenSets
+pub mod Rows

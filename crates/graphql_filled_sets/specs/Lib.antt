@@ -1,0 +1,2 @@
+pub mod WholeSets
+pub mod Laws

@@ -1,0 +1,3 @@
+pub mod PlainMembers
+pub mod PlainRuns
+pub mod Rows

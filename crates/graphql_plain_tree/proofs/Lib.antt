@@ -1,0 +1,11 @@
+pub mod PlainRelations
+pub mod PlainFields
+pub mod PlainShapes
+pub mod Heights
+pub mod FilledSets
+pub mod StandInLaws
+pub mod KeyedSets
+pub mod DocumentSets
+pub mod UsedVariables
+pub mod OperationsAgain
+pub mod Rows
