@@ -1,3 +1,4 @@
+pub mod Conditions
 pub mod Conformed
 pub mod MadeSchemas
 pub mod Readings

@@ -1,6 +1,6 @@
 -- What is made of all the types of a schema.
 use Rattle.std.proofs.Common.{◌≡◌, List, Result, Ok, Err, sym, subst, ap, refl}
-use Rattle.graphql_items.specs.Memory.{UnlessMemory}
+use Rattle.graphql_text.specs.Memory.{UnlessMemory}
 use Rattle.graphql_scalars.specs.declared.default_scalar.DefaultScalarValue.TheVariants as scalar
 use Rattle.graphql_meta.specs.declared.meta.MetaType.{MetaType}
 use Rattle.graphql_schema.specs.declared.root_node.RootNode.{RootNode}

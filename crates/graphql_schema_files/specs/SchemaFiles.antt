@@ -3,7 +3,7 @@ use Rattle.std.specs.Prelude.{◌≡◌, ◌⊎◌, ◌++◌, true, false, List,
 use Rattle.std.specs.Borrow.{Bor}
 use Rattle.std.specs.List.{All, AllZip, list_all}
 use Rattle.serde_json.specs.Data.{Data}
-use Rattle.graphql_items.specs.Memory.{Answers}
+use Rattle.graphql_text.specs.Memory.{Answers}
 use Rattle.graphql_lines.specs.Request.{data_of}
 use Rattle.graphql_names.specs.Names.{Bytes}
 use Rattle.graphql_scalars.specs.DefaultScalar.{answer}

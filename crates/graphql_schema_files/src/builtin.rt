@@ -1,7 +1,7 @@
 //! The types that each schema has, whatever its file declares.
 
 ghost use Rattle.std.specs.Prelude.{◌≡◌};
-ghost use Rattle.graphql_items.specs.Memory.{Gives};
+ghost use Rattle.graphql_text.specs.Memory.{Gives};
 ghost use Rattle.graphql_schema_files.specs.Builtin as spec;
 
 use graphql_introspection::introspection_metadata;

@@ -1,9 +1,10 @@
 //! A schema from its file, step by step.
 
-ghost use Rattle.std.specs.Prelude.{◌≡◌, ◌↔◌, IfOk, IsTrue, Some, None};
-ghost use Rattle.graphql_items.specs.Memory.{Answers};
+ghost use Rattle.std.specs.Prelude.{◌≡◌, ◌↔◌, IfOk, IsTrue, Some, None, true};
+ghost use Rattle.graphql_text.specs.Memory.{Answers};
 ghost use Rattle.graphql_lines.specs.Request.{data_of};
 ghost use Rattle.serde_json.specs.View.{view};
+ghost use Rattle.graphql_schema.specs.Directives.{has_standard_conditions};
 ghost use Rattle.graphql_schema_drafts.specs.Shapes.{schema_of};
 ghost use Rattle.graphql_drafted_types.specs.DraftedTypes.{AddsTypes};
 ghost use Rattle.graphql_schema_files.specs.Builtin as builtin;
@@ -178,6 +179,8 @@ impl SchemaFile {
             spec.ReadsBytes ⟦<TypeCheck as Check<DefaultScalarValue>>⟧.accepts types bytes.now result }
         // Each scalar has the check that is given for it.
         ensures scalars { IfOk result (λ root. builtin.HasScalars checks.int checks.string checks.boolean checks.id root.schema.types) }
+        // The directives `skip` and `include` are the standard's.
+        ensures conditions { IfOk result (λ root. has_standard_conditions root.schema.directives ≡ true) }
     {
         let types = builtin_types(alloc, checks)?;
         read_bytes(alloc, bytes, types)

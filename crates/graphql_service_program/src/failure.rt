@@ -1,77 +1,75 @@
 //! Why the program ended before the end of its input.
 
 ghost use Rattle.std.specs.Prelude.{◌≡◌};
-ghost use Rattle.graphql_service_program.specs.Status.{status_of, failure_of_schema, failure_of_error};
+ghost use Rattle.graphql_service_program.specs.Status.{status_of, status_of_fault};
 
-use graphql_schema_faults::SchemaError;
-use graphql_service::{ServeError, ServiceFault};
+use graphql_file_service::{DataFileError, RunFault, SchemaFileError, ServeError};
 use std::alloc::AllocError;
 use std::error::Error;
 use std::fmt;
 
 /// Why the program ended before the end of its input.
-#[derive(Clone, Copy, Debug, PartialEq, Eq)]
+#[derive(Debug, Drop)]
 pub enum Failure {
-    /// There were arguments.
+    /// The arguments are not those of the program.
     Usage,
-    /// The sample can't be served.
-    Sample,
-    /// A read of standard input failed.
-    Read,
-    /// A write to standard output failed, or took nothing.
-    Write,
+    /// The file at this path can't be read.
+    CannotRead(String),
+    /// The files are not served, or not to the end of the input.
+    Run(RunFault),
     /// Memory ran out.
     Memory,
 }
 
+/// The exit status of a run that ended so.
+fn fault_status(fault: &RunFault) -> u8
+    ensures { result ≡ status_of_fault fault.now }
+{
+    match fault {
+        RunFault::Schema(SchemaFileError::Memory)
+        | RunFault::Data(DataFileError::Memory)
+        | RunFault::Serve(ServeError::Memory)
+        | RunFault::Memory => 4,
+        RunFault::Schema(_) | RunFault::NotExecutable | RunFault::Data(_) => 1,
+        RunFault::Serve(_) => 3,
+    }
+}
+
 impl Failure {
     /// The exit status.
-    pub fn status(self) -> u8
-        ensures { result ≡ status_of self }
+    pub fn status(&self) -> u8
+        ensures { result ≡ status_of self.now }
     {
         match self {
-            Failure::Sample => 1,
+            Failure::CannotRead(_) => 1,
             Failure::Usage => 2,
-            Failure::Read | Failure::Write => 3,
+            Failure::Run(fault) => fault_status(fault),
             Failure::Memory => 4,
         }
     }
 }
 
+/// Writes why, in one line.
 impl fmt::Display for Failure {
     fn fmt<W: fmt::Write>(&self, f: &mut fmt::Formatter<W>) -> fmt::Result {
         match self {
-            Failure::Usage => write!(f, "usage: graphql_service"),
-            Failure::Sample => write!(f, "schema: NotExecutable"),
-            Failure::Read => write!(f, "read failed"),
-            Failure::Write => write!(f, "write failed"),
-            Failure::Memory => write!(f, "out of memory"),
+            Failure::Usage => f.write_str("usage: graphql_service [SCHEMA DATA]"),
+            Failure::CannotRead(path) => write!(f, "cannot read {path}"),
+            Failure::Run(fault) => write!(f, "{fault}"),
+            Failure::Memory => f.write_str("out of memory"),
         }
     }
 }
 
 impl Error for Failure {}
 
-/// Want of memory, or a fault of the sample's schema.
-impl From<SchemaError> for Failure {
-    ghost from_gives = { λ fault failure. failure ≡ failure_of_schema fault };
+impl From<RunFault> for Failure {
+    ghost use Rattle.graphql_service_program.specs.declared.failure.Failure.TheVariants.{Run};
 
-    fn from(fault: SchemaError) -> Failure {
-        match fault {
-            SchemaError::Memory => Failure::Memory,
-            _ => Failure::Sample,
-        }
-    }
-}
+    ghost from_gives = { λ fault failure. failure ≡ Run fault };
 
-/// The sample can't be served.
-impl From<ServiceFault> for Failure {
-    ghost use Rattle.graphql_service_program.specs.declared.failure.Failure.TheVariants.{Sample};
-
-    ghost from_gives = { λ _ failure. failure ≡ Sample };
-
-    fn from(_fault: ServiceFault) -> Failure {
-        Failure::Sample
+    fn from(fault: RunFault) -> Failure {
+        Failure::Run(fault)
     }
 }
 
@@ -82,17 +80,5 @@ impl From<AllocError> for Failure {
 
     fn from(_error: AllocError) -> Failure {
         Failure::Memory
-    }
-}
-
-impl From<ServeError> for Failure {
-    ghost from_gives = { λ error failure. failure ≡ failure_of_error error };
-
-    fn from(error: ServeError) -> Failure {
-        match error {
-            ServeError::Read => Failure::Read,
-            ServeError::Write => Failure::Write,
-            ServeError::Memory => Failure::Memory,
-        }
     }
 }

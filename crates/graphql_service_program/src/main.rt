@@ -1,67 +1,82 @@
-//! Answers GraphQL request lines from standard input over a sample schema and its records.
+//! Answers GraphQL request lines from standard input, over a schema and its records: those that two files
+//! have, or the sample's.
 #![tactic(auto)]
 
 mod failure;
 
 ghost use Rattle.std.specs.Prelude.{◌≡◌, Ok};
-ghost use Rattle.graphql_items.specs.Memory.{Told};
+ghost use Rattle.graphql_text.specs.Memory.{Told};
 ghost use Rattle.graphql_scalars.specs.declared.check_error.CheckError.TheVariants.{Memory};
 ghost use Rattle.graphql_meta.specs.ScalarChecks.{IsBoolean, IsId, IsInt, IsString};
 
 use failure::Failure;
-use graphql_meta::{IntrospectionChecks, TypeCheck};
-use graphql_schema::RootNode;
-use graphql_service::sample::{SampleResolver, sample_records, schema_s};
-use graphql_service::scalar_checks::{boolean_check, id_check, int_check, string_check};
-use graphql_service::{Piped, Service, StandardChecks};
+use graphql_file_service::scalar_checks::{boolean_check, id_check, int_check, string_check};
+use graphql_file_service::{
+    IntrospectionChecks, Piped, StandardChecks, TypeCheck, run_files, sample,
+};
 use graphql_values::{DefaultScalarValue, InputValue};
 use std::process::ExitCode;
-use std::{env, io};
-
-/// The greatest length of a line, in bytes.
-const LINE_LIMIT: usize = 65_536;
-
-/// The greatest size of a plain text, in fields and inline fragments.
-const SELECTION_LIMIT: usize = 10_000;
+use std::{env, fs, io};
 
 type Value = InputValue<DefaultScalarValue>;
 
-/// Refuses arguments: the program takes none.
-fn check_arguments(rt: &(impl env::Env + AllocGlobal)) -> Result<(), Failure> {
-    match env::args(rt) {
-        Ok(mut args) => {
-            let _program = args.next();
-            if args.next().is_some() {
-                Err(Failure::Usage)
-            } else {
-                Ok(())
-            }
-        }
-        Err(e) if e.kind() == io::ErrorKind::OutOfMemory => Err(Failure::Memory),
-        Err(_) => Err(Failure::Usage),
+/// What is served: a file of a schema, and one of its records.
+#[derive(Drop)]
+struct Files {
+    schema: Vec<u8>,
+    records: Vec<u8>,
+}
+
+/// Why the program ends that met this error, if it is not for want of memory.
+fn unless_memory(error: io::Error, otherwise: Failure) -> Failure {
+    if error.kind() == io::ErrorKind::OutOfMemory {
+        Failure::Memory
+    } else {
+        otherwise
     }
 }
 
-/// Serves the sample, with these checks of its types.
-fn serve_sample(rt: &HostRuntime, checks: StandardChecks) -> Result<(), Failure> {
-    let alloc = rt.alloc();
-    let root_node = RootNode::new(schema_s(alloc, checks)?);
-    let records = sample_records(alloc)?;
-    let mut service = Service::new(
-        root_node,
-        SampleResolver,
-        records,
-        LINE_LIMIT,
-        SELECTION_LIMIT,
-    )?;
-    let mut reader = Piped::new(rt.reader());
-    let mut writer = Piped::new(io::writer(rt));
-    service.serve(alloc, &mut reader, &mut writer)?;
-    Ok(())
+/// The paths of two files, or none, as the program's arguments have them.
+fn paths(rt: &HostRuntime) -> Result<Option<(String, String)>, Failure> {
+    let mut words = match env::args(rt) {
+        Ok(words) => words,
+        Err(error) => return Err(unless_memory(error, Failure::Usage)),
+    };
+    let _program = words.next();
+    match (words.next(), words.next(), words.next()) {
+        (None, _, _) => Ok(None),
+        (Some(schema), Some(records), None) => Ok(Some((schema, records))),
+        _ => Err(Failure::Usage),
+    }
 }
 
+/// The bytes of the file at a path.
+fn bytes_at(rt: &HostRuntime, path: String) -> Result<Vec<u8>, Failure> {
+    match fs::read(rt, path.as_str()) {
+        Ok(bytes) => Ok(bytes),
+        Err(error) => Err(unless_memory(error, Failure::CannotRead(path))),
+    }
+}
+
+/// The files that the program's arguments name, or the sample's.
+fn read_files(rt: &HostRuntime) -> Result<Files, Failure> {
+    let alloc = rt.alloc();
+    match paths(rt)? {
+        Some((schema, records)) => {
+            let schema = bytes_at(rt, schema)?;
+            let records = bytes_at(rt, records)?;
+            Ok(Files { schema, records })
+        }
+        None => Ok(Files {
+            schema: Vec::from_slice(alloc, sample::SCHEMA.as_bytes())?,
+            records: Vec::from_slice(alloc, sample::RECORDS.as_bytes())?,
+        }),
+    }
+}
+
+/// Answers the lines of standard input over the files, with checks of the standard scalars.
 fn run(rt: &HostRuntime) -> Result<(), Failure> {
-    check_arguments(rt)?;
+    let files = read_files(rt)?;
     let alloc = rt.alloc();
     let Ok(int) = Box::new(
         alloc,
@@ -112,19 +127,22 @@ fn run(rt: &HostRuntime) -> Result<(), Failure> {
     ) else {
         return Err(Failure::Memory);
     };
-    serve_sample(
-        rt,
-        StandardChecks {
-            int: TypeCheck::new(int),
-            string: TypeCheck::new(string),
-            boolean: TypeCheck::new(boolean),
-            id: TypeCheck::new(id),
-            introspection: IntrospectionChecks {
-                type_kind: TypeCheck::new(type_kind),
-                directive_location: TypeCheck::new(directive_location),
-            },
+    let checks = StandardChecks {
+        int: TypeCheck::new(int),
+        string: TypeCheck::new(string),
+        boolean: TypeCheck::new(boolean),
+        id: TypeCheck::new(id),
+        introspection: IntrospectionChecks {
+            type_kind: TypeCheck::new(type_kind),
+            directive_location: TypeCheck::new(directive_location),
         },
-    )
+    };
+    let mut reader = Piped::new(rt.reader());
+    let mut writer = Piped::new(io::writer(rt));
+    let schema = files.schema.as_slice();
+    let records = files.records.as_slice();
+    run_files(alloc, schema, records, checks, &mut reader, &mut writer)?;
+    Ok(())
 }
 
 fn main(rt: HostRuntime) -> ExitCode {

@@ -1,8 +1,8 @@
 //! What the introspection query is answered over the sample.
 
+use graphql_file_service::service::{IntrospectionFormat, introspect};
+use graphql_sample::{SampleResolver, sample_records};
 use graphql_schema::{RootNode, SchemaType};
-use graphql_service::sample::{SampleResolver, sample_records};
-use graphql_service::{IntrospectionFormat, introspect};
 use graphql_values::DefaultScalarValue;
 use std::alloc::{AllocError, Global};
 use std::process::Abort;
@@ -22,7 +22,7 @@ fn told(
 }
 
 /// Asserts that the schema is told, beginning with this, with descriptions where they are asked for.
-pub fn is_told(rt: &impl Abort, alloc: Global, schema: SchemaType<DefaultScalarValue>) {
+pub fn tells_of_itself(rt: &impl Abort, alloc: Global, schema: SchemaType<DefaultScalarValue>) {
     let root = RootNode::new(schema);
     let all = told(rt, alloc, &root, IntrospectionFormat::All).expect(rt, "memory");
     let front = r#"{"__schema": {"description": null, "queryType": {"name": "Query"}, "#;

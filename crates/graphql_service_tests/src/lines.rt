@@ -10,10 +10,10 @@ ghost use Rattle.graphql_lines.specs.Laws.{data_of_value};
 ghost use Rattle.graphql_lines.specs.Variables.{input_of};
 ghost use Rattle.graphql_service_tests.specs.Samples as spec;
 
-use graphql_items::{Items, Text};
+use graphql_file_service::service::{request_from_line, value_to_json};
 use graphql_lines::{GraphQLRequest, laws};
 use graphql_output_values::{DefaultScalarValue, Object, Value};
-use graphql_service::{request_from_line, value_to_json};
+use graphql_text::{Items, Text};
 use graphql_values::InputValue;
 use std::alloc::{AllocError, Global};
 use std::test::Fail;

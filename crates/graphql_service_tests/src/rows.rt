@@ -74,6 +74,13 @@ const OTHERS: &[Row<'_>] = &[
     ),
 ];
 
+/// What the schema tells of a type.
+const TOLD: &[Row<'_>] = &[(
+    r#"{"query":"{ __type(name: \"Human\") { kind name fields { name } } }"}"#,
+    r#"{"data":{"__type":{"kind":"OBJECT","name":"Human","fields":[{"name":"id"},{"name":"name"},{"name":"friend"}]}}}"#,
+    0,
+)];
+
 /// What the schema tells of itself, where it may not be asked.
 const HIDDEN: &[Row<'_>] = &[
     (
@@ -102,6 +109,7 @@ fn mutations_are_seen_by_later_lines(rt: HostRuntime) {
 #[test]
 fn the_schema_is_told_where_it_may_be_asked(rt: HostRuntime) {
     over(&rt, rt.alloc(), Asked::Introspected);
+    over(&rt, rt.alloc(), Asked::Lines(65_536, TOLD));
     over(&rt, rt.alloc(), Asked::Hidden(HIDDEN));
 }
 

@@ -1,18 +1,21 @@
 //! Services over the sample, and what is asserted of them.
 
 ghost use Rattle.std.specs.Prelude.{◌≡◌, Ok};
-ghost use Rattle.graphql_items.specs.Memory.{Told};
+ghost use Rattle.graphql_text.specs.Memory.{Told};
 ghost use Rattle.graphql_scalars.specs.declared.check_error.CheckError.TheVariants.{Memory};
 ghost use Rattle.graphql_meta.specs.ScalarChecks.{IsBoolean, IsId, IsInt, IsString};
 
-use crate::introspected::is_told;
+use crate::files::{is_told, served};
+use crate::introspected::tells_of_itself;
 use crate::schemas::{is_refused, unkept, with_other_skip};
 use crate::serving::{Run, are_served};
+use graphql_file_service::service::scalar_checks::{
+    boolean_check, id_check, int_check, string_check,
+};
+use graphql_file_service::service::{Service, ServiceFault, StandardChecks};
 use graphql_meta::{IntrospectionChecks, TypeCheck};
+use graphql_sample::{SampleRecords, SampleResolver, sample_records, schema_s};
 use graphql_schema::{RootNode, SchemaType};
-use graphql_service::sample::{SampleRecords, SampleResolver, sample_records, schema_s};
-use graphql_service::scalar_checks::{boolean_check, id_check, int_check, string_check};
-use graphql_service::{Service, ServiceFault, StandardChecks};
 use graphql_values::{DefaultScalarValue, InputValue};
 use std::alloc::{AllocError, Global};
 use std::process::Abort;
@@ -49,6 +52,9 @@ pub enum Asked<'a> {
 
     /// That a schema with another `skip` makes no service.
     OtherSkip,
+
+    /// Why a file of a schema and one of its records are not served; the empty text where they are.
+    Files(&'a str, &'a str, &'a str),
 }
 
 /// The sample's records, with no name of the human of this `id`.
@@ -118,9 +124,9 @@ fn with_schema(
             let root = RootNode::new(schema).disable_introspection();
             are_answered(rt, alloc, &mut service_of(rt, root, records, 65_536), rows);
         }
-        Asked::Introspected => is_told(rt, alloc, schema),
+        Asked::Introspected => tells_of_itself(rt, alloc, schema),
         Asked::Runs(runs) => are_served(rt, alloc, &mut service(rt, schema, records, 80), runs),
-        Asked::Unkept | Asked::OtherSkip => {
+        _ => {
             let schema = with_other_skip(rt, alloc, schema);
             is_refused(rt, alloc, schema, ServiceFault::OtherConditions);
         }
@@ -137,7 +143,7 @@ fn with_checks(rt: &impl Abort, alloc: Global, checks: StandardChecks, asked: As
     with_schema(rt, alloc, schema, asked);
 }
 
-/// Asserts of services over the sample's schema.
+/// Asserts of services over the sample's schema, or of files.
 pub fn over(rt: &impl Abort, alloc: Global, asked: Asked<'_>) {
     let int = TypeCheck::new(Box::new(
         alloc,
@@ -186,16 +192,15 @@ pub fn over(rt: &impl Abort, alloc: Global, asked: Asked<'_>) {
         type_kind,
         directive_location,
     };
-    with_checks(
-        rt,
-        alloc,
-        StandardChecks {
-            int,
-            string,
-            boolean,
-            id,
-            introspection,
-        },
-        asked,
-    );
+    let checks = StandardChecks {
+        int,
+        string,
+        boolean,
+        id,
+        introspection,
+    };
+    if let Asked::Files(schema, records, wanted) = asked {
+        return is_told(rt, alloc, served(alloc, (schema, records), checks), wanted);
+    }
+    with_checks(rt, alloc, checks, asked);
 }

@@ -1,7 +1,7 @@
 //! How lines are read and answers written.
 
 use crate::served::{Asked, SampleService, over};
-use graphql_service::{Piped, ServeError};
+use graphql_file_service::service::{Piped, ServeError};
 use std::alloc::Global;
 use std::io::{self, ErrorKind, Read, Write};
 use std::process::Abort;

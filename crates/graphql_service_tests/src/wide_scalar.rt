@@ -1,19 +1,18 @@
 //! A second type of scalars.
 
 ghost use Rattle.std.specs.Prelude.{◌≡◌, Result, refl};
-ghost use Rattle.graphql_items.specs.Memory.{Meets};
+ghost use Rattle.graphql_text.specs.Memory.{Meets};
 ghost use Rattle.graphql_text.specs.declared.parse_error.ParseError.{ParseError};
 ghost use Rattle.graphql_scalars.specs.Reading.{IsMemory};
 ghost use Rattle.graphql_scalars.specs.declared.default_scalar.DefaultScalarValue.{DefaultScalarValue};
 ghost use Rattle.graphql_service_tests.specs.WideScalars as spec;
 ghost use Rattle.graphql_service_tests.specs.declared.wide_scalar.WideScalar.TheVariants as wide;
 
-use graphql_items::Text;
 use graphql_meta::{Check, SchemaScalar};
 use graphql_scalars::{
     CheckError, DefaultScalarValue, ParseScalarResult, ParseScalarValue, ScalarValue,
 };
-use graphql_text::{ParseError, ScalarToken};
+use graphql_text::{ParseError, ScalarToken, Text};
 use graphql_values::{InputValue, no_scalar};
 use std::alloc::{AllocError, Global};
 

@@ -49,6 +49,13 @@ impl<S, C> SchemaType<S, C> {
         }
     }
 
+    /// The name of the query root (GraphQL October 2021, 3.3.1 Root Operation Types).
+    pub fn query_name(&self) -> &str
+        ensures { result.now ≡ self.now.query }
+    {
+        self.query.as_str()
+    }
+
     /// The name of the mutation root, if the schema has one (GraphQL October 2021, 3.3.1 Root Operation
     /// Types).
     pub fn mutation_name(&self) -> Option<&str>

@@ -1,0 +1,46 @@
+-- A service that is made of what two files describe, step by step.
+use Rattle.std.proofs.Common.{◌≡◌, Bool, true, List, Ok, Err, ap, sym, subst, ◌∙◌}
+use Rattle.graphql_text.specs.Memory.{Meets}
+use Rattle.graphql_names.specs.Names.{Bytes}
+use Rattle.graphql_scalars.specs.declared.default_scalar.DefaultScalarValue.{DefaultScalarValue}
+use Rattle.graphql_values.specs.declared.input_value.InputValue.{InputValue}
+use Rattle.graphql_meta.specs.declared.meta.MetaType.{MetaType}
+use Rattle.graphql_schema.specs.Executable.{is_executable}
+use Rattle.graphql_schema.specs.Schemas.{roots_of}
+use Rattle.graphql_schema.specs.declared.root_node.RootNode.{RootNode}
+use Rattle.graphql_schema.specs.declared.schema.SchemaType.{SchemaType}
+use Rattle.graphql_data_files.specs.declared.data_file_error.DataFileError.{DataFileError}
+use Rattle.graphql_data_files.specs.declared.data_file_error.DataFileError.TheVariants as error
+use Rattle.graphql_records.specs.Tables.{Table}
+use Rattle.graphql_table.specs.Resolvers.{IsResolverOf}
+use Rattle.graphql_table.specs.declared.resolver.TableResolver.{TableResolver}
+use Rattle.graphql_file_service.specs.TableServices.{Describes, IsDescribed, IsDue, IsMadeOf, TableService, executable, records_in}
+use Rattle.graphql_file_service.specs.declared.run_fault.RunFault.TheVariants as fault
+
+-- what is told of the schema that a root node lends
+pub tested : {C : Type 0} (root : RootNode DefaultScalarValue C) (lent : SchemaType DefaultScalarValue C) → lent ≡ root.schema → (told wanted : Bool)
+    → told ≡ is_executable lent.types (roots_of lent) → told ≡ wanted → executable root ≡ wanted
+tested root lent same told wanted value is = ap (λ s. is_executable s.types (roots_of s)) (sym same) ∙ sym value ∙ is
+
+module _ {C : Type 0} (accepts : C → InputValue DefaultScalarValue → Type 0) (builtin : List (MetaType DefaultScalarValue C)) (schema_file records_file : Bytes)
+    (root : RootNode DefaultScalarValue C) (described : Describes accepts builtin schema_file records_file true root) where
+  -- the file of records has none for the schema
+  pub no_records : (lent : SchemaType DefaultScalarValue C) → lent ≡ root.schema → (e : DataFileError) → Meets (λ e. e ≡ error.Memory) (Err e) (records_in lent records_file)
+      → IsDue accepts builtin schema_file records_file (fault.Data e)
+  no_records lent same e met = (root, described, subst (λ s. Meets (λ e. e ≡ error.Memory) (Err e) (records_in s records_file)) same met)
+
+  -- the service is made of what both describe
+  pub service_made : (lent : SchemaType DefaultScalarValue C) → lent ≡ root.schema → (resolver : TableResolver) → IsResolverOf lent resolver
+      → (again : SchemaType DefaultScalarValue C) → again ≡ root.schema → (table : Table) → records_in again records_file ≡ Ok table
+      → (service : TableService C) → IsMadeOf root resolver table (Ok service) → IsDescribed accepts builtin schema_file records_file service
+  service_made lent same resolver keeps again same_again table read service made = record {
+    described = subst (Describes accepts builtin schema_file records_file true) (sym made.root_node) described;
+    resolver =
+        subst (λ node. IsResolverOf node.schema service.resolver) (sym made.root_node)
+        (subst (IsResolverOf root.schema) (sym made.resolver) (subst (λ s. IsResolverOf s resolver) same keeps));
+    records =
+        subst (λ node. records_in node.schema records_file ≡ Ok service.context) (sym made.root_node)
+        (subst (λ t. records_in root.schema records_file ≡ Ok t) (sym made.context) (subst (λ s. records_in s records_file ≡ Ok table) same_again read));
+    line_limit = made.line_limit;
+    selection_limit = made.selection_limit;
+  }

@@ -1,0 +1,2 @@
+pub mod TableServices
+pub mod Runs

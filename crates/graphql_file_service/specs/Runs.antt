@@ -1,0 +1,65 @@
+-- What is read, answered and written by the service over two files.
+use Rattle.std.specs.Prelude.{◌≡◌, Option, Result, Ok, Err}
+use Rattle.graphql_names.specs.Names.{Bytes}
+use Rattle.graphql_scalars.specs.declared.default_scalar.DefaultScalarValue.{DefaultScalarValue}
+use Rattle.graphql_records.specs.Tables.{Table}
+use Rattle.graphql_records.specs.declared.table_node.TableNode.{TableNode}
+use Rattle.graphql_service.specs.Answers.{Answerer}
+use Rattle.graphql_service.specs.Serving.{AnswersLine, BreaksAtLine}
+use Rattle.graphql_streams.specs.Served.{Ends, ServedAll}
+use Rattle.graphql_streams.specs.declared.serve_error.ServeError.{ServeError}
+use Rattle.graphql_file_service.specs.TableServices.{TableService}
+use Rattle.graphql_file_service.specs.declared.run_fault.RunFault.{RunFault}
+use Rattle.graphql_file_service.specs.declared.run_fault.RunFault.TheVariants as fault
+
+-- what a source has before and after, and a sink, where they are known
+pub record Streams : Type 0 where
+  pub left : Option Bytes
+  pub rest : Option Bytes
+  pub old : Option Bytes
+  pub new : Option Bytes
+
+abbrev pub streams : Option Bytes → Option Bytes → Option Bytes → Option Bytes → Streams
+streams left rest old new = record { left = left; rest = rest; old = old; new = new }
+
+-- how the run ended, as far as lines were answered
+abbrev pub served : Result (Unit {0}) RunFault → Result (Unit {0}) ServeError
+served (Ok x) = Ok x
+served (Err (fault.Serve e)) = Err e
+served (Err (fault.Schema e)) = Ok tt
+served (Err fault.NotExecutable) = Ok tt
+served (Err (fault.Data e)) = Ok tt
+served (Err fault.Memory) = Ok tt
+
+-- by what a service answers, and by what the two files describe
+module _ {C : Type 0} (answerer : TableService C → Answerer DefaultScalarValue C TableNode Table)
+    (Described : TableService C → Type 0) (Due : RunFault → Type 0) (bytes : Streams) where
+  -- nothing was read and nothing written
+  abbrev pub IsUntouched : Type 0
+  IsUntouched = (bytes.rest ≡ bytes.left) × (bytes.new ≡ bytes.old)
+
+  -- the first fault of the files, before a line was read
+  abbrev pub IsRefused : RunFault → Type 0
+  IsRefused e = Due e × IsUntouched
+
+  -- each line was answered, or why no more lines were; the records that the lines left
+  abbrev pub Answered : TableService C → Table → Result (Unit {0}) ServeError → Type 0
+  Answered service after (Ok x) =
+      ServedAll (AnswersLine (answerer service)) service.context bytes.left bytes.rest bytes.old bytes.new after
+  Answered service after (Err e) =
+      Ends (AnswersLine (answerer service)) (BreaksAtLine (answerer service)) e service.context bytes.left bytes.rest bytes.old bytes.new after
+
+  -- so it was by the service over the files
+  pub record Serves (ended : Result (Unit {0}) ServeError) (after : Table) : Type 0 where
+    pub service : TableService C
+    pub described : Described service
+    pub answered : Answered service after ended
+
+  -- what became of the run
+  abbrev pub Ran : Result (Unit {0}) RunFault → Type 0
+  Ran (Ok x) = (after : Table) × Serves (Ok x) after
+  Ran (Err (fault.Schema e)) = IsRefused (fault.Schema e)
+  Ran (Err fault.NotExecutable) = IsRefused fault.NotExecutable
+  Ran (Err (fault.Data e)) = IsRefused (fault.Data e)
+  Ran (Err (fault.Serve e)) = (after : Table) × Serves (Err e) after
+  Ran (Err fault.Memory) = IsUntouched
