@@ -4,3 +4,5 @@ pub mod Kinds
 pub mod OnlyResponses
 pub mod SameKinds
 pub mod ToldKeys
+pub mod Persons
+pub mod PersonKeys

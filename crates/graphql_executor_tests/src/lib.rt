@@ -10,6 +10,7 @@ mod completed;
 mod costly;
 pub mod counter;
 mod kennel;
+pub mod look_ahead;
 #[cfg(test)]
 mod rows;
 #[cfg(test)]

@@ -7,8 +7,8 @@ use Rattle.graphql_scalars.specs.declared.default_scalar.DefaultScalarValue.TheV
 use Rattle.graphql_field_results.specs.declared.field_error.FieldError.{FieldError}
 use Rattle.graphql_field_results.specs.declared.resolved.Resolved.{Resolved}
 use Rattle.graphql_field_results.specs.declared.resolved.Resolved.TheVariants as resolved
-use Rattle.graphql_look_ahead_tests.specs.declared.watcher.Person.{Person}
-use Rattle.graphql_look_ahead_tests.specs.declared.watcher.Person.TheVariants as person
+use Rattle.graphql_executor_tests.specs.declared.look_ahead.watcher.Person.{Person}
+use Rattle.graphql_executor_tests.specs.declared.look_ahead.watcher.Person.TheVariants as person
 
 abbrev pub Answer : Type 0
 Answer = Result (Resolved DefaultScalarValue Person) (FieldError DefaultScalarValue)

@@ -1,9 +1,9 @@
 //! Queries, and what the resolver of these tests sees ahead: fields in order, each with the type to
 //! which it is bound, if to one.
 
-use crate::asked::{Given, Row};
-use crate::look::Look;
-use crate::schema::over;
+use crate::look_ahead::asked::{Given, Row};
+use crate::look_ahead::look::Look;
+use crate::look_ahead::schema::over;
 
 /// Fields that are spread, and what stands beneath a child.
 const SPREAD: &str = "{ hero { id ...C friends { ...C ... on Human @skip(if: true) { mass } } } } \

@@ -7,9 +7,9 @@ use Rattle.graphql_scalars.specs.declared.default_scalar.DefaultScalarValue.TheV
 use Rattle.graphql_field_results.specs.Answered.{TellsInDistinctKeys}
 use Rattle.graphql_field_results.specs.declared.resolved.Resolved.{Resolved}
 use Rattle.graphql_field_results.specs.declared.resolved.Resolved.TheVariants as resolved
-use Rattle.graphql_look_ahead_tests.specs.Persons.{Answer, answer}
-use Rattle.graphql_look_ahead_tests.specs.declared.watcher.Person.{Person}
-use Rattle.graphql_look_ahead_tests.specs.declared.watcher.Person.TheVariants as person
+use Rattle.graphql_executor_tests.specs.Persons.{Answer, answer}
+use Rattle.graphql_executor_tests.specs.declared.look_ahead.watcher.Person.{Person}
+use Rattle.graphql_executor_tests.specs.declared.look_ahead.watcher.Person.TheVariants as person
 
 abbrev pub given : Resolved DefaultScalarValue Person → Answer
 given x = Ok x

@@ -1,7 +1,7 @@
 //! Queries, and what the resolver of these tests sees ahead while they are answered.
 
-use crate::look::Look;
-use crate::watcher::Watcher;
+use crate::look_ahead::look::Look;
+use crate::look_ahead::watcher::Watcher;
 use graphql_executor::{GraphQLError, Response, execute_sync};
 use graphql_mutation::WithoutMutations;
 use graphql_schema::RootNode;

@@ -1,7 +1,7 @@
 use Rattle.std.proofs.Common.{subst, sym}
 use Rattle.graphql_collect.specs.Requests.{fragments_in}
 use Rattle.graphql_written_out.specs.Written.{Settled}
-use Rattle.graphql_look_ahead_tests.proofs.look.tell_below.Goals as goal
+use Rattle.graphql_executor_tests.proofs.look_ahead.look.tell_below.Goals as goal
 
 pub children-requires-2 : goal.children-requires-2
 children-requires-2 g c =

@@ -4,9 +4,9 @@ ghost use Rattle.std.specs.Prelude.{◌≡◌};
 ghost use Rattle.graphql_collect.specs.Requests.{fragments_in};
 ghost use Rattle.graphql_written_out.specs.Written.{Settled};
 ghost use Rattle.graphql_execution.specs.Answered.{Answered};
-ghost use Rattle.graphql_look_ahead_tests.specs.Persons as spec;
+ghost use Rattle.graphql_executor_tests.specs.Persons as spec;
 
-use crate::look::{Look, tell_seen};
+use crate::look_ahead::look::{Look, tell_seen};
 use graphql_arguments::Arguments;
 use graphql_execution::{Executor, GraphQLValue};
 use graphql_field_results::{FieldResult, Resolved};
@@ -106,9 +106,9 @@ impl<'l> GraphQLValue<DefaultScalarValue> for Watcher<'l> {
     type Node = Person;
 
     ghost use Rattle.std.specs.Prelude.{refl};
-    ghost use Rattle.graphql_look_ahead_tests.specs.Persons as spec;
-    ghost use Rattle.graphql_look_ahead_tests.specs.ToldKeys.{answers-tell};
-    ghost use Rattle.graphql_look_ahead_tests.specs.declared.watcher.Person.TheVariants as person;
+    ghost use Rattle.graphql_executor_tests.specs.Persons as spec;
+    ghost use Rattle.graphql_executor_tests.specs.PersonKeys.{answers-tell};
+    ghost use Rattle.graphql_executor_tests.specs.declared.look_ahead.watcher.Person.TheVariants as person;
 
     ghost root_node = { λ _. person.Root };
 

@@ -1,11 +1,11 @@
 //! The schema of these tests.
 
 ghost use Rattle.std.specs.Prelude.{◌≡◌, Ok};
-ghost use Rattle.graphql_items.specs.Memory.{Told};
+ghost use Rattle.graphql_text.specs.Memory.{Told};
 ghost use Rattle.graphql_scalars.specs.declared.check_error.CheckError.TheVariants.{Memory};
 ghost use Rattle.graphql_meta.specs.ScalarChecks.{IsBoolean};
 
-use crate::asked::{Row, ask};
+use crate::look_ahead::asked::{Row, ask};
 use graphql_executor::{IntrospectionChecks, introspection_metadata};
 use graphql_meta::scalar_checks::boolean_check;
 use graphql_meta::{

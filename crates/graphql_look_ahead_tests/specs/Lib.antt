@@ -1,2 +1,0 @@
-pub mod Persons
-pub mod ToldKeys
