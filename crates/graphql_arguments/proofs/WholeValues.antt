@@ -1,6 +1,6 @@
 -- A literal among whose variables none is listed is itself.
 use Rattle.std.proofs.Common.{◌≡◌, [], Option, Some}
-use Rattle.graphql_items.specs.declared.text.Text.{Text}
+use Rattle.graphql_text.specs.Memory.{Text}
 use Rattle.graphql_values.specs.Variables.{variables_in}
 use Rattle.graphql_values.specs.declared.input_value.InputValue.{InputValue}
 use Rattle.graphql_values.proofs.VariableLaws.{none_is_listed}

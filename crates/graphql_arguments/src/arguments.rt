@@ -2,7 +2,7 @@
 
 ghost use Rattle.std.specs.Prelude.{◌≡◌, ◌↔◌, [], length, slice_get, IsTrue};
 ghost use Rattle.std.specs.Option.{option_copied, option_map};
-ghost use Rattle.graphql_items.specs.Memory.{GivesBy};
+ghost use Rattle.graphql_text.specs.Memory.{GivesBy};
 ghost use Rattle.graphql_final_variables.specs.FinalVariables.{value_in};
 ghost use Rattle.graphql_arguments.specs.ArgumentValues.{argument_values, value_named};
 ghost use Rattle.graphql_arguments.specs.GivenValues.{arguments_told, named_lent, named_value};

@@ -2,7 +2,7 @@
 
 ghost use Rattle.std.specs.Prelude.{map};
 ghost use Rattle.std.specs.List.{filter_map};
-ghost use Rattle.graphql_items.specs.Memory.{Gives};
+ghost use Rattle.graphql_text.specs.Memory.{Gives};
 ghost use Rattle.graphql_final_variables.specs.Filled.{filled, filled_item, filled_pair};
 ghost use Rattle.graphql_final_variables.specs.FinalVariables.{value_in};
 

@@ -1,7 +1,7 @@
 ghost use Rattle.std.specs.Prelude.{◌≡◌, ◌+◌, ◌<◌, ◌%◌, ◌==◌, IfOk, length, EachIndex, filter, slice_index, slice_set};
 
 use crate::told::check;
-use graphql_items::Items;
+use graphql_text::Items;
 use std::alloc::{AllocError, Global};
 
 /// The items from the first to the last, by a loop over a borrow.

@@ -1,6 +1,6 @@
 ghost use Rattle.std.specs.Prelude.{◌≡◌, IfOk};
 
-use graphql_items::{Items, Text};
+use graphql_text::{Items, Text};
 use std::alloc::{AllocError, Global};
 
 /// A type that holds itself through a list, alone and in pairs.

@@ -1,10 +1,10 @@
 ghost use Rattle.std.specs.Prelude.{◌≡◌, IfOk};
-ghost use Rattle.graphql_items.specs.Memory.{Gives};
+ghost use Rattle.graphql_text.specs.Memory.{Gives};
 
 use crate::told::check;
-use graphql_items::{Items, Text};
 use graphql_output_values::{DefaultScalarValue, IntoValue, Object, Value};
 use graphql_scalars::ToScalarValue;
+use graphql_text::{Items, Text};
 use std::alloc::{AllocError, Global};
 use std::borrow::CowStr;
 

@@ -1,7 +1,7 @@
 ghost use Rattle.std.specs.Prelude.{◌≡◌, ◌++◌, IfOk, OnOk, OnErr};
 
 use crate::told::check;
-use graphql_items::{Items, Text};
+use graphql_text::{Items, Text};
 use std::alloc::{AllocError, Global};
 use std::collections::HashMap;
 use std::fmt::Write;

@@ -1,9 +1,8 @@
 //! Tests of what no clause says: printed texts, and the rows of the lexical grammar by name.
 
 use crate::told::check;
-use graphql_text::{
-    Lexer, LexerResult, ParseError, SourcePosition, Span, Spanning, TextRef, Token, lex_all,
-};
+use graphql_lexer::{Lexer, lex_all};
+use graphql_text::{LexerResult, ParseError, SourcePosition, Span, Spanning, TextRef, Token};
 use std::alloc::{AllocError, Global};
 use std::fmt::Debug;
 

@@ -3,7 +3,7 @@ use Rattle.std.specs.Prelude.{◌≡◌, ⊤, Result}
 use Rattle.std.proofs.Common.{subst}
 use Rattle.std.specs.declared.dyn_box.DynBox.{DynBox}
 use Rattle.std.specs.Borrow.{Bor}
-use Rattle.graphql_items.specs.Memory.{Told}
+use Rattle.graphql_text.specs.Memory.{Told}
 use Rattle.graphql_scalars.specs.declared.check_error.CheckError.{CheckError}
 use Rattle.graphql_scalars.specs.declared.check_error.CheckError.TheVariants.{Memory}
 use Rattle.graphql_scalars.specs.declared.default_scalar.DefaultScalarValue.{DefaultScalarValue}

@@ -4,7 +4,7 @@ use Rattle.std.specs.Prelude.{◌↔◌, IsTrue}
 use Rattle.graphql_meta.specs.declared.meta.MetaType.{MetaType}
 use Rattle.graphql_meta.specs.declared.meta.MetaType.TheVariants as meta
 use Rattle.graphql_meta.specs.Kinds.{IsComposite}
-use Rattle.graphql_schema_faults.specs.Faults.{is_composite}
+use Rattle.graphql_schema.specs.Declarations.{is_composite}
 
 is_false : (b : Bool) → (b ≡ true → ⊥) → b ≡ false
 is_false true h = absurd (h refl)

@@ -9,11 +9,10 @@ use Rattle.graphql_meta.specs.declared.meta.field.Field.{Field}
 use Rattle.graphql_meta.specs.declared.meta.MetaType.{MetaType}
 use Rattle.graphql_meta.specs.Types.{TypeOf, arguments_of, fields_of, reference_to}
 use Rattle.graphql_names.specs.Names.{Bytes, named}
-use Rattle.graphql_schema.specs.Declarations.{Declarations}
-pub use Rattle.graphql_schema.specs.Declarations.{argument_named}
+pub use Rattle.graphql_schema.specs.Declarations.{Declarations, declarations_of, argument_named, own_name, type_named}
+pub use Rattle.graphql_schema.specs.StandardDirectives.{directive_named}
 use Rattle.graphql_schema.specs.TypeTypes.{within_list}
-use Rattle.graphql_schema_faults.specs.Faults.{is_composite}
-use Rattle.graphql_schema_faults.specs.Lookups.{type_named}
+use Rattle.graphql_schema.specs.Declarations.{is_composite}
 use Rattle.graphql_tree.specs.declared.document.OperationType.{OperationType}
 use Rattle.graphql_tree.specs.declared.document.OperationType.TheVariants as operation
 

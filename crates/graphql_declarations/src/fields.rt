@@ -3,7 +3,7 @@
 ghost use Rattle.std.specs.Prelude.{◌≡◌};
 ghost use Rattle.std.specs.Option.{option_copied, option_map};
 ghost use Rattle.graphql_meta.specs.Types.{arguments_of};
-ghost use Rattle.graphql_schema_faults.specs.Faults.{is_composite};
+ghost use Rattle.graphql_schema.specs.Declarations.{is_composite};
 ghost use Rattle.graphql_declarations.specs.Lookups as spec;
 ghost use Rattle.graphql_declarations.specs.Lent.{arguments_lent, field_of_known, literal_of};
 

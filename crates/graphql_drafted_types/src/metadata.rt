@@ -2,7 +2,7 @@
 
 ghost use Rattle.std.specs.Prelude.{◌≡◌, IfOk};
 ghost use Rattle.std.specs.List.{All, AllZip};
-ghost use Rattle.graphql_items.specs.Memory.{Gives};
+ghost use Rattle.graphql_text.specs.Memory.{Gives};
 ghost use Rattle.graphql_drafted_types.specs.DraftedTypes as spec;
 ghost use Rattle.graphql_drafted_types.specs.SpelledTexts.{Finds};
 

@@ -1,7 +1,7 @@
 //! The type reference or the constant literal that a text is.
 
 ghost use Rattle.std.specs.Prelude.{◌≡◌, ◌≢◌, ◌↔◌, IfOk, IsTrue, None};
-ghost use Rattle.graphql_items.specs.Memory.{Gives};
+ghost use Rattle.graphql_text.specs.Memory.{Gives};
 ghost use Rattle.graphql_text.specs.declared.parse_error.ParseError.TheVariants.{Memory};
 ghost use Rattle.graphql_text.specs.declared.token.Token.TheVariants.{EndOfFile};
 ghost use Rattle.graphql_grammar.specs.Input.{peek};

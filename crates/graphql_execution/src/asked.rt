@@ -1,7 +1,7 @@
 //! What fields are asked of: nodes of resolvers, and parts of the schema.
 
 ghost use Rattle.std.specs.Prelude.{◌≡◌, map};
-ghost use Rattle.graphql_items.specs.Memory.{Gives};
+ghost use Rattle.graphql_text.specs.Memory.{Gives};
 ghost use Rattle.graphql_execution.specs.Asked.{asked_type, map_nodes};
 ghost use Rattle.graphql_execution.specs.declared.asked.Asked.TheVariants as asked;
 

@@ -4,7 +4,7 @@ ghost use Rattle.std.specs.Prelude.{◌≡◌, ◌++◌, ◌∷◌, [], IfSome, 
 ghost use Rattle.std.specs.Option.{option_copied, option_map};
 ghost use Rattle.graphql_collect.specs.Requests.{fragments_in, written_in};
 ghost use Rattle.graphql_declarations.specs.Lent.{literal_of};
-ghost use Rattle.graphql_items.specs.Memory.{Gives};
+ghost use Rattle.graphql_text.specs.Memory.{Gives};
 ghost use Rattle.graphql_look_ahead.specs.Selections.{none_or};
 ghost use Rattle.graphql_look_ahead.specs.Told.{IsOf, looked_at};
 ghost use Rattle.graphql_written_out.specs.Written.{fragment_meant};

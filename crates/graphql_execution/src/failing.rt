@@ -1,7 +1,7 @@
 //! Places without a value.
 
 ghost use Rattle.std.specs.Prelude.{◌++◌, IfOk, codes, reverse};
-ghost use Rattle.graphql_items.specs.Memory.{Gives};
+ghost use Rattle.graphql_text.specs.Memory.{Gives};
 ghost use Rattle.graphql_type_references.specs.TypeReference.{written};
 ghost use Rattle.graphql_evaluation.specs.Completion.{misfit_error, own_null};
 ghost use Rattle.graphql_execution.specs.Begins.{IsTold};

@@ -4,7 +4,7 @@ ghost use Rattle.std.specs.Prelude.{◌≡◌, ◌<◌, ◌+◌, length, reverse
 ghost use Rattle.graphql_evaluation.specs.Completion.{object_members};
 ghost use Rattle.graphql_output_values.specs.Objects.{HasDistinctKeys};
 ghost use Rattle.graphql_output_values.specs.declared.value.Value.TheVariants as value;
-ghost use Rattle.graphql_items.specs.Memory.{Gives};
+ghost use Rattle.graphql_text.specs.Memory.{Gives};
 ghost use Rattle.graphql_execution.specs.Frames.{known_of};
 
 use crate::frames::{Begun, Frame, Known, KnownIn};

@@ -2,7 +2,7 @@
 
 ghost use Rattle.std.specs.Prelude.{◌≡◌, ◌++◌, [], ◌∷◌, reverse, unwrap_or};
 ghost use Rattle.graphql_output_values.specs.declared.value.Value.TheVariants as null;
-ghost use Rattle.graphql_items.specs.Memory.{Gives};
+ghost use Rattle.graphql_text.specs.Memory.{Gives};
 ghost use Rattle.graphql_evaluation.specs.Completion.{is_required};
 ghost use Rattle.graphql_evaluation.specs.Outcomes.{shown, both};
 ghost use Rattle.graphql_execution.specs.Parts.{IsOuter, null_here};

@@ -1,7 +1,7 @@
 //! A value with several owners.
 
 ghost use Rattle.std.specs.Prelude.{◌≡◌};
-ghost use Rattle.graphql_items.specs.Memory.{Gives};
+ghost use Rattle.graphql_text.specs.Memory.{Gives};
 
 use std::alloc::{AllocError, Global};
 use std::marker::Model;

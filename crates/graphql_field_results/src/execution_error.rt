@@ -5,9 +5,8 @@ ghost use Rattle.std.specs.List.Sorted.{IsSorted};
 ghost use Rattle.graphql_text.specs.Position.{origin};
 
 use crate::field_error::FieldError;
-use graphql_items::{Items, Text};
 use graphql_scalars::ScalarValue;
-use graphql_text::SourcePosition;
+use graphql_text::{Items, SourcePosition, Text};
 use std::alloc::{AllocError, Global};
 
 /// A field that has no value (GraphQL October 2021, 7.1.2 Errors): where it stands in the request's text,

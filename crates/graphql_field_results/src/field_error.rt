@@ -1,13 +1,13 @@
 //! Errors of fields.
 
 ghost use Rattle.std.specs.Prelude.{◌≡◌, ◌↔◌, IfSome, IsTrue, Some};
-ghost use Rattle.graphql_items.specs.Memory.{Gives};
+ghost use Rattle.graphql_text.specs.Memory.{Gives};
 ghost use Rattle.graphql_output_values.specs.Values.{Turns, map_scalars};
 ghost use Rattle.graphql_output_values.specs.declared.value.Value.TheVariants as value;
 
-use graphql_items::Text;
 use graphql_output_values::Value;
 use graphql_scalars::ScalarValue;
+use graphql_text::Text;
 use std::alloc::{AllocError, Global};
 use std::fmt::{self, Display};
 

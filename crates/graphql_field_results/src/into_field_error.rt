@@ -13,8 +13,8 @@ ghost use Rattle.graphql_field_results.specs.declared.field_fault.FieldFault.The
 
 use crate::field_error::FieldError;
 use crate::field_fault::FieldFault;
-use graphql_items::Text;
 use graphql_scalars::{CheckError, ScalarValue, WrongInputScalarTypeError};
+use graphql_text::Text;
 use graphql_values::{FromInputValue, FromInputValueArrayError, FromInputValueVecError};
 use std::alloc::Global;
 use std::borrow::CowStr;

@@ -9,9 +9,8 @@ ghost use Rattle.graphql_field_results.specs.declared.execution_error.ExecutionE
 use crate::execution_error::ExecutionError;
 use crate::field_error::FieldError;
 use crate::into_field_error::IntoFieldError;
-use graphql_items::Text;
 use graphql_scalars::{CheckError, ScalarValue, WrongInputScalarTypeError};
-use graphql_text::SourcePosition;
+use graphql_text::{SourcePosition, Text};
 use graphql_values::{FromInputValue, FromInputValueArrayError, FromInputValueVecError};
 use std::fmt::Display;
 

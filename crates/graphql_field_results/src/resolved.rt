@@ -1,6 +1,6 @@
 //! What a resolver answers for a field.
 
-use graphql_items::Items;
+use graphql_text::Items;
 
 /// What a resolver gives for a field (GraphQL October 2021, 6.4.2 Value Resolution): a scalar, a node of
 /// which fields can be asked, or lists of these. Which of them fits is decided by the type that the

@@ -3,7 +3,7 @@ use Rattle.std.proofs.Common.{◌≡◌, suc, List, [], ◌∷◌, map, Option, 
 use Rattle.std.proofs.lemmas.Option.{none-some, same_Some}
 use Rattle.std.specs.List.{All, cons_option, filter_map}
 use Rattle.std.specs.Option.{option_map, option_and_then}
-use Rattle.graphql_items.specs.declared.text.Text.{Text}
+use Rattle.graphql_text.specs.Memory.{Text}
 use Rattle.graphql_values.specs.InputValues.{Placed, Pair}
 use Rattle.graphql_values.specs.Variables.{each_given, constant_layer, constant_of, constant_item, constant_pair}
 use Rattle.graphql_values.specs.declared.input_value.InputValue.{InputValue}

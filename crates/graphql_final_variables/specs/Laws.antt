@@ -1,6 +1,6 @@
 -- Laws of literals with the values of variables in their stead (GraphQL October 2021, 6.4.1 Coercing Field Arguments).
 use Rattle.std.specs.Prelude.{◌≡◌, Option, Some}
-use Rattle.graphql_items.specs.declared.text.Text.{Text}
+use Rattle.graphql_text.specs.Memory.{Text}
 use Rattle.graphql_values.specs.Variables.{IsConstant, constant_of}
 use Rattle.graphql_values.specs.declared.input_value.InputValue.{InputValue}
 use Rattle.graphql_final_variables.specs.Filled.{filled}

@@ -2,7 +2,7 @@
 use Rattle.std.specs.Prelude.{List, map, Option, Some, None}
 use Rattle.std.specs.List.{filter_map}
 use Rattle.std.specs.Option.{option_map}
-use Rattle.graphql_items.specs.declared.text.Text.{Text}
+use Rattle.graphql_text.specs.Memory.{Text}
 use Rattle.graphql_values.specs.InputValues.{Placed, Pair}
 use Rattle.graphql_values.specs.Variables.{given_pair}
 use Rattle.graphql_values.specs.declared.input_value.InputValue.{InputValue}

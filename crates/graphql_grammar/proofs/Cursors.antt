@@ -1,9 +1,9 @@
 -- What a cursor answers, as the steps of productions say it.
-use Rattle.std.proofs.Common.{◌≡◌, ◌≢◌, ◌<◌, ◌≤◌, ◌+◌, ◌-◌, ℕ, Bool, true, false, if◌then◌else◌, List, [], ◌∷◌, ◌++◌, length, length-drop, drop, slice_get, slice_index_or, codes, Some, None, Result, Ok, Err, IfErr, refl, sym, ap, ◌∙◌, subst, ◌⊎◌, inl, inr, arith}
-use Rattle.std.specs.Prelude.{IsErrAnd}
+use Rattle.std.proofs.Common.{◌≡◌, ◌≢◌, ◌<◌, ◌≤◌, ◌+◌, ◌-◌, ℕ, zero, suc, Option, Bool, true, false, if◌then◌else◌, List, [], ◌∷◌, ◌++◌, length, length-drop, drop, slice_get, codes, Some, None, Ok, Err, refl, sym, ap, ◌∙◌, subst, ◌⊎◌, inl, inr, arith}
+use Rattle.std.specs.Option.{option_map}
 use Rattle.std.specs.Str.{bytes_eq}
 use denote.Enum.Bare.{same_true}
-use Rattle.std.proofs.lemmas.List.{drop_all, at_drop_more, same_from_push}
+use Rattle.std.proofs.lemmas.List.{drop_all, same_from_push}
 use Rattle.graphql_text.specs.declared.position.Span.{Span}
 use Rattle.graphql_text.specs.declared.position.SourcePosition.{SourcePosition}
 use Rattle.graphql_text.specs.declared.token.Token.{Token}
@@ -13,17 +13,15 @@ use Rattle.graphql_text.specs.declared.parse_error.ParseError.TheVariants.{Memor
 use Rattle.graphql_text.specs.Position.{origin}
 use Rattle.graphql_text.specs.Spelling.{source_of}
 use Rattle.graphql_text.specs.Tokens.{is_end}
-use Rattle.graphql_text.specs.Grammar.{Divides, IsDivided, IsBroken}
-use Rattle.graphql_text.specs.Reading as text
-use Rattle.graphql_text.specs.Refusals.{parse_error_of}
-use Rattle.graphql_items.specs.Memory.{UnlessMemory}
+use Rattle.graphql_text.specs.Grammar.{Divides, IsDivided}
+use Rattle.graphql_lexer.specs.Records.{Recorded, IsRecorded}
 use Rattle.graphql_grammar.specs.declared.kind.Kind.{Kind}
 use Rattle.graphql_grammar.specs.declared.kind.Kind.TheVariants as k
 use Rattle.graphql_grammar.specs.contracts.kind.Kind.{the_type}
 use Rattle.graphql_grammar.specs.Kinds.{Kinds, kind, word_kind, only, names, fragment_names}
-use Rattle.graphql_grammar.specs.Input.{Located, Input, Fault, IsMemory, StandsFor, first, peek, peek_kind, left, next, unexpected, refusal}
+use Rattle.graphql_grammar.specs.Input.{Located, Input, Fault, StandsFor, first, peek, peek_kind, end_after, left, next, unexpected, refusal}
 use Rattle.graphql_grammar.specs.Steps.{sees, token, name_of, name, name_in}
-use Rattle.graphql_grammar.specs.Cursor.{NoEnd, IsStart, IsLexical, after}
+use Rattle.graphql_grammar.specs.Cursor.{NoEnd, IsStart, after, start_of}
 
 -- ---- what stands next
 
@@ -43,22 +41,11 @@ pub peek_none : (i : Input) → slice_get i.ahead 0 ≡ None → peek i ≡ reco
 unfolding peek
 peek_none i e = first_none i.finish i.ahead e
 
-pub kind_some : (i : Input) (x : Located) → slice_get i.ahead 0 ≡ Some x → peek_kind i ≡ kind x.item
-unfolding peek_kind
-kind_some i x e = ap (λ p. kind p.item) (peek_some i x e)
-
 pub kind_none : (i : Input) → slice_get i.ahead 0 ≡ None → peek_kind i ≡ k.EndOfFile
 unfolding peek_kind
 kind_none i e = ap (λ p. kind p.item) (peek_none i e)
 
 -- ---- behind the next token
-
-pub next_at : (xs : List Located) (n : ℕ) (f : Span) (e : SourcePosition) (x : Located) → n < length xs → x ≡ slice_index_or xs n x
-    → record { ahead = drop (n + 1) xs; finish = f; end = x.span.end } ≡ next (record { ahead = drop n xs; finish = f; end = e })
-unfolding next
-next_at xs n f e x h is =
-    let moved = at_drop_more (λ zs. next (record { ahead = zs; finish = f; end = e })) xs n x h in
-    ap (λ y. next (record { ahead = y ∷ drop (n + 1) xs; finish = f; end = e })) is ∙ sym moved
 
 pub next_past : (xs : List Located) (n : ℕ) (f : Span) (e : SourcePosition) → length xs ≤ n
     → record { ahead = drop n xs; finish = f; end = e } ≡ next (record { ahead = drop n xs; finish = f; end = e })
@@ -66,6 +53,79 @@ unfolding next
 next_past xs n f e h =
     let none = drop_all n xs h in
     ap (λ zs. record { ahead = zs; finish = f; end = e }) none ∙ sym (ap (λ zs. next (record { ahead = zs; finish = f; end = e })) none)
+
+-- ---- what stands next, of the tokens that were recorded
+
+got_drop : (xs : List Located) (n : ℕ) → slice_get (drop n xs) 0 ≡ slice_get xs n
+got_drop [] zero = refl
+got_drop [] (suc n) = refl
+got_drop (x ∷ xs) zero = refl
+got_drop (x ∷ xs) (suc n) = got_drop xs n
+
+-- what is told of the token at an index is told of the one that stands next behind so many others
+pub next_is : {A : Type 0} (told : Located → A) (i : Input) (lent own : Recorded) (n : ℕ) (e : SourcePosition) (got : Option A)
+    → record { ahead = drop n own.tokens; finish = own.finish; end = e } ≡ i → lent ≡ own → got ≡ option_map told (slice_get lent.tokens n)
+    → option_map told (slice_get i.ahead 0) ≡ got
+next_is told i lent own n e got view same is =
+    ap (λ (j : Input). option_map told (slice_get j.ahead 0)) (sym view) ∙ ap (option_map told) (got_drop own.tokens n)
+    ∙ sym (is ∙ ap (λ (r : Recorded). option_map told (slice_get r.tokens n)) same)
+
+-- the token at an index is the one that stands next behind so many others
+pub next_token_is : (i : Input) (lent own : Recorded) (n : ℕ) (e : SourcePosition) (got : Option Located)
+    → record { ahead = drop n own.tokens; finish = own.finish; end = e } ≡ i → lent ≡ own → got ≡ slice_get lent.tokens n → got ≡ slice_get i.ahead 0
+next_token_is i lent own n e got view same is =
+    is ∙ ap (λ (r : Recorded). slice_get r.tokens n) same ∙ sym (got_drop own.tokens n) ∙ ap (λ (j : Input). slice_get j.ahead 0) view
+
+-- where the next token ends
+pub end_got : (i : Input) (p : SourcePosition) → option_map (λ (t : Located). t.span.end) (slice_get i.ahead 0) ≡ Some p → p ≡ end_after i.end i.ahead
+end_got i p h = ends i.ahead h
+  where
+    ends : (xs : List Located) → option_map (λ (t : Located). t.span.end) (slice_get xs 0) ≡ Some p → p ≡ end_after i.end xs
+    ends [] h = absurd (cc)
+    ends (x ∷ xs) h = let is : x.span.end ≡ p = cc in sym is
+
+pub end_none : (i : Input) → option_map (λ (t : Located). t.span.end) (slice_get i.ahead 0) ≡ None → i.end ≡ end_after i.end i.ahead
+end_none i h = ends i.ahead h
+  where
+    ends : (xs : List Located) → option_map (λ (t : Located). t.span.end) (slice_get xs 0) ≡ None → i.end ≡ end_after i.end xs
+    ends [] h = refl
+    ends (x ∷ xs) h = absurd (cc)
+
+-- behind the next token
+pub moved : (xs : List Located) (n : ℕ) (f : Span) (e : SourcePosition) → record { ahead = drop (n + 1) xs; finish = f; end = end_after e (drop n xs) } ≡ next (record { ahead = drop n xs; finish = f; end = e })
+unfolding next
+moved [] zero f e = refl
+moved [] (suc n) f e =
+    let more : suc n + 1 ≡ suc (n + 1) = omega arith in
+    ap (λ m. record { ahead = drop {A = Located} m []; finish = f; end = e }) more
+moved (x ∷ xs) zero f e = refl
+moved (x ∷ xs) (suc n) f e =
+    let more : suc n + 1 ≡ suc (n + 1) = omega arith in
+    ap (λ m. record { ahead = drop m (x ∷ xs); finish = f; end = end_after e (drop n xs) }) more ∙ moved xs n f e
+
+item_first : (f : Span) (xs : List Located) (x : Token) → option_map (λ (t : Located). t.item) (slice_get xs 0) ≡ Some x → (first f xs).item ≡ x
+item_first f [] x h = absurd (cc)
+item_first f (y ∷ ys) x h = cc
+
+pub item_got : (i : Input) (x : Token) → option_map (λ (t : Located). t.item) (slice_get i.ahead 0) ≡ Some x → (peek i).item ≡ x
+unfolding peek
+item_got i x h = item_first i.finish i.ahead x h
+
+pub kind_got : (i : Input) (x : Token) → option_map (λ (t : Located). t.item) (slice_get i.ahead 0) ≡ Some x → peek_kind i ≡ kind x
+unfolding peek_kind
+kind_got i x h = ap kind (item_got i x h)
+
+start_first : (f : Span) (xs : List Located) (p : SourcePosition) → option_map (λ (t : Located). t.span.start) (slice_get xs 0) ≡ Some p → (first f xs).span.start ≡ p
+start_first f [] p h = absurd (cc)
+start_first f (y ∷ ys) p h = cc
+
+pub start_got : (i : Input) (p : SourcePosition) → option_map (λ (t : Located). t.span.start) (slice_get i.ahead 0) ≡ Some p → (peek i).span.start ≡ p
+unfolding peek
+start_got i p h = start_first i.finish i.ahead p h
+
+pub none_ahead : {A : Type 0} (g : Located → A) (o : Option Located) → option_map g o ≡ None → o ≡ None
+none_ahead g None h = refl
+none_ahead g (Some x) h = absurd (cc)
 
 -- ---- choices
 
@@ -263,18 +323,11 @@ starts text ts front last d e =
     let D : List Located → Type 0 = IsDivided text in
     record { divided = subst D whole d; no_end = subst P parts.0 (divides_no_end [] text d.front d.before d.rest d.divides); end = refl }
 
+-- the start of a text, by the records of its tokens
+pub starts_recorded : (text : List ℕ) (r : Recorded) → IsRecorded text r → IsStart text (start_of r)
+starts_recorded text r d = starts text (r.tokens ++ record { item = t.EndOfFile; span = r.finish } ∷ []) r.tokens (record { item = t.EndOfFile; span = r.finish }) d refl
+
 -- a refusal is about what stands next
 pub refused_stands : (i : Input) (e : Fault) → StandsFor (refusal i) e → e.item ≢ Memory → (peek i).span ≡ e.span
 unfolding refusal
 refused_stands i e is m = ap (λ (f : Fault). f.span) (is m)
-
--- a lexical fault as the reason why a text can't be read
-pub lexical_told : (source : List ℕ) (fault : text.Refusal) (e : Fault) → UnlessMemory text.IsMemory fault (IsBroken source fault)
-    → e ≡ record { item = parse_error_of fault.item; span = fault.span } → UnlessMemory IsMemory e (IsLexical source e)
-lexical_told source fault e told is = λ (known : ¬ (IsMemory e)). (fault, told (λ (lacks : text.IsMemory fault). known (ap (λ (f : Fault). f.item) is ∙ ap parse_error_of lacks)), is)
-
--- a call that fails by it
-pub lexical_refused : {A : Type 0} (source : List ℕ) (fault : text.Refusal) (result : Result A Fault) → UnlessMemory text.IsMemory fault (IsBroken source fault)
-    → IsErrAnd result (λ e. e ≡ record { item = parse_error_of fault.item; span = fault.span }) → IfErr result (λ e. UnlessMemory IsMemory e (IsLexical source e))
-lexical_refused source fault (Ok x) told is = tt
-lexical_refused source fault (Err e) told is = lexical_told source fault e told is

@@ -2,12 +2,12 @@
 use Rattle.std.specs.Prelude.{◌≡◌, ℕ, false, if◌then◌else◌, List, [], ◌∷◌, ◌++◌}
 use Rattle.graphql_text.specs.declared.token.Token.TheVariants.{EndOfFile}
 use Rattle.graphql_text.specs.Position.{origin}
-use Rattle.graphql_text.specs.Reading.{Refusal}
-use Rattle.graphql_text.specs.Refusals.{parse_error_of}
+pub use Rattle.graphql_text.specs.Refusals.{IsLexical}
 use Rattle.graphql_text.specs.Tokens.{is_end}
-use Rattle.graphql_text.specs.Grammar.{IsDivided, IsBroken}
+use Rattle.graphql_text.specs.Grammar.{IsDivided}
+use Rattle.graphql_lexer.specs.Records.{Recorded}
 use Rattle.graphql_grammar.specs.Kinds.{Kinds}
-use Rattle.graphql_grammar.specs.Input.{Located, Input, Fault, next}
+use Rattle.graphql_grammar.specs.Input.{Located, Input, next}
 use Rattle.graphql_grammar.specs.Steps.{sees}
 
 -- none of these tokens is the end of the text
@@ -21,9 +21,9 @@ pub record IsStart (text : List ℕ) (i : Input) : Type 0 where
   pub no_end : NoEnd i.ahead
   pub end : i.end ≡ origin
 
--- the fault at which the division of a text into tokens ends
-abbrev pub IsLexical : List ℕ → Fault → Type 0
-IsLexical text e = (fault : Refusal) × IsBroken text fault × (e ≡ record { item = parse_error_of fault.item; span = fault.span })
+-- what is read from at the start of a text, by the records of its tokens
+abbrev pub start_of : Recorded → Input
+start_of r = record { ahead = r.tokens; finish = r.finish; end = origin }
 
 -- behind the next token where it is one of these kinds
 unfoldable pub after : Kinds → Input → Input

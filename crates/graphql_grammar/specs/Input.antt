@@ -6,9 +6,10 @@ use Rattle.graphql_text.specs.declared.spanning.Spanning.{Spanning}
 use Rattle.graphql_text.specs.declared.token.Token.{Token}
 use Rattle.graphql_text.specs.declared.token.Token.TheVariants as t
 use Rattle.graphql_text.specs.declared.parse_error.ParseError.{ParseError}
-use Rattle.graphql_text.specs.declared.parse_error.ParseError.TheVariants.{Memory, UnexpectedToken, UnexpectedEndOfFile}
+use Rattle.graphql_text.specs.declared.parse_error.ParseError.TheVariants.{UnexpectedToken, UnexpectedEndOfFile}
 use Rattle.graphql_text.specs.Spelling.{source_of}
-use Rattle.graphql_items.specs.Memory.{UnlessMemory, MeetsBy}
+pub use Rattle.graphql_text.specs.Refusals.{Fault, IsMemory}
+use Rattle.graphql_text.specs.Memory.{UnlessMemory, MeetsBy}
 use Rattle.graphql_grammar.specs.declared.kind.Kind.{Kind}
 use Rattle.graphql_grammar.specs.Kinds.{kind}
 
@@ -18,10 +19,6 @@ At A = Spanning A Span
 
 abbrev pub Located : Type 0
 Located = At Token
-
--- an error at the place of the token that it is about
-abbrev pub Fault : Type 0
-Fault = At ParseError
 
 pub record Input : Type 0 where
   -- the tokens that are left before the end of the text
@@ -88,10 +85,6 @@ abbrev pub refuse : {A : Type 0} → Parser A
 refuse = λ i. Err (refusal i)
 
 -- ---- what functions that parse ensure
-
--- an error that tells nothing of what is read
-abbrev pub IsMemory : Fault → Type 0
-IsMemory e = e.item ≡ Memory
 
 -- the parser's outcome
 abbrev pub Reads : {A : Type 0} → Outcome A → Result A Fault → Input → Type 0

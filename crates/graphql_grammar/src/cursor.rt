@@ -1,20 +1,21 @@
 //! Reads the tokens of a text, one behind the other.
 
 ghost use Rattle.std.specs.Prelude.{◌≡◌, ◌≢◌, ◌-◌, ◌<◌, ◌≤◌, [], ◌∷◌, ◌++◌, slice_get, IfOk, IfErr, OnOk, OnErr};
-ghost use Rattle.std.specs.Option.{option_copied};
 ghost use Rattle.std.specs.Str.{chars};
-ghost use Rattle.graphql_items.specs.Memory.{UnlessMemory};
+ghost use Rattle.graphql_text.specs.Memory.{UnlessMemory};
 ghost use Rattle.graphql_grammar.specs.declared.kind.Kind.TheVariants as k;
 ghost use Rattle.graphql_grammar.specs.Kinds.{only, fragment_names};
 ghost use Rattle.graphql_grammar.specs.Input as spec;
-ghost use Rattle.graphql_grammar.specs.Input.{IsMemory, Reads, StandsFor, StandsAt, left, next, refusal};
+ghost use Rattle.graphql_grammar.specs.Input.{IsMemory, Reads, StandsFor, StandsAt, end_after, left, next, refusal};
 ghost use Rattle.graphql_grammar.specs.Steps as steps;
 ghost use Rattle.graphql_grammar.specs.Steps.{sees};
-ghost use Rattle.graphql_grammar.specs.Cursor.{IsStart, IsLexical, after};
+ghost use Rattle.graphql_grammar.specs.Cursor.{IsStart, IsLexical, after, start_of};
 ghost use Rattle.graphql_grammar.specs.Leaves.{Behind};
 
+use crate::kept::Kept;
 use crate::kind::{Kind, kind_of};
-use graphql_text::{Items, ParseError, SourcePosition, Span, Spanning, TextRef, Token, lex_all};
+use graphql_lexer::TokenRecords;
+use graphql_text::{Items, ParseError, SourcePosition, Spanning, TextRef, Token};
 use std::alloc::{AllocError, Global};
 use std::marker::Model;
 
@@ -24,12 +25,10 @@ pub type Fault = Spanning<ParseError>;
 /// Reads the tokens of a text from the front.
 #[derive(Debug, Drop)]
 pub struct Cursor<'a> {
-    /// The tokens before the end of the text.
-    tokens: Items<Spanning<Token<'a>>>,
+    /// The records of the text's tokens.
+    kept: Kept<'a>,
     /// How many of them were read.
     read: usize,
-    /// The end of the text.
-    finish: Span,
     /// Where the last token that was read ends.
     end: SourcePosition,
 }
@@ -37,12 +36,13 @@ pub struct Cursor<'a> {
 impl<'a> Model for Cursor<'a> {
     ghost use Rattle.std.specs.Prelude.{◌≤◌, length, drop};
     ghost use Rattle.graphql_grammar.specs.Input.{Input};
+    ghost use Rattle.graphql_grammar.specs.Kept.{recorded};
 
     ghost Value = { Input };
 
-    ghost view = { λ c. record { ahead = drop c.read c.tokens; finish = c.finish; end = c.end } };
+    ghost view = { λ c. record { ahead = drop c.read (recorded c.kept).tokens; finish = (recorded c.kept).finish; end = c.end } };
 
-    ghost invariant = { λ c. c.read ≤ length c.tokens };
+    ghost invariant = { λ c. c.read ≤ length (recorded c.kept).tokens };
 }
 
 impl<'a> Cursor<'a> {
@@ -53,23 +53,30 @@ impl<'a> Cursor<'a> {
         ensures start { IfOk result (λ cursor. IsStart (chars source.now) cursor) }
         ensures fault { IfErr result (λ e. UnlessMemory IsMemory e (IsLexical (chars source.now) e)) }
     {
-        let mut tokens = lex_all(alloc, source)?;
-        let Some(last) = tokens.pop() else {
-            unreachable!()
-        };
+        let records = TokenRecords::new(alloc, source)?;
         Ok(Cursor {
-            tokens: Items::from_vec(tokens),
+            kept: Kept::Own(records),
             read: 0,
-            finish: last.span,
             end: SourcePosition::new_origin(),
         })
     }
 
-    /// The next token, or `None` at the end of the text.
-    pub fn token(&self) -> Option<&Spanning<Token<'a>>>
-        ensures { option_copied result ≡ slice_get self.now.ahead 0 }
+    /// The start of a text whose tokens are lent, so that it is read no second time. Takes no memory.
+    pub fn from_records(records: &'a TokenRecords<'a>) -> Cursor<'a>
+        ensures { result ≡ start_of records.now }
     {
-        self.tokens.get(self.read)
+        Cursor {
+            kept: Kept::Lent(records),
+            read: 0,
+            end: SourcePosition::new_origin(),
+        }
+    }
+
+    /// The next token, or `None` at the end of the text.
+    pub fn token(&self) -> Option<Spanning<Token<'a>>>
+        ensures { result ≡ slice_get self.now.ahead 0 }
+    {
+        self.kept.records().get(self.read)
     }
 
     /// What stands next: a token, or the end of the text.
@@ -77,8 +84,18 @@ impl<'a> Cursor<'a> {
         ensures { result ≡ spec.peek self.now }
     {
         match self.token() {
-            Some(next) => Spanning::new(next.span, next.item.copied()),
-            None => Spanning::new(self.finish, Token::EndOfFile),
+            Some(next) => next,
+            None => Spanning::new(self.kept.records().finish(), Token::EndOfFile),
+        }
+    }
+
+    /// What stands next, without its place.
+    fn next_item(&self) -> Token<'a>
+        ensures { result ≡ (spec.peek self.now).item }
+    {
+        match self.kept.records().item(self.read) {
+            Some(item) => item,
+            None => Token::EndOfFile,
         }
     }
 
@@ -86,8 +103,8 @@ impl<'a> Cursor<'a> {
     pub fn kind(&self) -> Kind
         ensures { result ≡ spec.peek_kind self.now }
     {
-        match self.token() {
-            Some(next) => kind_of(&next.item),
+        match self.kept.records().item(self.read) {
+            Some(item) => kind_of(&item),
             None => Kind::EndOfFile,
         }
     }
@@ -96,9 +113,9 @@ impl<'a> Cursor<'a> {
     pub fn start(&self) -> SourcePosition
         ensures { result ≡ (spec.peek self.now).span.start }
     {
-        match self.token() {
-            Some(next) => next.span.start,
-            None => self.finish.start,
+        match self.kept.records().start(self.read) {
+            Some(start) => start,
+            None => self.kept.records().finish().start,
         }
     }
 
@@ -113,7 +130,17 @@ impl<'a> Cursor<'a> {
     pub fn left(&self) -> usize
         ensures { result ≡ left self.now }
     {
-        self.tokens.len() - self.read
+        self.kept.records().len() - self.read
+    }
+
+    /// Where the next token ends; at the end of the text, where the last one ends.
+    fn end_of_next(&self) -> SourcePosition
+        ensures { result ≡ end_after self.now.end self.now.ahead }
+    {
+        match self.kept.records().end(self.read) {
+            Some(end) => end,
+            None => self.end,
+        }
     }
 
     /// Goes behind the next token. At the end of the text it stays.
@@ -121,8 +148,8 @@ impl<'a> Cursor<'a> {
         ensures next { self.new ≡ next self.old }
         ensures fewer { left self.new ≡ left self.old - 1 }
     {
-        if self.read < self.tokens.len() {
-            self.end = self.tokens[self.read].span.end;
+        if self.read < self.kept.records().len() {
+            self.end = self.end_of_next();
             self.read += 1;
         }
     }
@@ -185,7 +212,7 @@ impl<'a> Cursor<'a> {
         ensures stays { OnErr result (self.new ≡ self.old) }
         ensures stands { StandsAt result self.new }
     {
-        match self.peek().item {
+        match self.next_item() {
             Token::Name(name) => {
                 self.advance();
                 Ok(name)

@@ -9,7 +9,7 @@ ghost use Rattle.graphql_scalars.specs.CheckErrors.{wrong_type};
 ghost use Rattle.graphql_scalars.specs.Conversions.{Refused};
 ghost use Rattle.graphql_scalars.specs.ScalarText.{scalar_text};
 ghost use Rattle.graphql_scalars.specs.ScalarAnswers.{as_text};
-ghost use Rattle.graphql_items.specs.Memory.{Answers};
+ghost use Rattle.graphql_text.specs.Memory.{Answers};
 ghost use Rattle.graphql_scalars.specs.declared.check_error.CheckError.TheVariants.{Message, Memory};
 ghost use Rattle.std.proofs.Common.{rules};
 ghost use Rattle.graphql_input_types.specs.Identifiers as spec;

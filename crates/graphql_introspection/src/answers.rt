@@ -1,7 +1,7 @@
 //! What parts of a schema answer, and what is answered to `__type`.
 
 ghost use Rattle.std.specs.Prelude.{◌≡◌};
-ghost use Rattle.graphql_items.specs.Memory.{Gives};
+ghost use Rattle.graphql_text.specs.Memory.{Gives};
 ghost use Rattle.graphql_arguments.specs.GivenValues.{arguments_told};
 ghost use Rattle.graphql_introspection.specs.Answers as spec;
 ghost use Rattle.graphql_introspection.specs.Parts.{part_type_name};

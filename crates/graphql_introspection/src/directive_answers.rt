@@ -1,7 +1,7 @@
 //! What directives answer (GraphQL October 2021, 4.2.6 The __Directive Type).
 
 ghost use Rattle.std.specs.Prelude.{◌≡◌};
-ghost use Rattle.graphql_items.specs.Memory.{Gives};
+ghost use Rattle.graphql_text.specs.Memory.{Gives};
 ghost use Rattle.graphql_schema.specs.Directives.{is_place};
 ghost use Rattle.graphql_introspection.specs.MemberAnswers as spec;
 

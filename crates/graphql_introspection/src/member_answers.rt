@@ -1,7 +1,7 @@
 //! What fields, arguments and values of enums answer (GraphQL October 2021, 4.2.3 to 4.2.5).
 
 ghost use Rattle.std.specs.Prelude.{◌≡◌};
-ghost use Rattle.graphql_items.specs.Memory.{Gives};
+ghost use Rattle.graphql_text.specs.Memory.{Gives};
 ghost use Rattle.graphql_introspection.specs.MemberAnswers as spec;
 
 use crate::leaves::{default_text, description, text, text_or_null, truth};

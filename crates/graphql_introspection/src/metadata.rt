@@ -1,7 +1,7 @@
 //! The metadata of the types of introspection.
 
 ghost use Rattle.std.specs.Prelude.{◌≡◌, map};
-ghost use Rattle.graphql_items.specs.Memory.{Gives};
+ghost use Rattle.graphql_text.specs.Memory.{Gives};
 ghost use Rattle.graphql_introspection.specs.Metadata as spec;
 
 use crate::names::{kind_name, location_name};

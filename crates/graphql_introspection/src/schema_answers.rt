@@ -1,7 +1,7 @@
 //! What a schema answers of itself (GraphQL October 2021, 4.2.1 The __Schema Type).
 
 ghost use Rattle.std.specs.Prelude.{◌≡◌, map};
-ghost use Rattle.graphql_items.specs.Memory.{Gives, GivesBy};
+ghost use Rattle.graphql_text.specs.Memory.{Gives, GivesBy};
 ghost use Rattle.graphql_schema_faults.specs.Lookups.{by_kind};
 ghost use Rattle.graphql_introspection.specs.Answers as spec;
 ghost use Rattle.graphql_introspection.specs.Nodes.{bare_types};

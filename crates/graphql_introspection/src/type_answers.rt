@@ -2,7 +2,7 @@
 
 ghost use Rattle.std.specs.Prelude.{◌≡◌, map};
 ghost use Rattle.std.specs.List.{filter_map};
-ghost use Rattle.graphql_items.specs.Memory.{Gives, GivesBy};
+ghost use Rattle.graphql_text.specs.Memory.{Gives, GivesBy};
 ghost use Rattle.graphql_arguments.specs.GivenValues.{arguments_told};
 ghost use Rattle.graphql_schema_faults.specs.Lookups.{type_named};
 ghost use Rattle.graphql_introspection.specs.Nodes as nodes;

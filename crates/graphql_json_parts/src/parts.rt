@@ -1,7 +1,7 @@
 //! Texts and lists under the keys of a JSON object.
 
 ghost use Rattle.std.specs.Prelude.{◌≡◌, option_map};
-ghost use Rattle.graphql_items.specs.Memory.{Gives};
+ghost use Rattle.graphql_text.specs.Memory.{Gives};
 ghost use Rattle.serde_json.specs.View.{items_view, view};
 ghost use Rattle.graphql_json_parts.specs.Parts as spec;
 

@@ -7,7 +7,7 @@ use Rattle.graphql_text.specs.declared.token.ScalarToken.{ScalarToken}
 use Rattle.graphql_text.specs.declared.parse_error.ParseError.{ParseError}
 use Rattle.graphql_text.specs.Position.{origin}
 use Rattle.graphql_text.specs.Grammar.{IsDivided}
-use Rattle.graphql_text.proofs.GrammarLaws as lexical
+use Rattle.graphql_lexer.proofs.GrammarLaws as lexical
 use Rattle.graphql_grammar.specs.Input.{Located, Outcome}
 use Rattle.graphql_grammar.specs.Ahead.{mk}
 use Rattle.graphql_grammar.specs.Relations.{end_of}

@@ -16,7 +16,7 @@ use Rattle.graphql_grammar.specs.Steps.{finished, all}
 use Rattle.graphql_grammar.specs.Ahead.{mk, kind_ahead}
 use Rattle.graphql_grammar.specs.Faults.{Reading, Begins, FirstFaultyToken}
 use Rattle.graphql_grammar.specs.Cursor.{NoEnd, IsStart}
-use Rattle.graphql_text.proofs.GrammarLaws as lexical
+use Rattle.graphql_lexer.proofs.GrammarLaws as lexical
 use Rattle.graphql_grammar.proofs.Cursors.{end_or_not, starts}
 use Rattle.graphql_grammar.proofs.Stops.{ran_before}
 use Rattle.graphql_grammar.proofs.Ends.{finished_end}
@@ -76,14 +76,17 @@ module _ {S : Type 0} (reads : ScalarToken → Result S ParseError) (of_bool : B
   start_is text i start = ap (λ e. mk i.ahead i.finish e) start.end
 
   -- where none is read, its first fault
-  pub read_fault : (text : List ℕ) (i : Input) (e : Fault) → IsStart text i → document reads of_bool i ≡ Err e → IsRefused S reads of_bool text e
-  read_fault text i e start r = inr (record {
+  read_faulty : (text : List ℕ) (i : Input) (e : Fault) → IsStart text i → document reads of_bool i ≡ Err e → IsUngrammatical S reads of_bool text e
+  read_faulty text i e start r = record {
     tokens = i.ahead;
     finish = i.finish;
     cut = start.divided;
     first = subst (λ (s : Input). FirstFaultyToken reads Docs s e) (start_is text i start)
         (first_fault Docs (λ q. document q of_bool) (λ q. law_document q of_bool) refl (λ p q. twins_document p q of_bool) (of_bool true) reads i e r);
-  })
+  }
+
+  pub read_fault : (text : List ℕ) (i : Input) (e : Fault) → IsStart text i → document reads of_bool i ≡ Err e → IsRefused S reads of_bool text e
+  read_fault text i e start r = inr (read_faulty text i e start r)
 
   -- ---- laws
 
@@ -133,3 +136,7 @@ module _ {S : Type 0} (reads : ScalarToken → Result S ParseError) (of_bool : B
   pub told_fault : (text : List ℕ) (i j : Input) (r : Result (List (Definition S)) Fault) → IsStart text i → Reads (document reads of_bool i) r j → IfErr r (λ e. e.item ≢ Memory → IsRefused S reads of_bool text e)
   told_fault text i j (Ok tree) start read = tt
   told_fault text i j (Err e) start read = λ told. read_fault text i e start (read told)
+
+  pub told_faulty : (text : List ℕ) (i j : Input) (r : Result (List (Definition S)) Fault) → IsStart text i → Reads (document reads of_bool i) r j → IfErr r (λ e. e.item ≢ Memory → IsUngrammatical S reads of_bool text e)
+  told_faulty text i j (Ok tree) start read = tt
+  told_faulty text i j (Err e) start read = λ told. read_faulty text i e start (read told)

@@ -6,3 +6,4 @@ pub mod Documents
 pub mod Texts
 pub mod Alike
 pub mod ReadDefinitions
+pub mod TokenTexts

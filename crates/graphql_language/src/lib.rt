@@ -2,7 +2,8 @@
 //! here or from the crates below: places, tokens and faults; the trees of documents; values that go
 //! in and come out, and how they are made of others.
 //!
-//! [`parse_document_source`] gives the tree of a text, or the text's first fault. What a document is,
+//! [`parse_document_source`] gives the tree of a text, or the text's first fault; who needs a text's
+//! tokens beside its tree makes [`TokenRecords`] once, and takes both of them. What a document is,
 //! production by production, is said by the relations in `specs/Documents.antt` and the files that it
 //! names, in the words of the standard's grammar.
 #![tactic(auto)]
@@ -10,7 +11,9 @@
 pub mod laws;
 mod parse;
 mod source;
+mod texts;
 
+pub use graphql_lexer::{Lexer, TokenRecords, TokenText, TokenTexts, lex_all};
 pub use graphql_output_values::{IntoValue, Object, Value};
 pub use graphql_parser::{Parser, parse_type, parse_value_literal};
 pub use graphql_scalars::{
@@ -18,8 +21,8 @@ pub use graphql_scalars::{
     ScalarValue, ToScalarValue, TryToPrimitive, WrongInputScalarTypeError,
 };
 pub use graphql_text::{
-    Items, Lexer, LexerError, LexerResult, OptionParseResult, ParseError, ParseResult, ScalarToken,
-    SourcePosition, Span, Spanning, Text, TextRef, Token, UnlocatedParseResult, lex_all,
+    Items, LexerError, LexerResult, OptionParseResult, ParseError, ParseResult, ScalarToken,
+    SourcePosition, Span, Spanning, Text, TextRef, Token, UnlocatedParseResult,
 };
 pub use graphql_tree::{
     Arguments, Definition, Directive, Field, Fragment, FragmentSpread, InlineFragment, Operation,
@@ -30,4 +33,5 @@ pub use graphql_values::{
     IntoInputValue, Name, NameParseError, ToInputValue, Type, TypeModifier, TypeModifiers,
     Variables,
 };
-pub use source::parse_document_source;
+pub use source::{parse_document_records, parse_document_source};
+pub use texts::token_texts;

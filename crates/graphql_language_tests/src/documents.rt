@@ -5,7 +5,7 @@ use std::alloc::Global;
 use std::test::Fail;
 
 /// Documents of each production.
-const DOCUMENTS: [&str; 8] = [
+pub(crate) const DOCUMENTS: [&str; 8] = [
     "{ a }",
     "# a comment\n,{a,b}",
     "query query { on fragment true: null }",

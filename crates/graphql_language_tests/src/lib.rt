@@ -16,6 +16,8 @@ mod places;
 #[cfg(test)]
 mod read_back;
 #[cfg(test)]
+mod records;
+#[cfg(test)]
 mod told;
 #[cfg(test)]
 mod trees;

@@ -2,7 +2,7 @@
 use Rattle.std.specs.Prelude.{◌≡◌, ◌++◌, ◌⊎◌, ◌∷◌, ℕ, Bool, true, false, List, [], length, Option, Some, Result}
 use Rattle.std.specs.Borrow.{Bor}
 use Rattle.std.specs.List.{list_all}
-use Rattle.graphql_items.specs.Memory.{Answers}
+use Rattle.graphql_text.specs.Memory.{Answers}
 use Rattle.graphql_scalars.specs.ScalarAnswers.{ScalarAnswer, as_text}
 use Rattle.graphql_values.specs.declared.input_value.InputValue.{InputValue}
 use Rattle.graphql_values.specs.declared.input_value.InputValue.TheVariants as value

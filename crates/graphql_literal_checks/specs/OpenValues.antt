@@ -1,7 +1,7 @@
 -- What is still asked of the lists and objects around the part of a value that is being judged (GraphQL October 2021, 5.6.1 Values of Correct Type).
 use Rattle.std.specs.Prelude.{◌≡◌, ◌↔◌, ◌&&◌, ◌+◌, ◌*◌, ℕ, Bool, true, List, [], ◌∷◌, Result}
 use Rattle.std.specs.List.{sum_by}
-use Rattle.graphql_items.specs.Memory.{Answers}
+use Rattle.graphql_text.specs.Memory.{Answers}
 use Rattle.graphql_scalars.specs.ScalarAnswers.{ScalarAnswer}
 use Rattle.graphql_values.specs.declared.input_value.InputValue.{InputValue}
 use Rattle.graphql_values.specs.Counts.{value_count}

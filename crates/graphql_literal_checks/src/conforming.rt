@@ -1,7 +1,7 @@
 //! Whether a value conforms to a type, by a loop over what is open.
 
 ghost use Rattle.std.specs.Prelude.{◌≡◌, ◌<◌, ◌+◌, ◌*◌, OnOk};
-ghost use Rattle.graphql_items.specs.Memory.{Told};
+ghost use Rattle.graphql_text.specs.Memory.{Told};
 ghost use Rattle.graphql_values.specs.Counts.{value_count};
 ghost use Rattle.graphql_literal_checks.specs.Conforms.{Conforms};
 ghost use Rattle.graphql_literal_checks.specs.Judged.{AloneFits, FieldFits, IsMemory, IsObject, ListFits, ObjectFits, are_constant, is_constant, lent};

@@ -1,7 +1,7 @@
 //! Whether a value conforms to a named type, by the kind of the type.
 
 ghost use Rattle.std.specs.Prelude.{◌≡◌, ◌↔◌, ℕ, List, true, IsTrue, IfSome, MatchOption};
-ghost use Rattle.graphql_items.specs.Memory.{Told};
+ghost use Rattle.graphql_text.specs.Memory.{Told};
 ghost use Rattle.std.specs.List.{list_any};
 ghost use Rattle.graphql_names.specs.Names.{is_named};
 ghost use Rattle.graphql_literal_checks.specs.InputTypes.{WholeFits, is_complete};

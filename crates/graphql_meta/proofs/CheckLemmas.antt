@@ -9,7 +9,7 @@ use Rattle.graphql_scalars.specs.declared.check_error.CheckError.{CheckError}
 use Rattle.graphql_scalars.specs.declared.check_error.CheckError.TheVariants.{Message, Memory}
 use Rattle.graphql_values.specs.declared.input_value.InputValue.{InputValue}
 use Rattle.graphql_values.proofs.SameValueLaws.{same_as_itself, either_way}
-use Rattle.graphql_items.specs.Memory.{Told}
+use Rattle.graphql_text.specs.Memory.{Told}
 use Rattle.graphql_meta.specs.Checks.{CheckRelation, Accepts, IsConsistent}
 use Rattle.graphql_values.specs.SameValue.{SameValue}
 

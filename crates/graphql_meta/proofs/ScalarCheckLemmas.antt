@@ -11,7 +11,7 @@ use Rattle.graphql_scalars.specs.contracts.default_scalar.DefaultScalarValueEq.T
 use Rattle.graphql_values.specs.declared.input_value.InputValue.{InputValue}
 use Rattle.graphql_values.specs.SameValue.{SameValue, same_null, same_scalar, same_enum, same_variable, same_list, same_object}
 use Rattle.graphql_values.specs.ConversionLaws.{same_scalar as same_inside}
-use Rattle.graphql_items.specs.Memory.{Told}
+use Rattle.graphql_text.specs.Memory.{Told}
 use Rattle.graphql_scalars.specs.declared.check_error.CheckError.TheVariants.{Memory}
 use Rattle.graphql_meta.specs.Checks.{CheckRelation, Accepts, IsConsistent}
 use Rattle.graphql_meta.specs.ScalarChecks.{IsScalar}

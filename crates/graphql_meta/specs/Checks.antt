@@ -3,7 +3,8 @@ use Rattle.std.specs.Prelude.{Bool, List, ℕ, Result, Ok, Err}
 use Rattle.std.specs.Borrow.{Bor}
 use Rattle.graphql_scalars.specs.declared.check_error.CheckError.{CheckError}
 use Rattle.graphql_scalars.specs.declared.check_error.CheckError.TheVariants.{Message}
-use Rattle.graphql_values.specs.declared.input_value.InputValue.{InputValue}
+pub use Rattle.graphql_values.specs.declared.input_value.InputValue.{InputValue}
+pub use Rattle.graphql_values.specs.declared.input_value.InputValue.TheVariants.{Scalar as scalar_value}
 use Rattle.graphql_values.specs.SameValue.{SameValue}
 use Rattle.graphql_values.proofs.SameValueLaws.{by_a_third}
 use Rattle.std.specs.Cmp.{IsEquivalence}

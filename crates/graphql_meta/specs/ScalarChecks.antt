@@ -7,7 +7,8 @@ use Rattle.graphql_scalars.specs.CheckErrors.{wrong_type}
 use Rattle.graphql_scalars.specs.DefaultScalar.{answer}
 use Rattle.graphql_scalars.specs.ScalarAnswers.{as_int, as_bool, as_text}
 use Rattle.graphql_scalars.specs.ScalarText.{scalar_text}
-use Rattle.graphql_values.specs.declared.input_value.InputValue.{InputValue}
+pub use Rattle.graphql_values.specs.declared.input_value.InputValue.{InputValue}
+pub use Rattle.graphql_values.specs.declared.input_value.InputValue.TheVariants.{Scalar as scalar_value}
 use Rattle.graphql_values.specs.declared.input_value.InputValue.TheVariants as value
 use Rattle.graphql_values.specs.ConversionsOfScalars.{no_scalar}
 use Rattle.graphql_values.specs.InputValueText.{input_value_text}

@@ -1,7 +1,7 @@
 //! Checks: whether a value is one of a scalar, an enum or an input object.
 
 ghost use Rattle.std.specs.Prelude.{◌≡◌};
-ghost use Rattle.graphql_items.specs.Memory.{Told};
+ghost use Rattle.graphql_text.specs.Memory.{Told};
 ghost use Rattle.graphql_scalars.specs.declared.check_error.CheckError.TheVariants.{Memory};
 ghost use Rattle.graphql_meta.specs.Checks.{IsConsistent};
 

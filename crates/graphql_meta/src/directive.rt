@@ -5,9 +5,8 @@ ghost use Rattle.std.specs.List.{Contains};
 
 use crate::directive_location::DirectiveLocation;
 use crate::meta::Argument;
-use graphql_names::NamedItems;
 use graphql_text::{Items, Text};
-use graphql_values::ScalarValue;
+use graphql_values::{NamedItems, ScalarValue};
 use std::alloc::AllocError;
 
 /// What a schema says of a directive (GraphQL October 2021, 3.13 Directives).

@@ -13,6 +13,7 @@ pub mod scalar_checks;
 pub use check::{Check, SchemaScalar, TypeCheck};
 pub use directive::DirectiveType;
 pub use directive_location::DirectiveLocation;
+pub use graphql_values::InputValue;
 pub use introspection_checks::IntrospectionChecks;
 pub use meta::{
     Argument, DeprecationStatus, EnumMeta, EnumValue, Field, InputObjectMeta, InterfaceMeta,

@@ -4,7 +4,7 @@ ghost use Rattle.graphql_meta.specs.Types.{own_name};
 
 use crate::directive::DirectiveType;
 use crate::meta::{Argument, EnumValue, Field, MetaType};
-use graphql_names::Named;
+use graphql_values::Named;
 
 /// Metadata without a name, as those of a list, have the empty one.
 impl<S, C> Named for MetaType<S, C> {

@@ -29,14 +29,14 @@ once name (n ∷ names) present = rw (sum_by-cons (λ m. cond (bytes_eq name m) 
     either false present rest = omega (arith, rest present)
 
 -- a name behind names among which it stands
-again : (names : List Bytes) (name : Bytes) → is_one_of names name ≡ true → stands_twice (names ++ name ∷ []) name ≡ true
+pub again : (names : List Bytes) (name : Bytes) → is_one_of names name ≡ true → stands_twice (names ++ name ∷ []) name ≡ true
 again names name present =
     let here : times name (names ++ name ∷ []) ≡ times name names + 1 =
     sum_by_push (λ m. cond (bytes_eq name m) 1 0) names name ∙ ap (λ b. times name names + cond b 1 0) (eq_itself name) in
     lt-ltb 1 _ (omega (arith, here, once name names present))
 
 -- a name behind names among which it does not stand, where none stands twice
-first : (names : List Bytes) (name q : Bytes) → is_one_of names name ≡ false → stands_twice names q ≡ false → stands_twice (names ++ name ∷ []) q ≡ false
+pub first : (names : List Bytes) (name q : Bytes) → is_one_of names name ≡ false → stands_twice names q ≡ false → stands_twice (names ++ name ∷ []) q ≡ false
 first names name q absent once_each = ap (λ n. ltb 1 n) (sum_by_push (λ m. cond (bytes_eq q m) 1 0) names name) ∙ either (bytes_eq q name) refl
   where
     either : (b : Bool) → bytes_eq q name ≡ b → ltb 1 (times q names + cond b 1 0) ≡ false
@@ -44,7 +44,7 @@ first names name q absent once_each = ap (λ n. ltb 1 n) (sum_by_push (λ m. con
     either false is = rw (add-zero) once_each
 
 -- what stands twice among the first does so among all
-kept : (xs ys : List Bytes) (name : Bytes) → stands_twice xs name ≡ true → stands_twice (xs ++ ys) name ≡ true
+pub kept : (xs ys : List Bytes) (name : Bytes) → stands_twice xs name ≡ true → stands_twice (xs ++ ys) name ≡ true
 kept xs ys name twice =
     let more = sum_by-append (λ m. cond (bytes_eq name m) 1 0) xs ys in
     let two : 1 < times name xs = ltb-true 1 _ twice in

@@ -8,7 +8,7 @@ use Rattle.graphql_meta.specs.declared.meta.MetaType.{MetaType}
 use Rattle.graphql_meta.specs.declared.meta.MetaType.TheVariants as meta
 use Rattle.graphql_meta.specs.Types.{TypeOf}
 use Rattle.graphql_names.specs.Names.{Bytes}
-use Rattle.graphql_schema.specs.Declarations.{Declarations}
+use Rattle.graphql_declarations.specs.Lookups.{Declarations}
 use Rattle.graphql_text.specs.declared.position.SourcePosition.{SourcePosition}
 use Rattle.graphql_tree.specs.Arguments.{Argument}
 use Rattle.graphql_tree.specs.declared.document.Definition.{Definition}

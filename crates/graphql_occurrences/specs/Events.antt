@@ -8,9 +8,9 @@ use Rattle.graphql_meta.specs.declared.meta.argument.Argument as declared
 use Rattle.graphql_meta.specs.declared.meta.MetaType.{MetaType}
 use Rattle.graphql_meta.specs.Types.{TypeOf, reference_to}
 use Rattle.graphql_names.specs.Names.{Bytes}
-use Rattle.graphql_schema.specs.Declarations.{Declarations}
-use Rattle.graphql_schema.specs.StandardDirectives.{directive_named}
-use Rattle.graphql_schema_faults.specs.Lookups.{own_name}
+use Rattle.graphql_declarations.specs.Lookups.{Declarations}
+use Rattle.graphql_declarations.specs.Lookups.{directive_named}
+use Rattle.graphql_declarations.specs.Lookups.{own_name}
 use Rattle.graphql_text.specs.declared.position.Span.{Span}
 use Rattle.graphql_tree.specs.Arguments.{Argument}
 use Rattle.graphql_tree.specs.declared.directive.Directive.{Directive}

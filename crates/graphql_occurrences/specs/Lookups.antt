@@ -9,8 +9,7 @@ use Rattle.graphql_meta.specs.declared.meta.MetaType.{MetaType}
 use Rattle.graphql_meta.specs.declared.meta.MetaType.TheVariants as meta
 use Rattle.graphql_meta.specs.Types.{TypeOf}
 use Rattle.graphql_names.specs.Names.{Bytes}
-use Rattle.graphql_schema.specs.Declarations.{Declarations}
-pub use Rattle.graphql_declarations.specs.Lookups.{argument_named, item_type, typename_field, field_arguments, field_type, directive_arguments, field_in, field_of, known, referred, root_of}
+pub use Rattle.graphql_declarations.specs.Lookups.{Declarations, declarations_of, argument_named, item_type, typename_field, field_arguments, field_type, directive_arguments, field_in, field_of, known, referred, root_of}
 use Rattle.graphql_tree.specs.declared.document.OperationType.{OperationType}
 use Rattle.graphql_tree.specs.declared.document.OperationType.TheVariants as operation
 use Rattle.graphql_occurrences.specs.Parts.{InputPlace}

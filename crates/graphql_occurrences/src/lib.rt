@@ -11,7 +11,7 @@ mod place;
 pub use around::Around;
 pub use event::{Event, Node, Owner, Seen};
 pub use graphql_declarations::{
-    DeclaredArguments, KnownField, TypeLiteral, arguments_of_field, declared_by_directive,
-    field_of, root_of, type_of_field,
+    DeclaredArguments, KnownField, SchemaType, TypeLiteral, arguments_of_field,
+    declared_by_directive, field_of, root_of, type_of_field,
 };
 pub use place::{InputPlace, place_of_argument, place_of_field, place_of_items};

@@ -1,11 +1,11 @@
 //! Clones of values and of objects.
 
-ghost use Rattle.graphql_items.specs.Memory.{Gives};
+ghost use Rattle.graphql_text.specs.Memory.{Gives};
 
 use crate::object::Object;
 use crate::value::Value;
-use graphql_items::{Items, Text};
 use graphql_scalars::ScalarValue;
+use graphql_text::{Items, Text};
 use std::alloc::AllocError;
 
 impl<S: ScalarValue + Drop> Clone for Value<S> {

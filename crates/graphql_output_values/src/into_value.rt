@@ -2,7 +2,7 @@
 
 ghost use Rattle.std.specs.Prelude.{◌≡◌, string_bytes};
 ghost use Rattle.std.specs.Option.{option_map_or};
-ghost use Rattle.graphql_items.specs.Memory.{Gives};
+ghost use Rattle.graphql_text.specs.Memory.{Gives};
 ghost use Rattle.std.specs.Cow.{cow_str_bytes};
 ghost use Rattle.graphql_output_values.specs.declared.value.Value.{Value};
 ghost use Rattle.graphql_output_values.specs.declared.value.Value.TheVariants as value;

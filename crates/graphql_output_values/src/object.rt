@@ -13,7 +13,7 @@ ghost use Rattle.graphql_output_values.specs.Objects.{HasDistinctKeys, field_val
 mod traits;
 
 use crate::value::Value;
-use graphql_items::{Items, Text};
+use graphql_text::{Items, Text};
 use std::alloc::{AllocError, Global};
 use std::mem;
 use std::slice::Iter;

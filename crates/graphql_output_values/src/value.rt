@@ -3,7 +3,7 @@
 ghost use Rattle.std.specs.Prelude.{◌≡◌, IsTrue, ◌↔◌, List, map};
 ghost use Rattle.std.specs.Borrow.{sem};
 ghost use Rattle.std.specs.Option.{option_copied, option_copied_mut};
-ghost use Rattle.graphql_items.specs.Memory.{Gives};
+ghost use Rattle.graphql_text.specs.Memory.{Gives};
 ghost use Rattle.graphql_output_values.specs.Lending.{LendsObject};
 ghost use Rattle.graphql_output_values.specs.Values.{Holds, Turns, map_field, map_scalars};
 ghost use Rattle.graphql_output_values.specs.declared.value.Value.TheVariants as value;
@@ -11,8 +11,8 @@ ghost use Rattle.graphql_output_values.specs.declared.value.Value.TheVariants as
 mod let_go;
 
 use crate::object::Object;
-use graphql_items::{Items, Text};
 use graphql_scalars::DefaultScalarValue;
+use graphql_text::{Items, Text};
 use std::alloc::AllocError;
 
 /// A value that a field, or a whole operation, answers (GraphQL October 2021, 7.1 Response Format).

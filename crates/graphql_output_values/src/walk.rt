@@ -5,7 +5,7 @@ ghost use Rattle.graphql_output_values.specs.Pending.{Opens, ahead, task_steps, 
 ghost use Rattle.graphql_output_values.specs.Steps.{fields_steps, items_steps, steps};
 
 use crate::value::Value;
-use graphql_items::{Items, Text};
+use graphql_text::{Items, Text};
 use std::alloc::{AllocError, Global};
 
 /// What a walk over a value tells next.

@@ -2,7 +2,7 @@
 use Rattle.std.specs.Prelude.{◌≡◌, List, None, Result, Ok, Err}
 use Rattle.std.specs.Borrow.{MutBor}
 use Rattle.graphql_text.specs.declared.token.Token.{Token}
-use Rattle.graphql_items.specs.Memory.{UnlessMemory}
+use Rattle.graphql_text.specs.Memory.{UnlessMemory}
 use Rattle.graphql_grammar.specs.Input.{At, Input, Fault, IsMemory}
 use Rattle.graphql_grammar.specs.Leaves.{Behind, LeftAt}
 use Rattle.graphql_parser.specs.Parser.{State}

@@ -2,7 +2,7 @@
 use Rattle.std.specs.Prelude.{◌≡◌, ◌≢◌, ℕ, List, Option, Some, None, Result, Ok, Err, MatchOption}
 use Rattle.graphql_text.specs.declared.token.Token.{Token}
 use Rattle.graphql_text.specs.declared.token.Token.TheVariants.{Name, EndOfFile}
-use Rattle.graphql_items.specs.Memory.{UnlessMemory}
+use Rattle.graphql_text.specs.Memory.{UnlessMemory}
 use Rattle.graphql_grammar.specs.Input.{At, Input, Located, Fault, IsMemory, StandsFor, peek, next, refusal}
 
 pub record State : Type 0 where

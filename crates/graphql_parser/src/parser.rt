@@ -1,11 +1,12 @@
 //! Parses a text, token by token.
 
-ghost use Rattle.std.specs.Prelude.{◌≡◌, ◌<◌, ◌≤◌, None, IfOk, IfErr, OnOk, OnErr};
+ghost use Rattle.std.specs.Prelude.{◌≡◌, ◌<◌, ◌≤◌, ℕ, List, None, IfOk, IfErr, OnOk, OnErr};
 ghost use Rattle.std.specs.Str.{chars};
-ghost use Rattle.graphql_items.specs.Memory.{UnlessMemory};
+ghost use Rattle.graphql_text.specs.Memory.{UnlessMemory};
 ghost use Rattle.graphql_grammar.specs.Input as spec;
 ghost use Rattle.graphql_grammar.specs.Input.{IsMemory, StandsFor, left};
-ghost use Rattle.graphql_grammar.specs.Cursor.{IsStart, IsLexical};
+ghost use Rattle.graphql_lexer.specs.Records.{IsRecorded};
+ghost use Rattle.graphql_grammar.specs.Cursor.{IsStart, IsLexical, start_of};
 ghost use Rattle.graphql_parser.specs.Parser.{Calls, NextToken, ThisToken, MaybeToken, NextName, Ready, KeepsRefusal};
 
 mod lists;
@@ -13,6 +14,7 @@ mod literals;
 mod tokens;
 
 use graphql_grammar::{Cursor, Fault};
+use graphql_lexer::TokenRecords;
 use graphql_text::{OptionParseResult, ParseError, ParseResult, Spanning, TextRef, Token};
 pub use literals::{parse_type, parse_value_literal};
 use std::alloc::Global;
@@ -60,6 +62,20 @@ impl<'a> Parser<'a> {
             cursor: Cursor::new(alloc, source)?,
             refused: None,
         })
+    }
+
+    /// A parser at the start of a text whose tokens are lent, so that it is read no second time. Takes
+    /// no memory.
+    pub fn from_records(alloc: Global, records: &'a TokenRecords<'a>) -> Parser<'a>
+        ensures start { (text : List ℕ) → IsRecorded text records.now → IsStart text result.input }
+        ensures input { result.input ≡ start_of records.now }
+        ensures fresh { result.refused ≡ None }
+    {
+        Parser {
+            alloc,
+            cursor: Cursor::from_records(records),
+            refused: None,
+        }
     }
 
     /// The next token, or the end of the text; of a parser that has failed, where it stopped.

@@ -7,7 +7,7 @@ use Rattle.graphql_text.specs.declared.position.Span.{Span}
 use Rattle.graphql_text.specs.declared.parse_error.ParseError.{ParseError}
 use Rattle.graphql_text.specs.declared.parse_error.ParseError.TheVariants.{UnexpectedToken, UnexpectedEndOfFile, LexerError, ExpectedScalarError, Memory}
 use Rattle.graphql_text.specs.Tokens.{Located}
-use Rattle.graphql_text.proofs.GrammarLaws as lexical
+use Rattle.graphql_lexer.proofs.GrammarLaws as lexical
 use Rattle.graphql_scalars.specs.declared.default_scalar.DefaultScalarValue.{DefaultScalarValue}
 use Rattle.graphql_scalars.specs.declared.default_scalar.DefaultScalarValue.TheVariants as scalar
 use Rattle.graphql_scalars.specs.DefaultScalar.{reads}

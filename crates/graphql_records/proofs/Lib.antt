@@ -2,6 +2,5 @@ pub mod ValueEquations
 pub mod SettingLemmas
 pub mod Respects
 pub mod Refusals
-pub mod RepeatedIds
 pub mod TableLemmas
 pub mod ExactScalars

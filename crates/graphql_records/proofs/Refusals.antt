@@ -1,7 +1,7 @@
 -- A refusal changes nothing, and tells nothing beside its reason.
 use Rattle.std.proofs.Common.{◌≡◌, ℕ, Bool, true, false, cond, List, [], ◌∷◌, Option, Some, None, Result, Ok, Err, codes, bytes_eq, slice_get, refl}
 use Rattle.std.specs.Option.{option_map_or}
-use Rattle.graphql_items.specs.Memory.{◌>>=◌}
+use Rattle.graphql_text.specs.Memory.{◌>>=◌}
 use Rattle.graphql_names.specs.Names.{Bytes}
 use Rattle.graphql_scalars.specs.declared.default_scalar.DefaultScalarValue.{DefaultScalarValue}
 use Rattle.graphql_values.specs.declared.input_value.InputValue.{InputValue}

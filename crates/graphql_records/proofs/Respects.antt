@@ -2,7 +2,7 @@
 use Rattle.std.proofs.Common.{◌≡◌, ℕ, Bool, true, false, List, [], ◌∷◌, Option, Some, None, Result, Ok, Err, codes, bytes_eq, if◌then◌else◌, refl, sym, ap, ◌∙◌}
 use Rattle.std.specs.Option.{option_map_or, option_and_then}
 use Rattle.std.specs.Prelude.{slice_get}
-use Rattle.graphql_items.specs.Memory.{◌>>=◌}
+use Rattle.graphql_text.specs.Memory.{◌>>=◌}
 use Rattle.graphql_names.specs.Names.{Bytes}
 use Rattle.graphql_scalars.specs.declared.default_scalar.DefaultScalarValue.{DefaultScalarValue}
 use Rattle.graphql_values.specs.InputValues.{Placed, Pair}

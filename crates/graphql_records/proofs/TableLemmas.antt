@@ -7,7 +7,7 @@ use Rattle.indexmap.specs.IndexMap.{insert_entry}
 use Rattle.graphql_names.specs.Names.{Bytes, is_one_of, stands_twice}
 use Rattle.graphql_records.specs.Tables.{Entries}
 use Rattle.graphql_records.specs.declared.record.Record.{Record}
-use Rattle.graphql_records.proofs.RepeatedIds.{again, first, kept}
+use Rattle.graphql_names.proofs.Repeats.{again, first, kept}
 
 -- an id is one of the ids where a look-up finds it
 pub found_is_there : (id : Bytes) (records : Entries) → is_one_of (keys_of records) id ≡ is_some (lookup (bytes_eq id) records)

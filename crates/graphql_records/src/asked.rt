@@ -2,14 +2,14 @@
 
 ghost use Rattle.std.specs.Prelude.{◌≡◌};
 ghost use Rattle.std.specs.Option.{option_and_then, option_copied};
-ghost use Rattle.graphql_items.specs.Memory.{Gives};
+ghost use Rattle.graphql_text.specs.Memory.{Gives};
 ghost use Rattle.graphql_arguments.specs.ArgumentValues.{value_named};
 ghost use Rattle.graphql_arguments.specs.GivenValues.{arguments_told};
 ghost use Rattle.graphql_records.specs.Asked as spec;
 
 use graphql_arguments::Arguments;
-use graphql_items::Text;
 use graphql_scalars::DefaultScalarValue;
+use graphql_text::Text;
 use graphql_values::InputValue;
 use std::alloc::{AllocError, Global};
 

@@ -1,10 +1,10 @@
 //! Values of records' fields.
 
 ghost use Rattle.std.specs.Prelude.{◌≡◌};
-ghost use Rattle.graphql_items.specs.Memory.{Gives};
+ghost use Rattle.graphql_text.specs.Memory.{Gives};
 
-use graphql_items::Items;
 use graphql_scalars::DefaultScalarValue;
+use graphql_text::Items;
 use std::alloc::AllocError;
 
 /// The value of a record's field. A text may be a link, by the id of a record.

@@ -6,8 +6,8 @@ ghost use Rattle.graphql_names.specs.Names.{is_one_of};
 ghost use Rattle.graphql_records.specs.Answers as spec;
 
 use crate::table_type::{TableField, TableType};
-use graphql_items::Text;
 use graphql_names::NamedItems;
+use graphql_text::Text;
 
 /// What a table knows of a field of the type of this name. Found by binary search.
 pub fn known_field<'a>(

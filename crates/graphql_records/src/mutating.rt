@@ -1,7 +1,7 @@
 //! What the fields of a mutation's root set in records.
 
 ghost use Rattle.std.specs.Prelude.{◌≡◌};
-ghost use Rattle.graphql_items.specs.Memory.{Gives};
+ghost use Rattle.graphql_text.specs.Memory.{Gives};
 ghost use Rattle.graphql_arguments.specs.GivenValues.{arguments_told};
 ghost use Rattle.graphql_field_results.specs.Answered.{Answered, Leaves};
 ghost use Rattle.graphql_records.specs.Settings as spec;
@@ -16,9 +16,9 @@ use crate::table_type::TableType;
 use crate::value_answers::Answer;
 use graphql_arguments::Arguments;
 use graphql_field_results::{FieldError, FieldFault, FieldResult, Resolved};
-use graphql_items::Text;
 use graphql_names::NamedItems;
 use graphql_scalars::DefaultScalarValue;
+use graphql_text::Text;
 use std::alloc::{AllocError, Global};
 
 /// A record can't stand at a place of a type. An error is want of memory.

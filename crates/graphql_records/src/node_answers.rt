@@ -2,7 +2,7 @@
 
 ghost use Rattle.std.specs.Prelude.{◌≡◌};
 ghost use Rattle.std.specs.Option.{option_map};
-ghost use Rattle.graphql_items.specs.Memory.{Gives};
+ghost use Rattle.graphql_text.specs.Memory.{Gives};
 ghost use Rattle.graphql_arguments.specs.GivenValues.{arguments_told};
 ghost use Rattle.graphql_records.specs.Answers as spec;
 
@@ -16,9 +16,9 @@ use crate::table_type::{TableField, TableType};
 use crate::value_answers::{Answer, at_leaf, at_links, cut, picked};
 use graphql_arguments::Arguments;
 use graphql_field_results::Resolved;
-use graphql_items::Text;
 use graphql_names::NamedItems;
 use graphql_scalars::DefaultScalarValue;
+use graphql_text::Text;
 use std::alloc::{AllocError, Global};
 
 /// What a missing field is: a missing `id` the record's id, another null. An error is want of

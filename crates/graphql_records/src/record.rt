@@ -3,11 +3,11 @@
 ghost use Rattle.std.specs.Prelude.{◌≡◌, position};
 ghost use Rattle.std.specs.Option.{option_copied};
 ghost use Rattle.std.specs.Str.{bytes_eq};
-ghost use Rattle.graphql_items.specs.Memory.{Gives};
+ghost use Rattle.graphql_text.specs.Memory.{Gives};
 ghost use Rattle.graphql_output_values.specs.Objects.{field_value, with_field};
 
 use crate::field_value::FieldValue;
-use graphql_items::{Items, Text};
+use graphql_text::{Items, Text};
 use std::alloc::{AllocError, Global};
 
 /// Values of fields, by the fields' names.

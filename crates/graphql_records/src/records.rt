@@ -8,7 +8,7 @@ ghost use Rattle.graphql_records.specs.Tables.{IsTableOf, place_of};
 
 use crate::field_value::FieldValue;
 use crate::record::Record;
-use graphql_items::{Items, Text};
+use graphql_text::{Items, Text};
 use indexmap::IndexMap;
 use std::alloc::{AllocError, Global};
 use std::marker::Model;

@@ -1,7 +1,7 @@
 //! What arguments set in the fields of a record.
 
 ghost use Rattle.std.specs.Prelude.{◌≡◌};
-ghost use Rattle.graphql_items.specs.Memory.{Gives};
+ghost use Rattle.graphql_text.specs.Memory.{Gives};
 ghost use Rattle.graphql_arguments.specs.GivenValues.{arguments_told};
 ghost use Rattle.graphql_field_results.specs.Answered.{Answered};
 ghost use Rattle.graphql_records.specs.Settings as spec;
@@ -12,9 +12,9 @@ use crate::record::{Fields, with_field};
 use crate::table_type::TableType;
 use graphql_arguments::Arguments;
 use graphql_field_results::{FieldError, FieldFault, FieldResult};
-use graphql_items::Text;
 use graphql_names::NamedItems;
 use graphql_scalars::DefaultScalarValue;
+use graphql_text::Text;
 use graphql_values::InputValue;
 use std::alloc::{AllocError, Global};
 

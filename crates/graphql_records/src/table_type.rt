@@ -1,7 +1,7 @@
 //! What a table knows of a schema's types.
 
-use graphql_items::{Items, Text};
 use graphql_names::{Named, NamedItems};
+use graphql_text::{Items, Text};
 
 /// What a table knows of a field of an object or an interface.
 #[derive(Drop)]

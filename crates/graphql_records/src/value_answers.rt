@@ -2,15 +2,15 @@
 
 ghost use Rattle.std.specs.Prelude.{◌≡◌, map};
 ghost use Rattle.std.specs.List.{list_any};
-ghost use Rattle.graphql_items.specs.Memory.{Gives};
+ghost use Rattle.graphql_text.specs.Memory.{Gives};
 ghost use Rattle.graphql_records.specs.Fields as spec;
 
 use crate::field_value::FieldValue;
 use crate::records::Records;
 use crate::table_node::TableNode;
 use graphql_field_results::Resolved;
-use graphql_items::{Items, Text};
 use graphql_scalars::DefaultScalarValue;
+use graphql_text::{Items, Text};
 use std::alloc::{AllocError, Global};
 
 /// What a table answers for a field.

@@ -1,7 +1,7 @@
 -- The answers of lists, item by item.
 use Rattle.std.proofs.Common.{◌≡◌, ℕ, ◌+◌, ◌<◌, ◌≤◌, Result, Ok, Err, List, [], ◌∷◌, ◌++◌, length, take, drop, get_or, ap, sym, refl, ◌∙◌}
 use Rattle.std.proofs.lemmas.List.{take_all, take_more, drop_more, take-append-drop}
-use Rattle.graphql_items.specs.Memory.{◌>>=◌}
+use Rattle.graphql_text.specs.Memory.{◌>>=◌}
 use Rattle.graphql_field_results.specs.Answered.{Answered}
 use Rattle.graphql_field_results.specs.declared.field_fault.FieldFault.{FieldFault}
 use Rattle.graphql_field_results.specs.declared.field_fault.FieldFault.TheVariants as fault

@@ -1,6 +1,6 @@
 -- What values answer (GraphQL October 2021, 6.4.2 Value Resolution).
 use Rattle.std.specs.Prelude.{List, [], ◌∷◌, Option, Some, None, Result, Ok, Err}
-use Rattle.graphql_items.specs.Memory.{◌>>=◌}
+use Rattle.graphql_text.specs.Memory.{◌>>=◌}
 use Rattle.graphql_input_types.specs.Nullables.{some}
 use Rattle.graphql_input_types.specs.declared.nullable.Nullable.{Nullable}
 use Rattle.graphql_field_results.specs.declared.field_error.FieldError.{FieldError}

@@ -1,6 +1,6 @@
 //! Types of the program as types of a schema.
 
-ghost use Rattle.graphql_items.specs.Memory.{Gives};
+ghost use Rattle.graphql_text.specs.Memory.{Gives};
 ghost use Rattle.graphql_meta.specs.Types.{reference_to};
 
 mod containers;
@@ -17,7 +17,7 @@ use std::alloc::{AllocError, Global};
 pub trait GraphQLType<S> {
     ghost use Rattle.std.specs.Prelude.{◌≡◌, ℕ, List, Option, Some};
     ghost use Rattle.std.specs.Option.{option_map};
-    ghost use Rattle.graphql_items.specs.Memory.{Gives};
+    ghost use Rattle.graphql_text.specs.Memory.{Gives};
     ghost use Rattle.graphql_meta.specs.Types.{TypeOf, reference_to};
 
     /// The name of the type, if it has one.

@@ -5,7 +5,7 @@ mod fields;
 
 ghost use Rattle.std.specs.Prelude.{◌≡◌, IfOk, OnErr};
 ghost use Rattle.std.specs.BTreeMap.{IsOrdered, IsUnchanged, values};
-ghost use Rattle.graphql_items.specs.Memory.{Gives};
+ghost use Rattle.graphql_text.specs.Memory.{Gives};
 ghost use Rattle.graphql_meta.specs.Types.{own_name};
 ghost use Rattle.graphql_registry.specs.Registries.{Registers};
 

@@ -9,7 +9,7 @@ use Rattle.std.specs.Ordering.{nat_cmp}
 use Rattle.std.specs.Str.{chars}
 use Rattle.std.specs.declared.alloc.AllocError.{AllocError}
 use Rattle.std.specs.declared.cmp.Ordering.{Ordering}
-use Rattle.graphql_items.specs.Memory.{Gives}
+use Rattle.graphql_text.specs.Memory.{Gives}
 use Rattle.graphql_text.specs.Grammar.{IsName}
 use Rattle.graphql_names.specs.Names.{Bytes}
 use Rattle.graphql_meta.specs.Types.{own_name}

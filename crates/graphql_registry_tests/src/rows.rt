@@ -2,7 +2,7 @@
 
 ghost use Rattle.std.specs.Prelude.{◌≡◌, [], ◌∷◌, None, Some, IfOk, OnErr, OnOk, codes};
 ghost use Rattle.std.specs.BTreeMap.{IsUnchanged};
-ghost use Rattle.graphql_items.specs.Memory.{Gives};
+ghost use Rattle.graphql_text.specs.Memory.{Gives};
 ghost use Rattle.graphql_type_references.specs.TypeReference.{written};
 ghost use Rattle.graphql_meta.specs.declared.meta.MetaType.TheVariants as meta;
 ghost use Rattle.graphql_meta.specs.Types.{own_name};

@@ -6,5 +6,6 @@ pub mod ReachedLemmas
 pub mod NameLemmas
 pub mod CycleLaws
 pub mod RuleLaws
+pub mod DocumentRows
 pub mod Rows
 pub mod OnceLemmas

@@ -1,7 +1,7 @@
 //! All rules for the definitions of a document.
 
 ghost use Rattle.std.specs.Prelude.{◌≡◌, OnOk, map};
-ghost use Rattle.graphql_items.specs.Memory.{GivesBy};
+ghost use Rattle.graphql_text.specs.Memory.{GivesBy};
 ghost use Rattle.graphql_schema.specs.Declarations.{declarations_of};
 ghost use Rattle.graphql_scopes.specs.Lent.{fragment_of, operation_of, scopes_told};
 ghost use Rattle.graphql_scopes.specs.Scopes.{scopes_in};

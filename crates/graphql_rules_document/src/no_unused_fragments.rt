@@ -2,7 +2,7 @@
 
 ghost use Rattle.std.specs.Prelude.{◌≡◌, ◌∷◌, [], List, OnOk, map, not, false};
 ghost use Rattle.std.specs.List.{flat_map};
-ghost use Rattle.graphql_items.specs.Memory.{GivesBy};
+ghost use Rattle.graphql_text.specs.Memory.{GivesBy};
 ghost use Rattle.graphql_names.specs.Names.{Bytes, is_one_of};
 ghost use Rattle.graphql_scopes.specs.Lent.{fragment_of, operation_of, spread_of};
 ghost use Rattle.graphql_rules_document.specs.NoUnusedFragments.{never_reached, unused_fragment};

@@ -1,7 +1,7 @@
 //! Rules over all operations and fragments of a document, as visitors.
 
 ghost use Rattle.std.specs.Prelude.{◌≡◌, false};
-ghost use Rattle.graphql_items.specs.Memory.{GivesBy};
+ghost use Rattle.graphql_text.specs.Memory.{GivesBy};
 ghost use Rattle.graphql_rule_errors.specs.Places.{places};
 ghost use Rattle.graphql_rules_document.specs.Once.{said_of};
 ghost use Rattle.graphql_schema.specs.Declarations.{declarations_of};

@@ -2,7 +2,7 @@
 //! Uniqueness).
 
 ghost use Rattle.std.specs.Prelude.{◌≡◌, OnOk, false, map};
-ghost use Rattle.graphql_items.specs.Memory.{GivesBy};
+ghost use Rattle.graphql_text.specs.Memory.{GivesBy};
 ghost use Rattle.graphql_rule_errors.specs.Places.{Reports};
 ghost use Rattle.graphql_rule_errors.specs.Repeats.{mention_lent};
 ghost use Rattle.graphql_rules_document.specs.UniqueNames.{fragment_mention, repeated_fragments};

@@ -3,7 +3,7 @@
 
 ghost use Rattle.std.specs.Prelude.{◌≡◌, ◌++◌, OnOk, false, map};
 ghost use Rattle.std.specs.List.{flat_map};
-ghost use Rattle.graphql_items.specs.Memory.{GivesBy};
+ghost use Rattle.graphql_text.specs.Memory.{GivesBy};
 ghost use Rattle.graphql_rule_errors.specs.Places.{Reports};
 ghost use Rattle.graphql_rule_errors.specs.Repeats.{mention_lent};
 ghost use Rattle.graphql_rules_document.specs.UniqueNames.{operation_mention, repeated_operations};

@@ -1,7 +1,7 @@
 //! The schema of the sample.
 
 ghost use Rattle.std.specs.Prelude.{◌≡◌, IfOk, codes, map};
-ghost use Rattle.graphql_items.specs.Memory.{Gives};
+ghost use Rattle.graphql_text.specs.Memory.{Gives};
 ghost use Rattle.graphql_schema.specs.Schemas.{Makes};
 ghost use Rattle.graphql_schema_faults.specs.Lookups.{type_named};
 ghost use Rattle.graphql_sample.specs.SampleTypes as spec;

@@ -5,7 +5,7 @@ use Rattle.std.specs.Char.{is_ascii_hexdigit, digit_value}
 use Rattle.std.specs.Str.{chars}
 use Rattle.std.proofs.lemmas.Bool.Decides.{nat_tests}
 use lib.Utf8.{scalar}
-use Rattle.graphql_items.specs.Memory.{◌>>=◌}
+use Rattle.graphql_text.specs.Memory.{◌>>=◌}
 use Rattle.graphql_text.specs.declared.parse_error.ParseError.{ParseError}
 use Rattle.graphql_text.specs.declared.token.ScalarToken.TheVariants as token
 use Rattle.graphql_text.specs.Strings.{is_escape}

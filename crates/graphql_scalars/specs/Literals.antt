@@ -1,7 +1,7 @@
 -- What a token means to a type whose values are scalars, as a scalar of any type
 -- (GraphQL October 2021, 2.9 Input Values, 3.5 Scalars).
 use Rattle.std.specs.Prelude.{Option, Some, None, ℕ, ℤ, List, Result, Ok, Err}
-use Rattle.graphql_items.specs.Memory.{◌>>=◌}
+use Rattle.graphql_text.specs.Memory.{◌>>=◌}
 use Rattle.graphql_text.specs.declared.token.ScalarToken.{ScalarToken}
 use Rattle.graphql_text.specs.declared.token.ScalarToken.TheVariants as token
 use Rattle.graphql_text.specs.declared.parse_error.ParseError.{ParseError}

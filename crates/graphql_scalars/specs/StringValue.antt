@@ -5,7 +5,7 @@ use Rattle.std.specs.Char.{is_ascii_hexdigit, is_ascii_alphanumeric, digit_value
 use Rattle.std.specs.Option.{option_and_then}
 use Rattle.std.specs.Str.{chars}
 use lib.Utf8.{scalar}
-use Rattle.graphql_items.specs.Memory.{◌>>=◌}
+use Rattle.graphql_text.specs.Memory.{◌>>=◌}
 use Rattle.graphql_text.specs.declared.token.LexerError.TheVariants.{UnterminatedString, UnknownEscapeSequence}
 use Rattle.graphql_text.specs.declared.parse_error.ParseError.{ParseError}
 use Rattle.graphql_text.specs.declared.parse_error.ParseError.TheVariants.{LexerError}

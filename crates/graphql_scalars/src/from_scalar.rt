@@ -3,7 +3,7 @@
 ghost use Rattle.std.specs.Prelude.{◌≡◌, Some, codes, string_bytes};
 ghost use Rattle.std.specs.declared.alloc.AllocError.{AllocError};
 ghost use Rattle.std.proofs.Common.{rules};
-ghost use Rattle.graphql_items.specs.Memory.{Answers};
+ghost use Rattle.graphql_text.specs.Memory.{Answers};
 ghost use Rattle.graphql_scalars.specs.Conversions.{Refused};
 ghost use Rattle.graphql_scalars.specs.ScalarText.{scalar_text};
 ghost use Rattle.graphql_scalars.specs.ScalarAnswers.{as_int, as_bool, as_text};

@@ -1,6 +1,6 @@
 //! What tokens mean to the types that scalars are made of, at every scalar type.
 
-ghost use Rattle.graphql_items.specs.Memory.{Meets};
+ghost use Rattle.graphql_text.specs.Memory.{Meets};
 ghost use Rattle.graphql_scalars.specs.IntValue.{int_value};
 ghost use Rattle.graphql_scalars.specs.Literals as spec;
 ghost use Rattle.graphql_scalars.specs.Reading.{IsMemory};

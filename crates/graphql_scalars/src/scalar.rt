@@ -6,7 +6,7 @@ ghost use Rattle.std.specs.Option.{option_map};
 ghost use Rattle.std.specs.Str.{IsUtf8};
 ghost use Rattle.graphql_text.specs.declared.token.ScalarToken.{ScalarToken};
 ghost use Rattle.graphql_text.specs.declared.parse_error.ParseError.{ParseError};
-ghost use Rattle.graphql_items.specs.Memory.{Answers, Gives, GivesBy, Meets};
+ghost use Rattle.graphql_text.specs.Memory.{Answers, Gives, GivesBy, Meets};
 ghost use Rattle.graphql_scalars.specs.Another.{of_answer};
 ghost use Rattle.graphql_scalars.specs.Reading.{IsMemory};
 ghost use Rattle.graphql_scalars.specs.ScalarAnswers.{ScalarAnswer, integer, boolean, text, as_int, as_bool, as_text};

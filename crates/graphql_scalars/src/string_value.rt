@@ -2,7 +2,7 @@
 
 ghost use Rattle.std.specs.Prelude.{◌≡◌, ◌<◌, ◌∷◌, [], length, drop, encode_utf8_all, Some, None, MatchOption, IfSome, IfOk};
 ghost use Rattle.std.specs.Str.{chars};
-ghost use Rattle.graphql_items.specs.Memory.{Gives, Meets, MeetsBy, UnlessMemory};
+ghost use Rattle.graphql_text.specs.Memory.{Gives, Meets, MeetsBy, UnlessMemory};
 ghost use Rattle.graphql_scalars.specs.Reading.{IsMemory};
 ghost use Rattle.graphql_scalars.specs.StringValue as spec;
 

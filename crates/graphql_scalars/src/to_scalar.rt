@@ -1,7 +1,7 @@
 //! The scalars of other types' values.
 
 ghost use Rattle.std.specs.Prelude.{◌≡◌, string_bytes};
-ghost use Rattle.graphql_items.specs.Memory.{Gives};
+ghost use Rattle.graphql_text.specs.Memory.{Gives};
 
 use crate::scalar::ScalarValue;
 use graphql_text::Text;

@@ -1,7 +1,7 @@
 //! The drafts of a file, from its JSON.
 
 ghost use Rattle.std.specs.Prelude.{◌≡◌};
-ghost use Rattle.graphql_items.specs.Memory.{Gives};
+ghost use Rattle.graphql_text.specs.Memory.{Gives};
 ghost use Rattle.serde_json.specs.View.{items_view, view};
 ghost use Rattle.graphql_json_parts.specs.Parts.{each};
 ghost use Rattle.graphql_schema_drafts.specs.Shapes as spec;

@@ -2,7 +2,7 @@
 use Rattle.std.specs.Prelude.{◌≡◌, ◌++◌, ◌&&◌, ◌||◌, not, ℕ, List, [], ◌∷◌, map, take, slice_get, All, Bool, true, false, Option, Some, codes}
 use Rattle.std.specs.List.{list_any}
 use Rattle.std.specs.Option.{option_to_list}
-use Rattle.graphql_items.specs.Memory.{UnlessMemory}
+use Rattle.graphql_text.specs.Memory.{UnlessMemory}
 use Rattle.graphql_meta.specs.declared.meta.MetaType.{MetaType}
 use Rattle.graphql_meta.specs.declared.meta.MetaType.TheVariants as meta
 use Rattle.graphql_meta.specs.Types.{fields_of, input_fields_of, arguments_of, values_of}

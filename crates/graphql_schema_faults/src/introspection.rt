@@ -1,7 +1,7 @@
 //! The types that metadata describe, with the fields of introspection.
 
 ghost use Rattle.std.specs.Prelude.{◌≡◌, ◌++◌, [], ◌∷◌, None, OnOk, IsOkAnd};
-ghost use Rattle.graphql_items.specs.Memory.{Gives};
+ghost use Rattle.graphql_text.specs.Memory.{Gives};
 ghost use Rattle.graphql_schema_faults.specs.Completed.{schema_field, type_field, name_argument, with_introspection, completed};
 ghost use Rattle.graphql_meta.specs.declared.meta.deprecation.DeprecationStatus.TheVariants as status;
 

@@ -4,7 +4,7 @@ use Rattle.std.specs.List.{flat_map}
 use Rattle.std.specs.Option.{option_map}
 use Rattle.std.proofs.lemmas.Bool.{false≢true}
 use Rattle.std.proofs.lemmas.List.{map-append}
-use Rattle.graphql_items.specs.declared.text.Text.{Text}
+use Rattle.graphql_text.specs.Memory.{Text}
 use Rattle.graphql_text.specs.declared.position.SourcePosition.{SourcePosition}
 use Rattle.graphql_values.specs.InputValues.{Placed, Pair}
 use Rattle.graphql_values.specs.declared.input_value.InputValue.{InputValue, out-InputValue}

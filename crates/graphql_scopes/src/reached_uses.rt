@@ -2,7 +2,7 @@
 
 ghost use Rattle.std.specs.Prelude.{◌≡◌, ◌++◌, [], Bool, OnOk, map, if◌then◌else◌};
 ghost use Rattle.std.specs.List.{filter, flat_map};
-ghost use Rattle.graphql_items.specs.Memory.{GivesBy};
+ghost use Rattle.graphql_text.specs.Memory.{GivesBy};
 ghost use Rattle.graphql_scopes.specs.Lent.{fragment_of, operation_of, use_of};
 ghost use Rattle.graphql_scopes.specs.Reached.{uses_from};
 ghost use Rattle.graphql_scopes.specs.Scopes.{FragmentScope};

@@ -1,7 +1,7 @@
 //! What operations and fragments hold.
 
 ghost use Rattle.std.specs.Prelude.{◌≡◌};
-ghost use Rattle.graphql_items.specs.Memory.{GivesBy};
+ghost use Rattle.graphql_text.specs.Memory.{GivesBy};
 ghost use Rattle.graphql_schema.specs.Declarations.{declarations_of};
 ghost use Rattle.graphql_scopes.specs.Lent.{scopes_told};
 ghost use Rattle.graphql_scopes.specs.Scopes.{scopes_in};

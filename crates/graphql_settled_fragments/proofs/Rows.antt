@@ -24,8 +24,8 @@ use Rattle.graphql_written_out.specs.Written.{Settled, write, written}
 use Rattle.graphql_occurrences.specs.Occurrences.{occurrences}
 use Rattle.graphql_occurrences.specs.Parts.{Part, AField, Condition}
 use Rattle.graphql_occurrences.proofs.OccurrenceEquations.{parts_field, parts_spread}
-use Rattle.graphql_scopes.specs.Scopes.{FragmentScope, Spread, fragment_scopes}
-use Rattle.graphql_scopes.proofs.Rows.{at, put, query, select, spread}
+use Rattle.graphql_rules_document.specs.AllRules.{FragmentScope, Spread, fragment_scopes}
+use Rattle.graphql_rules_document.proofs.DocumentRows.{at, put, query, select, spread}
 use Rattle.graphql_rules_document.specs.Ends.{EndsWithin}
 use Rattle.graphql_settled_fragments.specs.Counted.{AreKnown, FieldTypesAreKnown}
 use Rattle.graphql_settled_fragments.proofs.SettledFragments.{ending-fragments-are-settled}

@@ -14,7 +14,7 @@ use Rattle.graphql_tree.specs.declared.document.Fragment.{Fragment}
 use Rattle.graphql_schema.specs.Declarations.{Declarations}
 use Rattle.graphql_occurrences.specs.Occurrences.{definition_parts, fragment_parts, occurrences}
 use Rattle.graphql_occurrences.specs.Parts.{Part, SpreadPart, ASpread}
-use Rattle.graphql_scopes.specs.Scopes.{FragmentScope, Spread, fragment_scope, fragment_scopes, spread_at}
+use Rattle.graphql_rules_document.specs.AllRules.{FragmentScope, Spread, fragment_scope, fragment_scopes, spread_at}
 use Rattle.graphql_rules_document.specs.Ends.{EndsWithin}
 use Rattle.graphql_written_out.specs.Written.{fragment_meant, Settled}
 use Rattle.graphql_settled_fragments.specs.SpreadNames.{names_in, WrittenWithin}

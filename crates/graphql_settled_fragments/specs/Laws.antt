@@ -5,7 +5,7 @@ use Rattle.graphql_tree.specs.declared.document.Definition.{Definition}
 use Rattle.graphql_tree.specs.Definitions.{fragments_of}
 use Rattle.graphql_schema.specs.Declarations.{Declarations}
 use Rattle.graphql_occurrences.specs.Occurrences.{occurrences}
-use Rattle.graphql_scopes.specs.Scopes.{fragment_scopes}
+use Rattle.graphql_rules_document.specs.AllRules.{fragment_scopes}
 use Rattle.graphql_rules_document.specs.Ends.{EndsWithin}
 use Rattle.graphql_written_out.specs.Written.{Settled}
 use Rattle.graphql_settled_fragments.specs.Counted.{AreKnown}

@@ -2,22 +2,21 @@
 
 ghost use Rattle.std.specs.Prelude.{◌≡◌, IfOk};
 ghost use Rattle.std.specs.Option.{option_map};
-ghost use Rattle.graphql_items.specs.Memory.{Gives};
+ghost use Rattle.graphql_text.specs.Memory.{Gives};
 ghost use Rattle.graphql_table.specs.Changes as spec;
 ghost use Rattle.graphql_table.specs.Resolvers.{IsResolverOf};
 
 use crate::types::table_types;
 use graphql_arguments::Arguments;
-use graphql_execution::{Executor, GraphQLValue};
 use graphql_field_results::{FieldResult, Resolved};
-use graphql_items::Text;
-use graphql_mutation::GraphQLMutationValue;
+use graphql_mutation::{Executor, GraphQLMutationValue, GraphQLValue};
 use graphql_names::NamedItems;
 use graphql_records::{
     Answer, Records, TableNode, TableType, answer, known_field, set_asked, type_of,
 };
 use graphql_scalars::DefaultScalarValue;
 use graphql_schema::SchemaType;
+use graphql_text::Text;
 use std::alloc::{AllocError, Global};
 
 /// Answers from records, by what it keeps of a schema (GraphQL October 2021, 6.4.2 Value

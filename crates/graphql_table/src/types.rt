@@ -1,7 +1,7 @@
 //! What a table keeps of a schema's types.
 
 ghost use Rattle.std.specs.Prelude.{◌≡◌, map};
-ghost use Rattle.graphql_items.specs.Memory.{Gives};
+ghost use Rattle.graphql_text.specs.Memory.{Gives};
 ghost use Rattle.graphql_meta.specs.Types.{own_name};
 ghost use Rattle.graphql_names.specs.Names.{passes};
 ghost use Rattle.graphql_schema.specs.Possible.{possible_types};
@@ -9,11 +9,11 @@ ghost use Rattle.graphql_schema_faults.specs.Faults.{is_composite};
 ghost use Rattle.graphql_schema_faults.specs.Lookups.{is_scalar, type_named};
 ghost use Rattle.graphql_table.specs.TableTypes as spec;
 
-use graphql_items::{Items, Text};
 use graphql_meta::{Field, MetaType};
 use graphql_names::{Named, NamedItems};
 use graphql_records::{TableField, TableType};
 use graphql_schema::SchemaType;
+use graphql_text::{Items, Text};
 use std::alloc::{AllocError, Global};
 
 /// Whether the type of this name is an object, an interface or a union.

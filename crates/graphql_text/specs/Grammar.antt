@@ -8,8 +8,8 @@ use Rattle.graphql_text.specs.declared.token.Token.TheVariants.{Name, Scalar, Ex
 use Rattle.graphql_text.specs.declared.token.ScalarToken.TheVariants.{String, Float, Int}
 use Rattle.graphql_text.specs.declared.token.LexerError.{LexerError}
 use Rattle.graphql_text.specs.declared.token.LexerError.TheVariants.{UnknownCharacter, UnexpectedCharacter, UnterminatedString, UnknownCharacterInString, UnknownEscapeSequence, UnexpectedEndOfFile}
-use Rattle.graphql_text.specs.declared.scan.Class.{Class}
-use Rattle.graphql_text.specs.declared.scan.Class.TheVariants as class
+use Rattle.graphql_text.specs.declared.class.Class.{Class}
+use Rattle.graphql_text.specs.declared.class.Class.TheVariants as class
 use Rattle.graphql_text.specs.Characters.{is_blank, continues_name}
 use Rattle.graphql_text.specs.Position.{position_of}
 use Rattle.graphql_text.specs.Reading.{is_in, Refusal}

@@ -1,13 +1,11 @@
+pub mod Memory
 pub mod Characters
 pub mod Position
-pub mod Refusals
 pub mod Spelling
 pub mod FaultTexts
 pub mod Reading
 pub mod Numbers
 pub mod Strings
-pub mod Modes
 pub mod Tokens
 pub mod Grammar
-pub mod OneByOne
-pub mod Laws
+pub mod Refusals

@@ -6,7 +6,7 @@ use Rattle.graphql_text.specs.declared.token.Token.{Token}
 use Rattle.graphql_text.specs.declared.token.Token.TheVariants.{Scalar}
 use Rattle.graphql_text.specs.declared.token.ScalarToken.TheVariants.{Float, Int}
 use Rattle.graphql_text.specs.declared.token.LexerError.TheVariants.{UnexpectedCharacter, UnexpectedEndOfFile}
-use Rattle.graphql_text.specs.declared.scan.Class.TheVariants as class
+use Rattle.graphql_text.specs.declared.class.Class.TheVariants as class
 use Rattle.graphql_text.specs.Position.{step}
 use Rattle.graphql_text.specs.Reading.{Place, Refusal, refused, ◌>>=◌, begins, past, past_one, between}
 

@@ -8,8 +8,8 @@ use Rattle.graphql_text.specs.declared.spanning.Spanning.{Spanning}
 use Rattle.graphql_text.specs.declared.token.LexerError.{LexerError}
 use Rattle.graphql_text.specs.declared.token.LexerError.TheVariants.{Memory}
 use Rattle.graphql_text.specs.declared.cursor.Cursor.{Cursor}
-use Rattle.graphql_text.specs.declared.scan.Class.{Class}
-use Rattle.graphql_text.specs.declared.scan.Class.TheVariants as class
+use Rattle.graphql_text.specs.declared.class.Class.{Class}
+use Rattle.graphql_text.specs.declared.class.Class.TheVariants as class
 use Rattle.graphql_text.specs.Characters.{is_blank, continues_name}
 use Rattle.graphql_text.specs.Position.{step, origin}
 pub use Rattle.graphql_items.specs.Memory.{◌>>=◌}

@@ -7,7 +7,7 @@ use Rattle.graphql_text.specs.declared.token.Token.TheVariants.{Scalar}
 use Rattle.graphql_text.specs.declared.token.ScalarToken.TheVariants.{String}
 use Rattle.graphql_text.specs.declared.token.LexerError.{LexerError}
 use Rattle.graphql_text.specs.declared.token.LexerError.TheVariants.{UnterminatedString, UnknownCharacterInString, UnknownEscapeSequence}
-use Rattle.graphql_text.specs.declared.scan.Class.TheVariants as class
+use Rattle.graphql_text.specs.declared.class.Class.TheVariants as class
 use Rattle.graphql_text.specs.Position.{step}
 use Rattle.graphql_text.specs.Reading.{Place, Refusal, refused, ◌>>=◌, past_one, between}
 

@@ -7,7 +7,7 @@ use Rattle.graphql_text.specs.declared.spanning.Spanning.{Spanning}
 use Rattle.graphql_text.specs.declared.token.Token.{Token}
 use Rattle.graphql_text.specs.declared.token.Token.TheVariants.{Name, ExclamationMark, Dollar, ParenOpen, ParenClose, BracketOpen, BracketClose, CurlyOpen, CurlyClose, Ellipsis, Colon, Equals, At, Pipe, EndOfFile}
 use Rattle.graphql_text.specs.declared.token.LexerError.TheVariants.{UnknownCharacter, UnexpectedCharacter, UnexpectedEndOfFile}
-use Rattle.graphql_text.specs.declared.scan.Class.TheVariants as class
+use Rattle.graphql_text.specs.declared.class.Class.TheVariants as class
 use Rattle.graphql_text.specs.Position.{step}
 use Rattle.graphql_text.specs.Reading.{Place, Refusal, refused, ◌>>=◌, is_in, past, between, start_of}
 use Rattle.graphql_text.specs.Numbers.{number}

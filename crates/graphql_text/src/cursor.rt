@@ -1,15 +1,18 @@
 //! A place in a text, with what follows it.
 
-ghost use Rattle.std.specs.Prelude.{◌≡◌, ◌<◌, ◌≤◌, ◌+◌, ◌++◌, ◌^◌, [], ◌∷◌, length, encode_utf8, MatchOption, IfSome};
+ghost use Rattle.std.specs.Prelude.{◌≡◌, ◌<◌, ◌≤◌, ◌+◌, ◌^◌, [], ◌∷◌, length, MatchOption};
 ghost use Rattle.std.specs.Str.{chars};
 ghost use Rattle.graphql_text.specs.Position.{origin, step};
 
+use crate::characters::first_character;
 use crate::position::SourcePosition;
 
 /// A place in a text, and the text from there on.
 #[derive(Clone, Copy, Debug)]
-pub(crate) struct Cursor<'a> {
+pub struct Cursor<'a> {
+    /// The place.
     pub at: SourcePosition,
+    /// What follows it.
     pub rest: &'a str,
     ghost room: { at.index + length rest.now < 2 ^ 64 },
     ghost line: { at.line ≤ at.index },
@@ -42,18 +45,5 @@ impl<'a> Cursor<'a> {
             at.advance_col();
         }
         Some((c, Cursor { at, rest }))
-    }
-}
-
-/// The first character of a text, and what follows it; nothing where the text is empty.
-pub fn first_character(text: &str) -> Option<(char, &str)>
-    ensures bytes { MatchOption result (text.now ≡ []) (λ p. text.now ≡ encode_utf8 p.0 ++ p.1.now) }
-    ensures chars { MatchOption result (chars text.now ≡ []) (λ p. chars text.now ≡ p.0 ∷ chars p.1.now) }
-    ensures shorter { IfSome result (λ p. length p.1.now < length text.now) }
-{
-    let mut chars = text.chars();
-    match chars.next() {
-        Some(c) => Some((c, chars.as_str())),
-        None => None,
     }
 }

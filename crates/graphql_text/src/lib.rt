@@ -1,27 +1,22 @@
-//! The text layer of GraphQL: places in a text, its tokens, its lexical faults.
+//! The text layer of GraphQL: places in a text, what a token of it is, its lexical faults.
 //!
-//! `lex_all` cuts a whole text, and `Lexer` gives the same answers one by one. What a token is, and
-//! what each fault, is said by the lexical grammar in `specs/Grammar.antt`.
+//! What a token is, and what each fault, is said by the lexical grammar in `specs/Grammar.antt`, for
+//! all crates above; `graphql_lexer` reads a text by it.
 #![tactic(auto)]
 
 mod characters;
+mod class;
 mod cursor;
-pub mod laws;
-mod lexer;
-mod number;
 mod parse_error;
 mod position;
-mod scan;
 mod spanning;
-mod string_token;
 mod text_ref;
 mod token;
-mod tokens;
 
-pub use characters::continues_name;
-pub use cursor::first_character;
+pub use characters::{continues_name, first_character};
+pub use class::Class;
+pub use cursor::Cursor;
 pub use graphql_items::{Items, Text};
-pub use lexer::{Lexer, lex_all};
 pub use parse_error::{OptionParseResult, ParseError, ParseResult, UnlocatedParseResult};
 pub use position::{SourcePosition, Span};
 pub use spanning::Spanning;

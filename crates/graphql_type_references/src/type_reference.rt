@@ -2,7 +2,7 @@
 
 ghost use Rattle.std.specs.Prelude.{◌≡◌, [], ◌∷◌, ◌++◌, IfOk, Some, None, if◌then◌else◌};
 ghost use Rattle.std.specs.Option.{option_map, option_copied};
-ghost use Rattle.graphql_items.specs.Memory.{Gives};
+ghost use Rattle.graphql_text.specs.Memory.{Gives};
 ghost use Rattle.graphql_type_references.specs.TypeReference as spec;
 ghost use Rattle.graphql_type_references.specs.declared.type_modifier.TypeModifier.TheVariants as modifier;
 

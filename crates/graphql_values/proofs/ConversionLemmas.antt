@@ -10,7 +10,7 @@ use Rattle.graphql_values.specs.declared.input_value.InputValue.TheVariants as v
 use Rattle.graphql_values.specs.declared.conversions.arrays.FromInputValueArrayError.{FromInputValueArrayError}
 use Rattle.graphql_values.specs.declared.conversions.arrays.FromInputValueArrayError.TheVariants as array_error
 use Rattle.graphql_values.specs.InputValues.{Placed}
-use Rattle.graphql_items.specs.Memory.{Answers}
+use Rattle.graphql_text.specs.Memory.{Answers}
 use Rattle.graphql_values.specs.ConversionsOfLists.{items_layer, items_of, IsRefusedFirst, MeansItems, RefusesItem}
 use Rattle.graphql_values.specs.ConversionsOfArrays.{ListHas, MeansExactly, RefusesExactly}
 use Rattle.graphql_values.specs.ConversionLaws.{out_form, items_of-list}

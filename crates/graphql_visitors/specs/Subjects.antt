@@ -1,6 +1,6 @@
 -- What is validated.
 use Rattle.std.specs.Prelude.{List}
-use Rattle.graphql_schema.specs.Declarations.{Declarations, declarations_of}
+use Rattle.graphql_occurrences.specs.Lookups.{Declarations, declarations_of}
 use Rattle.graphql_tree.specs.declared.document.Definition.{Definition}
 use Rattle.graphql_occurrences.specs.Events.{seen}
 use Rattle.graphql_occurrences.specs.Lent.{around_of, event_of}

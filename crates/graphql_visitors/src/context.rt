@@ -3,7 +3,7 @@
 ghost use Rattle.std.specs.Prelude.{◌≡◌, ◌∷◌, ◌++◌, [], false, true, Ok, None, IfOk, OnOk, OnErr, IsPermutation};
 ghost use Rattle.std.specs.List.Sorted.{IsSorted};
 ghost use Rattle.std.specs.Option.{is_some, option_copied, option_map};
-ghost use Rattle.graphql_schema.specs.Declarations.{declarations_of};
+ghost use Rattle.graphql_occurrences.specs.Lookups.{declarations_of};
 ghost use Rattle.graphql_occurrences.specs.Events.{top};
 ghost use Rattle.graphql_occurrences.specs.Lent.{around_of, literal_of};
 ghost use Rattle.graphql_occurrences.specs.Lookups.{referred};
@@ -13,9 +13,8 @@ ghost use Rattle.graphql_visitors.specs.Reports.{Adds, Reports};
 
 use crate::fragments::Fragments;
 use graphql_meta::{MetaType, SchemaScalar};
-use graphql_occurrences::{Around, InputPlace, TypeLiteral};
+use graphql_occurrences::{Around, InputPlace, SchemaType, TypeLiteral};
 use graphql_rule_errors::RuleError;
-use graphql_schema::SchemaType;
 use graphql_text::{Items, SourcePosition, Spanning, Text, TextRef};
 use graphql_tree::Definition;
 use std::alloc::{AllocError, Global};

@@ -5,7 +5,7 @@ ghost use Rattle.std.specs.Fn.{FnOnceReturnsAtMut};
 ghost use Rattle.std.specs.Option.{option_copied, option_map};
 ghost use Rattle.graphql_occurrences.specs.Lent.{literal_of};
 ghost use Rattle.graphql_occurrences.specs.Lookups.{referred};
-ghost use Rattle.graphql_schema.specs.Declarations.{declarations_of};
+ghost use Rattle.graphql_occurrences.specs.Lookups.{declarations_of};
 
 use crate::context::ValidatorContext;
 use graphql_occurrences::{Around, InputPlace, TypeLiteral};

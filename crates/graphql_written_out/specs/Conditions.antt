@@ -3,7 +3,7 @@ use Rattle.std.specs.Prelude.{Bool, true, false, not, Option, Some, None, codes,
 use Rattle.std.specs.List.{list_any}
 use Rattle.std.specs.Option.{option_and_then, option_map}
 use Rattle.std.specs.Str.{bytes_eq}
-use Rattle.graphql_items.specs.declared.text.Text.{Text}
+use Rattle.graphql_text.specs.Memory.{Text}
 use Rattle.graphql_scalars.specs.ScalarAnswers.{ScalarAnswer, as_bool}
 use Rattle.graphql_values.specs.declared.input_value.InputValue.{InputValue, out-InputValue}
 use Rattle.graphql_values.specs.declared.input_value.InputValue.TheOpen.{InputValue-F}

@@ -4,8 +4,8 @@ ghost use Rattle.std.specs.Prelude.{◌≡◌, Some, None};
 ghost use Rattle.graphql_meta.specs.declared.meta.MetaType.TheVariants as meta;
 
 use super::{EnumValue, MetaType};
-use graphql_names::NamedItems;
 use graphql_text::Text;
+use graphql_values::NamedItems;
 
 /// What a schema says of an enum (GraphQL October 2021, 3.9 Enums).
 #[derive(Drop)]

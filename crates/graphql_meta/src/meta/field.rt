@@ -1,17 +1,16 @@
 //! The fields of objects and interfaces.
 
 ghost use Rattle.std.specs.Prelude.{◌≡◌, ◌++◌, [], ◌∷◌, Some};
-ghost use Rattle.graphql_items.specs.Memory.{Gives};
+ghost use Rattle.graphql_text.specs.Memory.{Gives};
 ghost use Rattle.graphql_meta.specs.Names.{is_reserved};
 ghost use Rattle.graphql_meta.specs.Types.{arguments_of};
 ghost use Rattle.graphql_meta.specs.declared.meta.deprecation.DeprecationStatus.TheVariants as status;
 
 use super::names::is_reserved;
 use super::{Argument, DeprecationStatus};
-use graphql_names::NamedItems;
 use graphql_text::Text;
 use graphql_type_references::Type;
-use graphql_values::ScalarValue;
+use graphql_values::{NamedItems, ScalarValue};
 use std::alloc::{AllocError, Global};
 
 /// A field of an object or an interface (GraphQL October 2021, 3.6 Objects).

@@ -5,8 +5,8 @@ ghost use Rattle.graphql_meta.specs.declared.meta.MetaType.TheVariants as meta;
 
 use super::{Argument, MetaType};
 use crate::check::SchemaScalar;
-use graphql_names::NamedItems;
 use graphql_text::Text;
+use graphql_values::NamedItems;
 
 /// What a schema says of an input object (GraphQL October 2021, 3.10 Input Objects).
 #[derive(Drop)]

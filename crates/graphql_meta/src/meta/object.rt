@@ -4,9 +4,9 @@ ghost use Rattle.std.specs.Prelude.{◌≡◌, [], Some, None};
 ghost use Rattle.graphql_meta.specs.declared.meta.MetaType.TheVariants as meta;
 
 use super::{Field, MetaType};
-use graphql_names::NamedItems;
 use graphql_scalars::ScalarValue;
 use graphql_text::{Items, Text};
+use graphql_values::NamedItems;
 use std::alloc::{AllocError, Global};
 
 /// What a schema says of an object (GraphQL October 2021, 3.6 Objects).

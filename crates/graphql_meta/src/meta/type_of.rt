@@ -1,7 +1,7 @@
 //! References to the types of metadata.
 
 ghost use Rattle.std.specs.Prelude.{◌≡◌, [], ◌∷◌};
-ghost use Rattle.graphql_items.specs.Memory.{Gives};
+ghost use Rattle.graphql_text.specs.Memory.{Gives};
 ghost use Rattle.graphql_type_references.specs.declared.type_modifier.TypeModifier.TheVariants as modifier;
 ghost use Rattle.graphql_meta.specs.Types.{type_of};
 

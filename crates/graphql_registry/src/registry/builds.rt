@@ -1,7 +1,7 @@
 //! The metadata of types, from what they are made of.
 
 ghost use Rattle.std.specs.Prelude.{None, [], ◌++◌, ◌∷◌};
-ghost use Rattle.graphql_items.specs.Memory.{Gives};
+ghost use Rattle.graphql_text.specs.Memory.{Gives};
 ghost use Rattle.graphql_registry.specs.Registries.{field_of, typename_field};
 
 use super::Registry;

@@ -1,7 +1,7 @@
 //! The references, fields and arguments of types of the program.
 
 ghost use Rattle.std.specs.Prelude.{Some};
-ghost use Rattle.graphql_items.specs.Memory.{Gives};
+ghost use Rattle.graphql_text.specs.Memory.{Gives};
 ghost use Rattle.graphql_registry.specs.Registries.{argument_of, field_of};
 
 use super::Registry;

@@ -1,7 +1,7 @@
 //! Clones of directives and of arguments.
 
 ghost use Rattle.std.specs.Prelude.{◌≡◌};
-ghost use Rattle.graphql_items.specs.Memory.{Gives};
+ghost use Rattle.graphql_text.specs.Memory.{Gives};
 
 use super::{Arguments, Directive};
 use graphql_text::{Items, Spanning};

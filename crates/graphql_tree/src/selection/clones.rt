@@ -1,7 +1,7 @@
 //! Clones of selections, and of what holds them.
 
 ghost use Rattle.std.specs.Prelude.{◌≡◌};
-ghost use Rattle.graphql_items.specs.Memory.{Gives};
+ghost use Rattle.graphql_text.specs.Memory.{Gives};
 
 use super::{Field, FragmentSpread, InlineFragment, Selection};
 use crate::directive::copy_of_directives;

@@ -3,7 +3,7 @@
 ghost use Rattle.std.specs.Prelude.{◌≡◌};
 ghost use Rattle.std.specs.declared.alloc.AllocError.{AllocError};
 ghost use Rattle.graphql_values.specs.declared.input_value.InputValue.{InputValue};
-ghost use Rattle.graphql_items.specs.Memory.{Answers};
+ghost use Rattle.graphql_text.specs.Memory.{Answers};
 
 use crate::input_value::InputValue;
 use std::alloc::{AllocError, Global};

@@ -2,7 +2,7 @@
 
 ghost use Rattle.std.specs.Prelude.{string_bytes};
 ghost use Rattle.std.specs.Cow.{cow_str_bytes};
-ghost use Rattle.graphql_items.specs.Memory.{Gives};
+ghost use Rattle.graphql_text.specs.Memory.{Gives};
 ghost use Rattle.graphql_values.specs.Conversions as spec;
 ghost use Rattle.graphql_values.specs.declared.input_value.InputValue.{InputValue};
 ghost use Rattle.graphql_values.specs.declared.input_value.InputValue.TheVariants as value;

@@ -1,7 +1,7 @@
 //! Values as lists of any length.
 
 ghost use Rattle.std.specs.Prelude.{◌≡◌, ◌≢◌};
-ghost use Rattle.graphql_items.specs.Memory.{Answers};
+ghost use Rattle.graphql_text.specs.Memory.{Answers};
 ghost use Rattle.graphql_values.specs.ConversionLaws.{lists_apart, list_memory};
 ghost use Rattle.graphql_values.specs.ConversionsOfLists as spec;
 ghost use Rattle.graphql_values.specs.declared.conversions.lists.FromInputValueVecError.TheVariants as vec_error;

@@ -1,7 +1,7 @@
 //! The input values that stand for values of other types.
 
 ghost use Rattle.std.specs.Prelude.{◌≡◌, [], map, OnOk, string_bytes};
-ghost use Rattle.graphql_items.specs.Memory.{Gives};
+ghost use Rattle.graphql_text.specs.Memory.{Gives};
 ghost use Rattle.graphql_values.specs.Conversions as spec;
 ghost use Rattle.graphql_values.specs.InputValues.{unplaced};
 ghost use Rattle.graphql_values.specs.declared.input_value.InputValue.{InputValue};

@@ -1,7 +1,7 @@
 //! Values of answers as input values.
 
 ghost use Rattle.std.specs.Prelude.{◌≡◌, map};
-ghost use Rattle.graphql_items.specs.Memory.{Gives};
+ghost use Rattle.graphql_text.specs.Memory.{Gives};
 ghost use Rattle.graphql_values.specs.InputOfOutput as spec;
 ghost use Rattle.graphql_values.specs.InputValues.{unplaced, unplaced_pair};
 

@@ -1,7 +1,7 @@
 //! What an input value is, and what it holds.
 
 ghost use Rattle.std.specs.Prelude.{◌≡◌, ◌≢◌, ◌↔◌, ℕ, List, map, IsTrue, IfOk, MatchOption};
-ghost use Rattle.graphql_items.specs.Memory.{GivesBy};
+ghost use Rattle.graphql_text.specs.Memory.{GivesBy};
 ghost use Rattle.graphql_values.specs.InputValues.{Placed, Pair};
 ghost use Rattle.graphql_values.specs.Parts.{by_name};
 ghost use Rattle.graphql_values.specs.declared.input_value.InputValue.{InputValue};

@@ -1,7 +1,7 @@
 //! Items and fields at the end of lists.
 
 ghost use Rattle.std.specs.Prelude.{◌≡◌, ◌++◌, ◌∷◌, [], map, OnOk};
-ghost use Rattle.graphql_items.specs.Memory.{Gives};
+ghost use Rattle.graphql_text.specs.Memory.{Gives};
 ghost use Rattle.graphql_values.specs.InputValues.{unplaced, unplaced_pair};
 
 use graphql_text::{Items, Span, Spanning, Text};

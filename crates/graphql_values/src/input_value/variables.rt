@@ -1,7 +1,7 @@
 //! The variables in an input value, and what it is once they have their values.
 
 ghost use Rattle.std.specs.HashMap.{get_by_text};
-ghost use Rattle.graphql_items.specs.Memory.{Gives};
+ghost use Rattle.graphql_text.specs.Memory.{Gives};
 ghost use Rattle.graphql_values.specs.Variables.{variables_in, constant_of, each_given, constant_item, constant_pair};
 
 use super::InputValue;

@@ -1,5 +1,5 @@
 use Rattle.std.proofs.Common.{◌∙◌, ap, fold, subst}
-use Rattle.graphql_items.specs.Memory.{GivesBy}
+use Rattle.graphql_text.specs.Memory.{GivesBy}
 use Rattle.graphql_schema.specs.Declarations.{declarations_of}
 use Rattle.graphql_scopes.specs.Gathered.{nothing, scopes_gathered, with_event}
 use Rattle.graphql_scopes.specs.Lent.{scopes_told}

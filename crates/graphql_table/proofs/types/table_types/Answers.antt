@@ -1,5 +1,5 @@
 use Rattle.std.proofs.Common.{map, subst, ap, sym, ◌∙◌}
-use Rattle.graphql_items.specs.Memory.{Gives}
+use Rattle.graphql_text.specs.Memory.{Gives}
 use Rattle.graphql_table.specs.TableTypes.{table_type}
 use Rattle.graphql_table.proofs.Told.{told_map}
 use Rattle.graphql_table.proofs.types.table_types.Goals as goal

@@ -1,5 +1,5 @@
 use Rattle.std.proofs.Common.{◌≡◌, ◌++◌, ◌∷◌, [], ◌∙◌, ap, subst}
-use Rattle.graphql_items.specs.Memory.{Gives}
+use Rattle.graphql_text.specs.Memory.{Gives}
 use Rattle.graphql_registry.specs.Registries.{typename_field}
 use Rattle.graphql_registry.proofs.registry.Registry.with_typename.Goals as goal
 

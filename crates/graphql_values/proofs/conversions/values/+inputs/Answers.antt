@@ -1,5 +1,5 @@
 use Rattle.std.proofs.Common.{rules, arith, ◌≡◌, ◌++◌, [], ◌∷◌, map, ap, sym, ◌∙◌}
-use Rattle.graphql_items.specs.declared.text.Text.{Text}
+use Rattle.graphql_text.specs.Memory.{Text}
 use Rattle.graphql_output_values.specs.declared.value.Value.{Value}
 use Rattle.graphql_values.specs.InputOfOutput.{input_of}
 use Rattle.graphql_values.specs.InputValues.{unplaced, unplaced_pair}

@@ -1,0 +1,5 @@
+use Rattle.graphql_lexer.proofs.GrammarLaws.{reading_is_division}
+use Rattle.graphql_lexer.proofs.laws.reading_is_division.Goals as goal
+
+pub returns : goal.returns
+returns c = reading_is_division

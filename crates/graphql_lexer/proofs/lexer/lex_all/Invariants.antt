@@ -1,0 +1,11 @@
+use Rattle.std.proofs.Common.{length}
+use Rattle.std.specs.Str.{chars}
+use Rattle.graphql_text.specs.Reading.{start_of, place_of}
+use Rattle.graphql_text.specs.Tokens.{Runs}
+use Rattle.graphql_lexer.proofs.lexer.lex_all.Given as goal
+
+abbrev pub invariant-tokens : goal.invariant-tokens
+invariant-tokens l = Runs (start_of (chars l.source)) l.out.items (place_of l.cursor)
+
+abbrev pub decreases-tokens : goal.decreases-tokens
+decreases-tokens l = length (chars l.cursor.rest.now)

@@ -1,5 +1,0 @@
-use Rattle.graphql_text.proofs.GrammarLaws.{either_way}
-use Rattle.graphql_text.proofs.laws.either_way.Goals as goal
-
-pub returns : goal.returns
-returns c = either_way

@@ -1,5 +1,0 @@
-use Rattle.graphql_text.proofs.GrammarLaws.{reading_is_division}
-use Rattle.graphql_text.proofs.laws.reading_is_division.Goals as goal
-
-pub returns : goal.returns
-returns c = reading_is_division

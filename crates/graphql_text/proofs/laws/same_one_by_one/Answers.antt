@@ -1,5 +1,0 @@
-use Rattle.graphql_text.proofs.OneByOneLaws.{same_one_by_one}
-use Rattle.graphql_text.proofs.laws.same_one_by_one.Goals as goal
-
-pub returns : goal.returns
-returns c = same_one_by_one

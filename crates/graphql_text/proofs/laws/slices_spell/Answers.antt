@@ -1,5 +1,0 @@
-use Rattle.graphql_text.proofs.DividedLaws.{slices_spell}
-use Rattle.graphql_text.proofs.laws.slices_spell.Goals as goal
-
-pub returns : goal.returns
-returns c = slices_spell

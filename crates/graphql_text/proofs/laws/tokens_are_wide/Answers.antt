@@ -1,5 +1,0 @@
-use Rattle.graphql_text.proofs.DividedLaws.{tokens_are_wide}
-use Rattle.graphql_text.proofs.laws.tokens_are_wide.Goals as goal
-
-pub returns : goal.returns
-returns c = tokens_are_wide

@@ -1,5 +1,0 @@
-use Rattle.graphql_text.proofs.DividedLaws.{tokens_in_a_line}
-use Rattle.graphql_text.proofs.laws.tokens_in_a_line.Goals as goal
-
-pub returns : goal.returns
-returns c = tokens_in_a_line

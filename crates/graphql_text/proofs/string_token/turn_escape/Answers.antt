@@ -1,5 +1,0 @@
-use Rattle.std.proofs.Common.{[], ◌∷◌}
-use Rattle.graphql_text.proofs.string_token.turn_escape.Goals as goal
-
-pub bad_escape-requires : goal.bad_escape-requires
-bad_escape-requires c = record { front = c.args.c ∷ []; is = c.requires }
