@@ -1,0 +1,13 @@
+pub mod RisingTokens
+pub mod AgainSteps
+pub mod AgainParts
+pub mod PartedTexts
+pub mod SpelledSets
+pub mod SpelledDocuments
+pub mod SpeltTrees
+pub mod DirectivesAgain
+pub mod SelectionsAgain
+pub mod OperationsAgain
+pub mod PlainDocuments
+pub mod Rows
+pub mod OneLine
