@@ -1,0 +1,9 @@
+-- What is added to a text.
+use Rattle.std.specs.Prelude.{◌≡◌, ◌++◌, List}
+use Rattle.graphql_names.specs.Names.{Bytes}
+use Rattle.graphql_text.specs.declared.token.Token.{Token}
+use Rattle.graphql_plain_text.specs.PlainTexts.{spaced}
+
+-- the new text is the old one and these tokens, each behind a space
+abbrev pub Adds : Bytes → Bytes → List Token → Type 0
+Adds old new tokens = new ≡ old ++ spaced tokens

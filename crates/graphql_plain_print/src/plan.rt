@@ -1,0 +1,21 @@
+//! What printing asks of a request.
+
+use graphql_collect::Fragments;
+use graphql_final_variables::FinalVariables;
+use graphql_lexer::TokenRecords;
+
+/// What stays the same while an operation is printed.
+#[derive(Drop)]
+pub struct Plan<'d, 'a, S> {
+    /// The fragments of the document.
+    pub fragments: Fragments<'d, 'a, S>,
+
+    /// The final values of the operation's variables.
+    pub variables: &'d FinalVariables<'d, S>,
+
+    /// The tokens of the text that the document was read from.
+    pub tokens: &'d TokenRecords<'a>,
+
+    /// How many fields and inline fragments may be printed.
+    pub limit: usize,
+}

@@ -1,0 +1,24 @@
+//! Why an operation has no plain text.
+
+use std::alloc::AllocError;
+
+/// Why an operation is not printed.
+#[derive(Debug, Drop)]
+pub enum PrintError {
+    /// Its plain text has more fields and inline fragments than the limit.
+    TooLarge,
+
+    /// Memory ran out.
+    Memory,
+}
+
+impl From<AllocError> for PrintError {
+    ghost use Rattle.std.specs.Prelude.{◌≡◌};
+    ghost use Rattle.graphql_plain_print.specs.declared.print_error.PrintError.TheVariants.{Memory};
+
+    ghost from_gives = { λ _ e. e ≡ Memory };
+
+    fn from(_error: AllocError) -> PrintError {
+        PrintError::Memory
+    }
+}
