@@ -1,0 +1,14 @@
+pub mod Alike
+pub mod PartLemmas
+pub mod PartCases
+pub mod Bundled
+pub mod DirectClasses
+pub mod ListLemmas
+pub mod GroupLemmas
+pub mod NameLemmas
+pub mod CompareLemmas
+pub mod ClosedLemmas
+pub mod GoingLemmas
+pub mod BundleLemmas
+pub mod GoesLemmas
+pub mod PassLemmas

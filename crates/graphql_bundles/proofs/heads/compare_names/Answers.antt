@@ -1,0 +1,18 @@
+use Rattle.std.proofs.lemmas.Result.{on_ok_weaker}
+use Rattle.graphql_rule_errors.specs.Places.{places}
+use Rattle.graphql_bundles.proofs.CompareLemmas.{names-none, names-some}
+use Rattle.graphql_bundles.proofs.heads.compare_names.Goals as goal
+
+pub returns-in-Some : goal.returns-in-Some
+returns-in-Some g c =
+    on_ok_weaker c.compare_with.result
+    (λ told fragments. names-some g.S.PartialEq.eq c.args.schema.now.types fragments c.args.group.now c.args.names.now c.in-Some.head (places c.args.told.now)
+    (places c.compare_with.new.told) c.in-Some.ensures (told fragments))
+    c.compare_with.ensures
+
+pub returns-in-None : goal.returns-in-None
+returns-in-None g c =
+    on_ok_weaker c.compare_parts.result
+    (λ told fragments. names-none g.S.PartialEq.eq c.args.schema.now.types fragments c.args.group.now c.args.names.now (places c.args.told.now)
+    (places c.compare_parts.new.told) c.requires c.in-None.ensures (told fragments))
+    c.compare_parts.ensures

@@ -1,0 +1,8 @@
+use Rattle.std.proofs.Common.{◌≡◌, false, take}
+use Rattle.std.specs.List.{Contains}
+use Rattle.graphql_merging.specs.declared.table.WrittenField.{WrittenField}
+use Rattle.graphql_bundles.specs.Groups.{is_declared}
+use Rattle.graphql_bundles.proofs.heads.first_declared.Given as goal
+
+abbrev pub invariant-loop-field : goal.invariant-loop-field
+invariant-loop-field g l = (f : WrittenField g.row.S.Denot g.row.C.Denot) → Contains (take l.field-index l.group) f → is_declared f ≡ false

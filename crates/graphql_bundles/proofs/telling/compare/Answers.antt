@@ -1,0 +1,30 @@
+use Rattle.std.proofs.Common.{refl, subst}
+use Rattle.std.proofs.lemmas.Result.{on_ok_weaker}
+use Rattle.graphql_rule_errors.specs.Places.{places}
+use Rattle.graphql_merging.specs.Merging.{Agree}
+use Rattle.graphql_merging.specs.Selected.{seen}
+use Rattle.graphql_merging.specs.Told.{Differs, in_order}
+use Rattle.graphql_merging.proofs.Reports.{adds-one, adds-none, differing}
+use Rattle.graphql_bundles.proofs.telling.compare.Goals as goal
+
+pub returns-in-Some : goal.returns-in-Some
+returns-in-Some g c =
+    let eq = g.S.PartialEq.eq in
+    let types = c.args.schema.now.types in
+    let left = c.args.left.now.selected in
+    let right = c.args.right.now.selected in
+    on_ok_weaker c.tell.result
+    (λ told fragments.
+    adds-one (Agree eq types c.args.around) (seen fragments left) (seen fragments right) (places c.args.told.now) (places c.tell.new.told)
+    (in_order left.field.now.span.start right.field.now.span.start)
+    (differing eq types c.args.around (seen fragments left) (seen fragments right) c.in-Some.difference
+    (subst (Differs eq types c.args.around (seen fragments left) (seen fragments right)) c.in-Some.is (c.in_ok-difference.ensures fragments)))
+    refl told.at)
+    c.tell.ensures
+
+pub returns-in-None : goal.returns-in-None
+returns-in-None g c = λ fragments.
+    let left = seen fragments c.args.left.now.selected in
+    let right = seen fragments c.args.right.now.selected in
+    adds-none (Agree g.S.PartialEq.eq c.args.schema.now.types c.args.around) left right (places c.args.told.now)
+    (subst (Differs g.S.PartialEq.eq c.args.schema.now.types c.args.around left right) c.in-None.is (c.in_ok-difference.ensures fragments))

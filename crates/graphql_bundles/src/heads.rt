@@ -1,0 +1,215 @@
+//! Each field of a group is compared with the first of its class.
+
+ghost use Rattle.std.specs.Prelude.{◌≡◌, ℕ, false, true, List, map, filter, IfOk, OnOk, not};
+ghost use Rattle.std.specs.List.{Contains};
+ghost use Rattle.std.specs.Option.{option_map};
+ghost use Rattle.graphql_schema_faults.specs.Lookups.{is_object};
+ghost use Rattle.graphql_rule_errors.specs.Places.{places};
+ghost use Rattle.graphql_tree.specs.declared.document.Fragment.{Fragment};
+ghost use Rattle.graphql_merging.specs.Tables.{piece_field};
+ghost use Rattle.graphql_bundles.specs.Bundles as bundles;
+ghost use Rattle.graphql_bundles.specs.Steps.{ArePartNamed, AreShaped, Compares, IsFoundOf};
+ghost use Rattle.graphql_bundles.specs.Groups as groups;
+
+use crate::telling::compare_with;
+use graphql_declarations::field_of;
+use graphql_merging::WrittenField;
+use graphql_meta::MetaType;
+use graphql_rule_errors::RuleError;
+use graphql_schema::SchemaType;
+use graphql_text::{Items, TextRef};
+use indexmap::IndexSet;
+use std::alloc::{AllocError, Global};
+
+/// The name of the parent of a field, if that is an object type.
+fn object_name<'d, S, C>(field: &WrittenField<'d, '_, S, C>) -> Option<TextRef<'d>>
+    ensures { result ≡ groups.object_name field.now.selected.parent.now }
+{
+    match field.selected.parent {
+        MetaType::Object(object) => Some(TextRef::new(object.name.as_str())),
+        _ => None,
+    }
+}
+
+/// Whether the parent of a field is an object type.
+fn is_of_object<S, C>(field: &WrittenField<'_, '_, S, C>) -> bool
+    ensures { result ≡ is_object field.now.selected.parent.now }
+{
+    match field.selected.parent {
+        MetaType::Object(_) => true,
+        _ => false,
+    }
+}
+
+/// Whether a field is in the part of this object type: its parent is it, or no object type. Without
+/// a name all are.
+fn is_in_part<S, C>(field: &WrittenField<'_, '_, S, C>, name: Option<&str>) -> bool
+    ensures { result ≡ groups.is_of (option_map (λ n. n.now) name.entry) field.now }
+{
+    let Some(name) = name else {
+        return true;
+    };
+    match object_name(field) {
+        Some(own) => own.as_str() == name,
+        None => true,
+    }
+}
+
+/// The fields of a part, in order. An error is want of memory.
+pub(crate) fn fields_in_part<'d, 'a, S, C>(
+    alloc: Global,
+    group: &[WrittenField<'d, 'a, S, C>],
+    name: Option<&str>,
+) -> Result<Items<WrittenField<'d, 'a, S, C>>, AllocError>
+    ensures { IfOk result (λ fields.
+        fields ≡ filter (groups.is_of (option_map (λ n. n.now) name.entry)) group.now) }
+{
+    let mut fields = Items::new(alloc);
+    for field in group {
+        if is_in_part(field, name) {
+            fields.push(*field)?;
+        }
+    }
+    Ok(fields)
+}
+
+/// The names of the object types among the parents of a group, each once. An error is want of
+/// memory.
+pub(crate) fn names_of<'d, S, C>(
+    alloc: Global,
+    group: &[WrittenField<'d, '_, S, C>],
+) -> Result<IndexSet<TextRef<'d>>, AllocError>
+    ensures { IfOk result (λ names. names.keys ≡ groups.names_in group.now) }
+{
+    let mut names = IndexSet::new(alloc);
+    for field in group {
+        if let Some(name) = object_name(field) {
+            names.insert_full(name)?;
+        }
+    }
+    Ok(names)
+}
+
+/// Whether the schema has the field.
+fn is_declared<S, C>(field: &WrittenField<'_, '_, S, C>) -> bool
+    ensures { result ≡ groups.is_declared field.now }
+{
+    let name = field.selected.field.item.name.item.as_str();
+    field_of(Some(field.selected.parent), name).is_some()
+}
+
+/// The first field that the schema has.
+fn first_declared<'d, 'a, S, C>(
+    group: &[WrittenField<'d, 'a, S, C>],
+) -> Option<WrittenField<'d, 'a, S, C>>
+    ensures { groups.IsFound groups.is_declared group.now result }
+{
+    for field in group {
+        if is_declared(field) {
+            return Some(*field);
+        }
+    }
+    None
+}
+
+/// The first field whose parent is no object type.
+fn first_abstract<'d, 'a, S, C>(
+    group: &[WrittenField<'d, 'a, S, C>],
+) -> Option<WrittenField<'d, 'a, S, C>>
+    ensures { groups.IsFound (λ f. not (is_object f.selected.parent.now)) group.now result }
+{
+    for field in group {
+        let of_object = is_of_object(field);
+        if !of_object {
+            return Some(*field);
+        }
+    }
+    None
+}
+
+/// Compares the shapes of all with that of the first that is declared. An error of the call is want
+/// of memory.
+pub(crate) fn compare_shapes<S: PartialEq, C>(
+    alloc: Global,
+    schema: &SchemaType<S, C>,
+    group: &[WrittenField<'_, '_, S, C>],
+    told: &mut Items<RuleError>,
+) -> Result<(), AllocError>
+    ensures { OnOk result ((fragments : List (Fragment S)) →
+        let fields = map (piece_field fragments) group.now in
+        Compares (IsFoundOf S.eq schema.now.types true fields) (AreShaped schema.now.types fields)
+        (places told.old) (places told.new)) }
+{
+    match first_declared(group) {
+        Some(head) => compare_with(alloc, schema, true, &head, group, told),
+        None => Ok(()),
+    }
+}
+
+/// Compares the names and arguments of the fields of a part with those of its first. An error of
+/// the call is want of memory.
+fn compare_part<S: PartialEq, C>(
+    alloc: Global,
+    schema: &SchemaType<S, C>,
+    group: &[WrittenField<'_, '_, S, C>],
+    name: &str,
+    told: &mut Items<RuleError>,
+) -> Result<(), AllocError>
+    ensures { OnOk result ((fragments : List (Fragment S)) →
+        let fields = map (piece_field fragments) group.now in
+        Compares (IsFoundOf S.eq schema.now.types false fields)
+        (ArePartNamed S.eq schema.now.types fields (bundles.one name.now))
+        (places told.old) (places told.new)) }
+{
+    let fields = fields_in_part(alloc, group, Some(name))?;
+    match fields.first().copied() {
+        Some(head) => compare_with(alloc, schema, false, &head, fields.as_slice(), told),
+        None => Ok(()),
+    }
+}
+
+/// Compares the names and arguments of the fields of each part with those of its first. An error of
+/// the call is want of memory.
+fn compare_parts<S: PartialEq, C>(
+    alloc: Global,
+    schema: &SchemaType<S, C>,
+    group: &[WrittenField<'_, '_, S, C>],
+    names: &[TextRef<'_>],
+    told: &mut Items<RuleError>,
+) -> Result<(), AllocError>
+    ensures { OnOk result ((fragments : List (Fragment S)) →
+        let fields = map (piece_field fragments) group.now in
+        Compares (IsFoundOf S.eq schema.now.types false fields)
+        ((name : List ℕ) → Contains names.now name
+        → ArePartNamed S.eq schema.now.types fields (bundles.one name))
+        (places told.old) (places told.new)) }
+{
+    for name in names {
+        compare_part(alloc, schema, group, name.as_str(), told)?;
+    }
+    Ok(())
+}
+
+/// Compares names and arguments: of all fields with one whose parent is no object type, where there
+/// is one, or else of those of each object type with the first of them. An error of the call is
+/// want of memory.
+pub(crate) fn compare_names<S: PartialEq, C>(
+    alloc: Global,
+    schema: &SchemaType<S, C>,
+    group: &[WrittenField<'_, '_, S, C>],
+    names: &[TextRef<'_>],
+    told: &mut Items<RuleError>,
+) -> Result<(), AllocError>
+    requires { names.now ≡ groups.names_in group.now }
+    ensures { OnOk result ((fragments : List (Fragment S)) →
+        let fields = map (piece_field fragments) group.now in
+        Compares (IsFoundOf S.eq schema.now.types false fields)
+        ((part : bundles.Part) → Contains (bundles.parts false names.now) part
+        → part.around ≡ false → ArePartNamed S.eq schema.now.types fields part)
+        (places told.old) (places told.new)) }
+{
+    match first_abstract(group) {
+        Some(head) => compare_with(alloc, schema, false, &head, group, told),
+        None => compare_parts(alloc, schema, group, names, told),
+    }
+}

@@ -1,0 +1,49 @@
+//! What is told of two fields that do not merge.
+
+use graphql_declarations::{TypeLiteral, field_of, type_of_field};
+use graphql_merging::{Difference, SelectedField};
+use graphql_text::TextRef;
+use graphql_type_references::Type;
+use graphql_written_out::response_key;
+use std::alloc::{AllocError, Global};
+
+/// What the texts say of two fields of one response key, in the order in which they are handed in.
+pub(crate) fn message_of<S, C>(
+    alloc: Global,
+    difference: Difference,
+    left: &SelectedField<'_, '_, S, C>,
+    right: &SelectedField<'_, '_, S, C>,
+) -> Result<String, AllocError> {
+    let key = response_key(&left.field.item);
+    let one = left.field.item.name.item.as_str();
+    let other = right.field.item.name.item.as_str();
+    match difference {
+        Difference::Names => format!(in alloc;
+            "Fields \"{key}\" conflict because {one} and {other} are different fields"
+        ),
+        Difference::Arguments => format!(in alloc;
+            "Fields \"{key}\" conflict because they have differing arguments"
+        ),
+        Difference::Types => {
+            let first = type_text(alloc, type_of_field(field_of(Some(left.parent), one)))?;
+            let second = type_text(alloc, type_of_field(field_of(Some(right.parent), other)))?;
+            format!(in alloc;
+                "Fields \"{key}\" conflict because they return conflicting types {first} and {second}"
+            )
+        }
+    }
+}
+
+/// A type as it is written, with its wraps.
+fn type_text(alloc: Global, literal: Option<TypeLiteral<'_>>) -> Result<String, AllocError> {
+    match literal {
+        Some(literal) => {
+            let reference = Type {
+                name: TextRef::new(literal.name),
+                modifiers: literal.modifiers,
+            };
+            format!(in alloc; "{reference}")
+        }
+        None => Ok(String::new(alloc)),
+    }
+}

@@ -1,0 +1,83 @@
+//! A bundle is gone through, and the bundles of the definitions are begun.
+
+ghost use Rattle.std.specs.Prelude.{◌≡◌, ℕ, ◌<◌, false, List, Some, OnOk, slice_get};
+ghost use Rattle.graphql_tree.specs.declared.document.Fragment.{Fragment};
+ghost use Rattle.graphql_merging.specs.Tables.{pieces_of};
+ghost use Rattle.graphql_bundles.specs.Bundles.{Bundle, IsGathered, IsPassed};
+ghost use Rattle.graphql_bundles.specs.Going.{IsFoundIn, LeadsTo, stage_of};
+ghost use Rattle.graphql_bundles.specs.Steps.{FoundInGroups, Goes, GroupsLeadTo, GroupsPassed, HoldsSets, OfDefinitions};
+
+use crate::bundle::Progress;
+use crate::groups::{KeyGroup, fields_of_sets, grouped};
+use crate::parts::{begin_sets, pass_group};
+use graphql_merging::SetTable;
+use graphql_schema::SchemaType;
+use std::alloc::{AllocError, Global};
+
+/// Goes through the groups of a bundle. An error of the call is want of memory.
+fn pass_groups<S: PartialEq, C>(
+    alloc: Global,
+    schema: &SchemaType<S, C>,
+    table: &SetTable<'_, '_, S, C>,
+    around: bool,
+    groups: &[KeyGroup<'_, '_, S, C>],
+    progress: &mut Progress,
+) -> Result<(), AllocError>
+    ensures { OnOk result ((fragments : List (Fragment S)) →
+        let t = pieces_of fragments table.now in
+        let types = schema.now.types in
+        Goes (FoundInGroups S.eq types fragments around groups.now)
+        (GroupsLeadTo t fragments around groups.now)
+        (GroupsPassed t S.eq types fragments around groups.now)
+        (stage_of progress.old) (stage_of progress.new)) }
+{
+    for group in groups {
+        pass_group(alloc, schema, table, around, group.1.as_slice(), progress)?;
+    }
+    Ok(())
+}
+
+/// Goes through a bundle. An error of the call is want of memory.
+fn pass_bundle<S: PartialEq, C>(
+    alloc: Global,
+    schema: &SchemaType<S, C>,
+    table: &SetTable<'_, '_, S, C>,
+    number: usize,
+    progress: &mut Progress,
+) -> Result<(), AllocError>
+    ensures { OnOk result ((fragments : List (Fragment S)) (b : Bundle) →
+        slice_get (stage_of progress.old).bundles number ≡ Some b →
+        let t = pieces_of fragments table.now in
+        let types = schema.now.types in
+        Goes (IsFoundIn t S.eq types b) (LeadsTo t b)
+        (λ stage. IsPassed t S.eq types stage.bundles stage.told b)
+        (stage_of progress.old) (stage_of progress.new)) }
+{
+    let Some(bundle) = progress.bundles.get_index(number) else {
+        return Ok(());
+    };
+    let around = bundle.around;
+    let fields = fields_of_sets(alloc, table, bundle.sets.as_slice())?;
+    progress.spend(fields.len());
+    let groups = grouped(alloc, fields.as_slice())?;
+    pass_groups(alloc, schema, table, around, groups.as_slice(), progress)
+}
+
+/// Begins the bundles of the sets of the definitions. An error is want of memory.
+fn begin_definitions<S, C>(
+    alloc: Global,
+    table: &SetTable<'_, '_, S, C>,
+    definitions: usize,
+    progress: &mut Progress,
+) -> Result<(), AllocError>
+    ensures { OnOk result ((fragments : List (Fragment S)) →
+        let t = pieces_of fragments table.now in
+        Goes (λ e. ⊥) (OfDefinitions t definitions)
+        (λ stage. (k : ℕ) → k < definitions → IsGathered t stage.bundles false (λ p. p ≡ k))
+        (stage_of progress.old) (stage_of progress.new)) }
+{
+    for definition in 0..definitions {
+        begin_sets(alloc, table, &[definition], false, progress)?;
+    }
+    Ok(())
+}

@@ -1,0 +1,98 @@
+//! Two fields of one response key are compared.
+
+ghost use Rattle.std.specs.Prelude.{◌≡◌, [], ◌∷◌, List, map, OnOk};
+ghost use Rattle.graphql_rule_errors.specs.Places.{Reports, places};
+ghost use Rattle.graphql_tree.specs.declared.document.Fragment.{Fragment};
+ghost use Rattle.graphql_merging.specs.Merging.{Agree};
+ghost use Rattle.graphql_merging.specs.Selected.{seen};
+ghost use Rattle.graphql_merging.specs.Told.{AddsErrors, in_order};
+
+use crate::messages::message_of;
+use graphql_merging::{Difference, SelectedField, WrittenField, first_difference};
+use graphql_rule_errors::{RuleError, report};
+use graphql_schema::SchemaType;
+use graphql_text::Items;
+use std::alloc::{AllocError, Global};
+
+/// Tells that two fields of one response key, the first of them first in the text, do not agree. An
+/// error of the call is want of memory.
+fn tell_in_order<S, C>(
+    alloc: Global,
+    difference: Difference,
+    first: &SelectedField<'_, '_, S, C>,
+    second: &SelectedField<'_, '_, S, C>,
+    told: &mut Items<RuleError>,
+) -> Result<(), AllocError>
+    ensures { let one = first.now.field.now.span.start in
+        let other = second.now.field.now.span.start in
+        OnOk result (Reports ((one ∷ other ∷ []) ∷ []) told.old told.new) }
+{
+    let message = message_of(alloc, difference, first, second)?;
+    let places = [first.field.span.start, second.field.span.start];
+    report(alloc, told, message, &places)
+}
+
+/// Tells that two fields of one response key do not agree: their places and what the text says of
+/// them come in the order of the text. An error of the call is want of memory.
+pub(crate) fn tell<S, C>(
+    alloc: Global,
+    difference: Difference,
+    left: &SelectedField<'_, '_, S, C>,
+    right: &SelectedField<'_, '_, S, C>,
+    told: &mut Items<RuleError>,
+) -> Result<(), AllocError>
+    ensures { let one = left.now.field.now.span.start in
+        let other = right.now.field.now.span.start in
+        OnOk result (Reports (in_order one other ∷ []) told.old told.new) }
+{
+    if right.field.span.start.index() < left.field.span.start.index() {
+        return tell_in_order(alloc, difference, right, left, told);
+    }
+    tell_in_order(alloc, difference, left, right, told)
+}
+
+/// Compares two fields of one response key, and tells it where they do not agree. `around`: whether
+/// fields around them have parents that are different objects. An error of the call is want of
+/// memory.
+pub(crate) fn compare<S: PartialEq, C>(
+    alloc: Global,
+    schema: &SchemaType<S, C>,
+    around: bool,
+    left: &WrittenField<'_, '_, S, C>,
+    right: &WrittenField<'_, '_, S, C>,
+    told: &mut Items<RuleError>,
+) -> Result<(), AllocError>
+    ensures { OnOk result ((fragments : List (Fragment S))
+        → AddsErrors (Agree S.eq schema.now.types around)
+        ((seen fragments left.now.selected, seen fragments right.now.selected) ∷ [])
+        (places told.old) (places told.new)) }
+{
+    let one = &left.selected;
+    let other = &right.selected;
+    let difference = first_difference(alloc, schema, around, one, other)?;
+    match difference {
+        Some(difference) => tell(alloc, difference, one, other, told),
+        None => Ok(()),
+    }
+}
+
+/// Compares fields with one of their response key, in order. An error of the call is want of
+/// memory.
+pub(crate) fn compare_with<S: PartialEq, C>(
+    alloc: Global,
+    schema: &SchemaType<S, C>,
+    around: bool,
+    head: &WrittenField<'_, '_, S, C>,
+    others: &[WrittenField<'_, '_, S, C>],
+    told: &mut Items<RuleError>,
+) -> Result<(), AllocError>
+    ensures { OnOk result ((fragments : List (Fragment S))
+        → AddsErrors (Agree S.eq schema.now.types around)
+        (map (λ f. (seen fragments head.now.selected, seen fragments f.selected)) others.now)
+        (places told.old) (places told.new)) }
+{
+    for other in others {
+        compare(alloc, schema, around, head, other, told)?;
+    }
+    Ok(())
+}
