@@ -6,12 +6,12 @@ use Rattle.std.proofs.lemmas.List.{map-append, take_more}
 use Rattle.std.proofs.lemmas.Grind.{flat_map-append}
 use Rattle.std.proofs.lemmas.List.Folds.{find-append}
 use Rattle.graphql_names.specs.Names.{Bytes}
-use Rattle.graphql_tree.specs.Definitions.{fragment_in, fragments_of}
+use Rattle.graphql_tree.specs.Definitions.{fragment_in, fragments_of, fragments_listed}
 use Rattle.graphql_tree.specs.declared.document.Definition.{Definition}
 use Rattle.graphql_tree.specs.declared.document.Fragment.{Fragment}
 use Rattle.graphql_values.specs.InputValues.{Placed}
 use Rattle.graphql_written_out.specs.Written.{fragment_meant}
-use Rattle.graphql_collect.specs.FragmentLists.{fragment_defined, fragments_listed}
+use Rattle.graphql_collect.specs.FragmentLists.{fragment_defined}
 
 module _ {S : Type 0} where
   -- the first of a name among the definitions so far and one more

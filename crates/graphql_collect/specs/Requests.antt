@@ -11,7 +11,7 @@ use Rattle.graphql_collect.specs.declared.request.Request.{Request}
 use Rattle.graphql_written_out.specs.Trees.{Directives, Tree}
 use Rattle.graphql_names.specs.Names.{Bytes}
 use Rattle.graphql_written_out.specs.Conditions.{left_out}
-use Rattle.graphql_collect.specs.FragmentLists.{fragments_listed}
+use Rattle.graphql_tree.specs.Definitions.{fragments_listed}
 use Rattle.graphql_written_out.specs.Written.{written}
 use Rattle.graphql_written_out.specs.Fields.{Found, fields}
 use Rattle.graphql_collect.specs.Occurrences.{found}

@@ -3,7 +3,7 @@
 ghost use Rattle.std.specs.Prelude.{◌≡◌, ℕ, List};
 ghost use Rattle.graphql_written_out.specs.Written.{fragment_meant};
 ghost use Rattle.graphql_rule_errors.specs.Found.{found};
-ghost use Rattle.graphql_collect.specs.FragmentLists.{fragments_listed};
+ghost use Rattle.graphql_tree.specs.Definitions.{fragments_listed};
 
 mod lookups;
 

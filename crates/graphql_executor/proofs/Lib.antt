@@ -1,3 +1,3 @@
-mod Exclusive
+mod OneAnswer
 mod Running
 mod SameAsking

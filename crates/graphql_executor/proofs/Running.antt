@@ -14,7 +14,7 @@ use Rattle.graphql_tree.specs.declared.selection.Selection.{Selection}
 use Rattle.graphql_schema.specs.declared.schema.SchemaType.{SchemaType}
 use Rattle.graphql_written_out.specs.Trees.{Tree}
 use Rattle.graphql_written_out.specs.Written.{written}
-use Rattle.graphql_collect.specs.FragmentLists.{fragments_listed}
+use Rattle.graphql_tree.specs.Definitions.{fragments_listed}
 use Rattle.graphql_collect.specs.Requests.{written_in}
 use Rattle.graphql_collect.specs.declared.request.Request.{Request}
 use Rattle.graphql_field_results.specs.declared.execution_error.ExecutionError.{ExecutionError}

@@ -1,16 +1,11 @@
 //! Laws of requests: each function's contract is a law, and its body does nothing.
 
-ghost use Rattle.graphql_executor.specs.Laws.{AnswersAreOne, ExecutableAreNotRefused};
+ghost use Rattle.graphql_executor.specs.Laws.{AnswersAreOne};
 
 use graphql_meta::SchemaScalar;
 use graphql_mutation::GraphQLMutationValue;
 use graphql_requests::Meaning;
-
-/// A request that can be executed is refused by nothing but want of memory: no request is both executed
-/// and refused, so that the first step that fails decides what it is refused for.
-pub fn executable_requests_are_not_refused<S: SchemaScalar>()
-    ensures { ExecutableAreNotRefused ⟦<S as Meaning>⟧.meaning }
-{}
+pub use graphql_requests::laws::{executable_requests_are_not_refused, one_operation_is_executed};
 
 /// Two answers to one request, over one resolver and one context, have the same data, and leave the same
 /// context.

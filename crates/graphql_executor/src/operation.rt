@@ -3,7 +3,7 @@
 ghost use Rattle.std.specs.Prelude.{◌≡◌, [], ◌∷◌, IfOk, OnErr, option_map};
 ghost use Rattle.std.specs.HashMap.{get_by_text};
 ghost use Rattle.graphql_final_variables.specs.FinalVariables.{value_in};
-ghost use Rattle.graphql_collect.specs.FragmentLists.{fragments_listed};
+ghost use Rattle.graphql_tree.specs.Definitions.{fragments_listed};
 ghost use Rattle.graphql_collect.specs.Requests.{fragments_in, written_in};
 ghost use Rattle.graphql_evaluation.specs.Evaluation.{evaluate};
 ghost use Rattle.graphql_written_out.specs.Written.{Settled, written};

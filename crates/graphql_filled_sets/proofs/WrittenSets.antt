@@ -4,7 +4,7 @@ use Rattle.std.specs.List.{All, Contains, flat_map}
 use Rattle.std.proofs.lemmas.List.Elements.{Contains-append_left, Contains-append_right, Contains-append_cases}
 use Rattle.graphql_names.specs.Names.{Bytes}
 use Rattle.graphql_values.specs.InputValues.{Placed as Positioned}
-use Rattle.graphql_tree.specs.Definitions.{fragments_of}
+use Rattle.graphql_tree.specs.Definitions.{fragments_of, fragments_listed}
 use Rattle.graphql_tree.specs.declared.document.Definition.{Definition}
 use Rattle.graphql_tree.specs.declared.document.Definition.TheVariants as d
 use Rattle.graphql_tree.specs.declared.document.Fragment.{Fragment}
@@ -21,7 +21,7 @@ use Rattle.graphql_settled_fragments.proofs.WrittenLevels.{write-more}
 use Rattle.graphql_settled_fragments.proofs.CountedSpreads.{fragment-counted, operation-counted}
 use Rattle.graphql_settled_fragments.proofs.SettledFragments.{meant, within, as-many}
 use Rattle.graphql_filled_sets.specs.WholeSets.{IsWholeSet, set_of}
-use Rattle.graphql_filled_sets.specs.Laws.{IsFull, fragments_in, WrittenSetsAreFilled}
+use Rattle.graphql_filled_sets.specs.Laws.{IsFull, WrittenSetsAreFilled}
 use Rattle.graphql_filled_sets.proofs.FullSets.{IsMeant, Sound, write-full}
 
 module _ {S C : Type 0} (schema : Declarations S C) where
@@ -54,7 +54,7 @@ module _ {S C : Type 0} (schema : Declarations S C) where
     pub written-sets-are-filled : WrittenSetsAreFilled schema
     unfolding written occurrences
     written-sets-are-filled document o whole among root k meant_all ends =
-        let fragments : List (Fragment S) = fragments_in document in
+        let fragments : List (Fragment S) = fragments_listed document in
         let n : ℕ = length (fragment_scopes schema document) in
         let set_is_whole : (x : Definition S) → Contains document x → IsWholeSet (set_of x) =
         λ x i. all-of (λ y. IsWholeSet (set_of y)) document whole x i in

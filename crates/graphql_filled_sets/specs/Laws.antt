@@ -7,7 +7,7 @@ use Rattle.graphql_text.specs.declared.token.ScalarToken.{ScalarToken}
 use Rattle.graphql_text.specs.declared.parse_error.ParseError.{ParseError}
 use Rattle.graphql_values.specs.InputValues.{Placed}
 use Rattle.graphql_grammar.specs.Input.{Located}
-use Rattle.graphql_tree.specs.Definitions.{fragments_of}
+use Rattle.graphql_tree.specs.Definitions.{fragments_listed}
 use Rattle.graphql_tree.specs.declared.document.Definition.{Definition}
 use Rattle.graphql_tree.specs.declared.document.Definition.TheVariants as definition
 use Rattle.graphql_tree.specs.declared.document.Fragment.{Fragment}
@@ -35,14 +35,11 @@ SpelledSetsAreWhole S reads of_bool = (tokens : List Located) (document : List (
 abbrev pub IsFull : {S : Type 0} → Tree S → Type 0
 IsFull set = (is_empty set ≡ false) × IsFilled set
 
-abbrev pub fragments_in : {S : Type 0} → List (Definition S) → List (Fragment S)
-fragments_in document = map (λ f. f.item) (fragments_of document)
-
 -- the same once fragments are written out, where fields are declared, conditions known, each spread means a fragment, and what is spread ends
 abbrev pub WrittenSetsAreFilled : {S C : Type 0} → Declarations S C → Type 0
 WrittenSetsAreFilled {S} schema =
     (document : List (Definition S)) (o : Placed (Operation S)) → AreWhole document → Contains document (definition.Operation o)
     → IsSome (root_of schema o.item.operation_type) → AreKnown schema (occurrences schema document)
-    → ((name : Bytes) → IsSpread (occurrences schema document) name → IsSome (fragment_meant (fragments_in document) name))
+    → ((name : Bytes) → IsSpread (occurrences schema document) name → IsSome (fragment_meant (fragments_listed document) name))
     → ((name : Bytes) → EndsWithin (fragment_scopes schema document) (length (fragment_scopes schema document)) name)
-    → IsFull (written (fragments_in document) o.item.selection_set)
+    → IsFull (written (fragments_listed document) o.item.selection_set)

@@ -3,7 +3,7 @@ use Rattle.std.specs.Prelude.{List, [], ◌∷◌, ◌++◌, map}
 use Rattle.std.specs.List.{flat_map}
 use Rattle.std.specs.Option.{option_and_then}
 use Rattle.graphql_names.specs.Names.{Bytes}
-use Rattle.graphql_tree.specs.Definitions.{fragments_of}
+use Rattle.graphql_tree.specs.Definitions.{fragments_listed}
 use Rattle.graphql_tree.specs.declared.document.Fragment.{Fragment}
 use Rattle.graphql_tree.specs.declared.document.Definition.{Definition}
 use Rattle.graphql_tree.specs.declared.document.Definition.TheVariants as definition
@@ -49,10 +49,6 @@ module _ {S C : Type 0} (types : List (MetaType S C)) where
   abbrev pub sets_of : Set S C → List (Set S C)
   sets_of set = set ∷ sets_in set.scope set.tree
 
--- the fragments of a document, in order
-abbrev pub fragments_in : {S : Type 0} → List (Definition S) → List (Fragment S)
-fragments_in document = map (λ f. f.item) (fragments_of document)
-
 module _ {S C : Type 0} (schema : Declarations S C) where
   -- the set of an operation or of a fragment, its spreads written out
   abbrev pub set_of : List (Fragment S) → Definition S → Set S C
@@ -61,7 +57,7 @@ module _ {S C : Type 0} (schema : Declarations S C) where
 
   -- those of all definitions of a document, in order
   abbrev pub definition_sets : List (Definition S) → List (Set S C)
-  definition_sets document = map (set_of (fragments_in document)) document
+  definition_sets document = map (set_of (fragments_listed document)) document
 
   -- all sets of a document
   abbrev pub document_sets : List (Definition S) → List (Set S C)

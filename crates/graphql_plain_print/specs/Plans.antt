@@ -8,7 +8,7 @@ use Rattle.graphql_tree.specs.declared.selection.Selection.{Selection}
 use Rattle.graphql_written_out.specs.Conditions.{left_out}
 use Rattle.graphql_written_out.specs.Trees.{Directives, Tree}
 use Rattle.graphql_written_out.specs.Written.{written}
-use Rattle.graphql_collect.specs.FragmentLists.{fragments_listed}
+use Rattle.graphql_tree.specs.Definitions.{fragments_listed}
 use Rattle.graphql_plain_tree.specs.Plain.{drops_all, plain, plain_set}
 use Rattle.graphql_plain_tree.specs.StandIns.{skip_true}
 use Rattle.graphql_plain_text.specs.TreeTokens.{selection_tokens}

@@ -5,7 +5,7 @@ ghost use Rattle.std.specs.Option.{option_map};
 ghost use Rattle.std.specs.String.{string_bytes};
 ghost use Rattle.graphql_final_variables.specs.FinalVariables.{value_in};
 ghost use Rattle.graphql_written_out.specs.Written.{Settled};
-ghost use Rattle.graphql_collect.specs.FragmentLists.{fragments_listed};
+ghost use Rattle.graphql_tree.specs.Definitions.{fragments_listed};
 ghost use Rattle.graphql_plain_tree.specs.Plain.{size};
 ghost use Rattle.graphql_plain_tree.specs.PlainOperations.{plain_operation};
 ghost use Rattle.graphql_plain_text.specs.TreeTokens.{keyword, name_token};

@@ -25,6 +25,16 @@ abbrev pub errors_of : GraphQLError → List RuleError
 errors_of (error.ValidationError errors) = errors
 errors_of _ = []
 
+-- by what scalars mean, and by a schema: the document is valid
+abbrev pub IsValidIn : {S C : Type 0} → Scalars S C → Declarations S C → Bool → List (Definition S) → Type 0
+IsValidIn s schema introspection_disabled document =
+    IsValidAt s.eq s.answer s.accepts (record { schema = schema; document = document }) introspection_disabled
+
+-- the text spells this document and no other
+pub record IsOnly {S C : Type 0} (s : Scalars S C) (text : List ℕ) (document : List (Definition S)) : Type 0 where
+  pub spelled : IsDocument S s.reads s.of_bool text document
+  pub alone : OnlyDocument S s.reads s.of_bool text document
+
 -- by what scalars mean, and by a schema: what a text is as a request
 module _ {S C : Type 0} (s : Scalars S C) (schema : Declarations S C) (introspection_disabled : Bool) (text : List ℕ) where
   abbrev subject_with : List (Definition S) → Subject S C
@@ -34,7 +44,7 @@ module _ {S C : Type 0} (s : Scalars S C) (schema : Declarations S C) (introspec
   pub record IsRead (document : List (Definition S)) : Type 0 where
     pub spelled : IsDocument S s.reads s.of_bool text document
     pub alone : OnlyDocument S s.reads s.of_bool text document
-    pub valid : IsValidAt s.eq s.answer s.accepts (subject_with document) introspection_disabled
+    pub valid : IsValidIn s schema introspection_disabled document
 
   -- the text spells a document, and rules have this against it
   pub record IsInvalid (errors : List RuleError) : Type 0 where

@@ -1,18 +1,19 @@
 //! Requests, until they can be executed.
 
-ghost use Rattle.std.specs.Prelude.{IfErr, IfOk};
+ghost use Rattle.std.specs.Prelude.{ℕ, List, IfErr, IfOk};
 ghost use Rattle.std.specs.HashMap.{get_by_text};
 ghost use Rattle.std.specs.List.Sorted.{IsSorted};
 ghost use Rattle.std.specs.Option.{option_map};
 ghost use Rattle.std.specs.Str.{chars};
+ghost use Rattle.graphql_lexer.specs.Records.{IsRecorded};
 ghost use Rattle.graphql_schema.specs.Declarations.{declarations_of};
 ghost use Rattle.graphql_requests.specs.Operations.{chosen};
-ghost use Rattle.graphql_requests.specs.Refusals.{IsRead, IsReady, IsStopped, IsUnread, errors_of};
+ghost use Rattle.graphql_requests.specs.Refusals.{IsOnly, IsRead, IsReady, IsStopped, IsUnread, IsValidIn, errors_of};
 
 use crate::graphql_error::GraphQLError;
 use crate::meaning::Meaning;
 use crate::operations::{get_operation, mutation_root};
-use graphql_language::parse_document_source;
+use graphql_language::{TokenRecords, parse_document_records, parse_document_source};
 use graphql_meta::SchemaScalar;
 use graphql_rule_errors::RuleError;
 use graphql_schema::RootNode;
@@ -42,10 +43,51 @@ pub fn read_request<'a, S: SchemaScalar>(
         IfErr result (IsUnread ⟦<S as Meaning>⟧.meaning schema root.introspection_disabled (chars source.now)) }
     ensures sorted { IfErr result (λ error. IsSorted ⟦<RuleError as Ord>⟧.cmp (errors_of error)) }
 {
-    let document = match parse_document_source(alloc, source) {
-        Ok(document) => document,
-        Err(fault) => return Err(GraphQLError::from(fault)),
-    };
+    match parse_document_source(alloc, source) {
+        Ok(document) => valid_document(alloc, document, root_node),
+        Err(fault) => Err(GraphQLError::from(fault)),
+    }
+}
+
+/// The document of a request's text whose tokens are lent, as `read_request` gives it, so that the text
+/// is read no second time. No error is a lexical fault, since the text has tokens.
+pub fn read_records<'a, S: SchemaScalar>(
+    alloc: Global,
+    records: &'a TokenRecords<'a>,
+    root_node: &RootNode<S>,
+) -> Result<OwnedDocument<'a, S>, GraphQLError>
+    ensures read { (text : List ℕ) → IsRecorded text records.now →
+        let root = root_node.now in let schema = declarations_of root.schema in
+        IfOk result (IsRead ⟦<S as Meaning>⟧.meaning schema root.introspection_disabled text) }
+    ensures refused { (text : List ℕ) → IsRecorded text records.now →
+        let root = root_node.now in let schema = declarations_of root.schema in
+        IfErr result (IsUnread ⟦<S as Meaning>⟧.meaning schema root.introspection_disabled text) }
+    ensures valid { let root = root_node.now in let schema = declarations_of root.schema in
+        IfOk result (IsValidIn ⟦<S as Meaning>⟧.meaning schema root.introspection_disabled) }
+    ensures sorted { IfErr result (λ error. IsSorted ⟦<RuleError as Ord>⟧.cmp (errors_of error)) }
+{
+    match parse_document_records(alloc, records) {
+        Ok(document) => valid_document(alloc, document, root_node),
+        Err(fault) => Err(GraphQLError::from(fault)),
+    }
+}
+
+/// A document, unless rules have something against it: then their errors, in order, or want of memory.
+fn valid_document<'a, S: SchemaScalar>(
+    alloc: Global,
+    document: OwnedDocument<'a, S>,
+    root_node: &RootNode<S>,
+) -> Result<OwnedDocument<'a, S>, GraphQLError>
+    ensures read { let root = root_node.now in let schema = declarations_of root.schema in
+        IfOk result (λ valid. (text : List ℕ) → IsOnly ⟦<S as Meaning>⟧.meaning text document.entry
+        → IsRead ⟦<S as Meaning>⟧.meaning schema root.introspection_disabled text valid) }
+    ensures refused { let root = root_node.now in let schema = declarations_of root.schema in
+        IfErr result (λ error. (text : List ℕ) → IsOnly ⟦<S as Meaning>⟧.meaning text document.entry
+        → IsUnread ⟦<S as Meaning>⟧.meaning schema root.introspection_disabled text error) }
+    ensures valid { let root = root_node.now in let schema = declarations_of root.schema in
+        IfOk result (IsValidIn ⟦<S as Meaning>⟧.meaning schema root.introspection_disabled) }
+    ensures sorted { IfErr result (λ error. IsSorted ⟦<RuleError as Ord>⟧.cmp (errors_of error)) }
+{
     let errors = root_node_errors(alloc, root_node, document.as_slice())?;
     if !errors.is_empty() {
         return Err(GraphQLError::from(errors));

@@ -9,7 +9,8 @@ use Rattle.graphql_schema.specs.Declarations.{Declarations}
 use Rattle.graphql_written_out.specs.Trees.{none}
 use Rattle.graphql_written_out.specs.Written.{Settled}
 use Rattle.graphql_merging.specs.declared.table.SetTable.{SetTable}
-use Rattle.graphql_merging.specs.Sets.{Set, members_of, fragments_in, set_of, definition_sets, document_sets}
+use Rattle.graphql_merging.specs.Sets.{Set, members_of, set_of, definition_sets, document_sets}
+use Rattle.graphql_tree.specs.Definitions.{fragments_listed}
 use Rattle.graphql_merging.specs.Pieces.{IsPieceOf}
 use Rattle.graphql_merging.specs.Tables.{pieces_of}
 use Rattle.graphql_set_table.specs.SetsAt.{SetAt}
@@ -21,29 +22,29 @@ use Rattle.graphql_rules_merging.proofs.Merged.{IsOpened, opened_inner, opened_o
 use Rattle.graphql_rules_merging.proofs.Reordered.{Promised}
 
 module _ {S C : Type 0} (eq : S → S → Bool) (schema : Declarations S C) (document : List (Definition S)) (all : List (SetAt S C)) (table : SetTable S C)
-    (is : IsTable schema document all table.sets) (settled : Settled (fragments_in document)) (stage : Stage)
-    (finished : IsFinished eq schema.types (pieces_of (fragments_in document) table) (length document) stage) (itself : SameAsItself eq) where
+    (is : IsTable schema document all table.sets) (settled : Settled (fragments_listed document)) (stage : Stage)
+    (finished : IsFinished eq schema.types (pieces_of (fragments_listed document) table) (length document) stage) (itself : SameAsItself eq) where
   no-set : Set S C
   no-set = record { scope = None; tree = none }
 
   root : (k : ℕ) → k < length document
-      → (set : Set S C) × Contains (definition_sets schema document) set × IsPieceOf (pieces_of (fragments_in document) table) k (members_of schema.types set)
+      → (set : Set S C) × Contains (definition_sets schema document) set × IsPieceOf (pieces_of (fragments_listed document) table) k (members_of schema.types set)
   root k small =
-      let lengths = length-map document (set_of schema (fragments_in document)) in (
+      let lengths = length-map document (set_of schema (fragments_listed document)) in (
         get_or (definition_sets schema document) k no-set,
         Contains-get_or (definition_sets schema document) k no-set (omega (arith, lengths, small)),
         root-piece schema document all table is settled k no-set small,
       )
 
   number : (set : Set S C) → Contains (definition_sets schema document) set
-      → (k : ℕ) × (k < length document) × IsPieceOf (pieces_of (fragments_in document) table) k (members_of schema.types set)
+      → (k : ℕ) × (k < length document) × IsPieceOf (pieces_of (fragments_listed document) table) k (members_of schema.types set)
   number set i =
       let n = root-number schema document all table is settled set i in
-      (n.0, n.1, subst (λ (s : Set S C). IsPieceOf (pieces_of (fragments_in document) table) n.0 (members_of schema.types s)) n.2 (root-piece schema document all table is settled n.0 set n.1))
+      (n.0, n.1, subst (λ (s : Set S C). IsPieceOf (pieces_of (fragments_listed document) table) n.0 (members_of schema.types s)) n.2 (root-piece schema document all table is settled n.0 set n.1))
 
   pub promised : Promised eq schema.types (document_sets schema document) stage.told
   promised =
-      let t = pieces_of (fragments_in document) table in
+      let t = pieces_of (fragments_listed document) table in
       finished_meets eq schema.types t (length document) stage finished itself (definition_sets schema document) (owns schema document all table is settled eq) root number
       (each-set schema document all table is settled (IsOpened eq schema.types t (length document) stage finished itself)
       (opened_inner eq schema.types t (length document) stage finished itself) (opened_own eq schema.types t (length document) stage finished itself)

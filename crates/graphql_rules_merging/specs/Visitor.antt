@@ -3,7 +3,8 @@ use Rattle.std.specs.Prelude.{◌≡◌, Bool, true, false, []}
 use Rattle.graphql_rule_errors.specs.Places.{Places}
 use Rattle.graphql_written_out.specs.Written.{Settled}
 use Rattle.graphql_merging.specs.Contract.{IsComplete, IsDirect, IsSound}
-use Rattle.graphql_merging.specs.Sets.{document_sets, fragments_in}
+use Rattle.graphql_merging.specs.Sets.{document_sets}
+use Rattle.graphql_tree.specs.Definitions.{fragments_listed}
 use Rattle.graphql_visitors.specs.Runs.{Step}
 use Rattle.graphql_visitors.specs.Subjects.{Subject}
 use Rattle.graphql_rules_merging.specs.declared.visitor.OverlappingFieldsCanBeMerged.{OverlappingFieldsCanBeMerged}
@@ -17,7 +18,7 @@ module _ {S C : Type 0} (eq : S → S → Bool) (subject : Subject S C) where
 
   -- what the rule tells of a document: these, where as many levels as there are fragments write all out
   abbrev pub RuleTold : Places → Type 0
-  RuleTold told = Settled (fragments_in subject.document) → MergingTold told
+  RuleTold told = Settled (fragments_listed subject.document) → MergingTold told
 
   -- what a visitor tells at an event, by whether it has asked the rule before
   abbrev pub ToldBy : Bool → Places → Type 0

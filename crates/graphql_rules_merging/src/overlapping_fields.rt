@@ -2,7 +2,8 @@
 
 ghost use Rattle.std.specs.Prelude.{◌≡◌, List, IfOk, IsSorted};
 ghost use Rattle.graphql_merging.specs.Contract.{IsSound, IsDirect, IsComplete};
-ghost use Rattle.graphql_merging.specs.Sets.{document_sets, fragments_in};
+ghost use Rattle.graphql_merging.specs.Sets.{document_sets};
+ghost use Rattle.graphql_tree.specs.Definitions.{fragments_listed};
 ghost use Rattle.graphql_written_out.specs.Written.{Settled};
 ghost use Rattle.graphql_rule_errors.specs.Places.{places};
 ghost use Rattle.graphql_schema.specs.Declarations.{declarations_of};
@@ -50,7 +51,7 @@ pub fn overlapping_fields_can_be_merged<S: Eq, C>(
 ) -> Result<Items<RuleError>, AllocError>
     ensures merging { let types = schema.now.types in
         let sets = document_sets (declarations_of schema.now) document.now in
-        IfOk result (λ errors. Settled (fragments_in document.now) → IsSound S.eq types sets (places errors)
+        IfOk result (λ errors. Settled (fragments_listed document.now) → IsSound S.eq types sets (places errors)
         × IsDirect S.eq types sets (places errors) × IsComplete S.eq types sets (places errors)) }
     ensures sorted { IfOk result (IsSorted ⟦<RuleError as Ord>⟧.cmp) }
 {

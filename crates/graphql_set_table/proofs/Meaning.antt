@@ -12,7 +12,8 @@ use Rattle.graphql_written_out.specs.Trees.{height}
 use Rattle.graphql_written_out.specs.Written.{written, Settled}
 use Rattle.graphql_merging.specs.Members.{Member, members_below}
 use Rattle.graphql_merging.specs.Sets as sets
-use Rattle.graphql_merging.specs.Sets.{Set, members_of, directs_of, sets_in, sets_of, fragments_in, definition_sets, document_sets}
+use Rattle.graphql_merging.specs.Sets.{Set, members_of, directs_of, sets_in, sets_of, definition_sets, document_sets}
+use Rattle.graphql_tree.specs.Definitions.{fragments_listed}
 use Rattle.graphql_merging.specs.Pieces.{Pieces, PieceField, StandsIn, directly, in_fragment, IsPieceOf, HasOwnPieces}
 use Rattle.graphql_merging.specs.Tables.{pieces_of, piece_field}
 use Rattle.graphql_merging.specs.declared.table.SetTable.{SetTable}
@@ -33,9 +34,9 @@ other-at (z ∷ xs) (y ∷ ys) zero x e h = (y, refl)
 other-at (z ∷ xs) (y ∷ ys) (suc k) x e h = other-at xs ys k x (omega (arith, e)) h
 
 module _ {S C : Type 0} (schema : Declarations S C) (document : List (Definition S)) (all : List (SetAt S C)) (table : SetTable S C)
-    (is : IsTable schema document all table.sets) (settled : Settled (fragments_in document)) where
+    (is : IsTable schema document all table.sets) (settled : Settled (fragments_listed document)) where
   abbrev fragments : List (Fragment S)
-  fragments = fragments_in document
+  fragments = fragments_listed document
 
   abbrev pieces : Pieces S C
   pieces = pieces_of fragments table

@@ -15,7 +15,7 @@ use Rattle.graphql_tree.specs.declared.document.Definition.TheVariants as defini
 use Rattle.graphql_tree.specs.declared.document.Fragment.{Fragment}
 use Rattle.graphql_schema.specs.Declarations.{Declarations}
 use Rattle.graphql_written_out.specs.Written.{fragment_meant}
-use Rattle.graphql_merging.specs.Sets.{fragments_in}
+use Rattle.graphql_tree.specs.Definitions.{fragments_listed}
 use Rattle.graphql_set_table.specs.FragmentNumbers.{defines_fragment, fragment_number}
 use Rattle.graphql_set_table.specs.Numbered.{IsNumberOf, DefinitionsFirst}
 use Rattle.graphql_set_table.specs.SetsAt.{SetAt, definition_set, fragment_set}
@@ -93,20 +93,20 @@ module _ {S C : Type 0} (schema : Declarations S C) where
       rest (s ∷ sets) h = absurd h
 
   meant-there : (document : List (Definition S)) (name : Bytes)
-      → AllZip (At document) (option_to_list (fragment_number document name)) (option_to_list (option_map (fragment_set schema) (fragment_meant (fragments_in document) name)))
+      → AllZip (At document) (option_to_list (fragment_number document name)) (option_to_list (option_map (fragment_set schema) (fragment_meant (fragments_listed document) name)))
   meant-there [] name = tt
   meant-there (definition.Operation o ∷ ds) name = later (definition.Operation o) ds (fragment_number ds name) _ (meant-there ds name)
   meant-there (definition.Fragment f ∷ ds) name = either (bytes_eq f.item.name.item name) (later (definition.Fragment f) ds (fragment_number ds name) _ (meant-there ds name))
     where
-      either : (b : Bool) → AllZip (At (definition.Fragment f ∷ ds)) (option_to_list (option_map suc (fragment_number ds name))) (option_to_list (option_map (fragment_set schema) (fragment_meant (fragments_in ds) name)))
+      either : (b : Bool) → AllZip (At (definition.Fragment f ∷ ds)) (option_to_list (option_map suc (fragment_number ds name))) (option_to_list (option_map (fragment_set schema) (fragment_meant (fragments_listed ds) name)))
           → AllZip (At (definition.Fragment f ∷ ds)) (option_to_list (cond b (Some 0) (option_map suc (fragment_number ds name))))
-          (option_to_list (option_map (fragment_set schema) (cond b (Some f.item) (fragment_meant (fragments_in ds) name))))
+          (option_to_list (option_map (fragment_set schema) (cond b (Some f.item) (fragment_meant (fragments_listed ds) name))))
       either true h = (refl, tt)
       either false h = h
 
   -- the number of the fragment that a spread means has its set
   pub meant-number : (document : List (Definition S)) (all : List (SetAt S C)) → DefinitionsFirst schema document all → (name : Bytes)
-      → AllZip (IsNumberOf all) (option_to_list (fragment_number document name)) (option_to_list (option_map (fragment_set schema) (fragment_meant (fragments_in document) name)))
+      → AllZip (IsNumberOf all) (option_to_list (fragment_number document name)) (option_to_list (option_map (fragment_set schema) (fragment_meant (fragments_listed document) name)))
   meant-number document all first name = zip-weaker (At document) (IsNumberOf all) there _ _ (meant-there document name)
     where
       there : (n : ℕ) (set : SetAt S C) → At document n set → IsNumberOf all n set

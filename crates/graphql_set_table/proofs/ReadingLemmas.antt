@@ -19,7 +19,7 @@ use Rattle.graphql_schema.specs.Declarations.{Declarations}
 use Rattle.graphql_written_out.specs.Written.{listed}
 use Rattle.graphql_merging.specs.Members.{Scope}
 use Rattle.graphql_merging.specs.FieldNodes.{selection_nodes, set_nodes}
-use Rattle.graphql_merging.specs.Sets.{fragments_in}
+use Rattle.graphql_tree.specs.Definitions.{fragments_listed}
 use Rattle.graphql_merging.proofs.NodeEquations.{nodes-field, nodes-inline, nodes-more}
 use Rattle.graphql_merging.specs.declared.table.WrittenField.{WrittenField}
 use Rattle.graphql_merging.specs.declared.table.WrittenSet.{WrittenSet}
@@ -191,7 +191,7 @@ module _ {S C : Type 0} (schema : Declarations S C) where
         (spread : Placed (FragmentSpread S)) → DefinitionsFirst schema document all
         → x ≡ selection.FragmentSpread spread → new.fields ≡ old.fields
         → new.inner ≡ old.inner ++ option_to_list (fragment_number document spread.item.name.item)
-        → Reads schema all all old new (fields_of parent x) (inner_of schema (fragments_in document) parent x)
+        → Reads schema all all old new (fields_of parent x) (inner_of schema (fragments_listed document) parent x)
     reads-spread all old new x spread first is same grown = record {
       numbered = extends-itself all;
       of_fields =
@@ -200,7 +200,7 @@ module _ {S C : Type 0} (schema : Declarations S C) where
           subst (Adds (IsFieldOf all schema) old.fields new.fields) none ([], same ∙ sym (append-nil old.fields), tt);
       of_inner =
           let name = spread.item.name.item in
-          let meant = fragments_in document in
+          let meant = fragments_listed document in
           let opened = inner_opened schema meant parent (Selection-F.FragmentSpread spread) in
           let same : opened ≡ inner_of schema meant parent x
           = sym (ap (inner_of schema meant parent) is
@@ -213,14 +213,14 @@ module _ {S C : Type 0} (schema : Declarations S C) where
     pub reads-more : (all mid more : List (SetAt S C)) (u v w : WrittenSet S C) (xs : List (Selection S)) (i : ℕ)
         (x : Selection S) → i < length xs → x ≡ get_or xs i x
         → Reads schema all mid u v (flat_map (fields_of parent) (take i xs))
-        (flat_map (inner_of schema (fragments_in document) parent) (take i xs))
-        → Reads schema mid more v w (fields_of parent x) (inner_of schema (fragments_in document) parent x)
+        (flat_map (inner_of schema (fragments_listed document) parent) (take i xs))
+        → Reads schema mid more v w (fields_of parent x) (inner_of schema (fragments_listed document) parent x)
         → Reads schema all more u w (flat_map (fields_of parent) (take (i + 1) xs))
-        (flat_map (inner_of schema (fragments_in document) parent) (take (i + 1) xs))
+        (flat_map (inner_of schema (fragments_listed document) parent) (take (i + 1) xs))
     reads-more all mid more u v w xs i x within is h k =
         let grown : take (i + 1) xs ≡ take i xs ++ x ∷ []
         = take_more xs i x within ∙ ap (λ y. take i xs ++ y ∷ []) (sym is) in
-        let inner_in = inner_of schema (fragments_in document) parent in
+        let inner_in = inner_of schema (fragments_listed document) parent in
         let fields = one-more (fields_of parent) (take i xs) x (take (i + 1) xs) grown in
         let inner = one-more inner_in (take i xs) x (take (i + 1) xs) grown in
         let both =

@@ -3,7 +3,7 @@ use Rattle.std.specs.Prelude.{◌≡◌, ℕ, List, map, length, take, slice_get
 use Rattle.std.specs.List.{AllZip}
 use Rattle.graphql_tree.specs.declared.document.Definition.{Definition}
 use Rattle.graphql_schema.specs.Declarations.{Declarations}
-use Rattle.graphql_merging.specs.Sets.{fragments_in}
+use Rattle.graphql_tree.specs.Definitions.{fragments_listed}
 use Rattle.graphql_merging.specs.declared.selected.SelectedField.{SelectedField}
 use Rattle.graphql_merging.specs.declared.table.WrittenField.{WrittenField}
 use Rattle.graphql_merging.specs.declared.table.WrittenSet.{WrittenSet}
@@ -27,7 +27,7 @@ module _ {S C : Type 0} (all : List (SetAt S C)) where
       -- what stands directly in a set: its fields, and its fragments by their numbers
       pub record IsSetOf (written : WrittenSet S C) (set : SetAt S C) : Type 0 where
         pub fields : AllZip IsFieldOf written.fields (fields_at set)
-        pub inner : AllZip IsNumberOf written.inner (inner_at schema (fragments_in document) set)
+        pub inner : AllZip IsNumberOf written.inner (inner_at schema (fragments_listed document) set)
 
 -- the sets of the definitions come first, in order
 abbrev pub DefinitionsFirst : {S C : Type 0} → Declarations S C → List (Definition S) → List (SetAt S C) → Type 0

@@ -7,7 +7,7 @@ ghost use Rattle.graphql_schema.specs.Declarations.{declarations_of};
 ghost use Rattle.graphql_written_out.specs.Written.{condition_of};
 ghost use Rattle.graphql_merging.specs.FieldNodes.{selection_nodes, set_nodes};
 ghost use Rattle.graphql_merging.specs.Members.{inside};
-ghost use Rattle.graphql_merging.specs.Sets.{fragments_in};
+ghost use Rattle.graphql_tree.specs.Definitions.{fragments_listed};
 ghost use Rattle.graphql_set_table.specs.FragmentNumbers.{fragment_number};
 ghost use Rattle.graphql_set_table.specs.Numbered.{DefinitionsFirst, IsSetOf};
 ghost use Rattle.graphql_set_table.specs.Reading.{Extends, Reads, ReadsOnce, nodes_in, set_at, sets_at};
@@ -95,7 +95,7 @@ fn read_selection<'d, 'a, S, C>(
     requires { DefinitionsFirst (declarations_of schema.now) fragments.now.document.now (sets_at ahead.old) }
     ensures reads { let all_old = sets_at ahead.old in let all_new = sets_at ahead.new in
         let declarations = declarations_of schema.now in
-        let meant = fragments_in fragments.now.document.now in
+        let meant = fragments_listed fragments.now.document.now in
         OnOk result (Reads declarations all_old all_new written.old written.new
         (fields_of parent.now selection.now) (inner_of declarations meant parent.now selection.now)) }
     ensures once { let all_old = sets_at ahead.old in let all_new = sets_at ahead.new in
@@ -122,7 +122,7 @@ fn read_selections<'d, 'a, S, C>(
     requires { DefinitionsFirst (declarations_of schema.now) fragments.now.document.now (sets_at ahead.old) }
     ensures reads { let all_old = sets_at ahead.old in let all_new = sets_at ahead.new in
         let declarations = declarations_of schema.now in
-        let meant = fragments_in fragments.now.document.now in
+        let meant = fragments_listed fragments.now.document.now in
         OnOk result (Reads declarations all_old all_new written.old written.new
         (flat_map (fields_of parent.now) selections.now)
         (flat_map (inner_of declarations meant parent.now) selections.now)) }

@@ -1,5 +1,5 @@
 -- The definitions of a document (GraphQL October 2021, 2.2 Document).
-use Rattle.std.specs.Prelude.{List, [], ◌∷◌, Option}
+use Rattle.std.specs.Prelude.{List, [], ◌∷◌, map, Option}
 use Rattle.std.specs.List.{flat_map}
 use Rattle.graphql_names.specs.Names.{Bytes, named}
 use Rattle.graphql_values.specs.InputValues.{Placed}
@@ -24,6 +24,10 @@ module _ {S : Type 0} where
   -- the fragments, in order
   abbrev pub fragments_of : List (Definition S) → List (Placed (Fragment S))
   fragments_of = flat_map fragment_in
+
+  -- the fragments without their places, in order
+  abbrev pub fragments_listed : List (Definition S) → List (Fragment S)
+  fragments_listed document = map (λ f. f.item) (fragments_of document)
 
   -- the fragment that a spread means: the first of its name (5.5.2.1 Fragment Spread Target Defined)
   abbrev pub fragment_named : List (Definition S) → Bytes → Option (Placed (Fragment S))

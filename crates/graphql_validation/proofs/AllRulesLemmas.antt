@@ -18,7 +18,8 @@ use Rattle.graphql_merging.proofs.Standing.{together-merge}
 use Rattle.graphql_merging.specs.Contract.{IsComplete, IsConflict, IsDirect, IsSound}
 use Rattle.graphql_merging.specs.Members.{Member}
 use Rattle.graphql_merging.specs.Merging.{Merging}
-use Rattle.graphql_merging.specs.Sets.{Set, document_sets, fragments_in, members_of}
+use Rattle.graphql_merging.specs.Sets.{Set, document_sets, members_of}
+use Rattle.graphql_tree.specs.Definitions.{fragments_listed}
 use Rattle.graphql_merging.specs.Told.{Names}
 use Rattle.graphql_rules_local.proofs.LawLemmas.{no_introspection}
 use Rattle.graphql_rules_merging.specs.Visitor.{MergingTold}
@@ -64,7 +65,7 @@ module _ {S C : Type 0} (eq : S → S → Bool) (subject : Subject S C) where
 
 module _ {S C : Type 0} (subject : Subject S C) where
   -- a document of which the rules find no fault is settled
-  pub settled-where-well-formed : EndingFragmentsAreSettled subject.schema → IsWellFormed subject → Settled (fragments_in subject.document)
+  pub settled-where-well-formed : EndingFragmentsAreSettled subject.schema → IsWellFormed subject → Settled (fragments_listed subject.document)
   settled-where-well-formed ends well = ends subject.document (record {
     fields = λ f i. some-of f.declared (well.fields f i).0 (well.fields f i).1;
     conditions = λ n i. some-of _ (well.conditions n i).0 (well.conditions n i).1;
@@ -109,8 +110,8 @@ module _ {S C : Type 0} (eq : S → S → Bool) (answer : S → ScalarAnswer) (a
       at false is = all_permuted (places rules) (places es) (subst (λ ps. IsPermutation ps (places es)) (ap (λ ps. places rules ++ ps) is ∙ append-nil (places rules)) together) all
 
   -- errors of the rule that fields merge, where the first stage told nothing
-  pub merged : {E : Type 0} (r : Result (List RuleError) E) → FirstStage answer accepts subject [] → Settled (fragments_in subject.document)
-      → IfOk r (λ es. Settled (fragments_in subject.document) → IsSound eq subject.schema.types (document_sets subject.schema subject.document) (places es)
+  pub merged : {E : Type 0} (r : Result (List RuleError) E) → FirstStage answer accepts subject [] → Settled (fragments_listed subject.document)
+      → IfOk r (λ es. Settled (fragments_listed subject.document) → IsSound eq subject.schema.types (document_sets subject.schema subject.document) (places es)
       × IsDirect eq subject.schema.types (document_sets subject.schema subject.document) (places es) × IsComplete eq subject.schema.types (document_sets subject.schema subject.document) (places es))
       → IfOk r (λ es. AllRules eq answer accepts subject (places es))
   merged (Ok es) first settled h = let p = h settled in of_merging first (record { sound = p.0; direct = p.1; complete = p.2 })

@@ -2,7 +2,7 @@
 //! its body does nothing.
 
 ghost use Rattle.std.specs.Prelude.{List};
-ghost use Rattle.graphql_merging.specs.Sets.{fragments_in};
+ghost use Rattle.graphql_tree.specs.Definitions.{fragments_listed};
 ghost use Rattle.graphql_written_out.specs.Written.{Settled};
 ghost use Rattle.graphql_schema.specs.Declarations.{declarations_of};
 ghost use Rattle.graphql_tree.specs.declared.document.Definition.{Definition};
@@ -73,5 +73,5 @@ pub fn documents_without_a_fault_are_well_formed<S: SchemaScalar>()
 /// many levels as there are of them, so that merging, execution and plain texts, which are defined over
 /// what is written out, speak of all of it.
 pub fn documents_without_a_fault_are_settled<S: SchemaScalar>(schema: &SchemaType<S>)
-    ensures { (document : List (Definition S)) → HasNoFault S.answer S.Check.accepts (record { schema = declarations_of schema.now; document = document }) → Settled (fragments_in document) }
+    ensures { (document : List (Definition S)) → HasNoFault S.answer S.Check.accepts (record { schema = declarations_of schema.now; document = document }) → Settled (fragments_listed document) }
 {}

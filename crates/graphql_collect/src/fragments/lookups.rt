@@ -4,7 +4,8 @@ ghost use Rattle.std.specs.Prelude.{◌≡◌, ℕ, List, Some, None, IfOk, OnOk
 ghost use Rattle.std.specs.Option.{option_copied, option_or};
 ghost use Rattle.graphql_written_out.specs.Written.{fragment_meant};
 ghost use Rattle.graphql_rule_errors.specs.Found.{found};
-ghost use Rattle.graphql_collect.specs.FragmentLists.{fragment_defined, fragments_listed};
+ghost use Rattle.graphql_collect.specs.FragmentLists.{fragment_defined};
+ghost use Rattle.graphql_tree.specs.Definitions.{fragments_listed};
 
 use super::Fragments;
 use graphql_tree::{Definition, Fragment};

@@ -1,4 +1,4 @@
-use Rattle.graphql_executor.proofs.Exclusive.{one-answer}
+use Rattle.graphql_executor.proofs.OneAnswer.{one-answer}
 use Rattle.graphql_executor.proofs.laws.answers_are_one.Goals as goal
 
 pub returns : goal.returns

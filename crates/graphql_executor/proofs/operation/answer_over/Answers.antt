@@ -1,5 +1,5 @@
 use Rattle.std.proofs.Common.{[], ◌∷◌, option_map, sym, subst}
-use Rattle.graphql_collect.specs.FragmentLists.{fragments_listed}
+use Rattle.graphql_tree.specs.Definitions.{fragments_listed}
 use Rattle.graphql_final_variables.specs.FinalVariables.{value_in}
 use Rattle.graphql_written_out.specs.Written.{Settled, written}
 use Rattle.graphql_execution.specs.declared.asked.Asked.TheVariants as asked

@@ -1,7 +1,7 @@
 use Rattle.std.proofs.Common.{[], ◌∷◌, option_map}
 use Rattle.std.specs.HashMap.{get_by_text}
 use Rattle.graphql_tree.specs.Documents.{variables_in}
-use Rattle.graphql_collect.specs.FragmentLists.{fragments_listed}
+use Rattle.graphql_tree.specs.Definitions.{fragments_listed}
 use Rattle.graphql_final_variables.specs.FinalValues.{final_value}
 use Rattle.graphql_final_variables.specs.FinalVariables.{value_in}
 use Rattle.graphql_written_out.specs.Written.{written}

@@ -2,7 +2,7 @@ use Rattle.std.proofs.Common.{◌≡◌, ◌≤◌, ◌<◌, ◌++◌, sym, ◌�
 use Rattle.std.specs.String.{string_bytes}
 use Rattle.graphql_final_variables.specs.FinalVariables.{value_in}
 use Rattle.graphql_written_out.specs.Written.{Settled, written}
-use Rattle.graphql_collect.specs.FragmentLists.{fragments_listed}
+use Rattle.graphql_tree.specs.Definitions.{fragments_listed}
 use Rattle.graphql_plain_tree.specs.Plain.{size}
 use Rattle.graphql_plain_tree.specs.PlainOperations.{plain_by, variables_used}
 use Rattle.graphql_plain_text.specs.PlainTexts.{spaced}

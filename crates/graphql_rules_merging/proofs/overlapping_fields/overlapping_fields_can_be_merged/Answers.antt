@@ -2,7 +2,8 @@ use Rattle.std.proofs.Common.{sym, subst}
 use Rattle.std.specs.List.Sorted.{IsPermutation}
 use Rattle.graphql_values.proofs.SameValueLaws.{same_as_itself}
 use Rattle.graphql_schema.specs.Declarations.{declarations_of}
-use Rattle.graphql_merging.specs.Sets.{fragments_in, document_sets}
+use Rattle.graphql_merging.specs.Sets.{document_sets}
+use Rattle.graphql_tree.specs.Definitions.{fragments_listed}
 use Rattle.graphql_rules_merging.proofs.Joined.{promised}
 use Rattle.graphql_rules_merging.proofs.Reordered.{Promised, promised_reordered}
 use Rattle.graphql_rules_merging.proofs.overlapping_fields.overlapping_fields_can_be_merged.Goals as goal
@@ -12,7 +13,7 @@ returns-clause-merging g c = λ settled.
     let eq = g.S.PartialEq.eq in
     let schema = declarations_of c.args.schema.now in
     let document = c.args.document.now in
-    let end = c.in_ok-found.ensures (fragments_in document) in
+    let end = c.in_ok-found.ensures (fragments_listed document) in
     let table = c.in_ok-table.ensures.numbered in
     promised_reordered eq schema.types (document_sets schema document) c.in_ok-found.found c.from_vec.result
     (subst (IsPermutation c.in_ok-found.found) (sym c.from_vec.ensures)

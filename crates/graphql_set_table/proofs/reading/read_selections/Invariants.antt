@@ -2,7 +2,7 @@ use Rattle.std.proofs.Common.{take}
 use Rattle.std.specs.List.{flat_map}
 use Rattle.graphql_schema.specs.Declarations.{declarations_of}
 use Rattle.graphql_merging.specs.FieldNodes.{set_nodes}
-use Rattle.graphql_merging.specs.Sets.{fragments_in}
+use Rattle.graphql_tree.specs.Definitions.{fragments_listed}
 use Rattle.graphql_set_table.specs.Reading.{Reads, ReadsOnce, sets_at}
 use Rattle.graphql_set_table.specs.SetsAt.{fields_of, inner_of}
 use Rattle.graphql_set_table.proofs.reading.read_selections.Given as goal
@@ -13,7 +13,7 @@ invariant-selections g l = record {
   reads :
       Reads (declarations_of l.schema) (sets_at l.initial.ahead) (sets_at l.ahead) l.initial.written l.written
       (flat_map (fields_of l.parent) (take l.selection-index l.selections))
-      (flat_map (inner_of (declarations_of l.schema) (fragments_in l.fragments.document.now) l.parent)
+      (flat_map (inner_of (declarations_of l.schema) (fragments_listed l.fragments.document.now) l.parent)
       (take l.selection-index l.selections));
   once :
       ReadsOnce (sets_at l.initial.ahead) (sets_at l.ahead) l.initial.written l.written

@@ -2,7 +2,8 @@ use Rattle.std.proofs.Common.{◌≡◌, sym, ap, ◌∙◌, arith, take}
 use Rattle.std.proofs.lemmas.List.{take_all}
 use Rattle.std.specs.Option.{option_or}
 use Rattle.graphql_written_out.specs.Written.{fragment_meant}
-use Rattle.graphql_collect.specs.FragmentLists.{fragment_defined, fragments_listed}
+use Rattle.graphql_collect.specs.FragmentLists.{fragment_defined}
+use Rattle.graphql_tree.specs.Definitions.{fragments_listed}
 use Rattle.graphql_collect.proofs.FragmentLemmas.{one_more_fragment}
 use Rattle.graphql_collect.proofs.fragments.Fragments.new.Goals as goal
 

@@ -2,7 +2,7 @@ use Rattle.std.proofs.Common.{◌≡◌, take}
 use Rattle.graphql_names.specs.Names.{Bytes}
 use Rattle.graphql_written_out.specs.Written.{fragment_meant}
 use Rattle.graphql_rule_errors.specs.Found.{found}
-use Rattle.graphql_collect.specs.FragmentLists.{fragments_listed}
+use Rattle.graphql_tree.specs.Definitions.{fragments_listed}
 use Rattle.graphql_collect.proofs.fragments.Fragments.new.Given as goal
 
 -- the first fragment of each name so far

@@ -1,12 +1,10 @@
--- A request that can be executed is refused by nothing but want of memory, and has one answer.
-use Rattle.std.proofs.Common.{◌≡◌, inl, inr, List, [], ◌∷◌, Option, Result, Ok, Err, ap, ◌∙◌, sym, refl, subst}
+-- A request that can be executed is refused by nothing but want of memory, and one operation is executed.
+use Rattle.std.proofs.Common.{◌≡◌, inl, inr, List, [], ◌∷◌, Result, Ok, Err, ap, ◌∙◌, sym, refl, subst}
 use Rattle.std.specs.declared.cmp.Ordering.{Ordering}
-use Rattle.graphql_names.specs.Names.{Bytes}
 use Rattle.graphql_values.specs.InputValues.{Placed}
 use Rattle.graphql_tree.specs.Documents.{variables_in}
 use Rattle.graphql_tree.specs.declared.document.Definition.{Definition}
 use Rattle.graphql_tree.specs.declared.document.Operation.{Operation}
-use Rattle.graphql_tree.specs.declared.document.OperationType.{OperationType}
 use Rattle.graphql_schema.specs.Declarations.{declarations_of}
 use Rattle.graphql_rule_errors.specs.Places.{places}
 use Rattle.graphql_rule_errors.specs.declared.rule_error.RuleError.{RuleError}
@@ -14,24 +12,20 @@ use Rattle.graphql_visitors.specs.Subjects.{Subject}
 use Rattle.graphql_language.proofs.TextLaws.{not_both}
 use Rattle.graphql_variable_checks.proofs.RefusalLemmas.{told_one, told_none}
 use Rattle.graphql_variable_checks.proofs.Sorted.{none_moved}
-use Rattle.graphql_requests.proofs.ValidityLemmas.{root_exactly}
+use Rattle.graphql_validation.proofs.AllRulesLemmas.{root_exactly}
 use Rattle.graphql_requests.specs.Operations.{chosen, mutation_root}
 use Rattle.graphql_requests.specs.Refusals.{AreRefused, IsReady, IsStopped, IsHeld, IsUnread}
 use Rattle.graphql_requests.specs.Scalars.{Scalars}
-use Rattle.graphql_requests.specs.Validity.{RequestTold}
+use Rattle.graphql_validation.specs.AllRules.{RequestTold}
 use Rattle.graphql_requests.specs.declared.graphql_error.GraphQLError.{GraphQLError}
 use Rattle.graphql_requests.specs.declared.graphql_error.GraphQLError.TheVariants as error
-use Rattle.graphql_executor.specs.Answered.{Asking, IsAnswered, IsExecutable, IsRefused, Reads}
-use Rattle.graphql_executor.specs.Executed.{data_of, runs}
-use Rattle.graphql_executor.specs.Resolvers.{Resolver}
-use Rattle.graphql_output_values.specs.declared.value.Value.{Value}
-use Rattle.graphql_field_results.specs.declared.execution_error.ExecutionError.{ExecutionError}
+use Rattle.graphql_requests.specs.Asked.{Asking, IsExecutable, IsRefused, Reads}
 
 no-places : (errors : List RuleError) → places errors ≡ [] → errors ≡ []
 no-places [] e = refl
 no-places (x ∷ xs) e = absurd (cc)
 
-abbrev from-ok : {A E : Type 0} → A → Result A E → A
+abbrev pub from-ok : {A E : Type 0} → A → Result A E → A
 from-ok d (Ok x) = x
 from-ok d (Err e) = d
 
@@ -98,26 +92,12 @@ module _ {S C : Type 0} (s : Scalars S C) (a : Asking S C) where
       stopped document operation h.ready e
       (subst (λ (d : List (Definition S)). IsStopped s a.schema a.given (chosen a.operation_name d) e) same u.stopped)
 
-  module _ {N X : Type 0} (r : Resolver S N X) where
-    -- a request has one answer: of two that the contract lets stand the data and the contexts after are the same
-    pub one-answer : (cmp : ExecutionError S → ExecutionError S → Ordering)
-        → (c one_after other_after : X) (one other : Value S) (errors others : List (ExecutionError S))
-        → IsAnswered s a r cmp c one errors one_after → IsAnswered s a r cmp c other others other_after
-        → (one ≡ other) × (one_after ≡ other_after)
-    one-answer cmp c one_after other_after one other errors others x y =
-        let same : y.document ≡ x.document = x.executable.read.alone y.document y.executable.read.spelled in
-        let chosen-same : chosen a.operation_name y.document ≡ chosen a.operation_name x.document =
-        ap (λ (d : List (Definition S)). chosen a.operation_name d) same in
-        let oks = sym y.executable.ready.chosen ∙ chosen-same ∙ x.executable.ready.chosen in
-        let operations : y.operation ≡ x.operation = ap (from-ok x.operation) oks in
-        let type-of : Placed (Operation S) → OperationType = λ o. o.item.operation_type in
-        let roots-same = ap (λ o. mutation_root a.schema.mutation (type-of o)) operations in
-        let roots : y.yields.root ≡ x.yields.root =
-        ap (from-ok x.yields.root) (sym y.yields.served ∙ roots-same ∙ x.yields.served) in
-        let by-document = ap (λ (d : List (Definition S)). runs s a.schema r d a.given y.operation.item y.yields.root c) same in
-        let by-operation = ap (λ (o : Placed (Operation S)). runs s a.schema r x.document a.given o.item y.yields.root c) operations in
-        let by-root = ap (λ (root : Option Bytes). runs s a.schema r x.document a.given x.operation.item root c) roots in
-        let run-same = by-document ∙ by-operation ∙ by-root in (
-          x.yields.responds.response.is ∙ sym (y.yields.responds.response.is ∙ ap (λ run. data_of run.outcome) run-same),
-          x.yields.responds.after ∙ sym (y.yields.responds.after ∙ ap (λ run. run.after) run-same),
-        )
+  -- a request has one document and one operation
+  pub one-executed : (document other : List (Definition S)) (operation another : Placed (Operation S))
+      → IsExecutable s a document operation → IsExecutable s a other another
+      → (other ≡ document) × (another ≡ operation)
+  one-executed document other operation another x y =
+      let same : other ≡ document = x.read.alone other y.read.spelled in
+      let chosen-same : chosen a.operation_name other ≡ chosen a.operation_name document =
+      ap (λ (d : List (Definition S)). chosen a.operation_name d) same in
+      (same, ap (from-ok operation) (sym y.ready.chosen ∙ chosen-same ∙ x.ready.chosen))
