@@ -19,7 +19,7 @@ use Rattle.graphql_output_values.proofs.DistinctKeyLaws.{by_forms, keeps_keys}
 use Rattle.graphql_field_results.specs.declared.execution_error.ExecutionError.{ExecutionError}
 use Rattle.graphql_rule_errors.specs.declared.rule_error.RuleError.{RuleError}
 use Rattle.graphql_answers.specs.Lines.{ToldInDistinctKeys}
-use Rattle.graphql_answers.specs.Responses.{object_of, text_of, number_of, location_of, locations_of, extensions_layer, extensions_by, extensions_of, field_error_of, request_error_of, response_of, refusal_of}
+use Rattle.graphql_answers.specs.Responses.{object_of, text_of, number_of, location_of, locations_of, extensions_layer, extensions_by, extensions_of, field_error_of, plain_answer_of, request_error_of, response_of, refusal_of}
 
 abbrev Distinct : Value ScalarAnswer → Type 0
 Distinct = HasDistinctKeysThroughout
@@ -91,6 +91,15 @@ pub of_refusal : (errors : List RuleError) → Distinct (refusal_of errors)
 of_refusal errors =
     let all = value.List (map (request_error_of) errors) in
     of_object ((codes "errors", all) ∷ []) (errors_key all) (also (codes "errors") all [] (each_of (request_error_of) of_request_error errors) none)
+
+plain_key : (v : Value ScalarAnswer) → HasDistinctKeys ((codes "plain", v) ∷ [])
+unfolding IsDistinct
+plain_key v = (tt, tt)
+
+pub of_plain_answer : (plain : Bytes) → Distinct (plain_answer_of plain)
+of_plain_answer plain =
+    let told = text_of plain in
+    of_object ((codes "plain", told) ∷ []) (plain_key told) (also (codes "plain") told [] (of_text_value plain) none)
 
 three_keys : (u v w : Value ScalarAnswer) → HasDistinctKeys ((codes "message", u) ∷ (codes "locations", v) ∷ (codes "path", w) ∷ [])
 unfolding IsDistinct

@@ -21,8 +21,8 @@ use Rattle.graphql_rule_errors.specs.declared.rule_error.RuleError.{RuleError}
 use Rattle.graphql_lines.specs.Json.{joined, json_text, member_json, int_or, bool_or, text_or_null, json, json_layer, fields_layer}
 use Rattle.graphql_lines.proofs.JsonSteps.{object_is}
 use Rattle.graphql_answers.specs.Lines.{answer_json}
-use Rattle.graphql_answers.specs.Responses.{object_of, text_of, number_of, location_of, locations_of, extensions_layer, extensions_by, extensions_of, field_error_of, request_error_of, errors_of, response_of, refusal_of}
-use Rattle.graphql_answers.specs.Texts.{location_text, locations_text, extensions_text_layer, extensions_text, field_error_text, errors_text, response_text, request_error_text, refusal_text}
+use Rattle.graphql_answers.specs.Responses.{plain_answer_of, object_of, text_of, number_of, location_of, locations_of, extensions_layer, extensions_by, extensions_of, field_error_of, request_error_of, errors_of, response_of, refusal_of}
+use Rattle.graphql_answers.specs.Texts.{plain_answer_text, location_text, locations_text, extensions_text_layer, extensions_text, field_error_text, errors_text, response_text, request_error_text, refusal_text}
 
 same_texts : {A : Type 0} (f g : A → Bytes) → ((x : A) → f x ≡ g x) → (xs : List A) → map f xs ≡ map g xs
 same_texts f g same [] = refl
@@ -119,6 +119,12 @@ of_refusal errors =
     of_fields ((codes "errors", value.List (map request_error_of errors)) ∷ [])
     ∙ ap (λ t. 123 ∷ (member_json (codes "errors", t) ++ []) ++ 125 ∷ []) (of_list request_error_of request_error_text of_request_error errors)
     ∙ ap (λ z. codes "{\"errors\":[" ++ z) (ap (λ z. z ++ 125 ∷ []) (append-nil (texts ++ 93 ∷ [])) ∙ append_assoc texts (93 ∷ []) (125 ∷ []))
+
+pub of_plain_answer : (plain : Bytes) → answer_json (plain_answer_of plain) ≡ plain_answer_text plain
+of_plain_answer plain =
+    of_fields ((codes "plain", text_of plain) ∷ [])
+    ∙ ap (λ t. 123 ∷ (member_json (codes "plain", t) ++ []) ++ 125 ∷ []) (of_text_value plain)
+    ∙ ap (λ z. codes "{\"plain\":" ++ z) (ap (λ z. z ++ 125 ∷ []) (append-nil (json_text plain)))
 
 -- the object of an error, of whose fields the texts stand
 error_fields : (m l p e : Bytes)

@@ -8,7 +8,7 @@ use Rattle.graphql_output_values.specs.declared.value.Value.{Value}
 use Rattle.graphql_field_results.specs.declared.execution_error.ExecutionError.{ExecutionError}
 use Rattle.graphql_rule_errors.specs.declared.rule_error.RuleError.{RuleError}
 use Rattle.graphql_lines.specs.Json.{json}
-use Rattle.graphql_answers.specs.Responses.{response_of, refusal_of}
+use Rattle.graphql_answers.specs.Responses.{plain_answer_of, refusal_of, response_of}
 
 -- one line: it ends with a line feed, and holds no other
 pub record IsLine (bytes : Bytes) : Type 0 where
@@ -37,3 +37,7 @@ AnswersHaveDistinctKeys {S} answer =
     ((answered : Value S) (errors : List (ExecutionError S)) → HasDistinctKeysThroughout answered → All ToldInDistinctKeys errors
     → HasDistinctKeysThroughout (response_of answer answered errors))
     × ((errors : List RuleError) → HasDistinctKeysThroughout (refusal_of errors))
+
+-- the answer that tells a plain text has distinct keys
+abbrev pub PlainHasDistinctKeys : Type 0
+PlainHasDistinctKeys = (plain : Bytes) → HasDistinctKeysThroughout (plain_answer_of plain)

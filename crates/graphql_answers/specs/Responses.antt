@@ -47,6 +47,10 @@ request_error_of error = object_of ((codes "message", text_of error.message) ∷
 abbrev pub refusal_of : List RuleError → Value ScalarAnswer
 refusal_of errors = object_of ((codes "errors", value.List (map request_error_of errors)) ∷ [])
 
+-- the answer that tells a plain text
+abbrev pub plain_answer_of : Bytes → Value ScalarAnswer
+plain_answer_of plain = object_of ((codes "plain", text_of plain) ∷ [])
+
 -- by what scalars answer
 module _ {S : Type 0} (answer : S → ScalarAnswer) where
   abbrev pub extensions_of : Value S → List (Pair (Value ScalarAnswer))

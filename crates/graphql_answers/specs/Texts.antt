@@ -23,6 +23,9 @@ request_error_text error = codes "{\"message\":" ++ (json_text error.message ++ 
 abbrev pub refusal_text : List RuleError → Bytes
 refusal_text errors = codes "{\"errors\":[" ++ (joined [] (map request_error_text errors) ++ codes "]}")
 
+abbrev pub plain_answer_text : Bytes → Bytes
+plain_answer_text plain = codes "{\"plain\":" ++ (json_text plain ++ codes "}")
+
 -- where a field without a value starts, and its path
 abbrev pub where_text : {S : Type 0} → ExecutionError S → Bytes
 where_text error = codes ",\"locations\":[" ++ (location_text error.location ++ (codes "],\"path\":[" ++ (joined [] (map json_text error.path) ++ codes "]")))

@@ -1,6 +1,6 @@
 //! Laws of answers: each function's contract is a law, and its body does nothing.
 
-ghost use Rattle.graphql_answers.specs.Lines.{AnswersHaveDistinctKeys, ValuesAreLines};
+ghost use Rattle.graphql_answers.specs.Lines.{AnswersHaveDistinctKeys, PlainHasDistinctKeys, ValuesAreLines};
 
 use graphql_scalars::ScalarValue;
 
@@ -13,4 +13,9 @@ pub fn values_are_lines()
 /// Serialized Map Ordering), where those in its data have, and those in what is told beside its errors.
 pub fn answers_have_distinct_keys<S: ScalarValue>()
     ensures { AnswersHaveDistinctKeys S.answer }
+{}
+
+/// The answer that tells a plain text has distinct keys: it has one.
+pub fn plain_answers_have_distinct_keys()
+    ensures { PlainHasDistinctKeys }
 {}

@@ -3,8 +3,10 @@
 
 pub mod laws;
 mod places;
+mod plain;
 mod refusals;
 mod responses;
 
+pub use plain::plain_to_json;
 pub use refusals::{errors_to_json, refusal_to_json};
 pub use responses::response_to_json;

@@ -1,0 +1,3 @@
+mod OnePlain
+mod PlainDocuments
+mod Refused

@@ -1,0 +1,43 @@
+//! Laws of plain texts of requests: each function's contract is a law, and its body asks for the laws
+//! below it.
+
+ghost use Rattle.graphql_plain_requests.specs.Laws.{PlainAreNotRefused, PlainTextsAreDocuments, PlainTextsAreOne};
+
+use graphql_filled_sets::laws::{spelled_sets_are_whole, written_sets_are_filled};
+use graphql_lexer::laws::one_list;
+use graphql_meta::SchemaScalar;
+use graphql_plain_text::laws::plain_text_is_document;
+use graphql_requests::Meaning;
+use graphql_requests::laws::{executable_requests_are_not_refused, one_operation_is_executed};
+use graphql_schema::RootNode;
+use graphql_validation::laws::documents_without_a_fault_are_well_formed;
+
+/// A request has one plain text: it depends on the request's text, on the name of the operation, on the
+/// values that are given for variables, and on the root node.
+pub fn plain_texts_are_one<S: SchemaScalar>()
+    ensures { PlainTextsAreOne ⟦<S as Meaning>⟧.meaning }
+{
+    one_list();
+    one_operation_is_executed::<S>();
+}
+
+/// A request that has a plain text within a limit is refused by nothing but want of memory, so that
+/// `TooLarge` comes exactly where it is larger, and `Refused` exactly where the request is refused.
+pub fn plain_requests_are_not_refused<S: SchemaScalar>()
+    ensures { PlainAreNotRefused ⟦<S as Meaning>⟧.meaning }
+{
+    executable_requests_are_not_refused::<S>();
+    one_operation_is_executed::<S>();
+}
+
+/// The plain text of a request over this root node is UTF-8, and cut and parsed anew it is a document of
+/// the grammar: its only tree is that of the plain operation, places aside (GraphQL October 2021, 2
+/// Language).
+pub fn plain_texts_are_documents<S: SchemaScalar>(root_node: &RootNode<S>)
+    ensures { PlainTextsAreDocuments ⟦<S as Meaning>⟧.meaning root_node.now }
+{
+    spelled_sets_are_whole::<S>();
+    written_sets_are_filled(root_node.schema());
+    documents_without_a_fault_are_well_formed::<S>();
+    plain_text_is_document::<S>();
+}

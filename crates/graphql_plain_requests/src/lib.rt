@@ -1,0 +1,11 @@
+//! The plain text of a request: one operation without named fragments, without what is left out,
+//! without directives and without unused variables, for stores of allowed queries, and as a key of
+//! caches (GraphQL October 2021, 2.3 Operations, 2.8 Fragments, 3.13 Directives).
+#![tactic(auto)]
+
+pub mod laws;
+mod plain_error;
+mod request;
+
+pub use plain_error::PlainError;
+pub use request::plain_request;

@@ -1,0 +1,183 @@
+//! The plain text of a request.
+
+ghost use Rattle.std.specs.Prelude.{◌≡◌, ◌≤◌, ◌<◌, ℕ, List, IfErr, IfOk, OnOk, option_map};
+ghost use Rattle.std.specs.HashMap.{get_by_text};
+ghost use Rattle.std.specs.Str.{chars};
+ghost use Rattle.std.specs.String.{string_bytes};
+ghost use Rattle.graphql_tree.specs.Definitions.{fragments_listed};
+ghost use Rattle.graphql_tree.specs.Documents.{variables_in};
+ghost use Rattle.graphql_final_variables.specs.FinalValues.{final_value};
+ghost use Rattle.graphql_final_variables.specs.FinalVariables.{value_in};
+ghost use Rattle.graphql_plain_print.specs.Faults.{IfTooLarge};
+ghost use Rattle.graphql_written_out.specs.Written.{Settled};
+ghost use Rattle.graphql_lexer.specs.Records.{IsRecorded};
+ghost use Rattle.graphql_plain_tree.specs.Plain.{size};
+ghost use Rattle.graphql_plain_tree.specs.PlainOperations.{plain_operation};
+ghost use Rattle.graphql_plain_text.specs.PlainTexts.{plain_text};
+ghost use Rattle.graphql_plain_requests.specs.Faults.{IsTold};
+ghost use Rattle.graphql_plain_requests.specs.PlainRequests.{HasNoPlainText, IsDocumentAgain, IsPlainTextWithin, asked_at, asked_of};
+
+use crate::laws::plain_texts_are_documents;
+use crate::plain_error::PlainError;
+use graphql_final_variables::FinalVariables;
+use graphql_language::TokenRecords;
+use graphql_lines::GraphQLRequest;
+use graphql_meta::SchemaScalar;
+use graphql_plain_print::{PrintError, print_operation};
+use graphql_requests::{
+    GraphQLError, Meaning, chosen_operation, documents_without_a_fault_are_settled, read_records,
+};
+use graphql_rule_errors::RuleError;
+use graphql_schema::RootNode;
+use graphql_tree::{Definition, Operation};
+use graphql_values::Variables;
+use std::alloc::Global;
+
+/// The plain text of a request: the operation that it chooses, under its name, as one operation that
+/// answers alike, without named fragments. Each spread is an inline fragment under the fragment's
+/// condition; what `skip` and `include` leave out over the final values of the variables is away, and so
+/// are all directives. Where all selections of a set are left out the first stays, itself plain, with
+/// `@skip(if: true)` alone. The definitions of variables that are no longer used are away. Each token
+/// stands in the spelling of the request's text, parted by single spaces (GraphQL October 2021, 2.3
+/// Operations, 2.8 Fragments, 3.13 Directives). It is a document again, whose only tree is that of this
+/// operation, places aside.
+///
+/// The text is read once, and printed while its document is walked. The walk ends as soon as there are more
+/// fields and inline fragments than `limit`, so that no request takes more time or memory for more of
+/// them, however often it spreads its fragments.
+///
+/// An error is `PlainError::Refused` where `execute_sync` refuses the request, with the same step that fails
+/// first; else `PlainError::TooLarge` where there are more fields and inline fragments than `limit`.
+/// `PlainError::Memory` comes only where memory ran out.
+pub fn plain_request<S: SchemaScalar + Drop>(
+    alloc: Global,
+    request: &GraphQLRequest<S>,
+    root_node: &RootNode<S>,
+    limit: usize,
+) -> Result<String, PlainError>
+    ensures plain { let asked = asked_of root_node.now request.now in
+        IfOk result (λ text. IsPlainTextWithin ⟦<S as Meaning>⟧.meaning asked limit (string_bytes text)) }
+    ensures document { let asked = asked_of root_node.now request.now in
+        IfOk result (λ text. IsDocumentAgain ⟦<S as Meaning>⟧.meaning asked (string_bytes text)) }
+    ensures refused { let asked = asked_of root_node.now request.now in
+        IfErr result (HasNoPlainText ⟦<S as Meaning>⟧.meaning asked ⟦<RuleError as Ord>⟧.cmp limit) }
+{
+    let name = lent(&request.operation_name);
+    let query = request.query.as_str();
+    plain_of_text(alloc, query, name, &request.variables, root_node, limit)
+}
+
+/// A text that there may be, as it is lent.
+fn lent(text: &Option<String>) -> Option<&str>
+    ensures { option_map (λ text. text.now) result ≡ option_map (λ text. string_bytes text) text.now }
+{
+    match text {
+        Some(text) => Some(text.as_str()),
+        None => None,
+    }
+}
+
+/// The plain text of a request by its parts: its text is cut into tokens once.
+fn plain_of_text<S: SchemaScalar + Drop>(
+    alloc: Global,
+    source: &str,
+    operation_name: Option<&str>,
+    variables: &Variables<S>,
+    root_node: &RootNode<S>,
+    limit: usize,
+) -> Result<String, PlainError>
+    ensures plain { let name = option_map (λ name. name.now) operation_name.entry in
+        let asked = asked_at root_node.now (chars source.now) name (get_by_text variables.now) in
+        IfOk result (λ text. IsPlainTextWithin ⟦<S as Meaning>⟧.meaning asked limit (string_bytes text)) }
+    ensures document { let name = option_map (λ name. name.now) operation_name.entry in
+        let asked = asked_at root_node.now (chars source.now) name (get_by_text variables.now) in
+        IfOk result (λ text. IsDocumentAgain ⟦<S as Meaning>⟧.meaning asked (string_bytes text)) }
+    ensures refused { let name = option_map (λ name. name.now) operation_name.entry in
+        let asked = asked_at root_node.now (chars source.now) name (get_by_text variables.now) in
+        IfErr result (HasNoPlainText ⟦<S as Meaning>⟧.meaning asked ⟦<RuleError as Ord>⟧.cmp limit) }
+{
+    plain_texts_are_documents(root_node);
+    match TokenRecords::new(alloc, source) {
+        Ok(records) => {
+            plain_of_records(alloc, &records, operation_name, variables, root_node, limit)
+        }
+        Err(fault) => Err(PlainError::from(GraphQLError::from(fault))),
+    }
+}
+
+/// The plain text of a request whose text's tokens are lent.
+fn plain_of_records<'a, S: SchemaScalar + Drop>(
+    alloc: Global,
+    records: &'a TokenRecords<'a>,
+    operation_name: Option<&str>,
+    variables: &Variables<S>,
+    root_node: &RootNode<S>,
+    limit: usize,
+) -> Result<String, PlainError>
+    ensures plain { (text : List ℕ) → IsRecorded text records.now →
+        let name = option_map (λ name. name.now) operation_name.entry in
+        let asked = asked_at root_node.now text name (get_by_text variables.now) in
+        IfOk result (λ plain. IsPlainTextWithin ⟦<S as Meaning>⟧.meaning asked limit (string_bytes plain)) }
+    ensures refused { (text : List ℕ) → IsRecorded text records.now →
+        let name = option_map (λ name. name.now) operation_name.entry in
+        let asked = asked_at root_node.now text name (get_by_text variables.now) in
+        IfErr result (HasNoPlainText ⟦<S as Meaning>⟧.meaning asked ⟦<RuleError as Ord>⟧.cmp limit) }
+{
+    let document = read_records(alloc, records, root_node)?;
+    let definitions = document.as_slice();
+    let operation = chosen_operation(alloc, definitions, operation_name, root_node, variables)?;
+    documents_without_a_fault_are_settled(root_node.schema());
+    print_chosen(
+        alloc,
+        definitions,
+        &operation.item,
+        variables,
+        records,
+        limit,
+    )
+}
+
+/// The plain text of an operation of a document whose spreads end, over the values that a request gives
+/// for its variables.
+fn print_chosen<'d, 'a, S: SchemaScalar + Drop>(
+    alloc: Global,
+    document: &'d [Definition<'a, S>],
+    operation: &'d Operation<'a, S>,
+    variables: &'d Variables<S>,
+    records: &'d TokenRecords<'a>,
+    limit: usize,
+) -> Result<String, PlainError>
+    requires { Settled (fragments_listed document.now) }
+    ensures plain { let values = final_value (get_by_text variables.now) (variables_in operation.now.variable_definitions) in
+        let p = plain_operation S.answer S.of_bool values (fragments_listed document.now) operation.now in
+        IfOk result (λ text. (string_bytes text ≡ plain_text records.now.tokens p) × (size p.set ≤ limit)) }
+    ensures large { let values = final_value (get_by_text variables.now) (variables_in operation.now.variable_definitions) in
+        let p = plain_operation S.answer S.of_bool values (fragments_listed document.now) operation.now in
+        IfErr result (IsTold (limit < size p.set)) }
+{
+    let values = FinalVariables::new(alloc, variables, operation)?;
+    let text = print_over(alloc, document, operation, values, records, limit)?;
+    Ok(text)
+}
+
+/// The same over the final values of its variables.
+fn print_over<'d, 'a, S: SchemaScalar + Drop>(
+    alloc: Global,
+    document: &'d [Definition<'a, S>],
+    operation: &'d Operation<'a, S>,
+    values: FinalVariables<'d, S>,
+    records: &'d TokenRecords<'a>,
+    limit: usize,
+) -> Result<String, PrintError>
+    requires { Settled (fragments_listed document.now) }
+    ensures text { IfOk result (λ text. string_bytes text
+        ≡ plain_text records.now.tokens (plain_operation S.answer S.of_bool (value_in values.entry)
+        (fragments_listed document.now) operation.now)) }
+    ensures fits { OnOk result (size (plain_operation S.answer S.of_bool (value_in values.entry)
+        (fragments_listed document.now) operation.now).set ≤ limit) }
+    ensures large { IfTooLarge result (limit < size
+        (plain_operation S.answer S.of_bool (value_in values.entry)
+        (fragments_listed document.now) operation.now).set) }
+{
+    print_operation(alloc, document, operation, &values, records, limit)
+}
