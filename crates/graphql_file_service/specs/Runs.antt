@@ -1,10 +1,11 @@
 -- What is read, answered and written by the service over two files.
-use Rattle.std.specs.Prelude.{◌≡◌, Option, Result, Ok, Err}
+use Rattle.std.specs.Prelude.{◌≡◌, Bool, true, false, Option, Result, Ok, Err}
 use Rattle.graphql_names.specs.Names.{Bytes}
 use Rattle.graphql_scalars.specs.declared.default_scalar.DefaultScalarValue.{DefaultScalarValue}
 use Rattle.graphql_records.specs.Tables.{Table}
 use Rattle.graphql_records.specs.declared.table_node.TableNode.{TableNode}
 use Rattle.graphql_service.specs.Answers.{Answerer}
+use Rattle.graphql_service.specs.PlainAnswers.{PlainBreaks, PlainGives}
 use Rattle.graphql_service.specs.Serving.{AnswersLine, BreaksAtLine}
 use Rattle.graphql_streams.specs.Served.{Ends, ServedAll}
 use Rattle.graphql_streams.specs.declared.serve_error.ServeError.{ServeError}
@@ -31,9 +32,31 @@ served (Err fault.NotExecutable) = Ok tt
 served (Err (fault.Data e)) = Ok tt
 served (Err fault.Memory) = Ok tt
 
+-- by what a service answers
+module _ {C : Type 0} (answerer : TableService C → Answerer DefaultScalarValue C TableNode Table) (bytes : Streams) where
+  -- each line was answered, or why no more lines were; the records that the lines left
+  abbrev pub Answered : TableService C → Table → Result (Unit {0}) ServeError → Type 0
+  Answered service after (Ok x) =
+      ServedAll (AnswersLine (answerer service)) service.context bytes.left bytes.rest bytes.old bytes.new after
+  Answered service after (Err e) =
+      Ends (AnswersLine (answerer service)) (BreaksAtLine (answerer service)) e service.context bytes.left bytes.rest bytes.old bytes.new after
+
+  -- each line was told its plain text, or why no more lines were
+  abbrev pub ToldPlain : TableService C → Result (Unit {0}) ServeError → Type 0
+  ToldPlain service (Ok x) =
+      ServedAll (PlainGives (answerer service) service.selection_limit) tt bytes.left bytes.rest bytes.old bytes.new tt
+  ToldPlain service (Err e) =
+      Ends (PlainGives (answerer service) service.selection_limit) (PlainBreaks (answerer service) service.selection_limit) e tt
+      bytes.left bytes.rest bytes.old bytes.new tt
+
+  -- the lines were asked for plain texts, which change nothing, or for answers
+  abbrev pub Served : Bool → TableService C → Table → Result (Unit {0}) ServeError → Type 0
+  Served true service after ended = ToldPlain service ended × (after ≡ service.context)
+  Served false service after ended = Answered service after ended
+
 -- by what a service answers, and by what the two files describe
 module _ {C : Type 0} (answerer : TableService C → Answerer DefaultScalarValue C TableNode Table)
-    (Described : TableService C → Type 0) (Due : RunFault → Type 0) (bytes : Streams) where
+    (Described : TableService C → Type 0) (Due : RunFault → Type 0) (bytes : Streams) (plain : Bool) where
   -- nothing was read and nothing written
   abbrev pub IsUntouched : Type 0
   IsUntouched = (bytes.rest ≡ bytes.left) × (bytes.new ≡ bytes.old)
@@ -42,18 +65,11 @@ module _ {C : Type 0} (answerer : TableService C → Answerer DefaultScalarValue
   abbrev pub IsRefused : RunFault → Type 0
   IsRefused e = Due e × IsUntouched
 
-  -- each line was answered, or why no more lines were; the records that the lines left
-  abbrev pub Answered : TableService C → Table → Result (Unit {0}) ServeError → Type 0
-  Answered service after (Ok x) =
-      ServedAll (AnswersLine (answerer service)) service.context bytes.left bytes.rest bytes.old bytes.new after
-  Answered service after (Err e) =
-      Ends (AnswersLine (answerer service)) (BreaksAtLine (answerer service)) e service.context bytes.left bytes.rest bytes.old bytes.new after
-
   -- so it was by the service over the files
   pub record Serves (ended : Result (Unit {0}) ServeError) (after : Table) : Type 0 where
     pub service : TableService C
     pub described : Described service
-    pub answered : Answered service after ended
+    pub served : Served answerer bytes plain service after ended
 
   -- what became of the run
   abbrev pub Ran : Result (Unit {0}) RunFault → Type 0

@@ -16,7 +16,7 @@ use graphql_rule_errors::RuleError;
 use graphql_scalars::DefaultScalarValue;
 use graphql_schema::RootNode;
 use graphql_schema_files::SchemaFile;
-use graphql_service::{ByteSink, ByteSource, Meaning, Resolving, Service};
+use graphql_service::{ByteSink, ByteSource, Meaning, Resolving, ServeError, Service};
 use graphql_table::{Records, TableResolver};
 use std::alloc::Global;
 
@@ -44,15 +44,41 @@ fn service_of(
     }
 }
 
+/// Answers the lines of what is read by a service, or tells their plain texts.
+fn serve_by<I: ByteSource, O: ByteSink>(
+    alloc: Global,
+    service: &mut TableService,
+    plain: bool,
+    reader: &mut I,
+    writer: &mut O,
+) -> Result<(), ServeError>
+    ensures served { let answerer = answerer_of ⟦<DefaultScalarValue as Meaning>⟧.meaning ⟦<RuleError as Ord>⟧.cmp
+        ⟦<ExecutionError<DefaultScalarValue> as Ord>⟧.cmp
+        ⟦<TableResolver as Resolving<DefaultScalarValue>>⟧.resolving in
+        let streams = spec.streams (I.left reader.old) (I.left reader.new)
+        (O.written writer.old) (O.written writer.new) in
+        spec.Served answerer streams plain service.old service.new.context result }
+    ensures reads { I.faults reader.new ≡ reads_after result (I.faults reader.old) }
+    ensures writes { O.faults writer.new ≡ writes_after result (O.faults writer.old) }
+{
+    if plain {
+        service.serve_plain(alloc, reader, writer)
+    } else {
+        service.serve(alloc, reader, writer)
+    }
+}
+
 /// Answers each line that is not empty of what is read, until it ends, over the schema and the
-/// records that two files describe. The files are those of [`SchemaFile::read`], whose scalars get the
+/// records that two files describe; or, where `plain` is asked, tells the plain text of each, with
+/// [`SELECTION_LIMIT`] fields and inline fragments at most. The files are those of [`SchemaFile::read`], whose scalars get the
 /// checks that are given, and of [`DataFile::read`]. Both are judged before the first line is read.
 /// Lines have at most [`LINE_LIMIT`] bytes. What is read and written is as
-/// [`Service::serve`](graphql_service::Service::serve) says, and the records that the lines leave are
-/// let go at the end.
+/// [`Service::serve`](graphql_service::Service::serve) says, or
+/// [`Service::serve_plain`](graphql_service::Service::serve_plain), and the records that the lines leave
+/// are let go at the end.
 ///
 /// Errors: the first that stands, in the order of [`RunFault`]. `Serve` has the error of
-/// `Service::serve`, and what was read and written by then is what is said there. Of any other fault
+/// that call, and what was read and written by then is what is said there. Of any other fault
 /// nothing is read and nothing written, and want of memory, whichever fault has it, tells nothing of
 /// the files.
 pub fn run_files<I: ByteSource, O: ByteSink>(
@@ -60,6 +86,7 @@ pub fn run_files<I: ByteSource, O: ByteSink>(
     schema: &[u8],
     records: &[u8],
     checks: StandardChecks,
+    plain: bool,
     reader: &mut I,
     writer: &mut O,
 ) -> Result<(), RunFault>
@@ -72,7 +99,7 @@ pub fn run_files<I: ByteSource, O: ByteSink>(
         let streams = spec.streams (I.left reader.old) (I.left reader.new)
         (O.written writer.old) (O.written writer.new) in
         spec.Ran answerer (IsDescribed accepts types schema.now records.now)
-        (IsDue accepts types schema.now records.now) streams result }
+        (IsDue accepts types schema.now records.now) streams plain result }
     ensures reads { I.faults reader.new ≡ reads_after (spec.served result) (I.faults reader.old) }
     ensures writes { O.faults writer.new ≡ writes_after (spec.served result) (O.faults writer.old) }
 {
@@ -83,6 +110,6 @@ pub fn run_files<I: ByteSource, O: ByteSink>(
     let resolver = TableResolver::new(alloc, root_node.schema())?;
     let table = DataFile::read(alloc, records, root_node.schema())?;
     let mut service = service_of(root_node, resolver, table)?;
-    service.serve(alloc, reader, writer)?;
+    serve_by(alloc, &mut service, plain, reader, writer)?;
     Ok(())
 }

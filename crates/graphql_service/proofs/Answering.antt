@@ -15,7 +15,7 @@ use Rattle.graphql_written_out.specs.Trees.{Tree}
 use Rattle.graphql_executor.specs.Answered.{Asking, IsAnswered, IsBrokenOff, IsRefused, LeftUnanswered, asking}
 use Rattle.graphql_written_out.specs.Written.{written}
 use Rattle.graphql_execution.specs.declared.asked.Asked.TheVariants as asked
-use Rattle.graphql_collect.specs.FragmentLists.{fragments_listed}
+use Rattle.graphql_tree.specs.Definitions.{fragments_listed}
 use Rattle.graphql_executor.specs.Executed.{IsBegunAt, what_is_asked, run_at}
 use Rattle.graphql_executor.specs.Resolvers.{Resolver}
 use Rattle.graphql_lines.specs.Request.{HoldsRequest, Request, request_of}
@@ -84,7 +84,7 @@ module _ {S C N X : Type 0} (a : Answerer S C N X) (line : Bytes) where
   Answer old new text = IsAnswer a line old text new
 
   -- a line that is no request is refused for what stands first
-  due : (refusal : LineRefusal) → length line ≤ a.limit
+  pub due : (refusal : LineRefusal) → length line ≤ a.limit
       → IsDue a.scalars.of_bool a.scalars.of_int a.scalars.of_text (λ (q : Request). q.variables) (request_of line) refusal
       → IsNoRequest a line refusal
   due LineTooLong within h = absurd h
@@ -114,7 +114,7 @@ module _ {S C N X : Type 0} (a : Answerer S C N X) (line : Bytes) where
     abbrev asked_with : Bytes → Option Bytes → (Bytes → Option (InputValue S)) → Asking S C
     asked_with q n v = asking a.schema a.introspection_disabled (chars q) n v
 
-    as_asked : (P : Asking S C → Type 0) → P (asked_with query name (get_by_text request.variables)) → P (asked_by a line asked)
+    pub as_asked : (P : Asking S C → Type 0) → P (asked_with query name (get_by_text request.variables)) → P (asked_by a line asked)
     as_asked P h =
         subst (λ v. P (asked_with asked.query asked.operation_name v)) values
         (subst (λ n. P (asked_with asked.query n (get_by_text request.variables))) (its_name ∙ holds.operation_name)

@@ -1,3 +1,5 @@
 mod DistinctAnswers
 mod Answering
 mod ServedContexts
+mod PlainAnswering
+mod ServedPlain

@@ -45,7 +45,7 @@ module _ {S C N X R : Type 0} (scalars : Scalars S C) (by_rules : RuleError → 
 
 -- a line that is too long is refused, whatever stands in it
 module _ {S C N X : Type 0} (a : Answerer S C N X) (line : Bytes) (longer : a.limit < length line) where
-  still-no_request : (refusal : LineRefusal) → IsNoRequest a (kept_of a.limit line) refusal → IsNoRequest a line refusal
+  pub still-no_request : (refusal : LineRefusal) → IsNoRequest a (kept_of a.limit line) refusal → IsNoRequest a line refusal
   still-no_request LineTooLong h = longer
   still-no_request NotARequest h = absurd (front-longer a.limit line longer h.0)
   still-no_request BadNumber h = absurd (front-longer a.limit line longer h.1)

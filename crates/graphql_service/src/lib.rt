@@ -2,6 +2,9 @@
 #![tactic(auto)]
 
 pub mod laws;
+mod plain;
+mod plain_lines;
+mod plain_serving;
 mod refusal;
 mod response;
 mod service;
@@ -17,5 +20,6 @@ pub use graphql_lines::{
     value_to_json, variables_from_json,
 };
 pub use graphql_meta::scalar_checks::{self, StandardChecks};
+pub use graphql_plain_requests::{PlainError, plain_request};
 pub use graphql_streams::{ByteSink, ByteSource, Piped, ReadFailed, ServeError, WriteFailed};
 pub use service::{Service, ServiceFault};

@@ -53,11 +53,11 @@ impl Error for ServiceFault {}
 /// A schema that can be executed, a resolver and its context, over which request lines are answered.
 #[derive(Drop)]
 pub struct Service<S, R, X, C = <S as SchemaScalar>::Check> {
-    root_node: RootNode<S, C>,
+    pub(crate) root_node: RootNode<S, C>,
     resolver: R,
     context: X,
-    line_limit: usize,
-    selection_limit: usize,
+    pub(crate) line_limit: usize,
+    pub(crate) selection_limit: usize,
     ghost executable: { is_executable root_node.schema.types (roots_of root_node.schema) ≡ true },
     ghost conditions: { has_standard_conditions root_node.schema.directives ≡ true },
 }
@@ -102,6 +102,13 @@ impl<S: SchemaScalar + Drop, R: GraphQLMutationValue<S>> Service<S, R, R::Contex
             line_limit,
             selection_limit,
         })
+    }
+
+    /// The schema over which requests are answered, and whether it may be asked for.
+    pub fn root_node(&self) -> &RootNode<S>
+        ensures { result.now ≡ self.now.root_node }
+    {
+        &self.root_node
     }
 
     /// What the resolver answers from.

@@ -53,7 +53,7 @@ impl Failure {
 impl fmt::Display for Failure {
     fn fmt<W: fmt::Write>(&self, f: &mut fmt::Formatter<W>) -> fmt::Result {
         match self {
-            Failure::Usage => f.write_str("usage: graphql_service [SCHEMA DATA]"),
+            Failure::Usage => f.write_str("usage: graphql_service [SCHEMA DATA [--plain]]"),
             Failure::CannotRead(path) => write!(f, "cannot read {path}"),
             Failure::Run(fault) => write!(f, "{fault}"),
             Failure::Memory => f.write_str("out of memory"),

@@ -1,5 +1,5 @@
 //! Answers GraphQL request lines from standard input, over a schema and its records: those that two files
-//! have, or the sample's.
+//! have, or the sample's. With `--plain` behind the files it tells the plain text of each request.
 #![tactic(auto)]
 
 mod failure;
@@ -20,11 +20,20 @@ use std::{env, fs, io};
 
 type Value = InputValue<DefaultScalarValue>;
 
-/// What is served: a file of a schema, and one of its records.
+/// What is served: a file of a schema, and one of its records; whether plain texts are asked for.
 #[derive(Drop)]
 struct Files {
     schema: Vec<u8>,
     records: Vec<u8>,
+    plain: bool,
+}
+
+/// What the program's arguments name: the paths of two files, and whether plain texts are asked for.
+#[derive(Drop)]
+struct Arguments {
+    schema: String,
+    records: String,
+    plain: bool,
 }
 
 /// Why the program ends that met this error, if it is not for want of memory.
@@ -36,16 +45,32 @@ fn unless_memory(error: io::Error, otherwise: Failure) -> Failure {
     }
 }
 
-/// The paths of two files, or none, as the program's arguments have them.
-fn paths(rt: &HostRuntime) -> Result<Option<(String, String)>, Failure> {
+/// Whether the word behind the files asks for plain texts; without one, answers are asked for.
+fn asks_for_plain(word: Option<String>) -> Result<bool, Failure> {
+    match word {
+        None => Ok(false),
+        Some(word) if word.as_str() == "--plain" => Ok(true),
+        Some(_) => Err(Failure::Usage),
+    }
+}
+
+/// The program's arguments, or none where there are none.
+fn arguments(rt: &HostRuntime) -> Result<Option<Arguments>, Failure> {
     let mut words = match env::args(rt) {
         Ok(words) => words,
         Err(error) => return Err(unless_memory(error, Failure::Usage)),
     };
     let _program = words.next();
-    match (words.next(), words.next(), words.next()) {
-        (None, _, _) => Ok(None),
-        (Some(schema), Some(records), None) => Ok(Some((schema, records))),
+    match (words.next(), words.next(), words.next(), words.next()) {
+        (None, _, _, _) => Ok(None),
+        (Some(schema), Some(records), word, None) => {
+            let plain = asks_for_plain(word)?;
+            Ok(Some(Arguments {
+                schema,
+                records,
+                plain,
+            }))
+        }
         _ => Err(Failure::Usage),
     }
 }
@@ -61,20 +86,22 @@ fn bytes_at(rt: &HostRuntime, path: String) -> Result<Vec<u8>, Failure> {
 /// The files that the program's arguments name, or the sample's.
 fn read_files(rt: &HostRuntime) -> Result<Files, Failure> {
     let alloc = rt.alloc();
-    match paths(rt)? {
-        Some((schema, records)) => {
-            let schema = bytes_at(rt, schema)?;
-            let records = bytes_at(rt, records)?;
-            Ok(Files { schema, records })
-        }
+    match arguments(rt)? {
+        Some(arguments) => Ok(Files {
+            schema: bytes_at(rt, arguments.schema)?,
+            records: bytes_at(rt, arguments.records)?,
+            plain: arguments.plain,
+        }),
         None => Ok(Files {
             schema: Vec::from_slice(alloc, sample::SCHEMA.as_bytes())?,
             records: Vec::from_slice(alloc, sample::RECORDS.as_bytes())?,
+            plain: false,
         }),
     }
 }
 
-/// Answers the lines of standard input over the files, with checks of the standard scalars.
+/// Answers the lines of standard input over the files, or tells their plain texts, with checks of the
+/// standard scalars.
 fn run(rt: &HostRuntime) -> Result<(), Failure> {
     let files = read_files(rt)?;
     let alloc = rt.alloc();
@@ -141,7 +168,16 @@ fn run(rt: &HostRuntime) -> Result<(), Failure> {
     let mut writer = Piped::new(io::writer(rt));
     let schema = files.schema.as_slice();
     let records = files.records.as_slice();
-    run_files(alloc, schema, records, checks, &mut reader, &mut writer)?;
+    let plain = files.plain;
+    run_files(
+        alloc,
+        schema,
+        records,
+        checks,
+        plain,
+        &mut reader,
+        &mut writer,
+    )?;
     Ok(())
 }
 

@@ -103,7 +103,15 @@ pub fn served(alloc: Global, files: (&str, &str), checks: StandardChecks) -> Res
     let mut writer = Piped::new(io::sink());
     let schema = files.0.as_bytes();
     let records = files.1.as_bytes();
-    run_files(alloc, schema, records, checks, &mut reader, &mut writer)
+    run_files(
+        alloc,
+        schema,
+        records,
+        checks,
+        false,
+        &mut reader,
+        &mut writer,
+    )
 }
 
 /// Asserts why files are not served; with the empty text, that they are.

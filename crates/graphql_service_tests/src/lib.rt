@@ -11,6 +11,8 @@ mod introspected;
 #[cfg(test)]
 mod lines;
 #[cfg(test)]
+mod plain;
+#[cfg(test)]
 mod rows;
 #[cfg(test)]
 mod schemas;

@@ -106,6 +106,19 @@ pub fn with_other_skip(rt: &impl Abort, alloc: Global, mut schema: Schema) -> Sc
     schema
 }
 
+/// The schema with a directive `tag` that spreads of fragments may have.
+pub fn with_tag(rt: &impl Abort, alloc: Global, mut schema: Schema) -> Schema {
+    let tag = DirectiveType::new(
+        text(rt, alloc, "tag"),
+        alone(rt, alloc, DirectiveLocation::FragmentSpread),
+        NamedItems::from_items(Items::new(alloc)).expect(rt, "memory"),
+        false,
+    );
+    let is_added = schema.add_directive(tag).is_ok();
+    assert!(rt; is_added);
+    schema
+}
+
 /// Asserts why a schema makes no service.
 pub fn is_refused(rt: &impl Abort, alloc: Global, schema: Schema, wanted: ServiceFault) {
     let records: SampleRecords = sample_records(alloc).expect(rt, "memory");

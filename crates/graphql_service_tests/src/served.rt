@@ -7,6 +7,7 @@ ghost use Rattle.graphql_meta.specs.ScalarChecks.{IsBoolean, IsId, IsInt, IsStri
 
 use crate::files::{is_told, served};
 use crate::introspected::tells_of_itself;
+use crate::plain::{self, tells};
 use crate::schemas::{is_refused, unkept, with_other_skip};
 use crate::serving::{Run, are_served};
 use graphql_file_service::service::scalar_checks::{
@@ -46,6 +47,9 @@ pub enum Asked<'a> {
 
     /// How runs over input end, and what they write.
     Runs(&'a [Run<'a>]),
+
+    /// What a line is told of its plain text.
+    Plain(plain::Row<'a>),
 
     /// That a schema whose types do not keep what they promise makes no service.
     Unkept,
@@ -125,6 +129,7 @@ fn with_schema(
             are_answered(rt, alloc, &mut service_of(rt, root, records, 65_536), rows);
         }
         Asked::Introspected => tells_of_itself(rt, alloc, schema),
+        Asked::Plain(row) => tells(rt, alloc, schema, row),
         Asked::Runs(runs) => are_served(rt, alloc, &mut service(rt, schema, records, 80), runs),
         _ => {
             let schema = with_other_skip(rt, alloc, schema);

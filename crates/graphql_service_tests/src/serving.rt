@@ -86,6 +86,12 @@ const FIRST_ANSWERS: &[u8] = b"{\"errors\":[{\"message\":\"Line is not a request
 const BEGUN_ANSWERS: &[u8] = b"{\"errors\":[{\"message\":\"Line is not a request\"}]}\n\
 {\"errors\":[";
 
+/// What is told where plain texts are asked for.
+const PLAIN: &[u8] = b"{\"errors\":[{\"message\":\"Line is not a request\"}]}\n\
+{\"errors\":[{\"message\":\"Line is not a request\"}]}\n\
+{\"errors\":[{\"message\":\"A number in variables is not whole or does not fit 32 bits\"}]}\n\
+{\"plain\":\"query { hero { name } }\"}\n";
+
 /// A mutation, and a query that sees what it changed.
 const CHANGES: &[u8] =
     b"{\"query\":\"mutation { rename(id: \\\"h1\\\", name: \\\"Eve\\\") { name } }\"}\n\
@@ -100,6 +106,9 @@ const ALWAYS: usize = 65_536;
 /// A run over input.
 pub struct Run<'a> {
     input: &'a [u8],
+
+    /// Whether plain texts are asked for.
+    plain: bool,
 
     /// How many bytes a call reads or writes, at most.
     step: usize,
@@ -120,6 +129,7 @@ pub struct Run<'a> {
 const RUNS: &[Run<'_>] = &[
     Run {
         input: INPUT,
+        plain: false,
         step: 1,
         readable: ALWAYS,
         writable: ALWAYS,
@@ -128,6 +138,7 @@ const RUNS: &[Run<'_>] = &[
     },
     Run {
         input: INPUT,
+        plain: false,
         step: ALWAYS,
         readable: ALWAYS,
         writable: ALWAYS,
@@ -136,6 +147,7 @@ const RUNS: &[Run<'_>] = &[
     },
     Run {
         input: INPUT,
+        plain: false,
         step: 3,
         readable: 20,
         writable: ALWAYS,
@@ -144,6 +156,7 @@ const RUNS: &[Run<'_>] = &[
     },
     Run {
         input: INPUT,
+        plain: false,
         step: 1,
         readable: ALWAYS,
         writable: 60,
@@ -152,22 +165,46 @@ const RUNS: &[Run<'_>] = &[
     },
     Run {
         input: CHANGES,
+        plain: false,
         step: 7,
         readable: ALWAYS,
         writable: ALWAYS,
         why: None,
         written: CHANGED,
     },
+    Run {
+        input: INPUT,
+        plain: true,
+        step: 1,
+        readable: ALWAYS,
+        writable: ALWAYS,
+        why: None,
+        written: PLAIN,
+    },
+    Run {
+        input: INPUT,
+        plain: true,
+        step: 3,
+        readable: 20,
+        writable: ALWAYS,
+        why: Some(ServeError::Read),
+        written: FIRST_ANSWERS,
+    },
 ];
 
-/// Why it ends to answer what this reader gives.
+/// Why it ends to answer what this reader gives, or to tell its plain texts.
 fn ended<W: Write>(
     alloc: Global,
     service: &mut SampleService,
+    plain: bool,
     source: Source<'_>,
     writer: &mut Piped<W>,
 ) -> Option<ServeError> {
-    service.serve(alloc, &mut Piped::new(source), writer).err()
+    let mut reader = Piped::new(source);
+    if plain {
+        return service.serve_plain(alloc, &mut reader, writer).err();
+    }
+    service.serve(alloc, &mut reader, writer).err()
 }
 
 /// Asserts how runs end and what they write, and that a writer that takes nothing ends one.
@@ -183,7 +220,7 @@ pub fn are_served(rt: &impl Abort, alloc: Global, service: &mut SampleService, r
             step: run.step,
             writable: run.writable,
         });
-        let why = ended(alloc, service, source, &mut writer);
+        let why = ended(alloc, service, run.plain, source, &mut writer);
         assert!(rt; why == run.why);
         let Sink { taken, .. } = writer.into_inner();
         assert_eq!(rt; taken.as_slice(), run.written);
@@ -193,7 +230,7 @@ pub fn are_served(rt: &impl Abort, alloc: Global, service: &mut SampleService, r
         step: ALWAYS,
         readable: ALWAYS,
     };
-    let why = ended(alloc, service, source, &mut Piped::new(Full));
+    let why = ended(alloc, service, false, source, &mut Piped::new(Full));
     assert!(rt; why == Some(ServeError::Write));
 }
 

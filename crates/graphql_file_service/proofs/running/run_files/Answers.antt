@@ -30,15 +30,15 @@ returns-in_err-service-clause-ran g c =
     let can = tested root c.schema.result.now c.schema.ensures c.schema_is_executable.result true c.schema_is_executable.ensures.value c.if-not-schema_is_executable.false in
     absurd (c.in_err-service.ensures (can, c.in_ok-root_node.ensures.conditions))
 
-pub returns-in_err-serve-clause-ran : goal.returns-in_err-serve-clause-ran
-returns-in_err-serve-clause-ran g c =
-    let error = err_from_is_err_and c.from_residual-in_err-serve.result c.from_residual-in_err-serve.ensures.1 in
+pub returns-in_err-serve_by-clause-ran : goal.returns-in_err-serve_by-clause-ran
+returns-in_err-serve_by-clause-ran g c =
+    let error = err_from_is_err_and c.from_residual-in_err-serve_by.result c.from_residual-in_err-serve_by.ensures.1 in
     let root = c.in_ok-root_node.root_node in
     let can = tested root c.schema.result.now c.schema.ensures c.schema_is_executable.result true c.schema_is_executable.ensures.value c.if-not-schema_is_executable.false in
     let made = service_made _ _ c.args.schema.now c.args.records.now root (c.in_ok-root_node.ensures.read, can) c.schema-2.result.now c.schema-2.ensures c.in_ok-resolver.resolver c.in_ok-resolver.ensures
     c.schema-3.result.now c.schema-3.ensures c.in_ok-table.table c.in_ok-table.ensures c.in_ok-service.service (c.in_ok-service.ensures (can, c.in_ok-root_node.ensures.conditions)) in
     rw (error.1, error.2)
-    (c.serve.new.self.context, record { service = c.in_ok-service.service; described = made; answered = c.in_err-serve.ensures.ended })
+    (c.serve_by.new.service.context, record { service = c.in_ok-service.service; described = made; served = c.in_err-serve_by.ensures.served })
 
 pub returns-clause-ran : goal.returns-clause-ran
 returns-clause-ran g c =
@@ -46,7 +46,7 @@ returns-clause-ran g c =
     let can = tested root c.schema.result.now c.schema.ensures c.schema_is_executable.result true c.schema_is_executable.ensures.value c.if-not-schema_is_executable.false in
     let made = service_made _ _ c.args.schema.now c.args.records.now root (c.in_ok-root_node.ensures.read, can) c.schema-2.result.now c.schema-2.ensures c.in_ok-resolver.resolver c.in_ok-resolver.ensures
     c.schema-3.result.now c.schema-3.ensures c.in_ok-table.table c.in_ok-table.ensures c.in_ok-service.service (c.in_ok-service.ensures (can, c.in_ok-root_node.ensures.conditions)) in
-    (c.serve.new.self.context, record { service = c.in_ok-service.service; described = made; answered = c.in_ok-serve.ensures.served })
+    (c.serve_by.new.service.context, record { service = c.in_ok-service.service; described = made; served = c.in_ok-serve_by.ensures.served })
 
 pub returns-in_err-service-clause-reads : goal.returns-in_err-service-clause-reads
 returns-in_err-service-clause-reads g c =
@@ -54,10 +54,10 @@ returns-in_err-service-clause-reads g c =
     let can = tested root c.schema.result.now c.schema.ensures c.schema_is_executable.result true c.schema_is_executable.ensures.value c.if-not-schema_is_executable.false in
     absurd (c.in_err-service.ensures (can, c.in_ok-root_node.ensures.conditions))
 
-pub returns-in_err-serve-clause-reads : goal.returns-in_err-serve-clause-reads
-returns-in_err-serve-clause-reads g c =
-    let error = err_from_is_err_and c.from_residual-in_err-serve.result c.from_residual-in_err-serve.ensures.1 in
-    rw (error.1, error.2) c.in_err-serve.ensures.reads
+pub returns-in_err-serve_by-clause-reads : goal.returns-in_err-serve_by-clause-reads
+returns-in_err-serve_by-clause-reads g c =
+    let error = err_from_is_err_and c.from_residual-in_err-serve_by.result c.from_residual-in_err-serve_by.ensures.1 in
+    rw (error.1, error.2) c.in_err-serve_by.ensures.reads
 
 pub returns-in_err-service-clause-writes : goal.returns-in_err-service-clause-writes
 returns-in_err-service-clause-writes g c =
@@ -65,7 +65,7 @@ returns-in_err-service-clause-writes g c =
     let can = tested root c.schema.result.now c.schema.ensures c.schema_is_executable.result true c.schema_is_executable.ensures.value c.if-not-schema_is_executable.false in
     absurd (c.in_err-service.ensures (can, c.in_ok-root_node.ensures.conditions))
 
-pub returns-in_err-serve-clause-writes : goal.returns-in_err-serve-clause-writes
-returns-in_err-serve-clause-writes g c =
-    let error = err_from_is_err_and c.from_residual-in_err-serve.result c.from_residual-in_err-serve.ensures.1 in
-    rw (error.1, error.2) c.in_err-serve.ensures.writes
+pub returns-in_err-serve_by-clause-writes : goal.returns-in_err-serve_by-clause-writes
+returns-in_err-serve_by-clause-writes g c =
+    let error = err_from_is_err_and c.from_residual-in_err-serve_by.result c.from_residual-in_err-serve_by.ensures.1 in
+    rw (error.1, error.2) c.in_err-serve_by.ensures.writes

@@ -1,0 +1,14 @@
+use Rattle.std.proofs.Common.{take, ap, ◌∙◌}
+use Rattle.graphql_lines.proofs.Fronts.{front_cut}
+use Rattle.graphql_service.proofs.PlainAnswering.{told_as_line}
+use Rattle.graphql_service.proofs.plain.Service+S+R+R+Context.append_plain_line.Goals as goal
+
+pub returns-in-Ok-clause-answers : goal.returns-in-Ok-clause-answers
+returns-in-Ok-clause-answers g c =
+    told_as_line _ _ c.args.line.now c.values_are_lines.ensures c.answers_have_distinct_keys.ensures.1
+    c.plain_answers_have_distinct_keys.ensures c.args.out.now.items c.push_plain_answer.new.out.items c.in-Ok.ensures.answers
+
+pub returns-in-Err-clause-kept : goal.returns-in-Err-clause-kept
+returns-in-Err-clause-kept g c =
+    c.truncate.ensures.items ∙ ap (λ n. take n c.push_plain_answer.new.out.items) (c.len-length.ensures ∙ c.args.out.now.ok.0)
+    ∙ front_cut c.args.out.now.items c.push_plain_answer.new.out.items c.in-Err.ensures.front
