@@ -1,5 +1,5 @@
 -- Sets with those of the fragments in them.
-use Rattle.std.proofs.Common.{◌≡◌, refl, ap, sym, subst, ◌∙◌, arith, ℕ, ◌+◌, ◌<◌, ◌≤◌, nat_eq, Bool, true, false, List, [], ◌∷◌, ◌++◌, take, length, get_or, append-nil, append_assoc, if◌then◌else◌, Some, None, slice_get, zero, suc, ◌⊎◌, ◌↔◌, IsPermutation, inl, inr}
+use Rattle.std.proofs.Common.{◌≡◌, refl, ap, sym, subst, ◌∙◌, arith, ℕ, ◌+◌, ◌<◌, ◌≤◌, nat_eq, Bool, true, false, List, [], ◌∷◌, ◌++◌, take, length, get_or, append-nil, append_assoc, if◌then◌else◌, Some, None, slice_get, ◌⊎◌, ◌↔◌, IsPermutation, inl, inr}
 use Rattle.std.specs.List.{Contains, list_any}
 use Rattle.std.proofs.lemmas.Bool.Decides.{Decides-eqb}
 use Rattle.std.proofs.lemmas.List.{take_more, take_all, take-append-le}
@@ -12,6 +12,7 @@ use Rattle.graphql_merging.specs.Pieces.{Pieces, PieceField, StandsIn, directly,
 use Rattle.graphql_bundles.specs.Bundles.{StandsAmong, Holds}
 use Rattle.graphql_merging.proofs.Nested.{one-only, in-nothing}
 use Rattle.graphql_bundles.specs.Closed.{AddsNumbers, IsOpened, IsClosure, AreThose}
+use Rattle.graphql_bundles.proofs.ListLemmas.{past-end}
 
 pub adds-none : (old : List ℕ) → AddsNumbers old [] old
 adds-none old = record { more = []; grown = sym (append-nil old); has = (λ n i. in-nothing n i); only = (λ n i. in-nothing n i) }
@@ -122,15 +123,7 @@ module _ {S C : Type 0} (t : Pieces S C) (sets : List ℕ) where
       (subst (λ ns. AddsNumbers all ns new) (sym is) adds)
 
   pub opened-end : (index : ℕ) (all : List ℕ) → slice_get all index ≡ None → IsOpened t sets (take index all) all → IsOpened t sets all all
-  opened-end index all at h = opened-all index all (past all index at) h
-    where
-      past : (xs : List ℕ) (i : ℕ) → slice_get xs i ≡ None → length xs ≤ i
-      past [] i e = omega arith
-      past (x ∷ xs) zero e = absurd (some e)
-        where
-          some : Some x ≡ None → ⊥
-          some e = cc
-      past (x ∷ xs) (suc i) e = let h = past xs i e in omega (arith, h)
+  opened-end index all at h = opened-all index all (past-end all index at) h
 
 -- those that are such, one more looked at
 module _ (P : ℕ → Type 0) where

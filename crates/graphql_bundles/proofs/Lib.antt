@@ -12,3 +12,6 @@ pub mod GoingLemmas
 pub mod BundleLemmas
 pub mod GoesLemmas
 pub mod PassLemmas
+pub mod DirectLemmas
+pub mod VisitLemmas
+pub mod EndLemmas

@@ -1,5 +1,5 @@
 -- What lists contain.
-use Rattle.std.proofs.Common.{◌≡◌, refl, ap, sym, subst, ◌∙◌, arith, ℕ, ◌+◌, ◌<◌, Bool, true, false, cond, List, [], ◌∷◌, ◌++◌, map, filter, take, length, get_or, slice_get, Some, None, ◌⊎◌, inl, inr, append-nil}
+use Rattle.std.proofs.Common.{◌≡◌, refl, ap, sym, subst, ◌∙◌, arith, ℕ, ◌+◌, ◌<◌, ◌≤◌, zero, suc, Bool, true, false, cond, List, [], ◌∷◌, ◌++◌, map, filter, take, length, get_or, slice_get, Some, None, ◌⊎◌, inl, inr, append-nil}
 use Rattle.std.specs.List.{Contains, flat_map}
 use Rattle.std.proofs.lemmas.Bool.{false≢true}
 use Rattle.std.proofs.lemmas.Grind.{flat_map-append}
@@ -43,6 +43,15 @@ module _ {X : Type 0} where
     where
       some : Some x ≡ None → ⊥
       some e = cc
+
+  -- where there is no item, the list is at its end
+  pub past-end : (xs : List X) (i : ℕ) → slice_get xs i ≡ None → length xs ≤ i
+  past-end [] i e = omega arith
+  past-end (x ∷ xs) zero e = absurd (some e)
+    where
+      some : Some x ≡ None → ⊥
+      some e = cc
+  past-end (x ∷ xs) (suc i) e = let h = past-end xs i e in omega (arith, h)
 
 module _ {A B : Type 0} (f : A → B) where
   pub map_has : (xs : List A) (a : A) → Contains xs a → Contains (map f xs) (f a)

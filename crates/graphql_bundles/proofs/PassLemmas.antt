@@ -3,7 +3,7 @@ use Rattle.std.proofs.Common.{◌≡◌, ap, sym, subst, ◌∙◌, arith, ℕ, 
 use Rattle.std.specs.List.{Contains, flat_map}
 use Rattle.std.specs.Str.{bytes_eq}
 use Rattle.std.proofs.lemmas.Bool.{false≢true}
-use Rattle.std.proofs.lemmas.List.{take_more, take_all, take-append-le}
+use Rattle.std.proofs.lemmas.List.{take_more, take_all, take-append-le, length-map}
 use Rattle.std.proofs.lemmas.List.Elements.{Contains-append_cases}
 use Rattle.std.proofs.lemmas.Option.{slice_get-map, slice_get_within, get_or_from_slice_get}
 use Rattle.std.proofs.lemmas.Slice.Eq.{bytes_eq-Decides}
@@ -38,6 +38,14 @@ module _ {B : Type 0} (view : B → Bundle) (keys : List B) (number : ℕ) (b : 
     where
       clash : (c : Bundle) → None ≡ Some c → ⊥
       clash c e = cc
+
+-- as many bundles as there are keys
+module _ {B : Type 0} (view : B → Bundle) (keys : List B) (n number : ℕ) (are : n ≡ length keys) where
+  pub bundles-past : n ≤ number → length (map view keys) ≤ number
+  bundles-past h = let e = length-map keys view in omega (arith, e, are, h)
+
+  pub bundles-within : number < n → number < length (map view keys)
+  bundles-within h = let e = length-map keys view in omega (arith, e, are, h)
 
 module _ {S C : Type 0} (eq : S → S → Bool) (types : List (MetaType S C)) (table : SetTable S C) (fragments : List (Fragment S)) where
   abbrev t : Pieces S C

@@ -1,6 +1,8 @@
 pub mod Bundles
 pub mod BundleLaws
 pub mod Closed
+pub mod Direct
+pub mod Ends
 pub mod Going
 pub mod Groups
 pub mod Steps

@@ -11,7 +11,7 @@ use indexmap::IndexSet;
 use std::alloc::{AllocError, Global};
 
 /// Adds numbers that are not there.
-fn add_numbers(sets: &mut IndexSet<usize>, numbers: &[usize]) -> Result<(), AllocError>
+pub(crate) fn add_numbers(sets: &mut IndexSet<usize>, numbers: &[usize]) -> Result<(), AllocError>
     ensures { OnOk result (AddsNumbers sets.old.keys numbers.now sets.new.keys) }
 {
     for number in numbers {

@@ -1,17 +1,22 @@
 //! Bundles of selection sets: their fields are grouped by response key, and each is compared with
 //! one of its class (GraphQL October 2021, 5.3.2 Field Selection Merging).
 //!
-//! The definitions, their laws, and the pass over one bundle, by which fields that do not merge
+//! The definitions, their laws, and going through all bundles, by which fields that do not merge
 //! will be told in time near the size of a document. No rule calls it yet.
 #![tactic(auto)]
 
 mod bundle;
 mod closed;
+mod direct;
 mod groups;
 mod heads;
 pub mod laws;
 mod messages;
+mod outcome;
 mod parts;
 mod pass;
 mod stop;
 mod telling;
+mod visits;
+
+pub use outcome::{Outcome, told_by_bundles};

@@ -48,7 +48,7 @@ pub(crate) fn begin_sets<S, C>(
 }
 
 /// The numbers of the own sets of fields. An error is want of memory.
-fn own_numbers<S, C>(
+pub(crate) fn own_numbers<S, C>(
     alloc: Global,
     fields: &[WrittenField<'_, '_, S, C>],
 ) -> Result<Items<usize>, AllocError>

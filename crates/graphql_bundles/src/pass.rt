@@ -1,11 +1,13 @@
-//! A bundle is gone through, and the bundles of the definitions are begun.
+//! Bundles are gone through, from those of the definitions on.
 
-ghost use Rattle.std.specs.Prelude.{◌≡◌, ℕ, ◌<◌, false, List, Some, OnOk, slice_get};
+ghost use Rattle.std.specs.Prelude.{◌≡◌, ℕ, ◌<◌, false, [], List, Some, OnOk, length, slice_get};
+ghost use Rattle.std.specs.List.{Contains};
+ghost use Rattle.graphql_text.specs.declared.position.SourcePosition.{SourcePosition};
 ghost use Rattle.graphql_tree.specs.declared.document.Fragment.{Fragment};
 ghost use Rattle.graphql_merging.specs.Tables.{pieces_of};
-ghost use Rattle.graphql_bundles.specs.Bundles.{Bundle, IsGathered, IsPassed};
-ghost use Rattle.graphql_bundles.specs.Going.{IsFoundIn, LeadsTo, stage_of};
-ghost use Rattle.graphql_bundles.specs.Steps.{FoundInGroups, Goes, GroupsLeadTo, GroupsPassed, HoldsSets, OfDefinitions};
+ghost use Rattle.graphql_bundles.specs.Bundles.{Bundle, IsFoundAmong, IsGathered, IsPassed};
+ghost use Rattle.graphql_bundles.specs.Going.{IsFoundIn, IsGoing, LeadsTo, stage_of};
+ghost use Rattle.graphql_bundles.specs.Steps.{FoundInGroups, Goes, GroupsLeadTo, GroupsPassed, HoldsSets, KeepsTold, OfDefinitions};
 
 use crate::bundle::Progress;
 use crate::groups::{KeyGroup, fields_of_sets, grouped};
@@ -79,5 +81,42 @@ fn begin_definitions<S, C>(
     for definition in 0..definitions {
         begin_sets(alloc, table, &[definition], false, progress)?;
     }
+    Ok(())
+}
+
+/// Goes through the bundles of the definitions, and those that are begun on the way, as long as the
+/// bound is not met. An error of the call is want of memory.
+pub(crate) fn pass_all<S: PartialEq, C>(
+    alloc: Global,
+    schema: &SchemaType<S, C>,
+    table: &SetTable<'_, '_, S, C>,
+    definitions: usize,
+    progress: &mut Progress,
+) -> Result<(), AllocError>
+    requires { (stage_of progress.old).bundles ≡ [] }
+    ensures kept { OnOk result (KeepsTold (stage_of progress.old) (stage_of progress.new)) }
+    ensures going { OnOk result ((fragments : List (Fragment S)) →
+        let t = pieces_of fragments table.now in
+        let types = schema.now.types in
+        ((e : List SourcePosition) → Contains (stage_of progress.old).told e
+        → IsFoundAmong t definitions S.eq types e) →
+        IsGoing t S.eq types definitions (length (stage_of progress.new).bundles)
+        (stage_of progress.new)) }
+{
+    let limit = progress.left;
+    begin_definitions(alloc, table, definitions, progress)?;
+    for number in 0..limit {
+        if progress.bundles.len() <= number {
+            return Ok(());
+        }
+        if !progress.is_within {
+            return Ok(());
+        }
+        pass_bundle(alloc, schema, table, number, progress)?;
+    }
+    if progress.bundles.len() <= limit {
+        return Ok(());
+    }
+    progress.is_within = false;
     Ok(())
 }

@@ -1,0 +1,13 @@
+use Rattle.std.proofs.Common.{List, length}
+use Rattle.graphql_rule_errors.specs.Places.{places}
+use Rattle.graphql_tree.specs.declared.document.Fragment.{Fragment}
+use Rattle.graphql_bundles.specs.Direct.{DirectParts}
+use Rattle.graphql_bundles.proofs.direct.direct_group.Given as goal
+
+-- the classes so far
+abbrev pub invariant-classes : goal.invariant-classes
+invariant-classes g l = (fragments : List (Fragment g.row.S.Denot))
+    → DirectParts g.S.PartialEq.eq l.schema.types fragments l.fields l.rest (places l.initial.told) (places l.told)
+
+abbrev pub decreases-classes : goal.decreases-classes
+decreases-classes g l = length l.rest

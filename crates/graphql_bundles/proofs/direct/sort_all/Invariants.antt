@@ -1,0 +1,13 @@
+use Rattle.std.proofs.Common.{List, ◌∷◌, take, length, ◌≤◌}
+use Rattle.graphql_rule_errors.specs.Places.{places}
+use Rattle.graphql_tree.specs.declared.document.Fragment.{Fragment}
+use Rattle.graphql_bundles.proofs.DirectLemmas.{Sorted}
+use Rattle.graphql_bundles.proofs.direct.sort_all.Given as goal
+
+-- those that are sorted out so far
+abbrev pub invariant-loop-field : goal.invariant-loop-field
+invariant-loop-field g l = record {
+  sorted : (fragments : List (Fragment g.row.S.Denot))
+      → Sorted g.S.PartialEq.eq l.schema.types fragments l.head (l.head ∷ take l.field-index l.fields) l.split (places l.initial.told) (places l.told);
+  few : length l.split.others ≤ l.field-index;
+}

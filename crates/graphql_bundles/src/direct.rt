@@ -1,0 +1,117 @@
+//! The fields that stand directly in one set are compared by classes.
+
+ghost use Rattle.std.specs.Prelude.{◌≡◌, ◌≤◌, [], ◌∷◌, List, IfOk, OnOk, length};
+ghost use Rattle.graphql_rule_errors.specs.Places.{places};
+ghost use Rattle.graphql_tree.specs.declared.document.Fragment.{Fragment};
+ghost use Rattle.graphql_bundles.specs.Direct.{ComparesBefore, DirectParts, SortsOut};
+
+use crate::telling::compare;
+use graphql_merging::{WrittenField, first_difference};
+use graphql_meta::SchemaScalar;
+use graphql_rule_errors::RuleError;
+use graphql_schema::SchemaType;
+use graphql_text::Items;
+use std::alloc::{AllocError, Global};
+
+/// Fields of one response key that agree with the first of them, and those that do not.
+#[derive(Drop)]
+pub(crate) struct Split<'d, 'a, S, C = <S as SchemaScalar>::Check> {
+    /// Those that agree with it.
+    pub alike: Items<WrittenField<'d, 'a, S, C>>,
+
+    /// Those that do not.
+    pub others: Items<WrittenField<'d, 'a, S, C>>,
+}
+
+/// Compares fields with one that stands behind them. An error of the call is want of memory.
+fn compare_before<S: PartialEq, C>(
+    alloc: Global,
+    schema: &SchemaType<S, C>,
+    earlier: &[WrittenField<'_, '_, S, C>],
+    field: &WrittenField<'_, '_, S, C>,
+    told: &mut Items<RuleError>,
+) -> Result<(), AllocError>
+    ensures { OnOk result ((fragments : List (Fragment S)) →
+        ComparesBefore S.eq schema.now.types fragments earlier.now field.now
+        (places told.old) (places told.new)) }
+{
+    for other in earlier {
+        compare(alloc, schema, false, other, field, told)?;
+    }
+    Ok(())
+}
+
+/// Puts a field to those that agree with the first or to the others, and compares it with those of
+/// the other kind. An error of the call is want of memory.
+fn sort_out<'d, 'a, S: PartialEq, C>(
+    alloc: Global,
+    schema: &SchemaType<S, C>,
+    head: &WrittenField<'d, 'a, S, C>,
+    field: &WrittenField<'d, 'a, S, C>,
+    split: &mut Split<'d, 'a, S, C>,
+    told: &mut Items<RuleError>,
+) -> Result<(), AllocError>
+    ensures { OnOk result ((fragments : List (Fragment S)) →
+        SortsOut S.eq schema.now.types fragments head.now field.now split.old split.new
+        (places told.old) (places told.new)) }
+{
+    let difference = first_difference(alloc, schema, false, &head.selected, &field.selected)?;
+    match difference {
+        None => {
+            compare_before(alloc, schema, split.others.as_slice(), field, told)?;
+            split.alike.push(*field)?;
+            Ok(())
+        }
+        Some(_) => {
+            compare_before(alloc, schema, split.alike.as_slice(), field, told)?;
+            split.others.push(*field)?;
+            Ok(())
+        }
+    }
+}
+
+/// Compares fields of one response key, as far as they do not differ from the first of them: gives
+/// those that do. An error of the call is want of memory.
+fn sort_all<'d, 'a, S: PartialEq, C>(
+    alloc: Global,
+    schema: &SchemaType<S, C>,
+    head: &WrittenField<'d, 'a, S, C>,
+    fields: &[WrittenField<'d, 'a, S, C>],
+    told: &mut Items<RuleError>,
+) -> Result<Items<WrittenField<'d, 'a, S, C>>, AllocError>
+    ensures parts { IfOk result (λ rest. (fragments : List (Fragment S)) →
+        DirectParts S.eq schema.now.types fragments (head.now ∷ fields.now) rest
+        (places told.old) (places told.new)) }
+    ensures fewer { IfOk result (λ rest. length rest ≤ length fields.now) }
+{
+    let mut split = Split {
+        alike: Items::new(alloc),
+        others: Items::new(alloc),
+    };
+    split.alike.push(*head)?;
+    for field in fields {
+        sort_out(alloc, schema, head, field, &mut split, told)?;
+    }
+    Ok(split.others)
+}
+
+/// Compares fields of one response key that stand in one set: each two that differ are told. Takes
+/// time in proportion to the fields and to what is told. An error of the call is want of memory.
+pub(crate) fn direct_group<'d, 'a, S: PartialEq, C>(
+    alloc: Global,
+    schema: &SchemaType<S, C>,
+    fields: &[WrittenField<'d, 'a, S, C>],
+    told: &mut Items<RuleError>,
+) -> Result<(), AllocError>
+    ensures { OnOk result ((fragments : List (Fragment S)) →
+        DirectParts S.eq schema.now.types fragments fields.now []
+        (places told.old) (places told.new)) }
+{
+    let mut rest = Items::new(alloc);
+    rest.extend_from_slice(fields)?;
+    'classes: while let Some(head) = rest.first().copied() {
+        let more = sort_all(alloc, schema, &head, &rest.as_slice()[1..], told)?;
+        rest = more;
+    }
+    Ok(())
+}

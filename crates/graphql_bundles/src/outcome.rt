@@ -1,0 +1,58 @@
+//! How going through bundles ends.
+
+ghost use Rattle.std.specs.Prelude.{List, IfOk};
+ghost use Rattle.graphql_tree.specs.declared.document.Fragment.{Fragment};
+ghost use Rattle.graphql_merging.specs.Tables.{pieces_of};
+ghost use Rattle.graphql_bundles.specs.Ends.{Ends};
+
+use crate::bundle::Progress;
+use crate::pass::pass_all;
+use crate::visits::{direct_sets, visited_sets};
+use graphql_merging::SetTable;
+use graphql_rule_errors::RuleError;
+use graphql_schema::SchemaType;
+use graphql_text::Items;
+use indexmap::IndexSet;
+use std::alloc::{AllocError, Global};
+
+/// How going through bundles ends.
+#[derive(Drop)]
+pub enum Outcome {
+    /// All were gone through: these are the errors.
+    Told(Items<RuleError>),
+
+    /// There were more than the bound allows: what was told until then.
+    TooMany(Items<RuleError>),
+}
+
+/// The errors of a document's fields that do not agree with one of their class, in the order in
+/// which they are found: first of fields that stand directly in one set, each two that differ, then
+/// of fields that stand together in a bundle, each with the first of its class. The sets below
+/// `definitions` are those of the document's definitions. At most `limit` sets and fields are taken
+/// up by bundles, and besides those of one bundle. An error of the call is want of memory.
+pub fn told_by_bundles<S: PartialEq, C>(
+    alloc: Global,
+    schema: &SchemaType<S, C>,
+    table: &SetTable<'_, '_, S, C>,
+    definitions: usize,
+    limit: usize,
+) -> Result<Outcome, AllocError>
+    ensures { IfOk result (λ outcome. (fragments : List (Fragment S)) →
+        Ends (pieces_of fragments table.now) S.eq schema.now.types definitions outcome) }
+{
+    let mut told = Items::new(alloc);
+    let sets = visited_sets(alloc, table, definitions)?;
+    direct_sets(alloc, schema, table, sets.as_slice(), &mut told)?;
+    let mut progress = Progress {
+        told,
+        bundles: IndexSet::new(alloc),
+        left: limit,
+        is_within: true,
+    };
+    pass_all(alloc, schema, table, definitions, &mut progress)?;
+    if progress.is_within {
+        Ok(Outcome::Told(progress.told))
+    } else {
+        Ok(Outcome::TooMany(progress.told))
+    }
+}
