@@ -1,0 +1,3 @@
+pub mod BareWritten
+pub mod BareMerging
+pub mod MergingStays

@@ -1,0 +1,2 @@
+pub mod BareTrees
+pub mod Laws

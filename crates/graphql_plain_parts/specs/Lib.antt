@@ -1,0 +1,4 @@
+pub mod PlainRequests
+pub mod StemmingParts
+pub mod PartKinds
+pub mod Laws

@@ -1,0 +1,2 @@
+pub mod PlainValidity
+pub mod ValidTexts

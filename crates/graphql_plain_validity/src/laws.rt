@@ -1,0 +1,19 @@
+//! Laws of the validity of plain documents: each function's contract is a law, and its body does nothing.
+
+ghost use Rattle.graphql_schema.specs.Declarations.{declarations_of};
+ghost use Rattle.graphql_plain_validity.specs.Laws.{PlainDocumentsStayValid, PlainTextsAreValid};
+
+use graphql_meta::SchemaScalar;
+use graphql_schema::SchemaType;
+
+/// The plain document of a valid document is valid. For this the schema has the standard's `skip` and a
+/// `Boolean` that takes `true`, the operation's root type is there, and no variable stands in a default.
+pub fn plain_documents_stay_valid<S: SchemaScalar>(schema: &SchemaType<S>)
+    ensures { PlainDocumentsStayValid S.eq S.answer S.of_bool S.Check.accepts (declarations_of schema.now) }
+{}
+
+/// The plain text of an operation of a text that is a valid document is a valid document itself, cut and
+/// parsed anew, and that document alone, over the same schemas.
+pub fn plain_texts_are_valid<S: SchemaScalar>(schema: &SchemaType<S>)
+    ensures { PlainTextsAreValid S.eq S.answer S.reads S.of_bool S.Check.accepts (declarations_of schema.now) }
+{}

@@ -1,0 +1,5 @@
+//! Plain documents of valid documents are valid, and so are the texts of plain operations (GraphQL October
+//! 2021, 5 Validation).
+#![tactic(auto)]
+
+pub mod laws;
