@@ -1,0 +1,13 @@
+pub mod AlikeFields
+pub mod AlikeOutcomes
+pub mod AlikeRuns
+pub mod FilledLiterals
+pub mod UnlocatedConditions
+pub mod UnlocatedArguments
+pub mod AskedAlike
+pub mod ServedAlike
+pub mod UsedDefinitions
+pub mod PlainDocuments
+pub mod SerialAlike
+pub mod SerialPlain
+pub mod PlainAnswers
