@@ -15,13 +15,8 @@ use Rattle.graphql_data_files.specs.declared.data_file_error.DataFileError.TheVa
 use Rattle.graphql_records.specs.Tables.{Table}
 use Rattle.graphql_table.specs.Resolvers.{IsResolverOf}
 use Rattle.graphql_table.specs.declared.resolver.TableResolver.{TableResolver}
-use Rattle.graphql_service.specs.Answers.{Answerer}
-use Rattle.graphql_service.specs.PlainAnswers.{PlainBreaks, PlainGives}
-use Rattle.graphql_service.specs.Serving.{AnswersLine, BreaksAtLine}
-use Rattle.graphql_streams.specs.Served.{Ends, ServedAll}
 use Rattle.graphql_streams.specs.declared.serve_error.ServeError.{ServeError}
-use Rattle.graphql_records.specs.declared.table_node.TableNode.{TableNode}
-use Rattle.graphql_file_service.specs.Runs.{Answered, Streams, ToldPlain}
+use Rattle.graphql_file_service.specs.Runs.{Ended}
 use Rattle.graphql_file_service.specs.TableServices.{Describes, IsDescribed, IsDue, IsMadeOf, TableService, executable, records_in}
 use Rattle.graphql_file_service.specs.declared.run_fault.RunFault.TheVariants as fault
 
@@ -53,18 +48,7 @@ module _ {C : Type 0} (accepts : C → InputValue DefaultScalarValue → Type 0)
     selection_limit = made.selection_limit;
   }
 
--- how a run over lines ended, told by its end
-module _ {C : Type 0} (answerer : TableService C → Answerer DefaultScalarValue C TableNode Table) (bytes : Streams) (service : TableService C) where
-  pub answered_so : (after : Table) (ended : Result (Unit {0}) ServeError)
-      → OnOk ended (ServedAll (AnswersLine (answerer service)) service.context bytes.left bytes.rest bytes.old bytes.new after)
-      → IfErr ended (λ e. Ends (AnswersLine (answerer service)) (BreaksAtLine (answerer service)) e service.context bytes.left bytes.rest bytes.old bytes.new after)
-      → Answered answerer bytes service after ended
-  answered_so after (Ok x) all ends = all
-  answered_so after (Err e) all ends = ends
-
-  pub told_so : (ended : Result (Unit {0}) ServeError)
-      → OnOk ended (ServedAll (PlainGives (answerer service) service.selection_limit) tt bytes.left bytes.rest bytes.old bytes.new tt)
-      → IfErr ended (λ e. Ends (PlainGives (answerer service) service.selection_limit) (PlainBreaks (answerer service) service.selection_limit) e tt bytes.left bytes.rest bytes.old bytes.new tt)
-      → ToldPlain answerer bytes service ended
-  told_so (Ok x) all ends = all
-  told_so (Err e) all ends = ends
+-- how a run over lines ended
+pub ended : (r : Result (Unit {0}) ServeError) (all : Type 0) (ends : ServeError → Type 0) → OnOk r all → IfErr r ends → Ended all ends r
+ended (Ok x) all ends h k = h
+ended (Err e) all ends h k = k

@@ -32,22 +32,25 @@ served (Err fault.NotExecutable) = Ok tt
 served (Err (fault.Data e)) = Ok tt
 served (Err fault.Memory) = Ok tt
 
+-- what holds where a run came to the end of its input, or by the error at which it ended
+abbrev pub Ended : Type 0 → (ServeError → Type 0) → Result (Unit {0}) ServeError → Type 0
+Ended all ends (Ok x) = all
+Ended all ends (Err e) = ends e
+
 -- by what a service answers
 module _ {C : Type 0} (answerer : TableService C → Answerer DefaultScalarValue C TableNode Table) (bytes : Streams) where
   -- each line was answered, or why no more lines were; the records that the lines left
   abbrev pub Answered : TableService C → Table → Result (Unit {0}) ServeError → Type 0
-  Answered service after (Ok x) =
-      ServedAll (AnswersLine (answerer service)) service.context bytes.left bytes.rest bytes.old bytes.new after
-  Answered service after (Err e) =
-      Ends (AnswersLine (answerer service)) (BreaksAtLine (answerer service)) e service.context bytes.left bytes.rest bytes.old bytes.new after
+  Answered service after =
+      Ended (ServedAll (AnswersLine (answerer service)) service.context bytes.left bytes.rest bytes.old bytes.new after)
+      (λ e. Ends (AnswersLine (answerer service)) (BreaksAtLine (answerer service)) e service.context bytes.left bytes.rest bytes.old bytes.new after)
 
   -- each line was told its plain text, or why no more lines were
   abbrev pub ToldPlain : TableService C → Result (Unit {0}) ServeError → Type 0
-  ToldPlain service (Ok x) =
-      ServedAll (PlainGives (answerer service) service.selection_limit) tt bytes.left bytes.rest bytes.old bytes.new tt
-  ToldPlain service (Err e) =
-      Ends (PlainGives (answerer service) service.selection_limit) (PlainBreaks (answerer service) service.selection_limit) e tt
-      bytes.left bytes.rest bytes.old bytes.new tt
+  ToldPlain service =
+      Ended (ServedAll (PlainGives (answerer service) service.selection_limit) tt bytes.left bytes.rest bytes.old bytes.new tt)
+      (λ e. Ends (PlainGives (answerer service) service.selection_limit) (PlainBreaks (answerer service) service.selection_limit) e tt
+      bytes.left bytes.rest bytes.old bytes.new tt)
 
   -- the lines were asked for plain texts, which change nothing, or for answers
   abbrev pub Served : Bool → TableService C → Table → Result (Unit {0}) ServeError → Type 0
