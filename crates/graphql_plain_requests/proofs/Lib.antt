@@ -1,3 +1,3 @@
 mod OnePlain
-mod PlainDocuments
+pub mod PlainDocuments
 mod Refused

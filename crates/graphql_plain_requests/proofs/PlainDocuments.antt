@@ -42,7 +42,7 @@ module _ {S C : Type 0} (schema : SchemaType S C) where
   of-mutation (Some n) root object e = some-where is_object (type_named schema.types n) object
   of-mutation None root object e = absurd (cc)
 
-  root-known : (type : OperationType) (root : Option Bytes) → mutation_root schema.mutation type ≡ Ok root
+  pub root-known : (type : OperationType) (root : Option Bytes) → mutation_root schema.mutation type ≡ Ok root
       → IsSome (root_of (declarations_of schema) type)
   root-known kind.Query root e =
       some-where is_object (type_named schema.types schema.query)

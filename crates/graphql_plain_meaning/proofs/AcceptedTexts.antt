@@ -1,0 +1,229 @@
+-- The plain text of a request is executed in the request's place.
+use Rattle.std.proofs.Common.{◌≡◌, refl, sym, ◌∙◌, ap, subst, arith, not, ◌||◌, Bool, true, false, List, [], ◌∷◌, map, cond, reverse, Option, Some, None, Result, Ok, Err}
+use Rattle.std.specs.List.{Contains, find}
+use Rattle.std.specs.Option.{is_some, option_map, option_map_or}
+use Rattle.std.specs.Str.{bytes_eq, chars}
+use Rattle.graphql_names.specs.Names.{Bytes, passes}
+use Rattle.graphql_scalars.specs.ScalarAnswers.{ScalarAnswer}
+use Rattle.graphql_values.specs.InputValues.{Placed, unlocated, unplaced}
+use Rattle.graphql_values.specs.declared.input_value.InputValue.{InputValue}
+use Rattle.graphql_tree.specs.Definitions.{fragments_listed, operations_of}
+use Rattle.graphql_tree.specs.Documents.{variables_in}
+use Rattle.graphql_tree.specs.Unlocated.{unlocated_name, unlocated_operation, unlocated_variable, unlocated_variables, without_place}
+use Rattle.graphql_tree.specs.Variables.{Variable}
+use Rattle.graphql_tree.specs.declared.document.Definition.{Definition}
+use Rattle.graphql_tree.specs.declared.document.Definition.TheVariants as definition
+use Rattle.graphql_tree.specs.declared.document.Operation.{Operation}
+use Rattle.graphql_tree.specs.declared.variable.VariableDefinitions.{VariableDefinitions}
+use Rattle.graphql_final_variables.specs.FinalValues.{variable_name}
+use Rattle.graphql_meta.specs.declared.meta.MetaType.{MetaType}
+use Rattle.graphql_literal_checks.specs.InputTypes.{refuses_null}
+use Rattle.graphql_schema.specs.Declarations.{declarations_of}
+use Rattle.graphql_schema.specs.declared.root_node.RootNode.{RootNode}
+use Rattle.graphql_settled_fragments.proofs.KnownFieldTypes.{field-types-are-known}
+use Rattle.graphql_settled_fragments.proofs.ListItems.{contains-map, image-of}
+use Rattle.graphql_variable_checks.specs.Accepted.{AreAccepted, FitsVariable, IsAccepted, variable_type}
+use Rattle.graphql_plain_tree.specs.PlainDocuments.{definitions_as, operation_as}
+use Rattle.graphql_plain_tree.specs.PlainOperations.{PlainOperation, definitions_used, without_directives, variables_used}
+use Rattle.graphql_plain_text.specs.Laws.{PlainTextIsDocument}
+use Rattle.graphql_plain_text.specs.PlainTexts.{plain_text}
+use Rattle.graphql_plain_text.specs.Laws.{IsTextOf}
+use Rattle.graphql_plain_tree.specs.PlainDocuments.{document_of}
+use Rattle.graphql_plain_parts.specs.PlainRequests.{IsPlainDocument}
+use Rattle.graphql_plain_parts.proofs.OneOperation.{the-one}
+use Rattle.graphql_plain_parts.proofs.PlainDocumentParts.{definitions-back}
+use Rattle.graphql_plain_variables.proofs.UsedDefinitions.{used-from}
+use Rattle.graphql_plain_validity.specs.Laws.{IsValidText, PlainTextsAreValid}
+use Rattle.graphql_plain_validity.proofs.ValidTexts.{full}
+use Rattle.graphql_requests.specs.Operations.{chosen, has_name, mutation_root, one_named}
+use Rattle.graphql_requests.specs.Refusals.{IsValidIn}
+use Rattle.graphql_requests.specs.Scalars.{Scalars}
+use Rattle.graphql_requests.specs.declared.graphql_error.GraphQLError.{GraphQLError}
+use Rattle.graphql_requests.specs.declared.graphql_error.GraphQLError.TheVariants as error
+use Rattle.graphql_requests.proofs.ChosenOperations.{chosen-in}
+use Rattle.graphql_plain_requests.specs.PlainRequests.{asked_at, plain_of, values_for}
+use Rattle.graphql_plain_requests.proofs.PlainDocuments.{root-known}
+use Rattle.graphql_plain_meaning.specs.Laws.{PlainTextsAreAccepted}
+
+-- ---- the name of an operation
+
+-- what is found passes
+found-passes : {A E : Type 0} (test : A → Bool) (xs : List A) (x : A) (e : E)
+    → option_map_or Ok (find test xs) (Err e) ≡ Ok x → test x ≡ true
+found-passes test [] x e h = absurd (cc)
+found-passes test (y ∷ ys) x e h =
+    let cases : (b : Bool) → test y ≡ b
+    → option_map_or Ok (cond b (Some y) (find test ys)) (Err e) ≡ Ok x → test x ≡ true =
+    elim [
+      | true ↦ (λ is j. let same : y ≡ x = cc in ap test (sym same) ∙ is)
+      | false ↦ (λ is j. found-passes test ys x e j)
+    ] in cases (test y) refl h
+
+-- a test of a name sees no places
+bare-passes : (test : Bytes → Bool) (o : Option (Placed Bytes))
+    → passes (λ (n : Placed Bytes). test n.item) (option_map unlocated_name o) ≡ passes (λ (n : Placed Bytes). test n.item) o
+bare-passes test None = refl
+bare-passes test (Some n) = refl
+
+plain-passes : (test : Bytes → Bool) (o : Option (Placed Bytes))
+    → passes (λ (n : Placed Bytes). test n.item) (option_map unplaced (option_map (λ (n : Placed Bytes). n.item) o))
+    ≡ passes (λ (n : Placed Bytes). test n.item) o
+plain-passes test None = refl
+plain-passes test (Some n) = refl
+
+module _ {S : Type 0} where
+  -- the one operation of a document is chosen, where it has the name that is asked for
+  lone-chosen : (x : Placed (Operation S)) (name : Bytes) → has_name name x ≡ true
+      → chosen (Some name) (definition.Operation x ∷ []) ≡ Ok x
+  lone-chosen x name has =
+      ap (λ (b : Bool). option_map_or Ok (cond b (Some x) None) (Err error.UnknownOperationName)) has
+
+  chosen-again : (p : PlainOperation S) (document : List (Definition S))
+      (o x : Placed (Operation S)) → p.name ≡ option_map (λ (n : Placed Bytes). n.item) o.item.name
+      → unlocated_operation x.item ≡ unlocated_operation (operation_as p)
+      → (name : Option Bytes) → chosen name document ≡ Ok o
+      → chosen name (definition.Operation x ∷ []) ≡ Ok x
+  chosen-again p document o x named same None e = refl
+  chosen-again p document o x named same (Some name) e =
+      let test : Bytes → Bool = λ n. bytes_eq n name in
+      let old : has_name name o ≡ true =
+      found-passes (has_name name) (reverse (operations_of document)) o
+      error.UnknownOperationName e in
+      lone-chosen x name
+      (sym (bare-passes test x.item.name)
+      ∙ ap (λ (q : Operation S). passes (λ (n : Placed Bytes). test n.item) q.name) same
+      ∙ bare-passes test (option_map unplaced p.name)
+      ∙ ap (λ (n : Option Bytes). passes (λ (n : Placed Bytes). test n.item) (option_map unplaced n)) named
+      ∙ plain-passes test o.item.name ∙ old)
+
+  -- ---- the values for variables
+
+  abbrev bare : Variable S → Variable S
+  bare v = (unlocated_name v.0, unlocated_variable v.1)
+
+  variables-listed : (o : Option (Placed (VariableDefinitions S)))
+      → variables_in (option_map (without_place unlocated_variables) o) ≡ map bare (variables_in o)
+  variables-listed None = refl
+  variables-listed (Some v) = refl
+
+  variables-alike : (p : PlainOperation S) (x : Operation S)
+      → unlocated_operation x ≡ unlocated_operation (operation_as p)
+      → map bare (variables_in x.variable_definitions) ≡ map bare p.variables
+  variables-alike p x same =
+      sym (variables-listed x.variable_definitions)
+      ∙ ap (λ (o : Operation S). variables_in o.variable_definitions) same
+      ∙ variables-listed (definitions_as p.variables)
+      ∙ ap (map bare) (definitions-back p.variables)
+
+is-some-alike : {A B : Type 0} (f : A → B) (o : Option A) → is_some (option_map f o) ≡ is_some o
+is-some-alike f None = refl
+is-some-alike f (Some x) = refl
+
+module _ {S C : Type 0} (answer : S → ScalarAnswer) (accepts : C → InputValue S → Type 0)
+    (types : List (MetaType S C)) where
+  absent-alike : (v : Variable S)
+      → (not (refuses_null (variable_type v)) || is_some (bare v).1.default_value)
+      ≡ (not (refuses_null (variable_type v)) || is_some v.1.default_value)
+  absent-alike v =
+      ap (λ (b : Bool). not (refuses_null (variable_type v)) || b)
+      (is-some-alike (without_place unlocated) v.1.default_value)
+
+  fits-bare : (v : Variable S) (o : Option (InputValue S)) → FitsVariable answer accepts types v o
+      → FitsVariable answer accepts types (bare (without_directives v)) o
+  fits-bare v (Some value) h = h
+  fits-bare v None h = absent-alike v ∙ h
+
+  fits-placed : (v : Variable S) (o : Option (InputValue S))
+      → FitsVariable answer accepts types (bare v) o → FitsVariable answer accepts types v o
+  fits-placed v (Some value) h = h
+  fits-placed v None h = sym (absent-alike v) ∙ h
+
+  module _ (given : Bytes → Option (InputValue S)) where
+    -- definitions that are those of used names, places and directives aside, accept what all accept
+    accepted-again : (names : List Bytes) (vs ws : List (Variable S))
+        → map bare ws ≡ map bare (definitions_used names vs)
+        → AreAccepted answer accepts types given vs → AreAccepted answer accepts types given ws
+    accepted-again names vs ws same accepted w i known =
+        let among : Contains (map bare (definitions_used names vs)) (bare w) =
+        subst (λ (us : List (Variable S)). Contains us (bare w)) same (contains-map bare ws w i) in
+        let used = image-of bare (definitions_used names vs) (bare w) among in
+        let v = used-from names vs used.0 used.1 in
+        let alike : bare (without_directives v.0) ≡ bare w = ap bare v.2 ∙ used.2 in
+        let before : IsAccepted answer accepts types given (bare (without_directives v.0)) =
+        λ k. fits-bare v.0 (given (variable_name v.0)) (accepted v.0 v.1 k) in
+        let moved : IsAccepted answer accepts types given (bare w) =
+        subst (λ (u : Variable S). IsAccepted answer accepts types given u) alike before in
+        fits-placed w (given (variable_name w)) (moved known)
+
+-- ---- the text
+
+module _ {S C : Type 0} (s : Scalars S C) (root : RootNode S C)
+    (valid_texts : PlainTextsAreValid s.eq s.answer s.reads s.of_bool s.accepts (declarations_of root.schema))
+    (printed : PlainTextIsDocument S s.reads s.of_bool s.answer) where
+  pub plain-texts-are-accepted : PlainTextsAreAccepted s root
+  plain-texts-are-accepted standard takes source name given bytes utf8 text =
+      let a = asked_at root (chars source) name given in
+      let schema = declarations_of root.schema in
+      let document = text.document in
+      let o = text.operation in
+      let read = text.executable.read in
+      let ready = text.executable.ready in
+      let p : PlainOperation S = plain_of s a document o.item in
+      let among = chosen-in name document o ready.chosen in
+      let known = root-known root.schema o.item.operation_type ready.root ready.served in
+      let filled =
+      full s.answer s.of_bool s.accepts s.reads schema
+      (field-types-are-known schema root.schema.faultless) document
+      read.valid.valid.no_fault (chars source) read.spelled o among known in
+      let spelled : IsTextOf S s.reads s.of_bool bytes (document_of p) =
+      subst (λ b. IsTextOf S s.reads s.of_bool b (document_of p)) (sym text.is)
+      (printed source text.tokens text.finish document o (values_for s a o.item) utf8 text.cut
+      read.spelled among filled.0 filled.1) in
+      let again : List (Definition S) = spelled.again in
+      let valid_text : IsValidText s.eq s.answer s.reads s.of_bool s.accepts schema root.introspection_disabled bytes =
+      subst
+      (IsValidText s.eq s.answer s.reads s.of_bool s.accepts schema root.introspection_disabled)
+      (sym text.is)
+      (valid_texts standard takes source text.tokens text.finish document o
+      (values_for s a o.item) utf8 text.cut read.spelled among known root.introspection_disabled
+      read.valid) in
+      let valid =
+      subst (λ (d : List (Definition S)). IsValidIn s schema root.introspection_disabled d)
+      (spelled.only valid_text.document valid_text.is) valid_text.valid in
+      let plain : IsPlainDocument s.answer s.of_bool document again = record {
+        operation = o;
+        among = among;
+        filled = filled.1;
+        given = values_for s a o.item;
+        same = spelled.same;
+      } in
+      let x = the-one s.answer s.of_bool document again plain in
+      record {
+        utf8 = spelled.utf8;
+        again = again;
+        operation = x.0;
+        executable = record {
+          read = record { spelled = spelled.is; alone = spelled.only; valid = valid };
+          ready = record {
+            chosen =
+                ap (λ (d : List (Definition S)). chosen name d) x.1
+                ∙ chosen-again p document o x.0 refl x.2 name ready.chosen;
+            takes_values =
+                accepted-again s.answer s.accepts root.schema.types given (variables_used p.set)
+                (variables_in o.item.variable_definitions)
+                (variables_in x.0.item.variable_definitions) (variables-alike p x.0.item x.2)
+                ready.takes_values;
+            root = ready.root;
+            served =
+                ap (λ (q : Operation S). mutation_root root.schema.mutation q.operation_type) x.2
+                ∙ ready.served;
+          };
+        };
+        plain = record {
+          filled = filled.1;
+          same = spelled.same;
+          among =
+              subst (λ (d : List (Definition S)). Contains (operations_of d) x.0) (sym x.1)
+              (0, omega arith, refl);
+        };
+      }

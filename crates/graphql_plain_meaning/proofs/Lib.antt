@@ -1,0 +1,2 @@
+mod AcceptedTexts
+mod SameMeaning

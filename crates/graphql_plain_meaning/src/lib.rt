@@ -1,0 +1,5 @@
+//! The plain text of a request is executed where the request is, and means the same (GraphQL
+//! October 2021, 6.1 Executing Requests).
+#![tactic(auto)]
+
+pub mod laws;
