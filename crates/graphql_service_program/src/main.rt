@@ -55,7 +55,7 @@ fn asks_for_plain(word: Option<String>) -> Result<bool, Failure> {
 }
 
 /// The program's arguments, or none where there are none.
-fn arguments(rt: &HostRuntime) -> Result<Option<Arguments>, Failure> {
+fn read_arguments(rt: &HostRuntime) -> Result<Option<Arguments>, Failure> {
     let mut words = match env::args(rt) {
         Ok(words) => words,
         Err(error) => return Err(unless_memory(error, Failure::Usage)),
@@ -86,7 +86,7 @@ fn bytes_at(rt: &HostRuntime, path: String) -> Result<Vec<u8>, Failure> {
 /// The files that the program's arguments name, or the sample's.
 fn read_files(rt: &HostRuntime) -> Result<Files, Failure> {
     let alloc = rt.alloc();
-    match arguments(rt)? {
+    match read_arguments(rt)? {
         Some(arguments) => Ok(Files {
             schema: bytes_at(rt, arguments.schema)?,
             records: bytes_at(rt, arguments.records)?,
