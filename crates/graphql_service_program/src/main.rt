@@ -47,10 +47,13 @@ fn unless_memory(error: io::Error, otherwise: Failure) -> Failure {
 
 /// Whether the word behind the files asks for plain texts; without one, answers are asked for.
 fn asks_for_plain(word: Option<String>) -> Result<bool, Failure> {
-    match word {
-        None => Ok(false),
-        Some(word) if word.as_str() == "--plain" => Ok(true),
-        Some(_) => Err(Failure::Usage),
+    let Some(word) = word else {
+        return Ok(false);
+    };
+    if word.as_str() == "--plain" {
+        Ok(true)
+    } else {
+        Err(Failure::Usage)
     }
 }
 
@@ -87,11 +90,21 @@ fn bytes_at(rt: &HostRuntime, path: String) -> Result<Vec<u8>, Failure> {
 fn read_files(rt: &HostRuntime) -> Result<Files, Failure> {
     let alloc = rt.alloc();
     match read_arguments(rt)? {
-        Some(arguments) => Ok(Files {
-            schema: bytes_at(rt, arguments.schema)?,
-            records: bytes_at(rt, arguments.records)?,
-            plain: arguments.plain,
-        }),
+        Some(
+            Arguments {
+                schema,
+                records,
+                plain,
+            },
+        ) => {
+            let schema = bytes_at(rt, schema)?;
+            let records = bytes_at(rt, records)?;
+            Ok(Files {
+                schema,
+                records,
+                plain,
+            })
+        }
         None => Ok(Files {
             schema: Vec::from_slice(alloc, sample::SCHEMA.as_bytes())?,
             records: Vec::from_slice(alloc, sample::RECORDS.as_bytes())?,
