@@ -15,3 +15,4 @@ pub mod PassLemmas
 pub mod DirectLemmas
 pub mod VisitLemmas
 pub mod EndLemmas
+pub mod EndLaw

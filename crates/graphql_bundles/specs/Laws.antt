@@ -6,7 +6,9 @@ use Rattle.graphql_merging.specs.Contract.{IsSound, IsDirect, IsComplete}
 use Rattle.graphql_merging.specs.Done.{IsTold, all_sets}
 use Rattle.graphql_merging.specs.Sets.{Set, members_of}
 use Rattle.graphql_merging.specs.Pieces.{Pieces, IsPieceOf, HasOwnPieces}
+use Rattle.graphql_rule_errors.specs.Places.{Places}
 use Rattle.graphql_bundles.specs.Bundles.{Bundle}
+use Rattle.graphql_bundles.specs.Ends.{IsEnd, IsShown}
 use Rattle.graphql_bundles.specs.Going.{Stage, Passes, IsUnderway, IsGoing}
 
 module _ (S C : Type 0) (eq : S → S → Bool) where
@@ -66,3 +68,20 @@ module _ (S C : Type 0) (eq : S → S → Bool) where
       → IsSound eq types (all_sets types roots) stage.told
       × IsDirect eq types (all_sets types roots) stage.told
       × IsComplete eq types (all_sets types roots) stage.told
+
+  -- where going through bundles ends within the bound, or something is told, the errors are as the
+  -- rule promises; the direct fields of each set, if it has any, are those of one that is come to
+  abbrev pub EndMeetsContract : Type 0
+  EndMeetsContract =
+      (types : List (MetaType S C)) (t : Pieces S C) (roots : List (Set S C)) (definitions : ℕ)
+      (within : Bool) (errors : Places) → HasOwnPieces t eq types
+      → ((k : ℕ) → k < definitions
+      → (set : Set S C) × Contains roots set × IsPieceOf t k (members_of types set))
+      → ((set : Set S C) → Contains roots set
+      → (k : ℕ) × (k < definitions) × IsPieceOf t k (members_of types set))
+      → ((set : Set S C) → Contains (all_sets types roots) set → IsShown t types definitions set)
+      → IsEnd t eq types definitions within errors
+      → (within ≡ true) ⊎ (errors ≡ [] → ⊥)
+      → IsSound eq types (all_sets types roots) errors
+      × IsDirect eq types (all_sets types roots) errors
+      × IsComplete eq types (all_sets types roots) errors

@@ -1,7 +1,7 @@
 //! Laws of bundles: each function's contract is a law, and its body does nothing.
 
 ghost use Rattle.graphql_bundles.specs.BundleLaws.{AlikeAgree, BundlesMeetContract, BundlesSettle, BundlesStayTogether, DirectByClasses, DoneMeetsContract, FoundIsTold, SameFieldByAThird, SameShapeByAThird, ToldIsDirect};
-ghost use Rattle.graphql_bundles.specs.Laws.{GoingMeetsContract, GoneMeetsContract, OneMoreIsGone, SomeToldMeetsContract};
+ghost use Rattle.graphql_bundles.specs.Laws.{EndMeetsContract, GoingMeetsContract, GoneMeetsContract, OneMoreIsGone, SomeToldMeetsContract};
 
 /// Where the rule ends, its errors are as it promises, whatever it compared and in which order.
 pub fn done_meets_contract<S: PartialEq, C>()
@@ -36,4 +36,10 @@ pub fn bundles_are_gone_through<S: Eq, C>()
     ensures all { GoneMeetsContract S C S.eq }
     ensures some { SomeToldMeetsContract S C S.eq }
     ensures bound { GoingMeetsContract S C S.eq }
+{}
+
+/// Where going through bundles ends, the errors are as the rule promises: where all were gone
+/// through, and where something is told.
+pub fn end_meets_contract<S: Eq, C>()
+    ensures { EndMeetsContract S C S.eq }
 {}

@@ -99,7 +99,7 @@ module _ {S C : Type 0} (types : List (MetaType S C)) where
   always : S → S → Bool
   always x y = true
 
-  direct-apart : (scope : Scope S C) (t : Tree S) (a b : Member S C) → Contains (directs_in types scope t) a → Contains (directs_in types scope t) b → apart a b ≡ false
+  pub direct-apart : (scope : Scope S C) (t : Tree S) (a b : Member S C) → Contains (directs_in types scope t) a → Contains (directs_in types scope t) b → apart a b ≡ false
   direct-apart scope t a b i j =
       let e = same-parent b.parent a.parent (sym (direct-scope scope t b j) ∙ direct-scope scope t a i) in
       ap (λ parent. apart a (record b { parent = parent })) e ∙ apart-self always a
