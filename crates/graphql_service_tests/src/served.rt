@@ -5,6 +5,7 @@ ghost use Rattle.graphql_text.specs.Memory.{Told};
 ghost use Rattle.graphql_scalars.specs.declared.check_error.CheckError.TheVariants.{Memory};
 ghost use Rattle.graphql_meta.specs.ScalarChecks.{IsBoolean, IsId, IsInt, IsString};
 
+use crate::alike::{self, are_alike};
 use crate::files::{is_told, served};
 use crate::introspected::tells_of_itself;
 use crate::plain::{self, tells};
@@ -51,6 +52,9 @@ pub enum Asked<'a> {
     /// What a line is told of its plain text.
     Plain(plain::Row<'a>),
 
+    /// That requests and their plain texts are answered alike, and leave the same records.
+    Alike(&'a [alike::Row<'a>]),
+
     /// That a schema whose types do not keep what they promise makes no service.
     Unkept,
 
@@ -62,7 +66,7 @@ pub enum Asked<'a> {
 }
 
 /// The sample's records, with no name of the human of this `id`.
-fn nameless(alloc: Global, id: &str) -> Result<SampleRecords, AllocError> {
+pub fn nameless(alloc: Global, id: &str) -> Result<SampleRecords, AllocError> {
     let mut sample = sample_records(alloc)?;
     for human in sample.records.as_mut_slice() {
         if human.id.as_str() == id {
@@ -130,6 +134,7 @@ fn with_schema(
         }
         Asked::Introspected => tells_of_itself(rt, alloc, schema),
         Asked::Plain(row) => tells(rt, alloc, schema, row),
+        Asked::Alike(rows) => are_alike(rt, alloc, schema, rows),
         Asked::Runs(runs) => are_served(rt, alloc, &mut service(rt, schema, records, 80), runs),
         _ => {
             let schema = with_other_skip(rt, alloc, schema);
