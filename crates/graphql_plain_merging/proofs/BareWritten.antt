@@ -39,7 +39,8 @@ condition-bare (Some n) = refl
 
 module _ {S : Type 0} where
   arguments-bare : (o : Option (Placed (Arguments S)))
-      → arguments_in (option_map (without_place unlocated_arguments) o) ≡ map unlocated_argument (arguments_in o)
+      → arguments_in (option_map (without_place unlocated_arguments) o)
+      ≡ map unlocated_argument (arguments_in o)
   arguments-bare None = refl
   arguments-bare (Some x) = refl
 
@@ -59,7 +60,8 @@ module _ {S : Type 0} where
       ∙ each 0 x (omega arith) (chain (map w xs) none)
 
   listed-bare : (o : Option (List (Selection S))) → IfSome o (All IsBare)
-      → chain (map w (map unlocated_selection (listed o))) none ≡ bare (chain (map w (listed o)) none)
+      → chain (map w (map unlocated_selection (listed o))) none
+      ≡ bare (chain (map w (listed o)) none)
   listed-bare None h = refl
   listed-bare (Some xs) h = set-bare xs h
 

@@ -32,7 +32,8 @@ use Rattle.graphql_plain_merging.specs.Laws.{FieldsMerge, FieldsStayMerging}
 use Rattle.graphql_plain_merging.proofs.BareMerging.{merging-without-places}
 use Rattle.graphql_plain_merging.proofs.BareWritten.{bare-unplaced, same-written}
 
-module _ {S C : Type 0} (eq : S → S → Bool) (laws : IsEquivalence eq) (answer : S → ScalarAnswer) (of_bool : Bool → S) (schema : Declarations S C) where
+module _ {S C : Type 0} (eq : S → S → Bool) (laws : IsEquivalence eq) (answer : S → ScalarAnswer)
+    (of_bool : Bool → S) (schema : Declarations S C) where
   abbrev Merged : Scope S C → Tree S → Type 0
   Merged scope t = Merging eq schema.types (members schema.types scope t)
 

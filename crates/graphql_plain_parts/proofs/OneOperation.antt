@@ -28,7 +28,8 @@ module _ {S : Type 0} where
   -- a document that is one operation, places aside
   one : (again : List (Definition S)) (q : Operation S)
       → unlocated_document again ≡ unlocated_document (definition.Operation (unplaced q) ∷ [])
-      → (x : Placed (Operation S)) × (again ≡ definition.Operation x ∷ []) × (unlocated_operation x.item ≡ unlocated_operation q)
+      → (x : Placed (Operation S)) × (again ≡ definition.Operation x ∷ [])
+      × (unlocated_operation x.item ≡ unlocated_operation q)
   one [] q e = absurd (cc)
   one (definition.Fragment f ∷ ds) q e = absurd (cc)
   one (definition.Operation x ∷ (y ∷ ds)) q e = absurd (cc)
@@ -38,13 +39,15 @@ module _ {S : Type 0} where
       (x, refl, ap (λ (z : Placed (Operation S)). z.item) same)
 
   listed-bare : (xs : List (Variable S))
-      → map unlocated_variable_part (map variable_part xs) ≡ map variable_part (map (λ (x : Variable S). (unlocated_name x.0, unlocated_variable x.1)) xs)
+      → map unlocated_variable_part (map variable_part xs)
+      ≡ map variable_part (map (λ (x : Variable S). (unlocated_name x.0, unlocated_variable x.1)) xs)
   listed-bare [] = refl
   listed-bare (x ∷ xs) = ap (λ vs. unlocated_variable_part (variable_part x) ∷ vs) (listed-bare xs)
 
   -- the variables of an operation without its places
   variables-bare : (o : Option (Placed (VariableDefinitions S)))
-      → map unlocated_variable_part (map variable_part (variables_in o)) ≡ map variable_part (variables_in (option_map (without_place unlocated_variables) o))
+      → map unlocated_variable_part (map variable_part (variables_in o))
+      ≡ map variable_part (variables_in (option_map (without_place unlocated_variables) o))
   variables-bare None = refl
   variables-bare (Some d) = listed-bare d.item.items
 
@@ -54,25 +57,30 @@ module _ {S : Type 0} where
 
   pub same-defined : (p : PlainOperation S) (x : Operation S)
       → unlocated_operation x ≡ unlocated_operation (operation_as p)
-      → map unlocated_variable_part (map variable_part p.variables) ≡ map unlocated_variable_part (defined_in x)
+      → map unlocated_variable_part (map variable_part p.variables)
+      ≡ map unlocated_variable_part (defined_in x)
   same-defined p x same =
       ap (λ ws. map unlocated_variable_part (map variable_part ws))
       (sym (definitions-back p.variables)) ∙ variables-bare (definitions_as p.variables)
       ∙ ap (λ (o : Operation S). defined_in o) (sym same)
       ∙ sym (variables-bare x.variable_definitions)
 
-module _ {S : Type 0} (answer : S → ScalarAnswer) (of_bool : Bool → S) (document : List (Definition S)) where
+module _ {S : Type 0} (answer : S → ScalarAnswer) (of_bool : Bool → S)
+    (document : List (Definition S)) where
   abbrev Is : List (Definition S) → Type 0
   Is = IsPlainDocument answer of_bool document
 
   -- the one operation of a plain document
   pub the-one : (again : List (Definition S)) (is : Is again)
-      → (x : Placed (Operation S)) × (again ≡ definition.Operation x ∷ []) × (unlocated_operation x.item ≡ unlocated_operation (operation_as (plain_of answer of_bool is)))
+      → (x : Placed (Operation S)) × (again ≡ definition.Operation x ∷ [])
+      × (unlocated_operation x.item ≡ unlocated_operation (operation_as (plain_of answer of_bool is)))
   the-one again is = one again (operation_as (plain_of answer of_bool is)) is.same
 
   -- what is to hold of a plain document may be shown of one operation
   pub of-one : (Holds : List (Definition S) → Type 0)
-      → ((x : Placed (Operation S)) (is : Is (definition.Operation x ∷ [])) → unlocated_operation x.item ≡ unlocated_operation (operation_as (plain_of answer of_bool is)) → Holds (definition.Operation x ∷ []))
+      → ((x : Placed (Operation S)) (is : Is (definition.Operation x ∷ []))
+      → unlocated_operation x.item ≡ unlocated_operation (operation_as (plain_of answer of_bool is))
+      → Holds (definition.Operation x ∷ []))
       → (again : List (Definition S)) → Is again → Holds again
   of-one Holds h again is =
       let x = the-one again is in
@@ -92,11 +100,13 @@ module _ {S : Type 0} (answer : S → ScalarAnswer) (of_bool : Bool → S) (docu
   -- places aside it defines the plain operation's variables
   pub defined-are : (x : Placed (Operation S)) (is : Is (definition.Operation x ∷ []))
       → unlocated_operation x.item ≡ unlocated_operation (operation_as (plain_of answer of_bool is))
-      → map unlocated_variable_part (map variable_part (plain_of answer of_bool is).variables) ≡ map unlocated_variable_part (defined_in x.item)
+      → map unlocated_variable_part (map variable_part (plain_of answer of_bool is).variables)
+      ≡ map unlocated_variable_part (defined_in x.item)
   defined-are x is same = same-defined (plain_of answer of_bool is) x.item same
 
   -- its operation is among those of the request's document
-  pub scope-among : {C : Type 0} (schema : Declarations S C) {again : List (Definition S)} (is : Is again)
+  pub scope-among : {C : Type 0} (schema : Declarations S C) {again : List (Definition S)}
+      (is : Is again)
       → Contains (operation_scopes schema document) (operation_scope schema is.operation)
   scope-among schema is =
       contains-map (operation_scope schema) (operations_of document) is.operation

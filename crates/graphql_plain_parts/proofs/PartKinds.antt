@@ -99,7 +99,8 @@ module _ {S C : Type 0} where
   like-variable (VariableDefined w) v e = (w, refl, ap (variable_or v) e)
   like-variable _ v e = absurd (cc)
 
-module _ {S C : Type 0} (schema : Declarations S C) (document : List (Definition S)) (o : Placed (Operation S)) (of_bool : Bool → S) where
+module _ {S C : Type 0} (schema : Declarations S C) (document : List (Definition S))
+    (o : Placed (Operation S)) (of_bool : Bool → S) where
   abbrev R : Part S C → Type 0
   R = Reaches schema document o
 
@@ -110,7 +111,8 @@ module _ {S C : Type 0} (schema : Declarations S C) (document : List (Definition
   As kind see a = IsReachedAs schema document o kind see a
 
   -- of a kind of which none is made
-  module _ {X Y : Type 0} (kind : X → Part S C) (see : X → Y) (made-none : (b : X) → IsMade schema document o of_bool (kind b) → ⊥) where
+  module _ {X Y : Type 0} (kind : X → Part S C) (see : X → Y)
+      (made-none : (b : X) → IsMade schema document o of_bool (kind b) → ⊥) where
     reached : (a : X) (z : Stems schema document o of_bool (kind a)) → Like kind see z.part a
         → As kind see a
     reached a z like =

@@ -43,7 +43,8 @@ module _ {S : Type 0} where
 
 -- ---- of a plain operation, for all that carries over from the parts of its request
 
-module _ {S C : Type 0} (schema : Declarations S C) (fragments : List (Fragment S)) (P Q : Part S C → Type 0) (carries : Carries schema fragments P Q) where
+module _ {S C : Type 0} (schema : Declarations S C) (fragments : List (Fragment S))
+    (P Q : Part S C → Type 0) (carries : Carries schema fragments P Q) where
   default-holds : (here : Option InputPlace) (o : Option (Placed (InputValue S)))
       → Each P (flat_map (placed_parts schema here) (option_to_list o))
       → Each Q (flat_map (placed_parts schema here) (option_to_list o))
@@ -86,7 +87,8 @@ module _ {S C : Type 0} (schema : Declarations S C) (fragments : List (Fragment 
         | false ↦ rest
       ]
 
-  pub operation-holds : (answer : S → ScalarAnswer) (of_bool : Bool → S) (given : Bytes → Option (InputValue S)) (o : Operation S)
+  pub operation-holds : (answer : S → ScalarAnswer) (of_bool : Bool → S)
+      (given : Bytes → Option (InputValue S)) (o : Operation S)
       → HoldsOfStandIns schema of_bool Q → IsFilled (written fragments o.selection_set)
       → Each P (operation_parts schema o)
       → Each Q (operation_parts schema (operation_as (plain_operation answer of_bool given fragments o)))
@@ -136,7 +138,8 @@ module _ {S C : Type 0} (schema : Declarations S C) where
 
 -- ---- of a plain document
 
-module _ {S C : Type 0} (schema : Declarations S C) (document : List (Definition S)) (o : Placed (Operation S)) (of_bool : Bool → S) where
+module _ {S C : Type 0} (schema : Declarations S C) (document : List (Definition S))
+    (o : Placed (Operation S)) (of_bool : Bool → S) where
   abbrev P : Part S C → Type 0
   P = Reaches schema document o
 

@@ -55,7 +55,8 @@ module _ {S : Type 0} where
 module _ {S C : Type 0} (schema : Declarations S C) (of_bool : Bool → S) where
   -- the parts of a stand-in's directive
   pub skip-parts : (at : DirectiveLocation)
-      → directives_parts schema at (Some (skip_true of_bool)) ≡ ADirective (skip_at schema at) ∷ (Given (skip_given schema of_bool) ∷ [])
+      → directives_parts schema at (Some (skip_true of_bool))
+      ≡ ADirective (skip_at schema at) ∷ (Given (skip_given schema of_bool) ∷ [])
   skip-parts at =
       ap (λ ps. ADirective (skip_at schema at) ∷
       (Given (skip_given schema of_bool) ∷ ((ps ++ []) ++ [])))
@@ -126,7 +127,8 @@ module _ {S C : Type 0} (schema : Declarations S C) (of_bool : Bool → S) where
     conditions (Some n) h = (h, tt)
 
     -- an inline fragment, and what follows it
-    inline-first : (parent : MetaType S C) (on : Option Bytes) (ds : Directives S) (below rest : Tree S)
+    inline-first : (parent : MetaType S C) (on : Option Bytes) (ds : Directives S)
+        (below rest : Tree S)
         → At location.InlineFragment ds → Q (AnInline (inline_part schema parent on))
         → AtCondition schema Q on
         → Each Q (parts (inside schema parent on) below) → Each Q (parts (Some parent) rest)

@@ -32,7 +32,8 @@ module _ {S : Type 0} where
       let d = flat-from fragment_in document p i in
       subst (Contains document) (in-definition d.0 p d.2) d.1
 
-module _ {S C : Type 0} (schema : Declarations S C) (document : List (Definition S)) (o : Placed (Operation S)) where
+module _ {S C : Type 0} (schema : Declarations S C) (document : List (Definition S))
+    (o : Placed (Operation S)) where
   pub reached-parts-occur : Contains document (definition.Operation o) → (x : Part S C)
       → Reaches schema document o x → Contains (occurrences schema document) x
   unfolding occurrences

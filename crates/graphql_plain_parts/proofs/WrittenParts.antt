@@ -83,9 +83,11 @@ module _ {S C : Type 0} (schema : Declarations S C) where
         → Q y
     pub made : (s : SpreadPart S C) (f : Fragment S) → P (ASpread s)
         → fragment_meant fragments s.name.item ≡ Some f
-        → Q (AnInline (inline_for s f)) × P (Condition f.type_condition) × Each P (set_parts schema (known schema f.type_condition.item) f.selection_set)
+        → Q (AnInline (inline_for s f)) × P (Condition f.type_condition)
+        × Each P (set_parts schema (known schema f.type_condition.item) f.selection_set)
 
-module _ {S C : Type 0} (schema : Declarations S C) (fragments : List (Fragment S)) (P Q : Part S C → Type 0) (carries : Carries schema fragments P Q) where
+module _ {S C : Type 0} (schema : Declarations S C) (fragments : List (Fragment S))
+    (P Q : Part S C → Type 0) (carries : Carries schema fragments P Q) where
   abbrev H : Tree S → Scope schema → Type 0
   H = HoldsIn schema Q
 
@@ -101,7 +103,8 @@ module _ {S C : Type 0} (schema : Declarations S C) (fragments : List (Fragment 
 
   -- what a field is given, its place aside
   pub given-kept : (x : Part S C) (declared : Option (List (Declared S))) (xs : List (Argument S))
-      → unlocated_part (Given (record { place = origin; given = xs; declared = declared })) ≡ unlocated_part x
+      → unlocated_part (Given (record { place = origin; given = xs; declared = declared }))
+      ≡ unlocated_part x
       → goes_away x ≡ false → P x
       → Each P (flat_map (λ a. placed_parts schema (argument_place declared a.0.item) a.1) xs)
       → Each Q (given_parts schema origin declared xs)
@@ -194,7 +197,8 @@ module _ {S C : Type 0} (schema : Declarations S C) (fragments : List (Fragment 
     same-scope parent (Some n) = refl
 
     same-condition : (c : Option (Placed Bytes))
-        → option_map unlocated_name (option_map unplaced (option_map (λ n. n.item) c)) ≡ option_map unlocated_name c
+        → option_map unlocated_name (option_map unplaced (option_map (λ n. n.item) c))
+        ≡ option_map unlocated_name c
     same-condition None = refl
     same-condition (Some n) = refl
 

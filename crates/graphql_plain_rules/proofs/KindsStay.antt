@@ -23,7 +23,9 @@ use Rattle.graphql_plain_parts.proofs.ReachedParts.{reached-parts-occur}
 abbrev pub Respects : {X Y : Type 0} → (X → Y) → (X → Type 0) → Type 0
 Respects {X} see Fact = (a b : X) → see b ≡ see a → Fact a → Fact b
 
-module _ {S C : Type 0} (answer : S → ScalarAnswer) (of_bool : Bool → S) (schema : Declarations S C) (document again : List (Definition S)) (is : IsPlainDocument answer of_bool document again) where
+module _ {S C : Type 0} (answer : S → ScalarAnswer) (of_bool : Bool → S) (schema : Declarations S C)
+    (document again : List (Definition S))
+    (is : IsPlainDocument answer of_bool document again) where
   abbrev old : List (Part S C)
   old = occurrences schema document
 
@@ -36,7 +38,8 @@ module _ {S C : Type 0} (answer : S → ScalarAnswer) (of_bool : Bool → S) (sc
   pub occurs : (x : Part S C) → Reaches schema document is.operation x → Contains old x
   occurs = reached-parts-occur schema document is.operation is.among
 
-  module _ {X Y : Type 0} (kind : X → Part S C) (see : X → Y) (Fact : X → Type 0) (respects : Respects see Fact) where
+  module _ {X Y : Type 0} (kind : X → Part S C) (see : X → Y) (Fact : X → Type 0)
+      (respects : Respects see Fact) where
     one : EachOf kind Fact old → (b : X) → IsReachedAs schema document is.operation kind see b
         → Fact b
     one facts b r = respects r.0 b r.2 (facts r.0 (occurs (kind r.0) r.1))

@@ -39,7 +39,8 @@ pub mapped-from : {A B : Type 0} (f : A → B) (o : Option A) (y : B) → option
 mapped-from f (Some x) y e = (x, refl, same_Some (f x) y e)
 mapped-from f None y e = absurd (none-some y e)
 
-module _ {S C : Type 0} (eq : S → S → Bool) (laws : IsEquivalence eq) (answer : S → ScalarAnswer) (accepts : C → InputValue S → Type 0)
+module _ {S C : Type 0} (eq : S → S → Bool) (laws : IsEquivalence eq) (answer : S → ScalarAnswer)
+    (accepts : C → InputValue S → Type 0)
     (respects : (c : C) (a b : InputValue S) → SameValue S eq a b → accepts c a → accepts c b) where
   module _ (types : List (MetaType S C)) where
     abbrev F : TypeOf → InputValue S → Type 0
@@ -84,7 +85,8 @@ module _ {S C : Type 0} (eq : S → S → Bool) (laws : IsEquivalence eq) (answe
         ((defaults_none answer accepts (record { schema = schema; document = document })
         (occurrences schema document)).0 told))
 
-    module _ (standard : has_standard_conditions schema.directives ≡ true) (takes : TakesTrue accepts schema of_bool) where
+    module _ (standard : has_standard_conditions schema.directives ≡ true)
+        (takes : TakesTrue accepts schema of_bool) where
       -- `true` conforms to `Boolean!`
       true-fits : F schema.types (if_argument {S = S} (skip-declares schema standard).0).arg_type (value.Scalar (of_bool true))
       true-fits = scalar _ takes.boolean (of_bool true) refl takes.declared takes.takes

@@ -83,7 +83,8 @@ module _ {S : Type 0} where
       subst (λ name. IsSome (argument_named declared name)) (ap (λ (x : Argument S). x.0.item) b.2)
       (d declared (sym (ap (λ (x : GivenPart S). x.declared) same) ∙ is) b.0 b.1)
 
-module _ {S C : Type 0} (answer : S → ScalarAnswer) (of_bool : Bool → S) (schema : Declarations S C) where
+module _ {S C : Type 0} (answer : S → ScalarAnswer) (of_bool : Bool → S)
+    (schema : Declarations S C) where
   abbrev s : List (Definition S) → Subject S C
   s = subject_of schema
 
@@ -171,7 +172,8 @@ module _ {S C : Type 0} (answer : S → ScalarAnswer) (of_bool : Bool → S) (sc
   pub arguments-stay-distinct : StaysSilent answer of_bool schema unique_argument_names
   arguments-stay-distinct document again is e =
       (arguments_distinct (s again) (parts again)).1
-      (givens-stay answer of_bool schema document again is AreDistinct distinct-respects one-argument ((arguments_distinct (s document) (parts document)).0 e))
+      (givens-stay answer of_bool schema document again is AreDistinct distinct-respects one-argument
+      ((arguments_distinct (s document) (parts document)).0 e))
 
   module _ (standard : has_standard_conditions schema.directives ≡ true) where
     abbrev skip : GivenPart S
@@ -201,7 +203,8 @@ module _ {S C : Type 0} (answer : S → ScalarAnswer) (of_bool : Bool → S) (sc
     pub arguments-stay-declared : StaysSilent answer of_bool schema known_argument_names
     arguments-stay-declared document again is e =
         (arguments_declared (s again) (parts again)).1
-        (givens-stay answer of_bool schema document again is AreDeclared declared-respects skip-declared ((arguments_declared (s document) (parts document)).0 e))
+        (givens-stay answer of_bool schema document again is AreDeclared declared-respects skip-declared
+        ((arguments_declared (s document) (parts document)).0 e))
 
     skip-provided : AreProvided skip
     skip-provided declared is a there required =
@@ -215,4 +218,5 @@ module _ {S C : Type 0} (answer : S → ScalarAnswer) (of_bool : Bool → S) (sc
     pub arguments-stay-provided : StaysSilent answer of_bool schema provided_non_null_arguments
     arguments-stay-provided document again is e =
         (arguments_provided (s again) (parts again)).1
-        (givens-stay answer of_bool schema document again is AreProvided provided-respects skip-provided ((arguments_provided (s document) (parts document)).0 e))
+        (givens-stay answer of_bool schema document again is AreProvided provided-respects skip-provided
+        ((arguments_provided (s document) (parts document)).0 e))

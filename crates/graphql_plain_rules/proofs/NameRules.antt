@@ -23,7 +23,8 @@ module _ {S : Type 0} where
             refl
       ]
 
-module _ {S C : Type 0} (answer : S → ScalarAnswer) (of_bool : Bool → S) (schema : Declarations S C) where
+module _ {S C : Type 0} (answer : S → ScalarAnswer) (of_bool : Bool → S)
+    (schema : Declarations S C) where
   pub one-operation-is-left : OneOperationIsLeft answer of_bool schema
   one-operation-is-left document =
       of-one answer of_bool document (HasOneOperation schema) (λ x is same. record {

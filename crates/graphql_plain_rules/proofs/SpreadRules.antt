@@ -36,7 +36,8 @@ named-map name_of f (x ∷ xs) name =
     (cond b (Some x) (named (λ y. name_of (f y)) xs name)))
     [ true ↦ refl | false ↦ named-map name_of f xs name ]
 
-module _ {S C : Type 0} (answer : S → ScalarAnswer) (of_bool : Bool → S) (schema : Declarations S C) where
+module _ {S C : Type 0} (answer : S → ScalarAnswer) (of_bool : Bool → S)
+    (schema : Declarations S C) where
   -- the condition, where there is one, may apply
   abbrev Applies : InlinePart S C → Type 0
   Applies i = ForSome i.condition (λ n. MayApply schema i.parent n.item)

@@ -31,7 +31,8 @@ module _ {S : Type 0} where
   found None t c = absurd c
 
   skip-is : (directives : List (DirectiveType S)) → has_standard_conditions directives ≡ true
-      → (d : DirectiveType S) × (directive_named directives (codes "skip") ≡ Some d) × (is_condition d ≡ true) × IsCondition d
+      → (d : DirectiveType S) × (directive_named directives (codes "skip") ≡ Some d)
+      × (is_condition d ≡ true) × IsCondition d
   skip-is directives h =
       let skip = directive_named directives (codes "skip") in
       found skip
@@ -41,7 +42,8 @@ module _ {S : Type 0} where
 
   -- it may stand at fields and at inline fragments
   places : (d : DirectiveType S) → is_condition d ≡ true
-      → (is_place d.locations location.Field ≡ true) × (is_place d.locations location.InlineFragment ≡ true)
+      → (is_place d.locations location.Field ≡ true)
+      × (is_place d.locations location.InlineFragment ≡ true)
   places d t =
       let whole = both _ (is_condition_only d.arguments) t in
       let all = both _ (list_all (is_place selections) d.locations) whole.0 in
@@ -50,9 +52,12 @@ module _ {S : Type 0} where
       let spread = both (is_place d.locations location.FragmentSpread) _ field.1 in
       (field.0, (both (is_place d.locations location.InlineFragment) true spread.1).0)
 
-module _ {S C : Type 0} (schema : Declarations S C) (standard : has_standard_conditions schema.directives ≡ true) where
+module _ {S C : Type 0} (schema : Declarations S C)
+    (standard : has_standard_conditions schema.directives ≡ true) where
   -- what `skip` declares
-  pub skip-declares : (description : Option Bytes) × (directive_arguments (directive_named schema.directives (codes "skip")) ≡ Some (if_argument {S = S} description ∷ []))
+  pub skip-declares : (description : Option Bytes)
+      × (directive_arguments (directive_named schema.directives (codes "skip"))
+      ≡ Some (if_argument {S = S} description ∷ []))
   skip-declares =
       let d = skip-is schema.directives standard in
       (d.3.argument.0, ap directive_arguments d.1 ∙ ap Some d.3.argument.1)

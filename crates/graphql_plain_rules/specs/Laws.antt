@@ -38,7 +38,8 @@ module _ {S C : Type 0} (schema : Declarations S C) where
     -- 5.5.1.1 Fragment Name Uniqueness
     pub unique_fragment_names : repeated_fragments (fragment_scopes schema document) ≡ []
     -- 5.5.1.4 Fragments Must Be Used
-    pub no_unused_fragments : never_reached (operation_scopes schema document) (fragment_scopes schema document) ≡ []
+    pub no_unused_fragments :
+        never_reached (operation_scopes schema document) (fragment_scopes schema document) ≡ []
     -- 5.5.2.2 Fragment Spreads Must Not Form Cycles
     pub no_fragment_cycles : fragment_cycles (fragment_scopes schema document) ≡ []
 
@@ -54,7 +55,8 @@ module _ {S C : Type 0} (schema : Declarations S C) where
         Tell (default_values_of_correct_type answer accepts (subject_of document)) (occurrences schema document) []
 
 -- `answer`: what a scalar answers; `of_bool`: the scalar of a boolean
-module _ {S C : Type 0} (answer : S → ScalarAnswer) (of_bool : Bool → S) (schema : Declarations S C) where
+module _ {S C : Type 0} (answer : S → ScalarAnswer) (of_bool : Bool → S)
+    (schema : Declarations S C) where
   -- where the rule finds no fault in a document it finds none in its plain document
   abbrev pub StaysSilent : Rule S C → Type 0
   StaysSilent rule =

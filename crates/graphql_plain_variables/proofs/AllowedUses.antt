@@ -168,7 +168,8 @@ module _ {S C : Type 0} (types : List (MetaType S C)) where
       (subst (λ z. IfSome z (AllowedAt at)) (named-bare vs name)
       (subst (λ xs. IfSome (named name_of xs name) (AllowedAt at)) same without))
 
-module _ {S C : Type 0} (answer : S → ScalarAnswer) (of_bool : Bool → S) (schema : Declarations S C) where
+module _ {S C : Type 0} (answer : S → ScalarAnswer) (of_bool : Bool → S)
+    (schema : Declarations S C) where
   pub uses-stay-allowed : UsesStayAllowed answer of_bool schema
   uses-stay-allowed document again is e =
       let types : List (MetaType S C) = schema.types in

@@ -32,7 +32,8 @@ use Rattle.graphql_plain_variables.proofs.UsedDefinitions.{still-defined, used-f
 use Rattle.graphql_plain_variables.proofs.UsedNames.{Named, plain-named, variable-parts-named}
 use Rattle.graphql_plain_variables.proofs.UsesReached.{in-one, own-use, use-is-reached}
 
-module _ {S C : Type 0} (answer : S → ScalarAnswer) (of_bool : Bool → S) (answers : (b : Bool) → answer (of_bool b) ≡ boolean b) (schema : Declarations S C) where
+module _ {S C : Type 0} (answer : S → ScalarAnswer) (of_bool : Bool → S)
+    (answers : (b : Bool) → answer (of_bool b) ≡ boolean b) (schema : Declarations S C) where
   -- the name of a use does not depend on places
   named-still : (names : List Bytes) (x z : Part S C) → unlocated_part x ≡ unlocated_part z
       → Named schema names x → Named schema names z
@@ -41,7 +42,9 @@ module _ {S C : Type 0} (answer : S → ScalarAnswer) (of_bool : Bool → S) (an
       subst (Contains names) (sym (ap (λ (w : Use). w.name) v.2)) (subst (Named schema names) v.1 h)
   named-still names x _ e h = tt
 
-  module _ (document again : List (Definition S)) (is : IsPlainDocument answer of_bool document again) (constant : DefaultsAreConstant document) where
+  module _ (document again : List (Definition S))
+      (is : IsPlainDocument answer of_bool document again)
+      (constant : DefaultsAreConstant document) where
     abbrev p : PlainOperation S
     p = plain_of answer of_bool is
 

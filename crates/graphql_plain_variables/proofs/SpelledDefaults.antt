@@ -28,7 +28,8 @@ use Rattle.graphql_settled_fragments.proofs.ListItems.{all-from, all-of, nothing
 use Rattle.graphql_plain_variables.specs.Laws.{DefaultsAreConstant}
 
 -- what holds of each tree that some tokens spell holds of each of many
-module _ {A : Type 0} (R : Rel A) (Q : A → Type 0) (each : (us : List Located) (x : A) → R us x → Q x) where
+module _ {A : Type 0} (R : Rel A) (Q : A → Type 0)
+    (each : (us : List Located) (x : A) → R us x → Q x) where
   more-spelled : (found : List A) (us : List Located) (xs : List A) → All Q found
       → AllFrom R found us xs → All Q xs
   more-spelled found _ _ h none_more = h

@@ -171,7 +171,9 @@ module _ {S C : Type 0} (schema : Declarations S C) where
         )
 
   -- the uses in a plain set have the names of the variables that it uses
-  module _ (answer : S → ScalarAnswer) (of_bool : Bool → S) (answers : (b : Bool) → answer (of_bool b) ≡ boolean b) (given : Bytes → Option (InputValue S)) where
+  module _ (answer : S → ScalarAnswer) (of_bool : Bool → S)
+      (answers : (b : Bool) → answer (of_bool b) ≡ boolean b)
+      (given : Bytes → Option (InputValue S)) where
     abbrev p : Tree S → Tree S
     p = plain_by answer of_bool given
 

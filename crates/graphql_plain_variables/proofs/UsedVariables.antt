@@ -81,7 +81,8 @@ module _ {S C : Type 0} (schema : Declarations S C) where
       (subst (λ us. Contains us u.0) (sym (append-nil own))
       (use-in (operation_parts schema x.item) u.0 u.1)))
 
-  module _ (answer : S → ScalarAnswer) (of_bool : Bool → S) (closed : FieldTypesAreKnown schema) where
+  module _ (answer : S → ScalarAnswer) (of_bool : Bool → S)
+      (closed : FieldTypesAreKnown schema) where
     abbrev Is : List (Definition S) → List (Definition S) → Type 0
     Is = IsPlainDocument answer of_bool
 
@@ -91,7 +92,8 @@ module _ {S C : Type 0} (schema : Declarations S C) where
     plain-itself document again is =
         record { operation = is.operation; among = is.among; filled = is.filled; given = is.given; same = refl }
 
-    module _ (document again : List (Definition S)) (is : Is document again) (root : IsSome (root_of schema is.operation.item.operation_type))
+    module _ (document again : List (Definition S)) (is : Is document again)
+        (root : IsSome (root_of schema is.operation.item.operation_type))
         (known : AreKnown schema
         (occurrences schema (document_of (plain_of answer of_bool is)))) where
       abbrev p : PlainOperation S

@@ -68,9 +68,13 @@ module _ {S C : Type 0} (schema : Declarations S C) where
   in-one x y i = subst (λ ps. Contains ps y) (sym (append-nil (operation_parts schema x.item))) i
 
   -- a use in a plain document is a use that the request's operation reaches, places aside
-  pub use-is-reached : (answer : S → ScalarAnswer) (of_bool : Bool → S) (document : List (Definition S)) (x : Placed (Operation S)) (is : IsPlainDocument answer of_bool document (definition.Operation x ∷ [])) (u : Use)
+  pub use-is-reached : (answer : S → ScalarAnswer) (of_bool : Bool → S)
+      (document : List (Definition S)) (x : Placed (Operation S))
+      (is : IsPlainDocument answer of_bool document (definition.Operation x ∷ [])) (u : Use)
       → Contains (uses_from [] (operation_scope schema x)) u
-      → (v : Use) × Contains (uses_from (fragment_scopes schema document) (operation_scope schema is.operation)) v × (unplaced_use u ≡ unplaced_use v)
+      → (v : Use)
+      × Contains (uses_from (fragment_scopes schema document) (operation_scope schema is.operation)) v
+      × (unplaced_use u ≡ unplaced_use v)
   use-is-reached answer of_bool document x is u i =
       let o = is.operation in
       let r =

@@ -122,7 +122,8 @@ module _ {S C : Type 0} (schema : Declarations S C) where
   -- ---- sets
 
   set-is : (scope : Option (MetaType S C)) (below : Tree S)
-      → under schema scope (unwrap_or (option_map (map (selection_parts schema)) (list_unless (is_empty below) (selections_of below))) []) ≡ set_parts schema scope (selections_of below)
+      → under schema scope (unwrap_or (option_map (map (selection_parts schema)) (list_unless (is_empty below) (selections_of below))) [])
+      ≡ set_parts schema scope (selections_of below)
   set-is scope none = refl
   set-is scope (field head directives below rest) = refl
   set-is scope (inline on directives below rest) = refl
@@ -203,7 +204,8 @@ module _ {S C : Type 0} (schema : Declarations S C) where
     inner-type : (parent : MetaType S C) → Contains schema.types parent
         → (on : Option Bytes) (first : Part S C)
         → AreKnown schema (first ∷ map Condition (option_to_list (option_map unplaced on)))
-        → (m : MetaType S C) × (type_inside schema parent (option_map unplaced on) ≡ Some m) × Contains schema.types m
+        → (m : MetaType S C) × (type_inside schema parent (option_map unplaced on) ≡ Some m)
+        × Contains schema.types m
     inner-type parent there None first k = (parent, refl, there)
     inner-type parent there (Some n) first k =
         let m = value-of (known schema n) (k.conditions (unplaced n) (1, omega arith, refl)) in

@@ -63,7 +63,8 @@ module _ {S : Type 0} where
       (IsDistinct-keys_filter bytes_eq keep (map pair vs)
       (subst (IsDistinct bytes_eq) (sym (listed vs)) h))
 
-module _ {S C : Type 0} (answer : S → ScalarAnswer) (of_bool : Bool → S) (schema : Declarations S C) where
+module _ {S C : Type 0} (answer : S → ScalarAnswer) (of_bool : Bool → S)
+    (schema : Declarations S C) where
   -- 5.8.1 Variable Uniqueness
   pub variable-names-stay : VariableNamesStayDistinct answer of_bool schema
   variable-names-stay document again is e =

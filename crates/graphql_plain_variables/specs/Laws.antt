@@ -43,7 +43,8 @@ SpelledDefaultsAreConstant S reads of_bool =
     → DocumentOf S reads of_bool tokens document → DefaultsAreConstant document
 
 -- `answer`: what a scalar answers; `of_bool`: the scalar of a boolean
-module _ {S C : Type 0} (answer : S → ScalarAnswer) (of_bool : Bool → S) (schema : Declarations S C) where
+module _ {S C : Type 0} (answer : S → ScalarAnswer) (of_bool : Bool → S)
+    (schema : Declarations S C) where
   -- 5.8.1 Variable Uniqueness
   abbrev pub VariableNamesStayDistinct : Type 0
   VariableNamesStayDistinct =
@@ -55,15 +56,18 @@ module _ {S C : Type 0} (answer : S → ScalarAnswer) (of_bool : Bool → S) (sc
   abbrev pub UsesStayAllowed : Type 0
   UsesStayAllowed =
       (document again : List (Definition S)) → IsPlainDocument answer of_bool document again
-      → disallowed_variables schema.types (operation_scopes schema document) (fragment_scopes schema document) ≡ []
-      → disallowed_variables schema.types (operation_scopes schema again) (fragment_scopes schema again) ≡ []
+      → disallowed_variables schema.types (operation_scopes schema document)
+      (fragment_scopes schema document) ≡ []
+      → disallowed_variables schema.types (operation_scopes schema again)
+      (fragment_scopes schema again) ≡ []
 
   -- 5.8.3 All Variable Uses Defined
   abbrev pub UsesStayDefined : Type 0
   UsesStayDefined =
       (document again : List (Definition S)) → IsPlainDocument answer of_bool document again
       → DefaultsAreConstant document
-      → undefined_variables (operation_scopes schema document) (fragment_scopes schema document) ≡ []
+      → undefined_variables (operation_scopes schema document)
+      (fragment_scopes schema document) ≡ []
       → undefined_variables (operation_scopes schema again) (fragment_scopes schema again) ≡ []
 
   -- 5.8.4 All Variables Used: where the types around all fields are known, as they are where the
