@@ -1,11 +1,12 @@
 -- The operation that a request chooses stands in its document.
-use Rattle.std.proofs.Common.{◌≡◌, ◌⊎◌, inl, inr, refl, ap, sym, ◌∙◌, arith, ℕ, zero, suc, ◌<◌, get_or, Bool, true, false, List, [], ◌∷◌, ◌++◌, Option, Some, None, Result, Ok, Err, reverse}
+use Rattle.std.proofs.Common.{◌≡◌, ◌⊎◌, inl, inr, refl, ap, sym, ◌∙◌, arith, Bool, true, false, List, [], ◌∷◌, ◌++◌, Option, Some, None, Result, Ok, Err, reverse}
 use Rattle.std.specs.Prelude.{if◌then◌else◌}
 use Rattle.std.specs.List.{Contains, find}
 use Rattle.std.specs.Option.{option_map_or}
 use Rattle.std.proofs.lemmas.List.Elements.{Contains-append_right, Contains-append_cases}
 use Rattle.graphql_names.specs.Names.{Bytes}
 use Rattle.graphql_values.specs.InputValues.{Placed}
+use Rattle.graphql_settled_fragments.proofs.ListItems.{nothing-in, only-one}
 use Rattle.graphql_tree.specs.Definitions.{operations_of}
 use Rattle.graphql_tree.specs.declared.document.Definition.{Definition}
 use Rattle.graphql_tree.specs.declared.document.Definition.TheVariants as definition
@@ -13,16 +14,6 @@ use Rattle.graphql_tree.specs.declared.document.Operation.{Operation}
 use Rattle.graphql_requests.proofs.LastNamed.{last_from, last_is_found}
 use Rattle.graphql_requests.specs.Operations.{chosen, has_name, one_named, only_one}
 use Rattle.graphql_requests.specs.declared.graphql_error.GraphQLError.{GraphQLError}
-
-nothing-in : {X A : Type 0} (x : X) → Contains [] x → A
-nothing-in x h = absurd (omega (arith, h.1))
-
-only-one : {X : Type 0} (x y : X) → Contains (x ∷ []) y → x ≡ y
-only-one x y h = at h.0 h.1 h.2
-  where
-    at : (k : ℕ) → k < 1 → get_or (x ∷ []) k y ≡ y → x ≡ y
-    at zero lt e = e
-    at (suc k) lt e = absurd (omega (arith, lt))
 
 module _ {A : Type 0} (passes : A → Bool) where
   -- the last that passes is one of the items, or what was found before
