@@ -1,5 +1,5 @@
 -- A service that is made of what two files describe, step by step.
-use Rattle.std.proofs.Common.{◌≡◌, Bool, true, List, Result, Ok, Err, OnOk, ap, sym, subst, ◌∙◌}
+use Rattle.std.proofs.Common.{◌≡◌, refl, Bool, true, List, Result, Ok, Err, OnOk, ap, sym, subst, ◌∙◌}
 use Rattle.std.specs.Prelude.{IfErr}
 use Rattle.graphql_text.specs.Memory.{Meets}
 use Rattle.graphql_names.specs.Names.{Bytes}
@@ -16,8 +16,11 @@ use Rattle.graphql_records.specs.Tables.{Table}
 use Rattle.graphql_table.specs.Resolvers.{IsResolverOf}
 use Rattle.graphql_table.specs.declared.resolver.TableResolver.{TableResolver}
 use Rattle.graphql_streams.specs.declared.serve_error.ServeError.{ServeError}
-use Rattle.graphql_file_service.specs.Runs.{Ended}
-use Rattle.graphql_file_service.specs.TableServices.{Describes, IsDescribed, IsDue, IsMadeOf, TableService, executable, records_in}
+use Rattle.graphql_service.specs.Answers.{Answerer}
+use Rattle.graphql_records.specs.declared.table_node.TableNode.{TableNode}
+use Rattle.graphql_file_service.specs.Runs.{Ended, Ran, Streams, served}
+use Rattle.graphql_file_service.specs.TableServices.{Describes, HasTrue, IsDescribed, IsDue, IsMadeOf, TableService, executable, records_in}
+use Rattle.graphql_file_service.specs.declared.run_fault.RunFault.{RunFault}
 use Rattle.graphql_file_service.specs.declared.run_fault.RunFault.TheVariants as fault
 
 -- what is told of the schema that a root node lends
@@ -32,12 +35,17 @@ module _ {C : Type 0} (accepts : C → InputValue DefaultScalarValue → Type 0)
       → IsDue accepts builtin schema_file records_file (fault.Data e)
   no_records lent same e met = (root, described, subst (λ s. Meets (λ e. e ≡ error.Memory) (Err e) (records_in s records_file)) same met)
 
+  -- `Boolean` does not take `true`
+  pub no_truth : (HasTrue accepts root → ⊥) → IsDue accepts builtin schema_file records_file fault.OtherBoolean
+  no_truth refuses = (root, described, refuses)
+
   -- the service is made of what both describe
   pub service_made : (lent : SchemaType DefaultScalarValue C) → lent ≡ root.schema → (resolver : TableResolver) → IsResolverOf lent resolver
       → (again : SchemaType DefaultScalarValue C) → again ≡ root.schema → (table : Table) → records_in again records_file ≡ Ok table
-      → (service : TableService C) → IsMadeOf root resolver table (Ok service) → IsDescribed accepts builtin schema_file records_file service
-  service_made lent same resolver keeps again same_again table read service made = record {
+      → (service : TableService C) → IsMadeOf accepts root resolver table (Ok service) → IsDescribed accepts builtin schema_file records_file service
+  service_made lent same resolver keeps again same_again table read service (made, truth) = record {
     described = subst (Describes accepts builtin schema_file records_file true) (sym made.root_node) described;
+    truth = subst (HasTrue accepts) (sym made.root_node) truth;
     resolver =
         subst (λ node. IsResolverOf node.schema service.resolver) (sym made.root_node)
         (subst (IsResolverOf root.schema) (sym made.resolver) (subst (λ s. IsResolverOf s resolver) same keeps));
@@ -47,6 +55,28 @@ module _ {C : Type 0} (accepts : C → InputValue DefaultScalarValue → Type 0)
     line_limit = made.line_limit;
     selection_limit = made.selection_limit;
   }
+
+  -- where there is no service nothing was read and nothing written
+  pub unmade : (answerer : TableService C → Answerer DefaultScalarValue C TableNode Table) (bytes : Streams) (plain : Bool)
+      (resolver : TableResolver) (table : Table) (e : RunFault) → IsMadeOf accepts root resolver table (Err e)
+      → (bytes.rest ≡ bytes.left) × (bytes.new ≡ bytes.old)
+      → Ran answerer (IsDescribed accepts builtin schema_file records_file) (IsDue accepts builtin schema_file records_file) bytes plain (Err e)
+  unmade answerer bytes plain resolver table fault.OtherBoolean refuses same = (no_truth refuses, same)
+  unmade answerer bytes plain resolver table fault.Memory made same = same
+  unmade answerer bytes plain resolver table (fault.Schema e) made same = absurd made
+  unmade answerer bytes plain resolver table fault.NotExecutable made same = absurd made
+  unmade answerer bytes plain resolver table (fault.Data e) made same = absurd made
+  unmade answerer bytes plain resolver table (fault.Serve e) made same = absurd made
+
+-- and no line was answered
+pub unserved : {C : Type 0} (accepts : C → InputValue DefaultScalarValue → Type 0) (root : RootNode DefaultScalarValue C)
+    (resolver : TableResolver) (table : Table) (e : RunFault) → IsMadeOf accepts root resolver table (Err e) → served (Err e) ≡ Ok tt
+unserved accepts root resolver table fault.OtherBoolean made = refl
+unserved accepts root resolver table fault.Memory made = refl
+unserved accepts root resolver table (fault.Schema e) made = absurd made
+unserved accepts root resolver table fault.NotExecutable made = absurd made
+unserved accepts root resolver table (fault.Data e) made = absurd made
+unserved accepts root resolver table (fault.Serve e) made = absurd made
 
 -- how a run over lines ended
 pub ended : (r : Result (Unit {0}) ServeError) (all : Type 0) (ends : ServeError → Type 0) → OnOk r all → IfErr r ends → Ended all ends r

@@ -30,6 +30,7 @@ served (Err (fault.Serve e)) = Err e
 served (Err (fault.Schema e)) = Ok tt
 served (Err fault.NotExecutable) = Ok tt
 served (Err (fault.Data e)) = Ok tt
+served (Err fault.OtherBoolean) = Ok tt
 served (Err fault.Memory) = Ok tt
 
 -- what holds where a run came to the end of its input, or by the error at which it ended
@@ -80,5 +81,6 @@ module _ {C : Type 0} (answerer : TableService C → Answerer DefaultScalarValue
   Ran (Err (fault.Schema e)) = IsRefused (fault.Schema e)
   Ran (Err fault.NotExecutable) = IsRefused fault.NotExecutable
   Ran (Err (fault.Data e)) = IsRefused (fault.Data e)
+  Ran (Err fault.OtherBoolean) = IsRefused fault.OtherBoolean
   Ran (Err (fault.Serve e)) = (after : Table) × Serves (Err e) after
   Ran (Err fault.Memory) = IsUntouched

@@ -23,6 +23,9 @@ pub enum RunFault {
     /// The file of the records has none for the schema.
     Data(DataFileError),
 
+    /// The check that is given for `Boolean` does not take `true` (GraphQL October 2021, 3.5.4 Boolean).
+    OtherBoolean,
+
     /// A read or a write failed while lines were answered, or memory ran out.
     Serve(ServeError),
 
@@ -80,6 +83,7 @@ impl fmt::Display for RunFault {
             RunFault::Schema(error) => write!(f, "schema: {error:?}"),
             RunFault::NotExecutable => f.write_str("schema: NotExecutable"),
             RunFault::Data(error) => write!(f, "data: {error:?}"),
+            RunFault::OtherBoolean => f.write_str("schema: OtherBoolean"),
             RunFault::Serve(error) => write!(f, "{error}"),
         }
     }

@@ -16,7 +16,9 @@ use graphql_rule_errors::RuleError;
 use graphql_scalars::DefaultScalarValue;
 use graphql_schema::RootNode;
 use graphql_schema_files::SchemaFile;
-use graphql_service::{ByteSink, ByteSource, Meaning, Resolving, ServeError, Service};
+use graphql_service::{
+    ByteSink, ByteSource, Meaning, Resolving, ServeError, Service, ServiceFault,
+};
 use graphql_table::{Records, TableResolver};
 use std::alloc::Global;
 
@@ -35,10 +37,12 @@ fn service_of(
     resolver: TableResolver,
     records: Records,
 ) -> Result<TableService, RunFault>
-    ensures { IsReady root_node → IsMadeOf root_node resolver records result }
+    ensures { IsReady root_node → IsMadeOf ⟦<TypeCheck as Check<DefaultScalarValue>>⟧.accepts root_node resolver records result }
 {
     match Service::new(root_node, resolver, records, LINE_LIMIT, SELECTION_LIMIT) {
         Ok(service) => Ok(service),
+        Err(ServiceFault::OtherBoolean) => Err(RunFault::OtherBoolean),
+        Err(ServiceFault::Memory) => Err(RunFault::Memory),
         // No schema of a file has other directives than the standard's.
         Err(_) => Err(RunFault::NotExecutable),
     }

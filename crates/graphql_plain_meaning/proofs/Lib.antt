@@ -1,2 +1,2 @@
-mod AcceptedTexts
+mod PlainRuns
 mod SameMeaning

@@ -3,3 +3,7 @@
 #![tactic(auto)]
 
 pub mod laws;
+
+pub use graphql_plain_requests::{
+    PlainError, boolean_takes_true, operation_name_of, plain_request,
+};

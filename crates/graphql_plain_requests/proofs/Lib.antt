@@ -1,3 +1,4 @@
+mod AcceptedTexts
 mod OnePlain
-pub mod PlainDocuments
+mod PlainDocuments
 mod Refused

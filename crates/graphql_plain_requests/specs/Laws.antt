@@ -9,6 +9,8 @@ use Rattle.graphql_schema.specs.declared.root_node.RootNode.{RootNode}
 use Rattle.graphql_requests.specs.Asked.{Asking}
 use Rattle.graphql_requests.specs.Scalars.{Scalars}
 use Rattle.graphql_plain_requests.specs.PlainRequests.{HasNoPlainText, IsPlainText, IsDocumentAgain, IsPlainTextWithin, asked_at}
+use Rattle.graphql_plain_requests.specs.AcceptedAgain.{IsAcceptedAgain}
+use Rattle.graphql_plain_requests.specs.StandIns.{TakesStandIn}
 use Rattle.graphql_plain_requests.specs.declared.plain_error.PlainError.{PlainError}
 use Rattle.graphql_plain_requests.specs.declared.plain_error.PlainError.TheVariants as error
 
@@ -29,3 +31,11 @@ module _ {S C : Type 0} (s : Scalars S C) where
       (source : Bytes) (name : Option Bytes) (given : Bytes → Option (InputValue S)) (bytes : Bytes) → IsUtf8 source
       → IsPlainText s (asked_at root (chars source) name given) bytes
       → IsDocumentAgain s (asked_at root (chars source) name given) bytes
+
+  -- and where the schema takes the stand-in, it is executed in the request's place
+  abbrev pub PlainTextsAreAccepted : RootNode S C → Type 0
+  PlainTextsAreAccepted root =
+      TakesStandIn s root.schema
+      → (source : Bytes) (name : Option Bytes) (given : Bytes → Option (InputValue S)) (bytes : Bytes) → IsUtf8 source
+      → IsPlainText s (asked_at root (chars source) name given) bytes
+      → IsAcceptedAgain s (asked_at root (chars source) name given) bytes

@@ -1,3 +1,5 @@
 pub mod Faults
 pub mod PlainRequests
+pub mod StandIns
+pub mod AcceptedAgain
 pub mod Laws

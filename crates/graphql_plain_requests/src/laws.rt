@@ -1,12 +1,13 @@
 //! Laws of plain texts of requests: each function's contract is a law, and its body asks for the laws
 //! below it.
 
-ghost use Rattle.graphql_plain_requests.specs.Laws.{PlainAreNotRefused, PlainTextsAreDocuments, PlainTextsAreOne};
+ghost use Rattle.graphql_plain_requests.specs.Laws.{PlainAreNotRefused, PlainTextsAreAccepted, PlainTextsAreDocuments, PlainTextsAreOne};
 
 use graphql_filled_sets::laws::{spelled_sets_are_whole, written_sets_are_filled};
 use graphql_lexer::laws::one_list;
 use graphql_meta::SchemaScalar;
 use graphql_plain_text::laws::plain_text_is_document;
+use graphql_plain_validity::laws::plain_texts_are_valid;
 use graphql_requests::Meaning;
 use graphql_requests::laws::{executable_requests_are_not_refused, one_operation_is_executed};
 use graphql_schema::RootNode;
@@ -39,5 +40,17 @@ pub fn plain_texts_are_documents<S: SchemaScalar>(root_node: &RootNode<S>)
     spelled_sets_are_whole::<S>();
     written_sets_are_filled(root_node.schema());
     documents_without_a_fault_are_well_formed::<S>();
+    plain_text_is_document::<S>();
+}
+
+/// The plain text of a request over this root node is executed in the request's place, with the same
+/// operation name and the same values for variables: it is a valid document, whose one operation is the
+/// plain one but for places, has the name that is asked for, and takes the values. For this the schema
+/// takes the stand-in `@skip(if: true)`: its `skip` and `include` are the standard's, and its `Boolean`
+/// takes `true` (GraphQL October 2021, 6.1 Executing Requests).
+pub fn plain_texts_are_accepted<S: SchemaScalar>(root_node: &RootNode<S>)
+    ensures { PlainTextsAreAccepted ⟦<S as Meaning>⟧.meaning root_node.now }
+{
+    plain_texts_are_valid(root_node.schema());
     plain_text_is_document::<S>();
 }

@@ -3,9 +3,11 @@
 //! caches (GraphQL October 2021, 2.3 Operations, 2.8 Fragments, 3.13 Directives).
 #![tactic(auto)]
 
+mod boolean;
 pub mod laws;
 mod plain_error;
 mod request;
 
+pub use boolean::boolean_takes_true;
 pub use plain_error::PlainError;
-pub use request::plain_request;
+pub use request::{operation_name_of, plain_request};

@@ -14,10 +14,12 @@ ghost use Rattle.graphql_lexer.specs.Records.{IsRecorded};
 ghost use Rattle.graphql_plain_tree.specs.Plain.{size};
 ghost use Rattle.graphql_plain_tree.specs.PlainOperations.{plain_operation};
 ghost use Rattle.graphql_plain_text.specs.PlainTexts.{plain_text};
+ghost use Rattle.graphql_plain_requests.specs.AcceptedAgain.{IsAcceptedAgain};
 ghost use Rattle.graphql_plain_requests.specs.Faults.{IsTold};
 ghost use Rattle.graphql_plain_requests.specs.PlainRequests.{HasNoPlainText, IsDocumentAgain, IsPlainTextWithin, asked_at, asked_of};
+ghost use Rattle.graphql_plain_requests.specs.StandIns.{TakesStandIn};
 
-use crate::laws::plain_texts_are_documents;
+use crate::laws::{plain_texts_are_accepted, plain_texts_are_documents};
 use crate::plain_error::PlainError;
 use graphql_final_variables::FinalVariables;
 use graphql_language::TokenRecords;
@@ -40,7 +42,9 @@ use std::alloc::Global;
 /// `@skip(if: true)` alone. The definitions of variables that are no longer used are away. Each token
 /// stands in the spelling of the request's text, parted by single spaces (GraphQL October 2021, 2.3
 /// Operations, 2.8 Fragments, 3.13 Directives). It is a document again, whose only tree is that of this
-/// operation, places aside.
+/// operation, places aside. Where the schema's `skip` and `include` are the standard's and its `Boolean`
+/// takes `true` ([`boolean_takes_true`](crate::boolean_takes_true)), it is executed in the request's place,
+/// with the same operation name and the same values for variables.
 ///
 /// The text is read once, and printed while its document is walked. The walk ends as soon as there are more
 /// fields and inline fragments than `limit`, so that no request takes more time or memory for more of
@@ -59,20 +63,24 @@ pub fn plain_request<S: SchemaScalar + Drop>(
         IfOk result (λ text. IsPlainTextWithin ⟦<S as Meaning>⟧.meaning asked limit (string_bytes text)) }
     ensures document { let asked = asked_of root_node.now request.now in
         IfOk result (λ text. IsDocumentAgain ⟦<S as Meaning>⟧.meaning asked (string_bytes text)) }
+    ensures accepted { let asked = asked_of root_node.now request.now in
+        TakesStandIn ⟦<S as Meaning>⟧.meaning root_node.now.schema →
+        IfOk result (λ text. IsAcceptedAgain ⟦<S as Meaning>⟧.meaning asked (string_bytes text)) }
     ensures refused { let asked = asked_of root_node.now request.now in
         IfErr result (HasNoPlainText ⟦<S as Meaning>⟧.meaning asked ⟦<RuleError as Ord>⟧.cmp limit) }
 {
-    let name = lent(&request.operation_name);
+    let name = operation_name_of(request);
     let query = request.query.as_str();
     plain_of_text(alloc, query, name, &request.variables, root_node, limit)
 }
 
-/// A text that there may be, as it is lent.
-fn lent(text: &Option<String>) -> Option<&str>
-    ensures { option_map (λ text. text.now) result ≡ option_map (λ text. string_bytes text) text.now }
+/// The name of the operation that a request asks for, if it gives one.
+pub fn operation_name_of<S>(request: &GraphQLRequest<S>) -> Option<&str>
+    ensures { option_map (λ name. name.now) result
+        ≡ option_map (λ name. string_bytes name) request.now.operation_name }
 {
-    match text {
-        Some(text) => Some(text.as_str()),
+    match &request.operation_name {
+        Some(name) => Some(name.as_str()),
         None => None,
     }
 }
@@ -92,11 +100,16 @@ fn plain_of_text<S: SchemaScalar + Drop>(
     ensures document { let name = option_map (λ name. name.now) operation_name.entry in
         let asked = asked_at root_node.now (chars source.now) name (get_by_text variables.now) in
         IfOk result (λ text. IsDocumentAgain ⟦<S as Meaning>⟧.meaning asked (string_bytes text)) }
+    ensures accepted { let name = option_map (λ name. name.now) operation_name.entry in
+        let asked = asked_at root_node.now (chars source.now) name (get_by_text variables.now) in
+        TakesStandIn ⟦<S as Meaning>⟧.meaning root_node.now.schema →
+        IfOk result (λ text. IsAcceptedAgain ⟦<S as Meaning>⟧.meaning asked (string_bytes text)) }
     ensures refused { let name = option_map (λ name. name.now) operation_name.entry in
         let asked = asked_at root_node.now (chars source.now) name (get_by_text variables.now) in
         IfErr result (HasNoPlainText ⟦<S as Meaning>⟧.meaning asked ⟦<RuleError as Ord>⟧.cmp limit) }
 {
     plain_texts_are_documents(root_node);
+    plain_texts_are_accepted(root_node);
     match TokenRecords::new(alloc, source) {
         Ok(records) => {
             plain_of_records(alloc, &records, operation_name, variables, root_node, limit)

@@ -3,3 +3,4 @@ mod Answering
 mod ServedContexts
 mod PlainAnswering
 mod ServedPlain
+mod MadeServices

@@ -1,12 +1,9 @@
 -- What is told of a line is its plain text, or why it has none.
-use Rattle.std.proofs.Common.{◌≡◌, ◌<◌, ◌≤◌, ℕ, List, [], ◌++◌, length, option_map, Result, OnOk, OnErr, string_bytes, refl, sym, subst}
-use Rattle.std.specs.Prelude.{IfErr}
+use Rattle.std.proofs.Common.{◌≡◌, ◌<◌, ◌≤◌, ℕ, List, [], ◌++◌, length, option_map, Result, OnOk, string_bytes, refl, sym, subst}
 use Rattle.std.specs.HashMap.{get_by_text}
 use Rattle.std.specs.Str.{chars}
-use Rattle.std.specs.declared.cmp.Ordering.{Ordering}
 use Rattle.graphql_names.specs.Names.{Bytes}
 use Rattle.graphql_output_values.specs.DistinctKeys.{HasDistinctKeysThroughout}
-use Rattle.graphql_field_results.specs.declared.execution_error.ExecutionError.{ExecutionError}
 use Rattle.graphql_rule_errors.specs.declared.rule_error.RuleError.{RuleError}
 use Rattle.graphql_executor.specs.Answered.{Asking, asking}
 use Rattle.graphql_lines.specs.Request.{HoldsRequest, Request, request_of}
@@ -16,9 +13,8 @@ use Rattle.graphql_lines.specs.declared.refusal.LineRefusal.TheVariants.{LineToo
 use Rattle.graphql_lines.specs.declared.request.GraphQLRequest.{GraphQLRequest}
 use Rattle.graphql_answers.specs.Lines.{IsLine, PlainHasDistinctKeys, ValuesAreLines, line_of}
 use Rattle.graphql_answers.specs.Responses.{plain_answer_of, refusal_of}
-use Rattle.graphql_plain_requests.specs.PlainRequests.{HasNoPlainText, IsPlainTextWithin}
-use Rattle.graphql_plain_requests.specs.declared.plain_error.PlainError.{PlainError}
-use Rattle.graphql_plain_requests.specs.declared.plain_error.PlainError.TheVariants as error
+use Rattle.graphql_plain_meaning.specs.PlainRequests.{HasNoPlainText, IsPlainTextWithin, PlainError}
+use Rattle.graphql_plain_meaning.specs.PlainRequests as error
 use Rattle.graphql_service.specs.Answers.{Answerer, Appends, Asks}
 use Rattle.graphql_service.specs.Laws.{IsLineOfDistinctKeys}
 use Rattle.graphql_service.specs.PlainAnswers.{AnswersPlain, IsPlainAnswer, asks_nothing, not_plain, plain_to}

@@ -1,5 +1,5 @@
 -- What a service tells of lines, one after another, where it is asked for plain texts: it stays as it is.
-use Rattle.std.proofs.Common.{◌≡◌, ◌∙◌, ap, sym, subst, Option, Result, OnOk, ℕ}
+use Rattle.std.proofs.Common.{◌≡◌, ◌∙◌, subst, Option, Result, OnOk}
 use Rattle.std.specs.Prelude.{IfErr}
 use Rattle.std.specs.declared.cmp.Ordering.{Ordering}
 use Rattle.graphql_names.specs.Names.{Bytes}

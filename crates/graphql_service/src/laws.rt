@@ -1,10 +1,12 @@
 //! Laws of answers: each function's contract is a law, and its body asks for the laws below it.
 
 ghost use Rattle.graphql_names.specs.Names.{Bytes};
+ghost use Rattle.graphql_plain_meaning.specs.Laws.{PlainMeansTheSame};
 ghost use Rattle.graphql_service.specs.Answers.{IsAnswer, answerer_of};
 ghost use Rattle.graphql_service.specs.Laws.{IsLineOfDistinctKeys};
 ghost use Rattle.graphql_service.specs.declared.service.Service.{Service};
 
+use crate::service::Service;
 use graphql_answers::laws::answers_have_distinct_keys;
 use graphql_evaluation::laws::{data_have_distinct_keys, failures_tell_distinct_keys};
 use graphql_execution::Asked;
@@ -28,4 +30,18 @@ where
     data_have_distinct_keys::<S, Asked<'d, S, R::Node>>();
     failures_tell_distinct_keys::<S, Asked<'d, S, R::Node>>();
     runs_have_distinct_keys::<S, Asked<'d, S, R::Node>, R::Context>();
+}
+
+/// Where a request is answered by a service's parts on a context, and so is its plain text with the same
+/// operation name and the same values for variables, the data are the same, there are errors in both answers
+/// or in neither, and the same context is left. That the plain text is executed in the request's place is a
+/// clause of [`Service::plain`]; [`Service::new`] tells that the schema takes the stand-in (GraphQL October
+/// 2021, 7.1 Response Format).
+pub fn plain_means_the_same<S: SchemaScalar, R: GraphQLMutationValue<S>>(
+    service: &Service<S, R, R::Context>,
+)
+    ensures { PlainMeansTheSame ⟦<S as Meaning>⟧.meaning service.now.root_node
+        (⟦<R as Resolving<S>>⟧.resolving service.now.resolver) }
+{
+    graphql_plain_meaning::laws::plain_means_the_same(&service.root_node, &service.resolver);
 }

@@ -13,13 +13,13 @@ mod serving;
 pub use graphql_executor::{
     Applies, Arguments, Executor, FieldError, FieldFault, FieldResult, GraphQLMutationValue,
     GraphQLValue, IntrospectionChecks, IntrospectionFormat, LookAheadChildren, LookAheadSelection,
-    Meaning, Resolved, Resolving, introspect, introspection_metadata,
+    Meaning, Resolved, Resolving, execute_sync, introspect, introspection_metadata,
 };
 pub use graphql_lines::{
     GraphQLRequest, LineRefusal, json_of_line, request_from_line, request_in, text_to_json,
     value_to_json, variables_from_json,
 };
 pub use graphql_meta::scalar_checks::{self, StandardChecks};
-pub use graphql_plain_requests::{PlainError, plain_request};
+pub use graphql_plain_meaning::{PlainError, plain_request};
 pub use graphql_streams::{ByteSink, ByteSource, Piped, ReadFailed, ServeError, WriteFailed};
 pub use service::{Service, ServiceFault};

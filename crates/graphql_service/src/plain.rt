@@ -5,7 +5,7 @@ ghost use Rattle.graphql_answers.specs.Lines.{IsLine};
 ghost use Rattle.graphql_lines.specs.Request.{HoldsRequest, Request};
 ghost use Rattle.graphql_lines.specs.Writing.{KeepsFront};
 ghost use Rattle.graphql_names.specs.Names.{Bytes};
-ghost use Rattle.graphql_plain_requests.specs.PlainRequests.{HasNoPlainText, IsDocumentAgain, IsPlainTextWithin, asked_of};
+ghost use Rattle.graphql_plain_meaning.specs.PlainRequests.{HasNoPlainText, IsAcceptedAgain, IsDocumentAgain, IsPlainTextWithin, TakesStandIn, asked_of};
 ghost use Rattle.graphql_service.specs.Answers.{Appends, Asks, answerer_of};
 ghost use Rattle.graphql_service.specs.Laws.{IsLineOfDistinctKeys};
 ghost use Rattle.graphql_service.specs.PlainAnswers.{AnswersPlain, IsPlainAnswer};
@@ -20,14 +20,16 @@ use graphql_executor::{GraphQLMutationValue, Meaning, Resolving};
 use graphql_field_results::ExecutionError;
 use graphql_lines::{GraphQLRequest, LineRefusal, request_from_line};
 use graphql_meta::SchemaScalar;
-use graphql_plain_requests::{PlainError, plain_request};
+use graphql_plain_meaning::{PlainError, plain_request};
 use graphql_rule_errors::RuleError;
 use std::alloc::{AllocError, Global};
 
 impl<S: SchemaScalar + Drop, R: GraphQLMutationValue<S>> Service<S, R, R::Context> {
     /// The plain text of a request, as [`plain_request`] gives it over the service's root node and its
     /// greatest size: one operation without named fragments, variable conditions or unused variables.
-    /// No resolver is asked, and nothing of the context decides.
+    /// No resolver is asked, and nothing of the context decides. The text is executed in the request's place,
+    /// with the same operation name and the same values for variables: [`Service::new`] tells that the schema
+    /// takes the stand-in for it.
     ///
     /// An error is `PlainError::Refused` where the request is refused, with the step that fails first as
     /// `execute_sync` tells it; else `PlainError::TooLarge` where it has more fields and inline fragments
@@ -37,6 +39,9 @@ impl<S: SchemaScalar + Drop, R: GraphQLMutationValue<S>> Service<S, R, R::Contex
             IfOk result (λ text. IsPlainTextWithin ⟦<S as Meaning>⟧.meaning asked self.now.selection_limit (string_bytes text)) }
         ensures document { let asked = asked_of self.now.root_node request.now in
             IfOk result (λ text. IsDocumentAgain ⟦<S as Meaning>⟧.meaning asked (string_bytes text)) }
+        ensures accepted { let asked = asked_of self.now.root_node request.now in
+            TakesStandIn ⟦<S as Meaning>⟧.meaning self.now.root_node.schema →
+            IfOk result (λ text. IsAcceptedAgain ⟦<S as Meaning>⟧.meaning asked (string_bytes text)) }
         ensures refused { let asked = asked_of self.now.root_node request.now in
             IfErr result (HasNoPlainText ⟦<S as Meaning>⟧.meaning asked ⟦<RuleError as Ord>⟧.cmp self.now.selection_limit) }
     {

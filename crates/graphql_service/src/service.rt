@@ -1,6 +1,6 @@
 //! A service that answers request lines.
 
-ghost use Rattle.std.specs.Prelude.{◌≡◌, true, option_map, string_bytes};
+ghost use Rattle.std.specs.Prelude.{◌≡◌, true};
 ghost use Rattle.graphql_schema.specs.Executable.{is_executable};
 ghost use Rattle.graphql_schema.specs.Schemas.{roots_of};
 ghost use Rattle.graphql_schema.specs.Directives.{has_standard_conditions};
@@ -13,6 +13,7 @@ use graphql_executor::{GraphQLMutationValue, Meaning, Resolving, execute_sync};
 use graphql_field_results::ExecutionError;
 use graphql_lines::{GraphQLRequest, LineRefusal, request_from_line};
 use graphql_meta::SchemaScalar;
+use graphql_plain_meaning::{boolean_takes_true, operation_name_of};
 use graphql_rule_errors::RuleError;
 use graphql_schema::RootNode;
 use std::alloc::{AllocError, Global};
@@ -27,6 +28,22 @@ pub enum ServiceFault {
 
     /// The directive `skip` or `include` is not the standard's: `has_standard_conditions` is false.
     OtherConditions,
+
+    /// The type `Boolean` is no scalar that takes `true`: `boolean_takes_true` is false.
+    OtherBoolean,
+
+    /// Memory ran out while `Boolean` was asked.
+    Memory,
+}
+
+impl From<AllocError> for ServiceFault {
+    ghost use Rattle.graphql_service.specs.declared.service.ServiceFault.TheVariants.{Memory};
+
+    ghost from_gives = { λ _ fault. fault ≡ Memory };
+
+    fn from(_error: AllocError) -> ServiceFault {
+        ServiceFault::Memory
+    }
 }
 
 /// Writes the fault in words.
@@ -44,6 +61,10 @@ impl fmt::Display for ServiceFault {
             ServiceFault::OtherConditions => {
                 f.write_str("the directive skip or include is not the standard's")
             }
+            ServiceFault::OtherBoolean => {
+                f.write_str("the type Boolean is no scalar that takes true")
+            }
+            ServiceFault::Memory => f.write_str("out of memory"),
         }
     }
 }
@@ -54,7 +75,7 @@ impl Error for ServiceFault {}
 #[derive(Drop)]
 pub struct Service<S, R, X, C = <S as SchemaScalar>::Check> {
     pub(crate) root_node: RootNode<S, C>,
-    resolver: R,
+    pub(crate) resolver: R,
     context: X,
     pub(crate) line_limit: usize,
     pub(crate) selection_limit: usize,
@@ -77,6 +98,7 @@ impl<S: SchemaScalar + Drop, R: GraphQLMutationValue<S>> Service<S, R, R::Contex
     /// bytes, and plain texts at most `selection_limit` fields and inline fragments.
     ///
     /// The first fault that stands is told, in the order of [`ServiceFault`]; the parts are let go then.
+    /// So the schema of a service takes the stand-in of a plain text, `@skip(if: true)`.
     pub fn new(
         root_node: RootNode<S>,
         resolver: R,
@@ -87,13 +109,16 @@ impl<S: SchemaScalar + Drop, R: GraphQLMutationValue<S>> Service<S, R, R::Contex
     where
         R: Drop,
         R::Context: Drop,
-        ensures { Makes root_node resolver context line_limit selection_limit result }
+        ensures { Makes root_node resolver context line_limit selection_limit ⟦<S as Meaning>⟧.meaning result }
     {
         if !root_node.schema().schema_is_executable() {
             return Err(ServiceFault::NotExecutable);
         }
         if !root_node.schema().has_standard_conditions() {
             return Err(ServiceFault::OtherConditions);
+        }
+        if !boolean_takes_true(root_node.schema())? {
+            return Err(ServiceFault::OtherBoolean);
         }
         Ok(Service {
             root_node,
@@ -243,7 +268,7 @@ impl<S: SchemaScalar + Drop, R: GraphQLMutationValue<S>> Service<S, R, R::Contex
             → LeavesBroken a line self.old.context self.new.context) }
         ensures front { KeepsFront out.old.items out.new.items }
     {
-        let name = lent(&request.operation_name);
+        let name = operation_name_of(request);
         let query = request.query.as_str();
         match execute_sync(
             alloc,
@@ -257,15 +282,5 @@ impl<S: SchemaScalar + Drop, R: GraphQLMutationValue<S>> Service<S, R, R::Contex
             Ok(response) => push_response(out, response),
             Err(error) => push_error(alloc, out, error),
         }
-    }
-}
-
-/// A text that there may be, as it is lent.
-fn lent(text: &Option<String>) -> Option<&str>
-    ensures { option_map (λ text. text.now) result ≡ option_map (λ text. string_bytes text) text.now }
-{
-    match text {
-        Some(text) => Some(text.as_str()),
-        None => None,
     }
 }

@@ -27,6 +27,7 @@ status_of_error _ = 3
 abbrev pub status_of_fault : RunFault → ℕ
 status_of_fault (run_fault.Schema e) = status_of_schema e
 status_of_fault run_fault.NotExecutable = 1
+status_of_fault run_fault.OtherBoolean = 1
 status_of_fault (run_fault.Data e) = status_of_data e
 status_of_fault (run_fault.Serve e) = status_of_error e
 status_of_fault run_fault.Memory = 4

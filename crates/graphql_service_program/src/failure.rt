@@ -30,7 +30,10 @@ fn fault_status(fault: &RunFault) -> u8
         | RunFault::Data(DataFileError::Memory)
         | RunFault::Serve(ServeError::Memory)
         | RunFault::Memory => 4,
-        RunFault::Schema(_) | RunFault::NotExecutable | RunFault::Data(_) => 1,
+        RunFault::Schema(_)
+        | RunFault::NotExecutable
+        | RunFault::Data(_)
+        | RunFault::OtherBoolean => 1,
         RunFault::Serve(_) => 3,
     }
 }

@@ -2,8 +2,9 @@
 
 use crate::schemas::with_tag;
 use crate::served::{Asked, nameless, over};
-use graphql_executor::execute_sync;
-use graphql_file_service::service::{GraphQLRequest, plain_request, request_from_line};
+use graphql_file_service::service::{
+    GraphQLRequest, execute_sync, plain_request, request_from_line,
+};
 use graphql_sample::{SampleRecords, SampleResolver};
 use graphql_schema::{RootNode, SchemaType};
 use graphql_values::{DefaultScalarValue, Variables};

@@ -123,4 +123,6 @@ fn long_lines_are_refused(rt: HostRuntime) {
 fn other_schemas_make_no_service(rt: HostRuntime) {
     over(&rt, rt.alloc(), Asked::Unkept);
     over(&rt, rt.alloc(), Asked::OtherSkip);
+    over(&rt, rt.alloc(), Asked::OtherBoolean);
+    over(&rt, rt.alloc(), Asked::FilesOfOtherBoolean);
 }

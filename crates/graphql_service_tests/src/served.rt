@@ -11,6 +11,7 @@ use crate::introspected::tells_of_itself;
 use crate::plain::{self, tells};
 use crate::schemas::{is_refused, unkept, with_other_skip};
 use crate::serving::{Run, are_served};
+use graphql_file_service::sample;
 use graphql_file_service::service::scalar_checks::{
     boolean_check, id_check, int_check, string_check,
 };
@@ -60,6 +61,12 @@ pub enum Asked<'a> {
 
     /// That a schema with another `skip` makes no service.
     OtherSkip,
+
+    /// That a schema whose `Boolean` takes texts, and not `true`, makes no service.
+    OtherBoolean,
+
+    /// That no files are served with such a `Boolean`.
+    FilesOfOtherBoolean,
 
     /// Why a file of a schema and one of its records are not served; the empty text where they are.
     Files(&'a str, &'a str, &'a str),
@@ -143,11 +150,26 @@ fn with_schema(
     }
 }
 
+/// The checks by which `Boolean` takes texts, and `String` truth values.
+fn with_texts(checks: StandardChecks) -> StandardChecks {
+    StandardChecks {
+        int: checks.int,
+        string: checks.boolean,
+        boolean: checks.string,
+        id: checks.id,
+        introspection: checks.introspection,
+    }
+}
+
 /// Asserts of services over a schema with these checks.
 fn with_checks(rt: &impl Abort, alloc: Global, checks: StandardChecks, asked: Asked<'_>) {
     if let Asked::Unkept = asked {
         let schema = unkept(rt, alloc, checks);
         return is_refused(rt, alloc, schema, ServiceFault::NotExecutable);
+    }
+    if let Asked::OtherBoolean = asked {
+        let schema = schema_s(alloc, with_texts(checks)).expect(rt, "a schema");
+        return is_refused(rt, alloc, schema, ServiceFault::OtherBoolean);
     }
     let schema = schema_s(alloc, checks).expect(rt, "a schema");
     with_schema(rt, alloc, schema, asked);
@@ -209,6 +231,11 @@ pub fn over(rt: &impl Abort, alloc: Global, asked: Asked<'_>) {
         id,
         introspection,
     };
+    if let Asked::FilesOfOtherBoolean = asked {
+        let files = (sample::SCHEMA, sample::RECORDS);
+        let told = served(alloc, files, with_texts(checks));
+        return is_told(rt, alloc, told, "schema: OtherBoolean");
+    }
     if let Asked::Files(schema, records, wanted) = asked {
         return is_told(rt, alloc, served(alloc, (schema, records), checks), wanted);
     }

@@ -1,6 +1,6 @@
 use Rattle.std.proofs.Common.{true, false, refl}
 use Rattle.std.proofs.lemmas.Result.{err_from_is_err_and}
-use Rattle.graphql_file_service.proofs.Services.{no_records, service_made, tested}
+use Rattle.graphql_file_service.proofs.Services.{no_records, service_made, tested, unmade, unserved}
 use Rattle.graphql_file_service.proofs.running.run_files.Goals as goal
 
 pub returns-then-not-schema_is_executable-clause-ran : goal.returns-then-not-schema_is_executable-clause-ran
@@ -26,9 +26,13 @@ returns-in_err-table-clause-ran g c =
 
 pub returns-in_err-service-clause-ran : goal.returns-in_err-service-clause-ran
 returns-in_err-service-clause-ran g c =
+    let error = err_from_is_err_and c.from_residual-in_err-service.result c.from_residual-in_err-service.ensures.1 in
     let root = c.in_ok-root_node.root_node in
     let can = tested root c.schema.result.now c.schema.ensures c.schema_is_executable.result true c.schema_is_executable.ensures.value c.if-not-schema_is_executable.false in
-    absurd (c.in_err-service.ensures (can, c.in_ok-root_node.ensures.conditions))
+    let made = c.in_err-service.ensures (can, c.in_ok-root_node.ensures.conditions) in
+    rw (error.1, error.2)
+    (unmade _ _ c.args.schema.now c.args.records.now root (c.in_ok-root_node.ensures.read, can) _ _ c.args.plain
+    c.in_ok-resolver.resolver c.in_ok-table.table _ made (refl, refl))
 
 pub returns-in_err-serve_by-clause-ran : goal.returns-in_err-serve_by-clause-ran
 returns-in_err-serve_by-clause-ran g c =
@@ -50,9 +54,11 @@ returns-clause-ran g c =
 
 pub returns-in_err-service-clause-reads : goal.returns-in_err-service-clause-reads
 returns-in_err-service-clause-reads g c =
+    let error = err_from_is_err_and c.from_residual-in_err-service.result c.from_residual-in_err-service.ensures.1 in
     let root = c.in_ok-root_node.root_node in
     let can = tested root c.schema.result.now c.schema.ensures c.schema_is_executable.result true c.schema_is_executable.ensures.value c.if-not-schema_is_executable.false in
-    absurd (c.in_err-service.ensures (can, c.in_ok-root_node.ensures.conditions))
+    let made = c.in_err-service.ensures (can, c.in_ok-root_node.ensures.conditions) in
+    rw (error.1, error.2, unserved _ root c.in_ok-resolver.resolver c.in_ok-table.table _ made) refl
 
 pub returns-in_err-serve_by-clause-reads : goal.returns-in_err-serve_by-clause-reads
 returns-in_err-serve_by-clause-reads g c =
@@ -61,9 +67,11 @@ returns-in_err-serve_by-clause-reads g c =
 
 pub returns-in_err-service-clause-writes : goal.returns-in_err-service-clause-writes
 returns-in_err-service-clause-writes g c =
+    let error = err_from_is_err_and c.from_residual-in_err-service.result c.from_residual-in_err-service.ensures.1 in
     let root = c.in_ok-root_node.root_node in
     let can = tested root c.schema.result.now c.schema.ensures c.schema_is_executable.result true c.schema_is_executable.ensures.value c.if-not-schema_is_executable.false in
-    absurd (c.in_err-service.ensures (can, c.in_ok-root_node.ensures.conditions))
+    let made = c.in_err-service.ensures (can, c.in_ok-root_node.ensures.conditions) in
+    rw (error.1, error.2, unserved _ root c.in_ok-resolver.resolver c.in_ok-table.table _ made) refl
 
 pub returns-in_err-serve_by-clause-writes : goal.returns-in_err-serve_by-clause-writes
 returns-in_err-serve_by-clause-writes g c =

@@ -1,5 +1,5 @@
 -- The plain text of a request is executed in the request's place.
-use Rattle.std.proofs.Common.{◌≡◌, refl, sym, ◌∙◌, ap, subst, arith, not, ◌||◌, Bool, true, false, List, [], ◌∷◌, map, cond, reverse, Option, Some, None, Result, Ok, Err}
+use Rattle.std.proofs.Common.{◌≡◌, refl, sym, ◌∙◌, ap, subst, arith, not, ◌||◌, Bool, true, false, List, [], ◌∷◌, map, cond, reverse, Option, Some, None, Ok, Err}
 use Rattle.std.specs.List.{Contains, find}
 use Rattle.std.specs.Option.{is_some, option_map, option_map_or}
 use Rattle.std.specs.Str.{bytes_eq, chars}
@@ -7,7 +7,7 @@ use Rattle.graphql_names.specs.Names.{Bytes, passes}
 use Rattle.graphql_scalars.specs.ScalarAnswers.{ScalarAnswer}
 use Rattle.graphql_values.specs.InputValues.{Placed, unlocated, unplaced}
 use Rattle.graphql_values.specs.declared.input_value.InputValue.{InputValue}
-use Rattle.graphql_tree.specs.Definitions.{fragments_listed, operations_of}
+use Rattle.graphql_tree.specs.Definitions.{operations_of}
 use Rattle.graphql_tree.specs.Documents.{variables_in}
 use Rattle.graphql_tree.specs.Unlocated.{unlocated_name, unlocated_operation, unlocated_variable, unlocated_variables, without_place}
 use Rattle.graphql_tree.specs.Variables.{Variable}
@@ -23,27 +23,23 @@ use Rattle.graphql_schema.specs.declared.root_node.RootNode.{RootNode}
 use Rattle.graphql_settled_fragments.proofs.KnownFieldTypes.{field-types-are-known}
 use Rattle.graphql_settled_fragments.proofs.ListItems.{contains-map, image-of}
 use Rattle.graphql_variable_checks.specs.Accepted.{AreAccepted, FitsVariable, IsAccepted, variable_type}
-use Rattle.graphql_plain_tree.specs.PlainDocuments.{definitions_as, operation_as}
+use Rattle.graphql_plain_tree.specs.PlainDocuments.{definitions_as, document_of, operation_as}
 use Rattle.graphql_plain_tree.specs.PlainOperations.{PlainOperation, definitions_used, without_directives, variables_used}
-use Rattle.graphql_plain_text.specs.Laws.{PlainTextIsDocument}
-use Rattle.graphql_plain_text.specs.PlainTexts.{plain_text}
-use Rattle.graphql_plain_text.specs.Laws.{IsTextOf}
-use Rattle.graphql_plain_tree.specs.PlainDocuments.{document_of}
+use Rattle.graphql_plain_text.specs.Laws.{IsTextOf, PlainTextIsDocument}
 use Rattle.graphql_plain_parts.specs.PlainRequests.{IsPlainDocument}
 use Rattle.graphql_plain_parts.proofs.OneOperation.{the-one}
 use Rattle.graphql_plain_parts.proofs.PlainDocumentParts.{definitions-back}
 use Rattle.graphql_plain_variables.proofs.UsedDefinitions.{used-from}
 use Rattle.graphql_plain_validity.specs.Laws.{IsValidText, PlainTextsAreValid}
 use Rattle.graphql_plain_validity.proofs.ValidTexts.{full}
-use Rattle.graphql_requests.specs.Operations.{chosen, has_name, mutation_root, one_named}
+use Rattle.graphql_requests.specs.Operations.{chosen, has_name, mutation_root}
 use Rattle.graphql_requests.specs.Refusals.{IsValidIn}
 use Rattle.graphql_requests.specs.Scalars.{Scalars}
-use Rattle.graphql_requests.specs.declared.graphql_error.GraphQLError.{GraphQLError}
 use Rattle.graphql_requests.specs.declared.graphql_error.GraphQLError.TheVariants as error
 use Rattle.graphql_requests.proofs.ChosenOperations.{chosen-in}
 use Rattle.graphql_plain_requests.specs.PlainRequests.{asked_at, plain_of, values_for}
 use Rattle.graphql_plain_requests.proofs.PlainDocuments.{root-known}
-use Rattle.graphql_plain_meaning.specs.Laws.{PlainTextsAreAccepted}
+use Rattle.graphql_plain_requests.specs.Laws.{PlainTextsAreAccepted}
 
 -- ---- the name of an operation
 
@@ -161,7 +157,7 @@ module _ {S C : Type 0} (s : Scalars S C) (root : RootNode S C)
     (valid_texts : PlainTextsAreValid s.eq s.answer s.reads s.of_bool s.accepts (declarations_of root.schema))
     (printed : PlainTextIsDocument S s.reads s.of_bool s.answer) where
   pub plain-texts-are-accepted : PlainTextsAreAccepted s root
-  plain-texts-are-accepted standard takes source name given bytes utf8 text =
+  plain-texts-are-accepted takes source name given bytes utf8 text =
       let a = asked_at root (chars source) name given in
       let schema = declarations_of root.schema in
       let document = text.document in
@@ -184,7 +180,7 @@ module _ {S C : Type 0} (s : Scalars S C) (root : RootNode S C)
       subst
       (IsValidText s.eq s.answer s.reads s.of_bool s.accepts schema root.introspection_disabled)
       (sym text.is)
-      (valid_texts standard takes source text.tokens text.finish document o
+      (valid_texts takes.conditions takes.truth source text.tokens text.finish document o
       (values_for s a o.item) utf8 text.cut read.spelled among known root.introspection_disabled
       read.valid) in
       let valid =
@@ -199,10 +195,13 @@ module _ {S C : Type 0} (s : Scalars S C) (root : RootNode S C)
       } in
       let x = the-one s.answer s.of_bool document again plain in
       record {
+        document = document;
+        operation = o;
+        executable = text.executable;
         utf8 = spelled.utf8;
         again = again;
-        operation = x.0;
-        executable = record {
+        other = x.0;
+        accepted = record {
           read = record { spelled = spelled.is; alone = spelled.only; valid = valid };
           ready = record {
             chosen =
@@ -219,7 +218,7 @@ module _ {S C : Type 0} (s : Scalars S C) (root : RootNode S C)
                 ∙ ready.served;
           };
         };
-        plain = record {
+        pair = record {
           filled = filled.1;
           same = spelled.same;
           among =

@@ -16,7 +16,7 @@ use Rattle.graphql_requests.proofs.Exclusive.{from-ok}
 use Rattle.graphql_requests.specs.Operations.{mutation_root}
 use Rattle.graphql_requests.specs.Scalars.{Scalars}
 use Rattle.graphql_executor.specs.Executed.{data_of, runs}
-use Rattle.graphql_plain_runs.specs.Laws.{PlainOperationsYieldAlike, PlainRunsAreAlike}
+use Rattle.graphql_plain_meaning.specs.Yields.{PlainOperationsYieldAlike, PlainRunsAreAlike}
 
 -- failures that are as many are there in both or in neither, in whichever order they are told
 none-of : {A : Type 0} (xs : List A) → length xs ≡ 0 → xs ≡ []

@@ -3,8 +3,8 @@ use Rattle.graphql_schema.specs.Declarations.{declarations_of}
 use Rattle.graphql_schema.specs.declared.schema.SchemaType.{SchemaType}
 use Rattle.graphql_plain_validity.specs.Laws.{PlainTextsAreValid}
 use Rattle.graphql_requests.specs.Scalars.{Scalars}
-use Rattle.graphql_plain_meaning.proofs.AcceptedTexts.{plain-texts-are-accepted}
-use Rattle.graphql_plain_meaning.proofs.laws.plain_texts_are_accepted.Goals as goal
+use Rattle.graphql_plain_requests.proofs.AcceptedTexts.{plain-texts-are-accepted}
+use Rattle.graphql_plain_requests.proofs.laws.plain_texts_are_accepted.Goals as goal
 
 pub returns : goal.returns
 returns g c =
