@@ -36,7 +36,7 @@ fn compare_before<S: PartialEq, C>(
         (places told.old) (places told.new)) }
 {
     for other in earlier {
-        compare(alloc, schema, false, other, field, told)?;
+        compare(alloc, schema, false, false, other, field, told)?;
     }
     Ok(())
 }

@@ -127,11 +127,13 @@ fn first_abstract<'d, 'a, S, C>(
     None
 }
 
-/// Compares the shapes of all with that of the first that is declared. An error of the call is want
-/// of memory.
+/// Compares the shapes of all with that of the first that is declared. `around`: whether fields
+/// around them have parents that are different objects; where they do not, two fields that differ in
+/// name or arguments too are told for that. An error of the call is want of memory.
 pub(crate) fn compare_shapes<S: PartialEq, C>(
     alloc: Global,
     schema: &SchemaType<S, C>,
+    around: bool,
     group: &[WrittenField<'_, '_, S, C>],
     told: &mut Items<RuleError>,
 ) -> Result<(), AllocError>
@@ -141,7 +143,7 @@ pub(crate) fn compare_shapes<S: PartialEq, C>(
         (places told.old) (places told.new)) }
 {
     match first_declared(group) {
-        Some(head) => compare_with(alloc, schema, true, &head, group, told),
+        Some(head) => compare_with(alloc, schema, true, around, &head, group, told),
         None => Ok(()),
     }
 }
@@ -163,7 +165,7 @@ fn compare_part<S: PartialEq, C>(
 {
     let fields = fields_in_part(alloc, group, Some(name))?;
     match fields.first().copied() {
-        Some(head) => compare_with(alloc, schema, false, &head, fields.as_slice(), told),
+        Some(head) => compare_with(alloc, schema, false, false, &head, fields.as_slice(), told),
         None => Ok(()),
     }
 }
@@ -209,7 +211,7 @@ pub(crate) fn compare_names<S: PartialEq, C>(
         (places told.old) (places told.new)) }
 {
     match first_abstract(group) {
-        Some(head) => compare_with(alloc, schema, false, &head, group, told),
+        Some(head) => compare_with(alloc, schema, false, false, &head, group, told),
         None => compare_parts(alloc, schema, group, names, told),
     }
 }

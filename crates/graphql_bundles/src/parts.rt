@@ -152,7 +152,7 @@ pub(crate) fn pass_group<S: PartialEq, C>(
         (λ stage. IsGroupPassed t S.eq types stage.bundles stage.told around group)
         (stage_of progress.old) (stage_of progress.new)) }
 {
-    compare_shapes(alloc, schema, group, &mut progress.told)?;
+    compare_shapes(alloc, schema, around, group, &mut progress.told)?;
     if around {
         return begin_part(alloc, table, group, None, true, progress);
     }

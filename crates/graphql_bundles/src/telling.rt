@@ -34,7 +34,7 @@ fn tell_in_order<S, C>(
 
 /// Tells that two fields of one response key do not agree: their places and what the text says of
 /// them come in the order of the text. An error of the call is want of memory.
-pub(crate) fn tell<S, C>(
+pub fn tell<S, C>(
     alloc: Global,
     difference: Difference,
     left: &SelectedField<'_, '_, S, C>,
@@ -51,13 +51,33 @@ pub(crate) fn tell<S, C>(
     tell_in_order(alloc, difference, left, right, told)
 }
 
+/// The same, by the first difference that there is where fields around them have parents that are
+/// different objects or not, if there is one. An error of the call is want of memory.
+fn tell_as<S: PartialEq, C>(
+    alloc: Global,
+    schema: &SchemaType<S, C>,
+    around: bool,
+    difference: Difference,
+    left: &SelectedField<'_, '_, S, C>,
+    right: &SelectedField<'_, '_, S, C>,
+    told: &mut Items<RuleError>,
+) -> Result<(), AllocError>
+    ensures { let one = left.now.field.now.span.start in
+        let other = right.now.field.now.span.start in
+        OnOk result (Reports (in_order one other ∷ []) told.old told.new) }
+{
+    let first = first_difference(alloc, schema, around, left, right)?;
+    tell(alloc, first.unwrap_or(difference), left, right, told)
+}
+
 /// Compares two fields of one response key, and tells it where they do not agree. `around`: whether
-/// fields around them have parents that are different objects. An error of the call is want of
-/// memory.
+/// it is done as if fields around them had parents that are different objects, `said`: whether they
+/// do, by which it is told in what they differ first. An error of the call is want of memory.
 pub(crate) fn compare<S: PartialEq, C>(
     alloc: Global,
     schema: &SchemaType<S, C>,
     around: bool,
+    said: bool,
     left: &WrittenField<'_, '_, S, C>,
     right: &WrittenField<'_, '_, S, C>,
     told: &mut Items<RuleError>,
@@ -71,17 +91,18 @@ pub(crate) fn compare<S: PartialEq, C>(
     let other = &right.selected;
     let difference = first_difference(alloc, schema, around, one, other)?;
     match difference {
-        Some(difference) => tell(alloc, difference, one, other, told),
+        Some(difference) => tell_as(alloc, schema, said, difference, one, other, told),
         None => Ok(()),
     }
 }
 
-/// Compares fields with one of their response key, in order. An error of the call is want of
-/// memory.
+/// Compares fields with one of their response key, in order, by the same flags. An error of the call
+/// is want of memory.
 pub(crate) fn compare_with<S: PartialEq, C>(
     alloc: Global,
     schema: &SchemaType<S, C>,
     around: bool,
+    said: bool,
     head: &WrittenField<'_, '_, S, C>,
     others: &[WrittenField<'_, '_, S, C>],
     told: &mut Items<RuleError>,
@@ -92,7 +113,7 @@ pub(crate) fn compare_with<S: PartialEq, C>(
         (places told.old) (places told.new)) }
 {
     for other in others {
-        compare(alloc, schema, around, head, other, told)?;
+        compare(alloc, schema, around, said, head, other, told)?;
     }
     Ok(())
 }

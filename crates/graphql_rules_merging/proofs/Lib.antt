@@ -14,5 +14,6 @@ pub mod Meeting
 pub mod Settled
 pub mod Merged
 pub mod Reordered
+pub mod InOrder
 pub mod Joined
 pub mod Visits

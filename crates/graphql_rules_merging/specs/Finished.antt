@@ -1,5 +1,5 @@
--- Where all pairs of selection sets are compared (GraphQL October 2021, 5.3.2 Field Selection Merging).
-use Rattle.std.specs.Prelude.{ℕ, ◌<◌, Bool, false, ◌||◌, List, map}
+-- Where all pairs of selection sets are compared, or bundles of them decide (GraphQL October 2021, 5.3.2 Field Selection Merging).
+use Rattle.std.specs.Prelude.{◌≡◌, ℕ, ◌<◌, Bool, true, false, ◌||◌, List, [], map, ◌⊎◌}
 use Rattle.std.specs.List.{All, Contains}
 use Rattle.graphql_text.specs.declared.position.SourcePosition.{SourcePosition}
 use Rattle.graphql_meta.specs.declared.meta.MetaType.{MetaType}
@@ -7,6 +7,7 @@ use Rattle.graphql_rule_errors.specs.Places.{Places}
 use Rattle.graphql_merging.specs.Merging.{apart}
 use Rattle.graphql_merging.specs.Pieces.{Pieces, PieceField}
 use Rattle.graphql_merging.specs.Told.{Names, Tells, Fits}
+use Rattle.graphql_bundles.specs.Ends.{IsEnd}
 use Rattle.graphql_rules_merging.specs.declared.agenda.SetPair.{SetPair}
 use Rattle.graphql_rules_merging.specs.Agenda.{pair_of, IsListed, IsBegun}
 use Rattle.graphql_rules_merging.specs.Comparing.{Stage, members_in, HasOneKey, fields_of, LeadsTo, DoAgree}
@@ -39,3 +40,15 @@ module _ {S C : Type 0} (eq : S → S → Bool) (types : List (MetaType S C)) (t
       pub reached : (pair : SetPair) → IsListed stage.listed pair → IsReached t definitions pair.left pair.right pair.around
       pub compared : (pair : SetPair) → IsListed stage.listed pair → IsCompared stage pair
       pub found : All IsFound stage.told
+
+    -- bundles decide: all are gone through, or something is told
+    abbrev pub AreOfBundles : Places → Type 0
+    AreOfBundles errors = (within : Bool) × IsEnd t eq types definitions within errors × ((within ≡ true) ⊎ (errors ≡ [] → ⊥))
+
+    -- all pairs are compared
+    abbrev pub AreOfPairs : Places → Type 0
+    AreOfPairs errors = (stage : Stage) × (stage.told ≡ errors) × IsFinished stage
+
+    -- what is told where the rule ends: bundles decide it, or pairs
+    abbrev pub AreFound : Places → Type 0
+    AreFound errors = AreOfBundles errors ⊎ AreOfPairs errors

@@ -1,56 +1,17 @@
 //! Fields are compared, two by two.
 
 ghost use Rattle.std.specs.Prelude.{◌≡◌, ◌+◌, ◌<◌, [], ◌∷◌, List, map, length, drop, OnOk};
-ghost use Rattle.graphql_rule_errors.specs.Places.{Reports};
 ghost use Rattle.graphql_tree.specs.declared.document.Fragment.{Fragment};
-ghost use Rattle.graphql_merging.specs.Told.{in_order};
 ghost use Rattle.graphql_merging.specs.Tables.{pieces_of, piece_field};
 ghost use Rattle.graphql_rules_merging.specs.Comparing.{Compares, stage_of, with_each, between, later};
 
 use crate::begin::begin_sets;
-use crate::messages::message_of;
 use crate::progress::Progress;
-use graphql_merging::{
-    Difference, SelectedField, SetTable, WrittenField, first_difference, is_excused,
-};
-use graphql_rule_errors::{RuleError, report};
+use graphql_bundles::tell;
+use graphql_merging::{SetTable, WrittenField, first_difference, is_excused};
 use graphql_schema::SchemaType;
-use graphql_text::Items;
 use graphql_written_out::response_key;
 use std::alloc::{AllocError, Global};
-
-/// Tells that two fields of one response key, the first of them first in the text, do not agree. An
-/// error of the call is want of memory.
-fn tell_in_order<S, C>(
-    alloc: Global,
-    difference: Difference,
-    first: &SelectedField<'_, '_, S, C>,
-    second: &SelectedField<'_, '_, S, C>,
-    told: &mut Items<RuleError>,
-) -> Result<(), AllocError>
-    ensures { OnOk result (Reports ((first.now.field.now.span.start ∷ second.now.field.now.span.start ∷ []) ∷ []) told.old told.new) }
-{
-    let message = message_of(alloc, difference, first, second)?;
-    let places = [first.field.span.start, second.field.span.start];
-    report(alloc, told, message, &places)
-}
-
-/// Tells that two fields of one response key do not agree: their places and what the text says of them
-/// come in the order of the text. An error of the call is want of memory.
-fn tell<S, C>(
-    alloc: Global,
-    difference: Difference,
-    left: &SelectedField<'_, '_, S, C>,
-    right: &SelectedField<'_, '_, S, C>,
-    told: &mut Items<RuleError>,
-) -> Result<(), AllocError>
-    ensures { OnOk result (Reports (in_order left.now.field.now.span.start right.now.field.now.span.start ∷ []) told.old told.new) }
-{
-    if right.field.span.start.index() < left.field.span.start.index() {
-        return tell_in_order(alloc, difference, right, left, told);
-    }
-    tell_in_order(alloc, difference, left, right, told)
-}
 
 /// Compares two fields: where they have one response key, an error is told of them, or their own sets
 /// are begun. `around`: whether fields around them have parents that are different objects. An error

@@ -1,5 +1,5 @@
-//! The rule that fields merge (GraphQL October 2021, 5.3.2 Field Selection Merging): which pairs of selection
-//! sets are compared, and what is told of their fields.
+//! The rule that fields merge (GraphQL October 2021, 5.3.2 Field Selection Merging): bundles of selection
+//! sets decide it, and where there are too many of them which pairs of sets are compared.
 #![tactic(auto)]
 
 mod agenda;
@@ -7,8 +7,8 @@ mod begin;
 mod fields;
 mod finish;
 pub mod laws;
-mod messages;
 mod numbers;
+mod order;
 mod overlapping_fields;
 mod progress;
 mod queue;

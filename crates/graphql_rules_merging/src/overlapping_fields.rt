@@ -1,6 +1,7 @@
 //! The rule OverlappingFieldsCanBeMerged (GraphQL October 2021, 5.3.2 Field Selection Merging).
 
-ghost use Rattle.std.specs.Prelude.{◌≡◌, List, IfOk, IsSorted};
+ghost use Rattle.std.specs.Prelude.{List, IfOk, IsSorted};
+ghost use Rattle.std.specs.List.Sorted.{IsStrictlySortedBy};
 ghost use Rattle.graphql_merging.specs.Contract.{IsSound, IsDirect, IsComplete};
 ghost use Rattle.graphql_merging.specs.Sets.{document_sets};
 ghost use Rattle.graphql_tree.specs.Definitions.{fragments_listed};
@@ -9,10 +10,11 @@ ghost use Rattle.graphql_rule_errors.specs.Places.{places};
 ghost use Rattle.graphql_schema.specs.Declarations.{declarations_of};
 ghost use Rattle.graphql_tree.specs.declared.document.Fragment.{Fragment};
 ghost use Rattle.graphql_merging.specs.Tables.{pieces_of};
-ghost use Rattle.graphql_rules_merging.specs.Comparing.{Stage};
-ghost use Rattle.graphql_rules_merging.specs.Finished.{IsFinished};
+ghost use Rattle.graphql_rules_merging.specs.Finished.{AreFound};
 
 use crate::finish::merge_errors;
+use crate::order::put_in_order;
+use graphql_bundles::{Outcome, told_by_bundles};
 use graphql_merging::SetTable;
 use graphql_rule_errors::RuleError;
 use graphql_schema::SchemaType;
@@ -21,19 +23,53 @@ use graphql_text::Items;
 use graphql_tree::Definition;
 use std::alloc::{AllocError, Global};
 
-/// The errors of the fields of these sets that do not merge, in the order in which they are found. An
-/// error of the call is want of memory.
+/// How many sets and fields bundles may take up before pairs decide: 64 for each set and each field
+/// of the document, and 128.
+fn bound_of<S, C>(table: &SetTable<'_, '_, S, C>) -> usize {
+    let mut written = table.sets.len();
+    for set in table.sets.as_slice() {
+        written = written.saturating_add(set.fields.len());
+    }
+    written.saturating_mul(64).saturating_add(128)
+}
+
+/// The errors of the fields of these sets that do not merge, in the order in which they are found:
+/// those that going through bundles tells. Where it met its bound and told nothing, each two fields
+/// of one response key that stand together are compared. The sets below `definitions` are those of
+/// the document's definitions. An error of the call is want of memory.
+fn found_errors<S: PartialEq, C>(
+    alloc: Global,
+    schema: &SchemaType<S, C>,
+    table: &SetTable<'_, '_, S, C>,
+    definitions: usize,
+) -> Result<Items<RuleError>, AllocError>
+    ensures { IfOk result (λ errors. (fragments : List (Fragment S)) →
+        AreFound S.eq schema.now.types (pieces_of fragments table.now) definitions (places errors)) }
+{
+    let told = told_by_bundles(alloc, schema, table, definitions, bound_of(table))?;
+    match told {
+        Outcome::Told(errors) => Ok(errors),
+        Outcome::TooMany(errors) => {
+            if errors.is_empty() {
+                return merge_errors(alloc, schema, table, definitions);
+            }
+            Ok(errors)
+        }
+    }
+}
+
+/// The same, and these sets are let go. An error of the call is want of memory.
 fn errors_of_table<'d, 'a, S: PartialEq, C>(
     alloc: Global,
     schema: &SchemaType<S, C>,
     table: SetTable<'d, 'a, S, C>,
     definitions: usize,
 ) -> Result<Items<RuleError>, AllocError>
-    ensures { IfOk result (λ errors. (fragments : List (Fragment S)) → (stage : Stage)
-        × (stage.told ≡ places errors)
-        × IsFinished S.eq schema.now.types (pieces_of fragments table.entry) definitions stage) }
+    ensures { IfOk result (λ errors. (fragments : List (Fragment S)) →
+        AreFound S.eq schema.now.types (pieces_of fragments table.entry) definitions
+        (places errors)) }
 {
-    let outcome = merge_errors(alloc, schema, &table, definitions);
+    let outcome = found_errors(alloc, schema, &table, definitions);
     let_go(table);
     outcome
 }
@@ -54,10 +90,9 @@ pub fn overlapping_fields_can_be_merged<S: Eq, C>(
         IfOk result (λ errors. Settled (fragments_listed document.now) → IsSound S.eq types sets (places errors)
         × IsDirect S.eq types sets (places errors) × IsComplete S.eq types sets (places errors)) }
     ensures sorted { IfOk result (IsSorted ⟦<RuleError as Ord>⟧.cmp) }
+    ensures once { IfOk result (IsStrictlySortedBy ⟦<RuleError as Ord>⟧.cmp) }
 {
     let table = numbered_sets(alloc, schema, document)?;
     let found = errors_of_table(alloc, schema, table, document.len())?;
-    let mut errors = found.into_vec();
-    errors.sort_unstable();
-    Ok(Items::from_vec(errors))
+    Ok(put_in_order(found))
 }

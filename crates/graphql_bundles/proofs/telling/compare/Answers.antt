@@ -13,14 +13,14 @@ returns-in-Some g c =
     let types = c.args.schema.now.types in
     let left = c.args.left.now.selected in
     let right = c.args.right.now.selected in
-    on_ok_weaker c.tell.result
+    on_ok_weaker c.tell_as.result
     (λ told fragments.
-    adds-one (Agree eq types c.args.around) (seen fragments left) (seen fragments right) (places c.args.told.now) (places c.tell.new.told)
+    adds-one (Agree eq types c.args.around) (seen fragments left) (seen fragments right) (places c.args.told.now) (places c.tell_as.new.told)
     (in_order left.field.now.span.start right.field.now.span.start)
     (differing eq types c.args.around (seen fragments left) (seen fragments right) c.in-Some.difference
     (subst (Differs eq types c.args.around (seen fragments left) (seen fragments right)) c.in-Some.is (c.in_ok-difference.ensures fragments)))
     refl told.at)
-    c.tell.ensures
+    c.tell_as.ensures
 
 pub returns-in-None : goal.returns-in-None
 returns-in-None g c = λ fragments.
