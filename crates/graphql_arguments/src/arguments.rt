@@ -11,7 +11,7 @@ ghost use Rattle.graphql_arguments.specs.Reading.{ReadsGiven};
 use crate::filling::{absent_defaults, written_values};
 use crate::given::GivenValue;
 use graphql_final_variables::FinalVariables;
-use graphql_meta::Argument;
+use graphql_schema::Argument;
 use graphql_text::{Items, Spanning, TextRef};
 use graphql_values::{FromInputValue, InputValue, ScalarValue};
 use std::alloc::{AllocError, Global};

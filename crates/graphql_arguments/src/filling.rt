@@ -9,7 +9,7 @@ ghost use Rattle.graphql_arguments.specs.GivenValues.{pair_told, values_told};
 
 use crate::given::{GivenValue, given_value};
 use graphql_final_variables::FinalVariables;
-use graphql_meta::Argument;
+use graphql_schema::Argument;
 use graphql_text::{Items, Spanning, TextRef};
 use graphql_values::{InputValue, ScalarValue};
 use std::alloc::{AllocError, Global};

@@ -4,8 +4,8 @@ use Rattle.std.specs.List.{All}
 use Rattle.std.proofs.lemmas.Bool.{or_cases, or_left, or_right}
 use Rattle.graphql_values.specs.Laws.{SameByAThird}
 use Rattle.graphql_tree.specs.Arguments.{Argument}
-use Rattle.graphql_meta.specs.declared.meta.MetaType.{MetaType}
-use Rattle.graphql_meta.specs.Types.{TypeOf}
+use Rattle.graphql_schema.specs.declared.meta.MetaType.{MetaType}
+use Rattle.graphql_schema.specs.Types.{TypeOf}
 use Rattle.graphql_merging.specs.Merging.{is_leaf, IsAmong, SameArguments, SameShape, SameShapes}
 use Rattle.graphql_bundles.specs.BundleLaws.{SameFieldByAThird, SameShapeByAThird}
 

@@ -2,7 +2,7 @@
 use Rattle.std.proofs.Common.{sym, subst, ◌∙◌, ℕ, Bool, List, map, inl, inr}
 use Rattle.std.specs.List.{Contains}
 use Rattle.graphql_values.specs.Laws.{SameByAThird}
-use Rattle.graphql_meta.specs.declared.meta.MetaType.{MetaType}
+use Rattle.graphql_schema.specs.declared.meta.MetaType.{MetaType}
 use Rattle.graphql_rule_errors.specs.Places.{Places}
 use Rattle.graphql_merging.specs.Contract.{IsSound, IsDirect, IsComplete}
 use Rattle.graphql_merging.specs.Done.{all_sets}

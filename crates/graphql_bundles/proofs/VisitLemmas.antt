@@ -11,8 +11,8 @@ use Rattle.std.proofs.lemmas.Option.{get_or_from_slice_get, slice_get_within}
 use Rattle.std.proofs.lemmas.Slice.Eq.{bytes_eq-Decides}
 use Rattle.graphql_text.specs.declared.position.SourcePosition.{SourcePosition}
 use Rattle.graphql_names.specs.Names.{Bytes}
-use Rattle.graphql_meta.specs.declared.meta.MetaType.{MetaType}
-use Rattle.graphql_schema_faults.specs.Lookups.{own_name, is_object}
+use Rattle.graphql_schema.specs.declared.meta.MetaType.{MetaType}
+use Rattle.graphql_schema.specs.Lookups.{own_name, is_object}
 use Rattle.graphql_rule_errors.specs.Places.{Places}
 use Rattle.graphql_tree.specs.declared.document.Fragment.{Fragment}
 use Rattle.graphql_merging.specs.Members.{Member}

@@ -1,6 +1,6 @@
 -- How going through bundles ends.
 use Rattle.std.specs.Prelude.{◌≡◌, ℕ, Bool, true, false, List, [], length, map, ◌⊎◌}
-use Rattle.graphql_meta.specs.declared.meta.MetaType.{MetaType}
+use Rattle.graphql_schema.specs.declared.meta.MetaType.{MetaType}
 use Rattle.graphql_rule_errors.specs.Places.{Places, places}
 use Rattle.graphql_merging.specs.Pieces.{Pieces}
 use Rattle.graphql_merging.specs.Sets.{Set, directs_of}

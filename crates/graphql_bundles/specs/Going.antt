@@ -2,7 +2,7 @@
 use Rattle.std.specs.Prelude.{◌≡◌, ℕ, ◌<◌, Bool, true, false, List, ◌++◌, map, take}
 use Rattle.std.specs.List.{Contains}
 use Rattle.graphql_text.specs.declared.position.SourcePosition.{SourcePosition}
-use Rattle.graphql_meta.specs.declared.meta.MetaType.{MetaType}
+use Rattle.graphql_schema.specs.declared.meta.MetaType.{MetaType}
 use Rattle.graphql_rule_errors.specs.Places.{Places, places}
 use Rattle.graphql_merging.specs.Merging.{Agree}
 use Rattle.graphql_merging.specs.Pieces.{Pieces, PieceField, StandsIn}

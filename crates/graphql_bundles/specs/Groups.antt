@@ -4,8 +4,8 @@ use Rattle.std.specs.List.{Contains, list_any}
 use Rattle.std.specs.Option.{option_map_or, is_some}
 use Rattle.std.specs.Str.{bytes_eq}
 use Rattle.graphql_names.specs.Names.{Bytes}
-use Rattle.graphql_meta.specs.declared.meta.MetaType.{MetaType}
-use Rattle.graphql_schema_faults.specs.Lookups.{own_name, is_object}
+use Rattle.graphql_schema.specs.declared.meta.MetaType.{MetaType}
+use Rattle.graphql_schema.specs.Lookups.{own_name, is_object}
 use Rattle.graphql_tree.specs.declared.document.Fragment.{Fragment}
 use Rattle.graphql_written_out.specs.Written.{response_key}
 use Rattle.graphql_merging.specs.Members.{declared_type}

@@ -1,7 +1,7 @@
 -- Laws of going through bundles.
 use Rattle.std.specs.Prelude.{◌≡◌, ℕ, ◌+◌, ◌<◌, ◌≤◌, Bool, true, List, [], length, get_or, ◌⊎◌}
 use Rattle.std.specs.List.{Contains}
-use Rattle.graphql_meta.specs.declared.meta.MetaType.{MetaType}
+use Rattle.graphql_schema.specs.declared.meta.MetaType.{MetaType}
 use Rattle.graphql_merging.specs.Contract.{IsSound, IsDirect, IsComplete}
 use Rattle.graphql_merging.specs.Done.{IsTold, all_sets}
 use Rattle.graphql_merging.specs.Sets.{Set, members_of}

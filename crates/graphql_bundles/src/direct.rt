@@ -7,9 +7,8 @@ ghost use Rattle.graphql_bundles.specs.Direct.{ComparesBefore, DirectParts, Sort
 
 use crate::telling::compare;
 use graphql_merging::{WrittenField, first_difference};
-use graphql_meta::SchemaScalar;
 use graphql_rule_errors::RuleError;
-use graphql_schema::SchemaType;
+use graphql_schema::{SchemaScalar, SchemaType};
 use graphql_text::Items;
 use std::alloc::{AllocError, Global};
 

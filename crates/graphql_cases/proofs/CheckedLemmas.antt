@@ -10,9 +10,9 @@ use Rattle.graphql_scalars.specs.declared.default_scalar.DefaultScalarValue.{Def
 use Rattle.graphql_scalars.specs.contracts.default_scalar.DefaultScalarValuePartialEq.TheImpl as partial_eq
 use Rattle.graphql_scalars.specs.contracts.default_scalar.DefaultScalarValueEq.TheImpl.Laws.{lawful}
 use Rattle.graphql_values.specs.declared.input_value.InputValue.{InputValue}
-use Rattle.graphql_meta.specs.Checks.{CheckRelation, IsConsistent}
-use Rattle.graphql_meta.proofs.CheckLemmas.{consistent_by}
-use Rattle.graphql_meta.proofs.ScalarCheckLemmas.{scalar_consistent}
+use Rattle.graphql_schema.specs.Checks.{CheckRelation, IsConsistent}
+use Rattle.graphql_schema.proofs.CheckLemmas.{consistent_by}
+use Rattle.graphql_schema.proofs.ScalarCheckLemmas.{scalar_consistent}
 use Rattle.graphql_cases.specs.declared.checked.Checked.{Checked}
 use Rattle.graphql_cases.specs.declared.checked.Checked.TheVariants as checked
 use Rattle.graphql_cases.specs.Checked.{IsAccepted}

@@ -2,7 +2,7 @@
 use Rattle.std.specs.Prelude.{⊤}
 use Rattle.graphql_scalars.specs.declared.default_scalar.DefaultScalarValue.{DefaultScalarValue}
 use Rattle.graphql_values.specs.declared.input_value.InputValue.{InputValue}
-use Rattle.graphql_meta.specs.ScalarChecks.{IsInt, IsString, IsBoolean, IsId}
+use Rattle.graphql_schema.specs.ScalarChecks.{IsInt, IsString, IsBoolean, IsId}
 use Rattle.graphql_cases.specs.declared.checked.Checked.{Checked}
 use Rattle.graphql_cases.specs.declared.checked.Checked.TheVariants as checked
 

@@ -5,8 +5,8 @@ ghost use Rattle.graphql_text.specs.Memory.{Told};
 ghost use Rattle.graphql_scalars.specs.declared.check_error.CheckError.TheVariants.{Memory};
 ghost use Rattle.graphql_cases.specs.Checked.{IsAccepted};
 
-use graphql_meta::scalar_checks::{boolean_check, id_check, int_check, string_check};
 use graphql_scalars::CheckError;
+use graphql_schema::scalar_checks::{boolean_check, id_check, int_check, string_check};
 use graphql_values::{DefaultScalarValue, InputValue};
 use std::alloc::Global;
 

@@ -6,11 +6,11 @@
 use crate::checked::Checked;
 use crate::faults::Fault;
 use graphql_language::{Parser, parse_type, parse_value_literal};
-use graphql_meta::{
+use graphql_names::{Named, NamedItems};
+use graphql_schema::{
     Argument, DeprecationStatus, EnumMeta, EnumValue, Field, InputObjectMeta, InterfaceMeta,
     MetaType, ObjectMeta, ScalarMeta, TypeCheck, UnionMeta,
 };
-use graphql_names::{Named, NamedItems};
 use graphql_text::{Items, Text, Token};
 use graphql_type_references::Type;
 use graphql_values::{DefaultScalarValue, InputValue};

@@ -18,7 +18,7 @@ ghost use Rattle.graphql_collect.specs.Collecting.{Brings, CompleteIn, IsItself,
 use crate::collected_field::CollectedField;
 use crate::open_set::OpenSet;
 use crate::request::Request;
-use graphql_meta::SchemaScalar;
+use graphql_schema::SchemaScalar;
 use graphql_text::{Items, Spanning, TextRef};
 use graphql_tree::{Directive, Field, FragmentSpread, InlineFragment, Selection};
 use graphql_written_out::left_out;

@@ -2,8 +2,7 @@
 
 use crate::fragments::Fragments;
 use graphql_final_variables::FinalVariables;
-use graphql_meta::SchemaScalar;
-use graphql_schema::SchemaType;
+use graphql_schema::{SchemaScalar, SchemaType};
 
 /// A schema, the fragments of a document, and the final values of an operation's variables.
 #[derive(Drop)]

@@ -1,9 +1,9 @@
 -- Which types have the field `__typename`.
 use Rattle.std.proofs.Common.{◌≡◌, Bool, true, false, refl}
 use Rattle.std.specs.Prelude.{◌↔◌, IsTrue}
-use Rattle.graphql_meta.specs.declared.meta.MetaType.{MetaType}
-use Rattle.graphql_meta.specs.declared.meta.MetaType.TheVariants as meta
-use Rattle.graphql_meta.specs.Kinds.{IsComposite}
+use Rattle.graphql_schema.specs.declared.meta.MetaType.{MetaType}
+use Rattle.graphql_schema.specs.declared.meta.MetaType.TheVariants as meta
+use Rattle.graphql_schema.specs.Kinds.{IsComposite}
 use Rattle.graphql_schema.specs.Declarations.{is_composite}
 
 is_false : (b : Bool) → (b ≡ true → ⊥) → b ≡ false

@@ -1,9 +1,9 @@
 -- What is lent of a schema's declarations.
 use Rattle.std.specs.Prelude.{List, []}
 use Rattle.std.specs.Option.{option_copied, unwrap_or}
-use Rattle.graphql_meta.specs.declared.meta.argument.Argument.{Argument}
-use Rattle.graphql_meta.specs.declared.meta.field.Field.{Field}
-use Rattle.graphql_meta.specs.Types.{TypeOf}
+use Rattle.graphql_schema.specs.declared.meta.argument.Argument.{Argument}
+use Rattle.graphql_schema.specs.declared.meta.field.Field.{Field}
+use Rattle.graphql_schema.specs.Types.{TypeOf}
 use Rattle.graphql_declarations.specs.Lookups.{typename_field}
 use Rattle.graphql_declarations.specs.declared.arguments.DeclaredArguments.{DeclaredArguments}
 use Rattle.graphql_declarations.specs.declared.fields.KnownField.{KnownField}

@@ -2,12 +2,12 @@
 use Rattle.std.specs.Prelude.{◌&&◌, List, [], Option, Some, None, codes, if◌then◌else◌}
 use Rattle.std.specs.Option.{option_map, option_and_then}
 use Rattle.std.specs.Str.{bytes_eq}
-use Rattle.graphql_meta.specs.declared.directive.DirectiveType.{DirectiveType}
-use Rattle.graphql_meta.specs.declared.meta.argument.Argument.{Argument}
-use Rattle.graphql_meta.specs.declared.meta.deprecation.DeprecationStatus.TheVariants as status
-use Rattle.graphql_meta.specs.declared.meta.field.Field.{Field}
-use Rattle.graphql_meta.specs.declared.meta.MetaType.{MetaType}
-use Rattle.graphql_meta.specs.Types.{TypeOf, arguments_of, fields_of, reference_to}
+use Rattle.graphql_schema.specs.declared.directive.DirectiveType.{DirectiveType}
+use Rattle.graphql_schema.specs.declared.meta.argument.Argument.{Argument}
+use Rattle.graphql_schema.specs.declared.meta.deprecation.DeprecationStatus.TheVariants as status
+use Rattle.graphql_schema.specs.declared.meta.field.Field.{Field}
+use Rattle.graphql_schema.specs.declared.meta.MetaType.{MetaType}
+use Rattle.graphql_schema.specs.Types.{TypeOf, arguments_of, fields_of, reference_to}
 use Rattle.graphql_names.specs.Names.{Bytes, named}
 pub use Rattle.graphql_schema.specs.Declarations.{Declarations, declarations_of, argument_named, own_name, type_named}
 pub use Rattle.graphql_schema.specs.StandardDirectives.{directive_named}

@@ -2,12 +2,12 @@
 
 ghost use Rattle.std.specs.Prelude.{◌≡◌, []};
 ghost use Rattle.std.specs.Option.{option_and_then, option_copied, option_map, option_map_or};
-ghost use Rattle.graphql_meta.specs.Types.{arguments_of};
+ghost use Rattle.graphql_schema.specs.Types.{arguments_of};
 ghost use Rattle.graphql_declarations.specs.Lent.{arguments_lent};
 ghost use Rattle.graphql_declarations.specs.Lookups as spec;
 
-use graphql_meta::{Argument, DirectiveType, Field};
 use graphql_names::NamedItems;
+use graphql_schema::{Argument, DirectiveType, Field};
 
 /// The arguments that a field or a directive declares, lent (GraphQL October 2021, 3.6.1 Field
 /// Arguments, 3.13 Directives).

@@ -2,14 +2,14 @@
 
 ghost use Rattle.std.specs.Prelude.{◌≡◌};
 ghost use Rattle.std.specs.Option.{option_copied, option_map};
-ghost use Rattle.graphql_meta.specs.Types.{arguments_of};
+ghost use Rattle.graphql_schema.specs.Types.{arguments_of};
 ghost use Rattle.graphql_schema.specs.Declarations.{is_composite};
 ghost use Rattle.graphql_declarations.specs.Lookups as spec;
 ghost use Rattle.graphql_declarations.specs.Lent.{arguments_lent, field_of_known, literal_of};
 
 use crate::arguments::DeclaredArguments;
 use crate::literal::TypeLiteral;
-use graphql_meta::{Field, MetaType};
+use graphql_schema::{Field, MetaType};
 
 /// A field that its parent has: one that the schema declares, or `__typename`, which is a field of
 /// each object, each interface and each union (GraphQL October 2021, 4.1 Type Name Introspection).

@@ -2,7 +2,7 @@
 
 ghost use Rattle.std.specs.Prelude.{◌≡◌};
 ghost use Rattle.std.specs.Option.{option_map};
-ghost use Rattle.graphql_meta.specs.Types.{reference_to};
+ghost use Rattle.graphql_schema.specs.Types.{reference_to};
 ghost use Rattle.graphql_schema.specs.TypeTypes.{within_list};
 ghost use Rattle.graphql_declarations.specs.Lookups.{item_type};
 ghost use Rattle.graphql_declarations.specs.Lent.{literal_of};

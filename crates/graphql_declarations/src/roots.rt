@@ -5,8 +5,7 @@ ghost use Rattle.std.specs.Option.{option_copied};
 ghost use Rattle.graphql_schema.specs.Declarations.{declarations_of};
 ghost use Rattle.graphql_declarations.specs.Lookups as spec;
 
-use graphql_meta::MetaType;
-use graphql_schema::SchemaType;
+use graphql_schema::{MetaType, SchemaType};
 use graphql_tree::OperationType;
 
 /// The root of an operation, if the schema has it (GraphQL October 2021, 3.3.1 Root Operation Types).

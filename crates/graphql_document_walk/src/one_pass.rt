@@ -7,7 +7,7 @@ ghost use Rattle.graphql_visitors.specs.Runs.{Visited};
 ghost use Rattle.graphql_visitors.specs.Subjects.{subject_of};
 
 use crate::walk::Walk;
-use graphql_meta::SchemaScalar;
+use graphql_schema::SchemaScalar;
 use graphql_visitors::{ValidatorContext, Visitor};
 
 /// The visitor steps over every event of the context's document, in order, and what it reports comes

@@ -12,9 +12,8 @@ mod tasks;
 mod values;
 
 use definitions::{open_definitions, open_document, open_variables};
-use graphql_meta::SchemaScalar;
 use graphql_occurrences::{Around, Seen};
-use graphql_schema::SchemaType;
+use graphql_schema::{SchemaScalar, SchemaType};
 use graphql_text::Items;
 use graphql_tree::Definition;
 use selections::{open_directives, open_selections, open_set};

@@ -7,10 +7,10 @@ ghost use Rattle.graphql_drafted_types.specs.DraftedTypes as spec;
 ghost use Rattle.graphql_drafted_types.specs.SpelledTexts.{Finds};
 
 use crate::texts::{literal_in, type_in};
-use graphql_meta::{
+use graphql_names::NamedItems;
+use graphql_schema::{
     Argument, DeprecationStatus, Field, InterfaceMeta, MetaType, ObjectMeta, UnionMeta,
 };
-use graphql_names::NamedItems;
 use graphql_schema_drafts::{ArgumentDraft, DraftKind, FieldDraft, TypeDraft};
 use graphql_text::{Items, Text, TextRef};
 use graphql_values::{DefaultScalarValue, InputValue};

@@ -4,7 +4,7 @@ use Rattle.std.specs.Prelude.{codes, if◌then◌else◌, IfSome}
 use Rattle.std.specs.List.{Contains, sum}
 use Rattle.std.specs.Str.{bytes_eq}
 use Rattle.graphql_names.specs.Names.{Bytes, is_one_of}
-use Rattle.graphql_meta.specs.Types.{TypeOf, reference_to}
+use Rattle.graphql_schema.specs.Types.{TypeOf, reference_to}
 use Rattle.graphql_written_out.specs.Trees.{Head, Tree, none, field, inline}
 use Rattle.graphql_written_out.specs.Fields.{Found}
 use Rattle.graphql_written_out.specs.Groups.{groups}

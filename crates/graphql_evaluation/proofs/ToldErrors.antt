@@ -4,7 +4,7 @@ use Rattle.std.specs.List.{All}
 use Rattle.std.proofs.lemmas.List.Elements.{All-nil}
 use Rattle.graphql_names.specs.Names.{Bytes}
 use Rattle.graphql_text.specs.declared.position.SourcePosition.{SourcePosition}
-use Rattle.graphql_meta.specs.Types.{TypeOf}
+use Rattle.graphql_schema.specs.Types.{TypeOf}
 use Rattle.graphql_output_values.proofs.DistinctKeyLaws.{by_forms}
 use Rattle.graphql_written_out.specs.Trees.{Head, Tree}
 use Rattle.graphql_written_out.specs.Groups.{groups}

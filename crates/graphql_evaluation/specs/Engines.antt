@@ -2,7 +2,7 @@
 use Rattle.std.specs.Prelude.{Bool, Option, Result}
 use Rattle.graphql_names.specs.Names.{Bytes}
 use Rattle.graphql_arguments.specs.ArgumentValues.{Given}
-use Rattle.graphql_meta.specs.Types.{TypeOf}
+use Rattle.graphql_schema.specs.Types.{TypeOf}
 use Rattle.graphql_written_out.specs.Trees.{Directives, Head}
 use Rattle.graphql_field_results.specs.declared.field_error.FieldError.{FieldError}
 use Rattle.graphql_field_results.specs.declared.resolved.Resolved.{Resolved}

@@ -11,7 +11,7 @@ use Rattle.graphql_written_out.specs.Groups.{groups}
 use Rattle.graphql_field_results.specs.declared.execution_error.ExecutionError.{ExecutionError}
 use Rattle.graphql_field_results.specs.declared.field_error.FieldError.{FieldError}
 use Rattle.graphql_field_results.specs.declared.resolved.Resolved.{Resolved}
-use Rattle.graphql_meta.specs.Types.{TypeOf}
+use Rattle.graphql_schema.specs.Types.{TypeOf}
 use Rattle.graphql_evaluation.specs.Engines.{Engine}
 use Rattle.graphql_evaluation.specs.Outcomes.{Outcome, no_value, gives, outcome_map, show_place, together}
 use Rattle.graphql_evaluation.specs.Completion.{Members, blame_at, complete_result, is_required}

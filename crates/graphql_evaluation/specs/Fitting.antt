@@ -8,7 +8,7 @@ use Rattle.graphql_output_values.specs.declared.value.Value.TheVariants as value
 use Rattle.graphql_written_out.specs.Trees.{Tree}
 use Rattle.graphql_written_out.specs.Fields.{Found}
 use Rattle.graphql_written_out.specs.Groups.{groups}
-use Rattle.graphql_meta.specs.Types.{TypeOf}
+use Rattle.graphql_schema.specs.Types.{TypeOf}
 use Rattle.graphql_evaluation.specs.Engines.{Engine}
 use Rattle.graphql_evaluation.specs.Completion.{Members, is_required, object_members}
 use Rattle.graphql_evaluation.specs.Evaluation.{Group, found_in, sets_below}

@@ -9,7 +9,7 @@ use Rattle.graphql_tree.specs.declared.document.Fragment.{Fragment}
 use Rattle.graphql_output_values.specs.declared.value.Value.{Value}
 use Rattle.graphql_output_values.specs.declared.value.Value.TheVariants as value
 use Rattle.graphql_type_references.specs.declared.type_modifier.TypeModifier.{TypeModifier}
-use Rattle.graphql_meta.specs.Types.{TypeOf}
+use Rattle.graphql_schema.specs.Types.{TypeOf}
 use Rattle.graphql_collect.specs.declared.collected_field.CollectedField.{CollectedField}
 use Rattle.graphql_written_out.specs.Written.{head_of}
 use Rattle.graphql_field_results.specs.declared.field_error.FieldError.{FieldError}

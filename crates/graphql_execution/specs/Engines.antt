@@ -3,7 +3,7 @@ use Rattle.std.specs.Prelude.{Bool, List, Option}
 use Rattle.graphql_scalars.specs.ScalarAnswers.{ScalarAnswer}
 use Rattle.graphql_names.specs.Names.{Bytes}
 use Rattle.graphql_values.specs.declared.input_value.InputValue.{InputValue}
-use Rattle.graphql_meta.specs.declared.meta.MetaType.{MetaType}
+use Rattle.graphql_schema.specs.declared.meta.MetaType.{MetaType}
 use Rattle.graphql_schema.specs.Subtypes.{is_named_subtype}
 use Rattle.graphql_arguments.specs.ArgumentValues.{Given, argument_values}
 use Rattle.graphql_final_variables.specs.FinalVariables.{value_in}

@@ -1,11 +1,11 @@
 -- What a schema declares of a field of an object type, and of the types of its values (GraphQL October 2021, 3.6 Objects, 4.1 Type Name Introspection).
 use Rattle.std.specs.Prelude.{Bool, true, false, List, [], Option, Some, unwrap_or}
 use Rattle.graphql_names.specs.Names.{Bytes}
-use Rattle.graphql_meta.specs.declared.meta.argument.Argument.{Argument}
-use Rattle.graphql_meta.specs.declared.meta.MetaType.{MetaType}
-use Rattle.graphql_meta.specs.declared.meta.MetaType.TheVariants as meta
-use Rattle.graphql_meta.specs.Types.{TypeOf}
-use Rattle.graphql_schema_faults.specs.Lookups.{type_named}
+use Rattle.graphql_schema.specs.declared.meta.argument.Argument.{Argument}
+use Rattle.graphql_schema.specs.declared.meta.MetaType.{MetaType}
+use Rattle.graphql_schema.specs.declared.meta.MetaType.TheVariants as meta
+use Rattle.graphql_schema.specs.Types.{TypeOf}
+use Rattle.graphql_schema.specs.Lookups.{type_named}
 use Rattle.graphql_schema.specs.Possible.{is_possible}
 use Rattle.graphql_declarations.specs.Lookups.{field_of, field_type, field_arguments}
 

@@ -16,7 +16,7 @@ use Rattle.graphql_written_out.specs.Trees.{Tree}
 use Rattle.graphql_written_out.specs.Written.{written}
 use Rattle.graphql_tree.specs.declared.document.Fragment.{Fragment}
 use Rattle.graphql_tree.specs.declared.selection.Selection.{Selection}
-use Rattle.graphql_meta.specs.Types.{TypeOf}
+use Rattle.graphql_schema.specs.Types.{TypeOf}
 use Rattle.graphql_execution.specs.declared.frames.Known.{Known}
 use Rattle.graphql_look_ahead.specs.declared.selected.Selected.{Selected}
 use Rattle.graphql_look_ahead.specs.declared.selected.Selected.TheVariants as selected

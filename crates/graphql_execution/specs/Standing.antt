@@ -7,7 +7,7 @@ use Rattle.graphql_values.specs.InputValues.{Placed}
 use Rattle.graphql_tree.specs.declared.selection.Field.{Field}
 use Rattle.graphql_tree.specs.declared.selection.Selection.{Selection}
 use Rattle.graphql_tree.specs.declared.selection.Selection.TheVariants as selection
-use Rattle.graphql_meta.specs.Types.{TypeOf}
+use Rattle.graphql_schema.specs.Types.{TypeOf}
 use Rattle.graphql_declarations.specs.Lent.{literal_of}
 use Rattle.graphql_arguments.specs.ArgumentValues.{Given}
 use Rattle.graphql_written_out.specs.Fields.{Found}

@@ -8,7 +8,7 @@ ghost use Rattle.graphql_execution.specs.declared.asked.Asked.TheVariants as ask
 use crate::graphql_value::GraphQLValue;
 use graphql_field_results::Resolved;
 use graphql_introspection::{SchemaAnswer, SchemaPart, part_type_name};
-use graphql_meta::SchemaScalar;
+use graphql_schema::SchemaScalar;
 use graphql_text::Items;
 use std::alloc::{AllocError, Global};
 

@@ -22,9 +22,9 @@ use crate::parts::{Outer, is_null, take_apart};
 use crate::selected::KeptSelected;
 use graphql_field_results::{FieldFault, FieldResult, Resolved};
 use graphql_look_ahead::Selected;
-use graphql_meta::SchemaScalar;
 use graphql_names::NameMap;
 use graphql_output_values::Value;
+use graphql_schema::SchemaScalar;
 use graphql_text::{Items, SourcePosition, TextRef};
 use graphql_type_references::TypeModifier;
 

@@ -23,9 +23,9 @@ use crate::parts::or_null;
 use crate::report::Report;
 use crate::stack::drive;
 use graphql_field_results::{ExecutionError, FieldFault, FieldResult, Resolved};
-use graphql_meta::SchemaScalar;
 use graphql_names::NameMap;
 use graphql_output_values::Value;
+use graphql_schema::SchemaScalar;
 use graphql_text::{Items, TextRef};
 use std::alloc::AllocError;
 

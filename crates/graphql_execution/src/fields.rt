@@ -4,13 +4,12 @@ ghost use Rattle.std.specs.Prelude.{◌≡◌, [], IfSome, is_some};
 ghost use Rattle.std.specs.Option.{option_map};
 ghost use Rattle.graphql_declarations.specs.Lent.{field_of_known, literal_of};
 ghost use Rattle.graphql_declarations.specs.Lookups as lookups;
-ghost use Rattle.graphql_meta.specs.Types.{own_name};
-ghost use Rattle.graphql_schema_faults.specs.Lookups.{type_named};
+ghost use Rattle.graphql_schema.specs.Types.{own_name};
+ghost use Rattle.graphql_schema.specs.Lookups.{type_named};
 ghost use Rattle.graphql_execution.specs.FieldDeclarations as spec;
 
 use graphql_declarations::{KnownField, TypeLiteral, arguments_of_field, field_of, type_of_field};
-use graphql_meta::{Argument, MetaType};
-use graphql_schema::SchemaType;
+use graphql_schema::{Argument, MetaType, SchemaType};
 
 /// What the schema says of a field of the object type of this name.
 fn known_field<'t, S, C>(

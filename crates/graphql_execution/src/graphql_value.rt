@@ -3,7 +3,7 @@
 use crate::executor::Executor;
 use graphql_arguments::Arguments;
 use graphql_field_results::{FieldResult, Resolved};
-use graphql_meta::SchemaScalar;
+use graphql_schema::SchemaScalar;
 
 /// What answers the fields of a schema's objects (GraphQL October 2021, 6.4.2 Value Resolution). An answer
 /// is a function of the context, the node, the field and the argument values, and depends on nothing

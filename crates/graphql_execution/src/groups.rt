@@ -11,7 +11,7 @@ use crate::frames::{KnownGroups, SharedGroups};
 use crate::shared::Shared;
 use graphql_collect::{CollectedField, Group, Request, fields_below, fields_of_set, grouped};
 use graphql_look_ahead::Selected;
-use graphql_meta::SchemaScalar;
+use graphql_schema::SchemaScalar;
 use graphql_text::Items;
 use std::alloc::{AllocError, Global};
 

@@ -21,8 +21,8 @@ use crate::groups::groups_collected;
 use crate::parts::with_member;
 use crate::report::Report;
 use crate::stack::answer;
-use graphql_meta::SchemaScalar;
 use graphql_output_values::Value;
+use graphql_schema::SchemaScalar;
 use graphql_text::Items;
 use std::alloc::AllocError;
 

@@ -30,8 +30,8 @@ use crate::parts::shown;
 use crate::report::Report;
 use crate::steps::{give, start};
 use graphql_collect::Group;
-use graphql_meta::SchemaScalar;
 use graphql_output_values::Value;
+use graphql_schema::SchemaScalar;
 use graphql_text::Items;
 use std::alloc::AllocError;
 

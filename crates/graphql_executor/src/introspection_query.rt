@@ -9,11 +9,10 @@ use crate::operation::Response;
 use crate::request::execute_sync;
 use crate::resolving::Resolving;
 use graphql_field_results::ExecutionError;
-use graphql_meta::SchemaScalar;
 use graphql_mutation::GraphQLMutationValue;
 use graphql_requests::{GraphQLError, Meaning};
 use graphql_rule_errors::RuleError;
-use graphql_schema::RootNode;
+use graphql_schema::{RootNode, SchemaScalar};
 use graphql_values::Variables;
 use std::alloc::Global;
 

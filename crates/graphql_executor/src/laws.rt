@@ -2,10 +2,10 @@
 
 ghost use Rattle.graphql_executor.specs.Laws.{AnswersAreOne};
 
-use graphql_meta::SchemaScalar;
 use graphql_mutation::GraphQLMutationValue;
 use graphql_requests::Meaning;
 pub use graphql_requests::laws::{executable_requests_are_not_refused, one_operation_is_executed};
+use graphql_schema::SchemaScalar;
 
 /// Two answers to one request, over one resolver and one context, have the same data, and leave the same
 /// context.

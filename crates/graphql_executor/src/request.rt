@@ -10,13 +10,12 @@ use crate::operation::Response;
 use crate::resolving::Resolving;
 use crate::validated::execute_validated_query;
 use graphql_field_results::ExecutionError;
-use graphql_meta::SchemaScalar;
 use graphql_mutation::GraphQLMutationValue;
 use graphql_requests::{
     GraphQLError, Meaning, chosen_operation, documents_without_a_fault_are_settled, read_request,
 };
 use graphql_rule_errors::RuleError;
-use graphql_schema::RootNode;
+use graphql_schema::{RootNode, SchemaScalar};
 use graphql_values::Variables;
 use std::alloc::Global;
 

@@ -1,7 +1,7 @@
 //! What a resolver answers and changes, by one word for contracts.
 
-use graphql_meta::SchemaScalar;
 use graphql_mutation::GraphQLMutationValue;
+use graphql_schema::SchemaScalar;
 
 /// What a resolver answers and changes. Each resolver of queries and mutations has it.
 pub trait Resolving<S: SchemaScalar>: GraphQLMutationValue<S> {

@@ -10,10 +10,9 @@ ghost use Rattle.graphql_executor_tests.specs.OnlyResponses.{NeverExecuted, Only
 use graphql_executor::laws::{answers_are_one, executable_requests_are_not_refused};
 use graphql_executor::{GraphQLError, Meaning, Resolving, Response, execute_sync};
 use graphql_field_results::ExecutionError;
-use graphql_meta::SchemaScalar;
 use graphql_mutation::GraphQLMutationValue;
 use graphql_rule_errors::RuleError;
-use graphql_schema::RootNode;
+use graphql_schema::{RootNode, SchemaScalar};
 use graphql_values::Variables;
 use std::alloc::Global;
 

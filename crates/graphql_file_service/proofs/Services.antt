@@ -5,7 +5,7 @@ use Rattle.graphql_text.specs.Memory.{Meets}
 use Rattle.graphql_names.specs.Names.{Bytes}
 use Rattle.graphql_scalars.specs.declared.default_scalar.DefaultScalarValue.{DefaultScalarValue}
 use Rattle.graphql_values.specs.declared.input_value.InputValue.{InputValue}
-use Rattle.graphql_meta.specs.declared.meta.MetaType.{MetaType}
+use Rattle.graphql_schema.specs.declared.meta.MetaType.{MetaType}
 use Rattle.graphql_schema.specs.Executable.{is_executable}
 use Rattle.graphql_schema.specs.Schemas.{roots_of}
 use Rattle.graphql_schema.specs.declared.root_node.RootNode.{RootNode}

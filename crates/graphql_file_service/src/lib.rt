@@ -8,7 +8,7 @@ pub mod sample;
 
 pub use data_file::DataFile;
 pub use graphql_data_files::DataFileError;
-pub use graphql_meta::TypeCheck;
+pub use graphql_schema::TypeCheck;
 pub use graphql_schema_files::{SchemaFile, SchemaFileError};
 pub use graphql_service as service;
 pub use graphql_service::{

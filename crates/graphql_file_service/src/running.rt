@@ -10,11 +10,10 @@ ghost use Rattle.graphql_file_service.specs.TableServices.{IsDescribed, IsDue, I
 use crate::data_file::DataFile;
 use crate::run_fault::RunFault;
 use graphql_field_results::ExecutionError;
-use graphql_meta::scalar_checks::StandardChecks;
-use graphql_meta::{Check, TypeCheck};
 use graphql_rule_errors::RuleError;
 use graphql_scalars::DefaultScalarValue;
-use graphql_schema::RootNode;
+use graphql_schema::scalar_checks::StandardChecks;
+use graphql_schema::{Check, RootNode, TypeCheck};
 use graphql_schema_files::SchemaFile;
 use graphql_service::{
     ByteSink, ByteSource, Meaning, Resolving, ServeError, Service, ServiceFault,

@@ -10,9 +10,9 @@ use Rattle.graphql_tree.specs.declared.selection.Selection.{Selection}
 use Rattle.graphql_written_out.specs.Trees.{Directives, Tree, none, is_empty, IsFilled}
 use Rattle.graphql_written_out.specs.Written.{listed, fragment_meant, Before, chain, spread_as, write_with, write}
 use Rattle.graphql_written_out.proofs.WrittenEquations.{write_field, write_spread, write_inline}
-use Rattle.graphql_settled_fragments.specs.SpreadNames.{spread_names, names_in, WrittenWithin}
-use Rattle.graphql_settled_fragments.proofs.ListItems.{all-left, all-right, all-first}
-use Rattle.graphql_settled_fragments.proofs.WrittenLevels.{names-field, names-spread, names-inline, spread_at, write-is}
+use Rattle.graphql_rules_document.specs.SpreadNames.{spread_names, names_in, WrittenWithin}
+use Rattle.graphql_rules_document.proofs.ListItems.{all-left, all-right, all-first}
+use Rattle.graphql_rules_document.proofs.WrittenLevels.{names-field, names-spread, names-inline, spread_at, write-is}
 use Rattle.graphql_filled_sets.specs.WholeSets.{IsWhole, whole_field, whole_spread, whole_inline, IsWholeIfThere, no_set, whole_set, IsWholeSet, one_selection, more_selections}
 use Rattle.graphql_filled_sets.specs.Laws.{IsFull}
 

@@ -20,8 +20,8 @@ use Rattle.graphql_scopes.specs.Scopes.{FragmentScope}
 use Rattle.graphql_scopes.proofs.Rows.{put, select, spread}
 use Rattle.graphql_rules_document.specs.Ends.{EndsWithin}
 use Rattle.graphql_written_out.specs.Written.{fragment_meant, written}
-use Rattle.graphql_settled_fragments.specs.Counted.{IsSpread}
-use Rattle.graphql_settled_fragments.proofs.Rows.{field_types_are_known, they_are_known, its_scopes, each_ends}
+use Rattle.graphql_rules_document.specs.Counted.{IsSpread}
+use Rattle.graphql_rules_document.proofs.SettledRows.{field_types_are_known, they_are_known, its_scopes, each_ends}
 use Rattle.graphql_filled_sets.specs.WholeSets.{IsWholeSet, whole_field, whole_spread, no_set, whole_set, one_selection, more_selections, set_of}
 use Rattle.graphql_filled_sets.specs.Laws.{AreWhole, IsFull}
 use Rattle.graphql_filled_sets.proofs.WrittenSets.{written-sets-are-filled}

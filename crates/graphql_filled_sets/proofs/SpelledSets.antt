@@ -14,7 +14,7 @@ use Rattle.graphql_tree.specs.declared.selection.InlineFragment.{InlineFragment}
 use Rattle.graphql_tree.specs.declared.selection.Selection.{Selection}
 use Rattle.graphql_language.specs.Selections.{SelectionOf, of_field, of_spread, of_inline, FieldOf, of_parts, InlineOf, of_inline_parts, MaybeSetOf, no_set, some_set, SetOf, of_set, SelectionsOf, one_selection, more_selections}
 use Rattle.graphql_language.specs.Documents.{DocumentOf, DefinitionOf, FragmentOf, OperationOf}
-use Rattle.graphql_settled_fragments.proofs.ListItems.{only-one, all-of, all-from}
+use Rattle.graphql_rules_document.proofs.ListItems.{only-one, all-of, all-from}
 use Rattle.graphql_filled_sets.specs.WholeSets as whole
 use Rattle.graphql_filled_sets.specs.WholeSets.{IsWhole, IsWholeIfThere, IsWholeSet, set_of}
 

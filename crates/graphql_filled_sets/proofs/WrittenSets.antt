@@ -14,12 +14,12 @@ use Rattle.graphql_occurrences.specs.Occurrences.{definition_parts, occurrences}
 use Rattle.graphql_occurrences.specs.Parts.{Part, AField, ASpread, Condition}
 use Rattle.graphql_scopes.specs.Scopes.{fragment_scopes}
 use Rattle.graphql_written_out.specs.Written.{written}
-use Rattle.graphql_settled_fragments.specs.SpreadNames.{names_in, WrittenWithin}
-use Rattle.graphql_settled_fragments.specs.Counted.{IsSpread, AreKnown, FieldTypesAreKnown}
-use Rattle.graphql_settled_fragments.proofs.ListItems.{nothing-in, only-one, all-of, all-from}
-use Rattle.graphql_settled_fragments.proofs.WrittenLevels.{write-more}
-use Rattle.graphql_settled_fragments.proofs.CountedSpreads.{fragment-counted, operation-counted}
-use Rattle.graphql_settled_fragments.proofs.SettledFragments.{meant, within, as-many}
+use Rattle.graphql_rules_document.specs.SpreadNames.{names_in, WrittenWithin}
+use Rattle.graphql_rules_document.specs.Counted.{IsSpread, AreKnown, FieldTypesAreKnown}
+use Rattle.graphql_rules_document.proofs.ListItems.{nothing-in, only-one, all-of, all-from}
+use Rattle.graphql_rules_document.proofs.WrittenLevels.{write-more}
+use Rattle.graphql_rules_document.proofs.CountedSpreads.{fragment-counted, operation-counted}
+use Rattle.graphql_rules_document.proofs.SettledFragments.{meant, within, as-many}
 use Rattle.graphql_filled_sets.specs.WholeSets.{IsWholeSet, set_of}
 use Rattle.graphql_filled_sets.specs.Laws.{IsFull, WrittenSetsAreFilled}
 use Rattle.graphql_filled_sets.proofs.FullSets.{IsMeant, Sound, write-full}

@@ -20,7 +20,7 @@ use Rattle.graphql_scopes.specs.Scopes.{fragment_scopes}
 use Rattle.graphql_rules_document.specs.Ends.{EndsWithin}
 use Rattle.graphql_written_out.specs.Trees.{Tree, is_empty, IsFilled}
 use Rattle.graphql_written_out.specs.Written.{fragment_meant, written}
-use Rattle.graphql_settled_fragments.specs.Counted.{IsSpread, AreKnown}
+use Rattle.graphql_rules_document.specs.Counted.{IsSpread, AreKnown}
 use Rattle.graphql_filled_sets.specs.WholeSets.{IsWholeSet, set_of}
 
 -- the sets of all definitions are whole

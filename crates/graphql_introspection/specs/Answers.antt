@@ -5,9 +5,9 @@ use Rattle.std.specs.Option.{option_and_then}
 use Rattle.std.specs.Str.{bytes_eq}
 use Rattle.graphql_names.specs.Names.{Bytes}
 use Rattle.graphql_scalars.specs.ScalarAnswers.{ScalarAnswer}
-use Rattle.graphql_meta.specs.declared.meta.MetaType.{MetaType}
+use Rattle.graphql_schema.specs.declared.meta.MetaType.{MetaType}
 use Rattle.graphql_schema.specs.declared.schema.SchemaType.{SchemaType}
-use Rattle.graphql_schema_faults.specs.Lookups.{by_kind, type_named}
+use Rattle.graphql_schema.specs.Lookups.{by_kind, type_named}
 use Rattle.graphql_arguments.specs.ArgumentValues.{Given}
 use Rattle.graphql_field_results.specs.declared.resolved.Resolved.TheVariants as resolved
 use Rattle.graphql_introspection.specs.declared.part.SchemaPart.{SchemaPart}

@@ -3,8 +3,8 @@
 use Rattle.std.specs.Prelude.{Bool, List, map, Option}
 use Rattle.std.specs.Option.{option_map, option_map_or}
 use Rattle.graphql_names.specs.Names.{Bytes}
-use Rattle.graphql_meta.specs.declared.directive_location.DirectiveLocation.{DirectiveLocation}
-use Rattle.graphql_meta.specs.declared.meta.type_kind.TypeKind.{TypeKind}
+use Rattle.graphql_schema.specs.declared.directive_location.DirectiveLocation.{DirectiveLocation}
+use Rattle.graphql_schema.specs.declared.meta.type_kind.TypeKind.{TypeKind}
 use Rattle.graphql_field_results.specs.declared.resolved.Resolved.TheVariants as resolved
 use Rattle.graphql_introspection.specs.Names.{kind_name, location_name}
 use Rattle.graphql_introspection.specs.Nodes.{Answer}

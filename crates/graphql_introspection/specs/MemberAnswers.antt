@@ -6,14 +6,14 @@ use Rattle.std.specs.Str.{bytes_eq}
 use Rattle.graphql_names.specs.Names.{Bytes}
 use Rattle.graphql_scalars.specs.ScalarAnswers.{ScalarAnswer}
 use Rattle.graphql_values.specs.InputValueText.{input_value_text}
-use Rattle.graphql_meta.specs.declared.directive.DirectiveType.{DirectiveType}
-use Rattle.graphql_meta.specs.declared.directive_location.DirectiveLocation.TheVariants as location
-use Rattle.graphql_meta.specs.declared.meta.argument.Argument.{Argument}
-use Rattle.graphql_meta.specs.declared.meta.enum_value.EnumValue.{EnumValue}
-use Rattle.graphql_meta.specs.declared.meta.field.Field.{Field}
-use Rattle.graphql_meta.specs.declared.meta.MetaType.{MetaType}
-use Rattle.graphql_meta.specs.Deprecation.{reason_of}
-use Rattle.graphql_meta.specs.Types.{arguments_of}
+use Rattle.graphql_schema.specs.declared.directive.DirectiveType.{DirectiveType}
+use Rattle.graphql_schema.specs.declared.directive_location.DirectiveLocation.TheVariants as location
+use Rattle.graphql_schema.specs.declared.meta.argument.Argument.{Argument}
+use Rattle.graphql_schema.specs.declared.meta.enum_value.EnumValue.{EnumValue}
+use Rattle.graphql_schema.specs.declared.meta.field.Field.{Field}
+use Rattle.graphql_schema.specs.declared.meta.MetaType.{MetaType}
+use Rattle.graphql_schema.specs.Deprecation.{reason_of}
+use Rattle.graphql_schema.specs.Types.{arguments_of}
 use Rattle.graphql_schema.specs.Directives.{is_place}
 use Rattle.graphql_field_results.specs.declared.resolved.Resolved.TheVariants as resolved
 use Rattle.graphql_introspection.specs.Leaves.{locations, text, text_or_null, truth}

@@ -6,18 +6,18 @@ use Rattle.graphql_names.specs.Names.{Bytes}
 use Rattle.graphql_values.specs.declared.input_value.InputValue.TheVariants as value
 use Rattle.graphql_type_references.specs.declared.type_modifier.TypeModifier.{TypeModifier}
 use Rattle.graphql_type_references.specs.declared.type_modifier.TypeModifier.TheVariants as modifier
-use Rattle.graphql_meta.specs.declared.directive_location.DirectiveLocation.{DirectiveLocation}
-use Rattle.graphql_meta.specs.declared.directive_location.DirectiveLocation.TheVariants as location
-use Rattle.graphql_meta.specs.declared.introspection_checks.IntrospectionChecks.{IntrospectionChecks}
-use Rattle.graphql_meta.specs.declared.meta.argument.Argument.{Argument}
-use Rattle.graphql_meta.specs.declared.meta.deprecation.DeprecationStatus.{DeprecationStatus}
-use Rattle.graphql_meta.specs.declared.meta.deprecation.DeprecationStatus.TheVariants as status
-use Rattle.graphql_meta.specs.declared.meta.enum_value.EnumValue.{EnumValue}
-use Rattle.graphql_meta.specs.declared.meta.field.Field.{Field}
-use Rattle.graphql_meta.specs.declared.meta.MetaType.{MetaType}
-use Rattle.graphql_meta.specs.declared.meta.MetaType.TheVariants as meta
-use Rattle.graphql_meta.specs.declared.meta.type_kind.TypeKind.{TypeKind}
-use Rattle.graphql_meta.specs.declared.meta.type_kind.TypeKind.TheVariants as kind
+use Rattle.graphql_schema.specs.declared.directive_location.DirectiveLocation.{DirectiveLocation}
+use Rattle.graphql_schema.specs.declared.directive_location.DirectiveLocation.TheVariants as location
+use Rattle.graphql_schema.specs.declared.introspection_checks.IntrospectionChecks.{IntrospectionChecks}
+use Rattle.graphql_schema.specs.declared.meta.argument.Argument.{Argument}
+use Rattle.graphql_schema.specs.declared.meta.deprecation.DeprecationStatus.{DeprecationStatus}
+use Rattle.graphql_schema.specs.declared.meta.deprecation.DeprecationStatus.TheVariants as status
+use Rattle.graphql_schema.specs.declared.meta.enum_value.EnumValue.{EnumValue}
+use Rattle.graphql_schema.specs.declared.meta.field.Field.{Field}
+use Rattle.graphql_schema.specs.declared.meta.MetaType.{MetaType}
+use Rattle.graphql_schema.specs.declared.meta.MetaType.TheVariants as meta
+use Rattle.graphql_schema.specs.declared.meta.type_kind.TypeKind.{TypeKind}
+use Rattle.graphql_schema.specs.declared.meta.type_kind.TypeKind.TheVariants as kind
 use Rattle.graphql_introspection.specs.declared.part.PartKind.{PartKind}
 use Rattle.graphql_introspection.specs.declared.part.PartKind.TheVariants as object
 use Rattle.graphql_introspection.specs.declared.rows.FieldForm.{FieldForm}

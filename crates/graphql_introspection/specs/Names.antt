@@ -2,10 +2,10 @@
 -- Type, 4.2.6 The __Directive Type).
 use Rattle.std.specs.Prelude.{codes}
 use Rattle.graphql_names.specs.Names.{Bytes}
-use Rattle.graphql_meta.specs.declared.meta.type_kind.TypeKind.{TypeKind}
-use Rattle.graphql_meta.specs.declared.meta.type_kind.TypeKind.TheVariants as kind
-use Rattle.graphql_meta.specs.declared.directive_location.DirectiveLocation.{DirectiveLocation}
-use Rattle.graphql_meta.specs.declared.directive_location.DirectiveLocation.TheVariants as location
+use Rattle.graphql_schema.specs.declared.meta.type_kind.TypeKind.{TypeKind}
+use Rattle.graphql_schema.specs.declared.meta.type_kind.TypeKind.TheVariants as kind
+use Rattle.graphql_schema.specs.declared.directive_location.DirectiveLocation.{DirectiveLocation}
+use Rattle.graphql_schema.specs.declared.directive_location.DirectiveLocation.TheVariants as location
 
 abbrev pub kind_name : TypeKind → Bytes
 kind_name kind.Scalar = codes "SCALAR"

@@ -4,13 +4,13 @@ use Rattle.std.specs.Prelude.{◌&&◌, ◌||◌, Bool, true, false, not, List, 
 use Rattle.std.specs.List.{filter}
 use Rattle.std.specs.Str.{bytes_eq}
 use Rattle.graphql_names.specs.Names.{Bytes}
-use Rattle.graphql_meta.specs.declared.meta.deprecation.DeprecationStatus.{DeprecationStatus}
-use Rattle.graphql_meta.specs.declared.meta.deprecation.DeprecationStatus.TheVariants as status
-use Rattle.graphql_meta.specs.declared.meta.enum_value.EnumValue.{EnumValue}
-use Rattle.graphql_meta.specs.declared.meta.field.Field.{Field}
-use Rattle.graphql_meta.specs.declared.meta.MetaType.{MetaType}
-use Rattle.graphql_meta.specs.Names.{is_reserved}
-use Rattle.graphql_meta.specs.Types.{own_name}
+use Rattle.graphql_schema.specs.declared.meta.deprecation.DeprecationStatus.{DeprecationStatus}
+use Rattle.graphql_schema.specs.declared.meta.deprecation.DeprecationStatus.TheVariants as status
+use Rattle.graphql_schema.specs.declared.meta.enum_value.EnumValue.{EnumValue}
+use Rattle.graphql_schema.specs.declared.meta.field.Field.{Field}
+use Rattle.graphql_schema.specs.declared.meta.MetaType.{MetaType}
+use Rattle.graphql_schema.specs.Names.{is_reserved}
+use Rattle.graphql_schema.specs.Types.{own_name}
 
 abbrev pub is_deprecated : DeprecationStatus → Bool
 is_deprecated (status.Deprecated reason) = true

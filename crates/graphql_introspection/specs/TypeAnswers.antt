@@ -6,12 +6,12 @@ use Rattle.graphql_names.specs.Names.{Bytes}
 use Rattle.graphql_scalars.specs.ScalarAnswers.{ScalarAnswer}
 use Rattle.graphql_type_references.specs.declared.type_modifier.TypeModifier.{TypeModifier}
 use Rattle.graphql_type_references.specs.declared.type_modifier.TypeModifier.TheVariants as modifier
-use Rattle.graphql_meta.specs.declared.meta.MetaType.{MetaType}
-use Rattle.graphql_meta.specs.declared.meta.MetaType.TheVariants as meta
-use Rattle.graphql_meta.specs.declared.meta.type_kind.TypeKind.{TypeKind}
-use Rattle.graphql_meta.specs.declared.meta.type_kind.TypeKind.TheVariants as kind
-use Rattle.graphql_meta.specs.Kinds.{kind_of}
-use Rattle.graphql_meta.specs.Types.{description_of, name_of, url_of}
+use Rattle.graphql_schema.specs.declared.meta.MetaType.{MetaType}
+use Rattle.graphql_schema.specs.declared.meta.MetaType.TheVariants as meta
+use Rattle.graphql_schema.specs.declared.meta.type_kind.TypeKind.{TypeKind}
+use Rattle.graphql_schema.specs.declared.meta.type_kind.TypeKind.TheVariants as kind
+use Rattle.graphql_schema.specs.Kinds.{kind_of}
+use Rattle.graphql_schema.specs.Types.{description_of, name_of, url_of}
 use Rattle.graphql_schema.specs.Possible.{possible_types}
 use Rattle.graphql_arguments.specs.ArgumentValues.{Given}
 use Rattle.graphql_field_results.specs.declared.resolved.Resolved.TheVariants as resolved

@@ -15,8 +15,7 @@ use crate::schema_answers::of_schema;
 use crate::type_answers::of_type;
 use graphql_arguments::Arguments;
 use graphql_field_results::Resolved;
-use graphql_meta::SchemaScalar;
-use graphql_schema::SchemaType;
+use graphql_schema::{SchemaScalar, SchemaType};
 use std::alloc::{AllocError, Global};
 
 /// The name of the type of a part (GraphQL October 2021, 4.2 Schema Introspection).

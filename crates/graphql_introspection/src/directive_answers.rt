@@ -8,7 +8,7 @@ ghost use Rattle.graphql_introspection.specs.MemberAnswers as spec;
 use crate::leaves::{description, locations, text, truth};
 use crate::nodes::{SchemaAnswer, arguments};
 use graphql_field_results::Resolved;
-use graphql_meta::{DirectiveLocation, DirectiveType, SchemaScalar};
+use graphql_schema::{DirectiveLocation, DirectiveType, SchemaScalar};
 use std::alloc::{AllocError, Global};
 
 /// Whether a directive may stand at this place.

@@ -8,8 +8,7 @@ use crate::leaves::{default_text, description, text, text_or_null, truth};
 use crate::nodes::{SchemaAnswer, arguments, referred};
 use crate::told::is_deprecated;
 use graphql_field_results::Resolved;
-use graphql_meta::{Argument, EnumValue, Field, SchemaScalar};
-use graphql_schema::SchemaType;
+use graphql_schema::{Argument, EnumValue, Field, SchemaScalar, SchemaType};
 use std::alloc::{AllocError, Global};
 
 /// What a field of an object or an interface answers. An error is want of memory.

@@ -3,7 +3,7 @@
 ghost use Rattle.std.specs.Prelude.{◌≡◌};
 ghost use Rattle.graphql_introspection.specs.Names as spec;
 
-use graphql_meta::{DirectiveLocation, TypeKind};
+use graphql_schema::{DirectiveLocation, TypeKind};
 
 /// The value of `__TypeKind` that a kind of types is (GraphQL October 2021, 4.2.2 The __Type Type).
 pub fn kind_name(kind: TypeKind) -> &'static str

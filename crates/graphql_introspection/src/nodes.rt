@@ -10,8 +10,9 @@ use crate::lent::{Lent, LentWraps};
 use crate::part::SchemaPart;
 use crate::told::{is_told, is_told_field};
 use graphql_field_results::Resolved;
-use graphql_meta::{Argument, DirectiveType, EnumValue, Field, MetaType, SchemaScalar};
-use graphql_schema::SchemaType;
+use graphql_schema::{
+    Argument, DirectiveType, EnumValue, Field, MetaType, SchemaScalar, SchemaType,
+};
 use graphql_text::{Items, Text};
 use graphql_type_references::{Type, TypeModifier};
 use std::alloc::{AllocError, Global};

@@ -4,7 +4,7 @@ ghost use Rattle.std.specs.Prelude.{◌≡◌};
 ghost use Rattle.graphql_introspection.specs.Parts as spec;
 
 use crate::lent::{Lent, LentWraps};
-use graphql_meta::{Argument, DirectiveType, EnumValue, Field, MetaType, SchemaScalar};
+use graphql_schema::{Argument, DirectiveType, EnumValue, Field, MetaType, SchemaScalar};
 
 /// A part of a schema, of which introspection tells (GraphQL October 2021, 4.2 Schema
 /// Introspection). It lends what it is.

@@ -4,7 +4,7 @@ ghost use Rattle.std.specs.Prelude.{◌≡◌, map};
 ghost use Rattle.graphql_introspection.specs.Metadata as spec;
 
 use crate::part::PartKind;
-use graphql_meta::{DirectiveLocation, TypeKind};
+use graphql_schema::{DirectiveLocation, TypeKind};
 use graphql_type_references::TypeModifier;
 
 /// What a field of introspection takes, and whether it is deprecated.

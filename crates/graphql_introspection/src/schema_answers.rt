@@ -2,7 +2,7 @@
 
 ghost use Rattle.std.specs.Prelude.{◌≡◌, map};
 ghost use Rattle.graphql_text.specs.Memory.{Gives, GivesBy};
-ghost use Rattle.graphql_schema_faults.specs.Lookups.{by_kind};
+ghost use Rattle.graphql_schema.specs.Lookups.{by_kind};
 ghost use Rattle.graphql_introspection.specs.Answers as spec;
 ghost use Rattle.graphql_introspection.specs.Nodes.{bare_types};
 ghost use Rattle.graphql_introspection.specs.Told.{told_types};
@@ -11,8 +11,7 @@ use crate::leaves::text_or_null;
 use crate::nodes::{SchemaAnswer, bare, bare_or_null, bare_types, directives};
 use crate::told::is_told_type;
 use graphql_field_results::Resolved;
-use graphql_meta::{MetaType, SchemaScalar};
-use graphql_schema::SchemaType;
+use graphql_schema::{MetaType, SchemaScalar, SchemaType};
 use graphql_text::Items;
 use std::alloc::{AllocError, Global};
 

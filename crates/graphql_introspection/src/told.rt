@@ -3,7 +3,7 @@
 ghost use Rattle.std.specs.Prelude.{◌≡◌};
 ghost use Rattle.graphql_introspection.specs.Told as spec;
 
-use graphql_meta::{DeprecationStatus, Field, MetaType};
+use graphql_schema::{DeprecationStatus, Field, MetaType};
 
 /// Whether something of this status is deprecated.
 pub fn is_deprecated(status: &DeprecationStatus) -> bool

@@ -4,7 +4,7 @@ ghost use Rattle.std.specs.Prelude.{◌≡◌, map};
 ghost use Rattle.std.specs.List.{filter_map};
 ghost use Rattle.graphql_text.specs.Memory.{Gives, GivesBy};
 ghost use Rattle.graphql_arguments.specs.GivenValues.{arguments_told};
-ghost use Rattle.graphql_schema_faults.specs.Lookups.{type_named};
+ghost use Rattle.graphql_schema.specs.Lookups.{type_named};
 ghost use Rattle.graphql_introspection.specs.Nodes as nodes;
 ghost use Rattle.graphql_introspection.specs.TypeAnswers as spec;
 
@@ -13,8 +13,7 @@ use crate::leaves::{kind_or_null, text_or_null};
 use crate::nodes::{SchemaAnswer, arguments, bare_types, enum_values, fields, wrapped};
 use graphql_arguments::Arguments;
 use graphql_field_results::Resolved;
-use graphql_meta::{MetaType, SchemaScalar, TypeKind};
-use graphql_schema::SchemaType;
+use graphql_schema::{MetaType, SchemaScalar, SchemaType, TypeKind};
 use graphql_text::{Items, Text};
 use graphql_type_references::TypeModifier;
 use std::alloc::{AllocError, Global};

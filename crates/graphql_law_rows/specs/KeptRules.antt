@@ -7,8 +7,8 @@ use Rattle.graphql_names.specs.Names.{Bytes, named}
 use Rattle.graphql_scalars.specs.ScalarAnswers.{ScalarAnswer}
 use Rattle.graphql_values.specs.declared.input_value.InputValue.{InputValue}
 use Rattle.graphql_tree.specs.Definitions.{fragment_named}
-use Rattle.graphql_meta.specs.declared.meta.MetaType.{MetaType}
-use Rattle.graphql_schema_faults.specs.Faults.{is_composite}
+use Rattle.graphql_schema.specs.declared.meta.MetaType.{MetaType}
+use Rattle.graphql_schema.specs.Faults.{is_composite}
 use Rattle.graphql_occurrences.specs.Lookups.{known}
 use Rattle.graphql_occurrences.specs.Parts.{
   InlinePart,

@@ -2,7 +2,7 @@
 use Rattle.std.specs.Prelude.{ℕ, List, [], ◌∷◌, Bool, true, false, Some, Err, codes}
 use Rattle.std.specs.Str.{bytes_eq}
 use Rattle.graphql_names.specs.Names.{Bytes}
-use Rattle.graphql_meta.specs.Types.{reference_to}
+use Rattle.graphql_schema.specs.Types.{reference_to}
 use Rattle.graphql_written_out.specs.Trees.{Head, Tree, none, field}
 use Rattle.graphql_field_results.specs.declared.execution_error.ExecutionError.{ExecutionError}
 use Rattle.graphql_field_results.specs.declared.field_error.FieldError.{FieldError}

@@ -13,8 +13,7 @@ ghost use Rattle.graphql_validation.specs.Valid.{HasNoFault, HasNoFaultInScopes}
 ghost use Rattle.graphql_visitors.specs.Subjects.{Subject};
 ghost use Rattle.graphql_law_rows.specs.KeptRules.{KeepsTheRules, ScopesKeepTheRules, TypesAreOfTheirKinds, fragments};
 
-use graphql_meta::SchemaScalar;
-use graphql_schema::SchemaType;
+use graphql_schema::{SchemaScalar, SchemaType};
 use graphql_tree::Definition;
 use graphql_validation::laws::{
     arguments_are_declared, arguments_are_distinct, arguments_are_provided,

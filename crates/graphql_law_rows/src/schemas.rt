@@ -6,11 +6,10 @@ ghost use Rattle.graphql_names.specs.Names.{passes};
 ghost use Rattle.graphql_schema.specs.Executable.{is_executable};
 ghost use Rattle.graphql_schema.specs.Schemas.{roots_of};
 ghost use Rattle.graphql_schema.specs.Subtypes.{IsSubtypeOf, IsWrappedSubtype, is_named_subtype};
-ghost use Rattle.graphql_schema_faults.specs.Lookups.{is_object, type_named};
+ghost use Rattle.graphql_schema.specs.Lookups.{is_object, type_named};
 ghost use Rattle.graphql_law_rows.specs.SampleWraps as wraps;
 
-use graphql_meta::MetaType;
-use graphql_schema::SchemaType;
+use graphql_schema::{MetaType, SchemaType};
 use graphql_text::Text;
 use graphql_type_references::{Type, TypeModifier};
 use graphql_validation::laws::{

@@ -16,7 +16,6 @@ ghost use Rattle.graphql_visitors.specs.Subjects.{Subject, subject_of};
 ghost use Rattle.graphql_law_rows.specs.OnlyTold.{IsOnlyTold};
 
 use graphql_document_walk::visit;
-use graphql_meta::SchemaScalar;
 use graphql_rules_document::laws::document_rules_tell_of_documents;
 use graphql_rules_document::{NoUnusedFragments, no_unused_fragments};
 use graphql_rules_local::laws::possible_spreads_tell_of_occurrences;
@@ -31,7 +30,7 @@ use graphql_rules_values::{
     ArgumentsOfCorrectType, DefaultValuesOfCorrectType, arguments_of_correct_type,
     default_values_of_correct_type,
 };
-use graphql_schema::SchemaType;
+use graphql_schema::{SchemaScalar, SchemaType};
 use graphql_tree::Definition;
 use graphql_validation::first_stage_errors;
 use graphql_validation::laws::documents_without_a_fault_are_well_formed;

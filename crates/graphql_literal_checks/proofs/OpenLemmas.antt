@@ -11,7 +11,7 @@ use Rattle.graphql_values.specs.Counts.{value_count, count_layer}
 use Rattle.graphql_values.proofs.CountEquations.{count_list, count_object, item_count, field_count}
 use Rattle.graphql_values.proofs.InputValueEquations.{fold_null, fold_scalar, fold_enum, fold_variable}
 use Rattle.graphql_values.proofs.InputValueInduction.{value_ind}
-use Rattle.graphql_meta.specs.declared.meta.MetaType.{MetaType}
+use Rattle.graphql_schema.specs.declared.meta.MetaType.{MetaType}
 use Rattle.graphql_literal_checks.specs.declared.misfit.Misfit.{Misfit}
 use Rattle.graphql_literal_checks.specs.declared.open_values.Open.{Open}
 use Rattle.graphql_literal_checks.specs.declared.source.Source.{Source}

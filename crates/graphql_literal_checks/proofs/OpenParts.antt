@@ -5,8 +5,8 @@ use Rattle.graphql_values.specs.declared.input_value.InputValue.{InputValue}
 use Rattle.graphql_values.specs.InputValues.{Placed, Pair}
 use Rattle.graphql_type_references.specs.declared.type_modifier.TypeModifier.{TypeModifier}
 use Rattle.graphql_type_references.specs.declared.type_reference.«Type».{«Type»}
-use Rattle.graphql_meta.specs.declared.meta.argument.Argument.{Argument}
-use Rattle.graphql_meta.specs.declared.meta.MetaType.{MetaType}
+use Rattle.graphql_schema.specs.declared.meta.argument.Argument.{Argument}
+use Rattle.graphql_schema.specs.declared.meta.MetaType.{MetaType}
 use Rattle.graphql_names.specs.Names.{Bytes}
 use Rattle.graphql_literal_checks.specs.declared.misfit.Misfit.{Misfit}
 use Rattle.graphql_literal_checks.specs.declared.open_values.Open.{Open}

@@ -6,7 +6,7 @@ use Rattle.graphql_scalars.specs.ScalarAnswers.{ScalarAnswer}
 use Rattle.graphql_values.specs.declared.input_value.InputValue.{InputValue}
 use Rattle.graphql_values.specs.Counts.{value_count}
 use Rattle.graphql_values.specs.InputValues.{Placed, Pair}
-use Rattle.graphql_meta.specs.declared.meta.MetaType.{MetaType}
+use Rattle.graphql_schema.specs.declared.meta.MetaType.{MetaType}
 use Rattle.graphql_literal_checks.specs.declared.misfit.Misfit.{Misfit}
 use Rattle.graphql_literal_checks.specs.declared.open_values.Open.{Open}
 use Rattle.graphql_literal_checks.specs.declared.open_values.Open.TheVariants as around

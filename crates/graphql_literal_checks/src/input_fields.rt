@@ -8,7 +8,7 @@ ghost use Rattle.graphql_names.specs.Names.{is_one_of};
 ghost use Rattle.graphql_literal_checks.specs.InputFields.{has_name};
 ghost use Rattle.graphql_literal_checks.specs.InputTypes as spec;
 
-use graphql_meta::{Argument, InputObjectMeta};
+use graphql_schema::{Argument, InputObjectMeta};
 use graphql_text::{Spanning, Text};
 use graphql_values::InputValue;
 use std::alloc::{AllocError, Global};

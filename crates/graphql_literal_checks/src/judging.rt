@@ -12,12 +12,11 @@ use crate::misfit::Misfit;
 use crate::open_values::Pair;
 use crate::reasons::{invalid_enum_value, invalid_value, missing_field};
 use crate::source::Source;
-use graphql_meta::{
-    Check, EnumMeta, EnumValue, InputObjectMeta, MetaType, ScalarMeta, SchemaScalar,
-};
 use graphql_names::NamedItems;
 use graphql_scalars::CheckError;
-use graphql_schema::SchemaType;
+use graphql_schema::{
+    Check, EnumMeta, EnumValue, InputObjectMeta, MetaType, ScalarMeta, SchemaScalar, SchemaType,
+};
 use graphql_type_references::BorrowedType;
 use graphql_values::InputValue;
 use std::alloc::Global;

@@ -2,7 +2,7 @@
 
 ghost use Rattle.graphql_literal_checks.specs.Laws.{ConformsWithoutPlaces};
 
-use graphql_meta::SchemaScalar;
+use graphql_schema::SchemaScalar;
 
 /// Whether a value conforms to a type does not depend on places: it does exactly where the value
 /// without its places does, since checks accept all or none of values that are the same wherever they

@@ -2,7 +2,7 @@
 
 ghost use Rattle.std.specs.Prelude.{◌≡◌, ◌∷◌, [], ◌++◌, OnOk};
 
-use graphql_meta::{InputObjectMeta, SchemaScalar};
+use graphql_schema::{InputObjectMeta, SchemaScalar};
 use graphql_text::{Items, Spanning, Text, TextRef};
 use graphql_type_references::BorrowedType;
 use graphql_values::InputValue;

@@ -14,7 +14,7 @@ mod names;
 mod traits;
 
 use crate::selection::LookAheadSelection;
-use graphql_meta::SchemaScalar;
+use graphql_schema::SchemaScalar;
 use graphql_text::Items;
 pub use names::Names;
 use std::alloc::Global;

@@ -14,7 +14,7 @@ use crate::open::{Met, Open};
 use crate::selected::Selected;
 use crate::selection::{LookAheadSelection, Source, set_of};
 use graphql_collect::{Request, drops};
-use graphql_meta::SchemaScalar;
+use graphql_schema::SchemaScalar;
 use graphql_text::{Items, Spanning};
 use graphql_tree::{Field, Selection};
 use std::alloc::{AllocError, Global};

@@ -21,7 +21,7 @@ use crate::gathering::gather_selected;
 use crate::searching::find_first;
 use crate::selected::Selected;
 use graphql_collect::Request;
-use graphql_meta::SchemaScalar;
+use graphql_schema::SchemaScalar;
 use graphql_text::{Items, Spanning};
 use graphql_tree::{Field, Selection, arguments_in};
 use graphql_written_out::response_key;

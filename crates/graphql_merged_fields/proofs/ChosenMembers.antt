@@ -8,8 +8,8 @@ use Rattle.std.proofs.lemmas.List.{map-append}
 use Rattle.std.proofs.lemmas.List.Elements.{Contains-append_left, Contains-append_right, Contains-append_cases}
 use Rattle.graphql_names.specs.Names.{Bytes}
 use Rattle.graphql_names.proofs.NameMaps.{found_is_in}
-use Rattle.graphql_meta.specs.declared.meta.MetaType.{MetaType}
-use Rattle.graphql_schema_faults.specs.Lookups.{own_name, type_named}
+use Rattle.graphql_schema.specs.declared.meta.MetaType.{MetaType}
+use Rattle.graphql_schema.specs.Lookups.{own_name, type_named}
 use Rattle.graphql_written_out.specs.Trees.{Directives, Tree, none, field, inline}
 use Rattle.graphql_written_out.specs.Fields.{Found, applies, fields}
 use Rattle.graphql_merging.specs.Members.{Member, Scope, member, inside, members}

@@ -5,10 +5,10 @@ use Rattle.std.specs.Str.{bytes_eq}
 use Rattle.std.proofs.lemmas.Slice.Eq.{bytes_eq-Decides}
 use Rattle.std.proofs.lemmas.List.Elements.{All-cons, All-nil, Contains-append_left, Contains-append_right, Contains-append_cases}
 use Rattle.graphql_names.specs.Names.{Bytes}
-use Rattle.graphql_meta.specs.declared.meta.MetaType.{MetaType}
-use Rattle.graphql_meta.specs.declared.meta.MetaType.TheVariants as meta
+use Rattle.graphql_schema.specs.declared.meta.MetaType.{MetaType}
+use Rattle.graphql_schema.specs.declared.meta.MetaType.TheVariants as meta
 use Rattle.graphql_schema.specs.Subtypes.{is_below, is_named_subtype}
-use Rattle.graphql_schema_faults.specs.Lookups.{is_object, own_name, type_named}
+use Rattle.graphql_schema.specs.Lookups.{is_object, own_name, type_named}
 use Rattle.graphql_merging.specs.Members.{Member, members, members_below}
 use Rattle.graphql_merging.specs.Merging.{Merges, Merging, apart}
 use Rattle.graphql_merging.specs.Sets.{Set}

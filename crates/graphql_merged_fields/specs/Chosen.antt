@@ -3,8 +3,8 @@ use Rattle.std.specs.Prelude.{◌≡◌, Bool, true, not, ◌||◌, List, [], �
 use Rattle.std.specs.List.{filter, flat_map}
 use Rattle.std.specs.Str.{bytes_eq}
 use Rattle.graphql_names.specs.Names.{Bytes}
-use Rattle.graphql_meta.specs.declared.meta.MetaType.{MetaType}
-use Rattle.graphql_schema_faults.specs.Lookups.{is_object, own_name, type_named}
+use Rattle.graphql_schema.specs.declared.meta.MetaType.{MetaType}
+use Rattle.graphql_schema.specs.Lookups.{is_object, own_name, type_named}
 use Rattle.graphql_written_out.specs.Trees.{Directives, Tree, none, field, inline}
 use Rattle.graphql_written_out.specs.Fields.{Found, applies}
 use Rattle.graphql_merging.specs.Members.{Member, Scope, member, inside, scope_of}

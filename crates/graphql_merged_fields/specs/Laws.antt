@@ -2,14 +2,14 @@
 use Rattle.std.specs.Prelude.{◌≡◌, Bool, List, map, Some}
 use Rattle.std.specs.List.{All, Contains}
 use Rattle.graphql_names.specs.Names.{Bytes}
-use Rattle.graphql_meta.specs.declared.meta.MetaType.{MetaType}
+use Rattle.graphql_schema.specs.declared.meta.MetaType.{MetaType}
 use Rattle.graphql_written_out.specs.Trees.{Directives, Tree}
 use Rattle.graphql_written_out.specs.Fields.{fields}
 use Rattle.graphql_merging.specs.Members.{Member, members}
 use Rattle.graphql_merging.specs.Merging.{SameField, Merging}
 use Rattle.graphql_merging.specs.Sets.{Set}
 use Rattle.graphql_schema.specs.Subtypes.{is_named_subtype}
-use Rattle.graphql_schema_faults.specs.Lookups.{own_name, type_named}
+use Rattle.graphql_schema.specs.Lookups.{own_name, type_named}
 use Rattle.graphql_merged_fields.specs.Chosen.{found_of, under_key, own_set, members_of_all, ConditionsAreKnown, chosen, chosen_of_all, IsAbove, OneObject}
 
 module _ (S C : Type 0) where

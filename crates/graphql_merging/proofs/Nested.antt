@@ -2,7 +2,7 @@
 use Rattle.std.proofs.Common.{◌≡◌, refl, sym, subst, ℕ, zero, suc, ◌<◌, arith, Bool, List, [], ◌∷◌, ◌++◌, Some, None, get_or, inl, inr, lit<}
 use Rattle.std.specs.List.{Contains}
 use Rattle.std.proofs.lemmas.List.Elements.{Contains-get_or, Contains-append_left, Contains-append_right, Contains-append_cases}
-use Rattle.graphql_meta.specs.declared.meta.MetaType.{MetaType}
+use Rattle.graphql_schema.specs.declared.meta.MetaType.{MetaType}
 use Rattle.graphql_written_out.specs.Trees.{Head, Tree, none, field, inline}
 use Rattle.graphql_merging.specs.Members.{Member, Scope, member, inside, members, members_below}
 use Rattle.graphql_merging.specs.Merging.{Merges, Merging}

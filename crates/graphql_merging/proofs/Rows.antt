@@ -13,7 +13,7 @@ use Rattle.graphql_values.specs.InputValues.{unplaced_pair}
 use Rattle.graphql_values.specs.Laws.{SameAsItself}
 use Rattle.graphql_values.proofs.SameValueLaws.{same_as_itself}
 use Rattle.graphql_tree.specs.Arguments.{Argument}
-use Rattle.graphql_meta.specs.declared.meta.MetaType.{MetaType}
+use Rattle.graphql_schema.specs.declared.meta.MetaType.{MetaType}
 use Rattle.graphql_rule_errors.specs.Places.{Places}
 use Rattle.graphql_schema.proofs.Rows.{beings, being, dog, either, human}
 use Rattle.graphql_written_out.specs.Trees.{Head, Tree, none, field, inline}

@@ -1,7 +1,7 @@
 -- Where nothing is left to compare, all merges.
 use Rattle.std.proofs.Common.{◌≡◌, ap, sym, subst, ◌∙◌, ℕ, Bool, false, ◌||◌, List}
 use Rattle.std.specs.List.{Contains}
-use Rattle.graphql_meta.specs.declared.meta.MetaType.{MetaType}
+use Rattle.graphql_schema.specs.declared.meta.MetaType.{MetaType}
 use Rattle.graphql_merging.specs.Members.{Member, members_below}
 use Rattle.graphql_merging.specs.Merging.{Agree, Merging, Together, in_set, in_sets, apart}
 use Rattle.graphql_merging.specs.Pieces.{Pieces, PieceField, StandsIn, directly, in_fragment, IsPieceOf, HasOwnPieces, IsSettled}

@@ -5,9 +5,9 @@ use Rattle.std.proofs.lemmas.Slice.Eq.{bytes_eq-Decides}
 use Rattle.std.proofs.lemmas.List.Elements.{Contains-get_or}
 use Rattle.graphql_values.specs.Laws.{SameAsItself}
 use Rattle.graphql_tree.specs.Arguments.{Argument}
-use Rattle.graphql_meta.specs.declared.meta.MetaType.{MetaType}
-use Rattle.graphql_meta.specs.Types.{TypeOf}
-use Rattle.graphql_schema_faults.specs.Lookups.{own_name, is_object}
+use Rattle.graphql_schema.specs.declared.meta.MetaType.{MetaType}
+use Rattle.graphql_schema.specs.Types.{TypeOf}
+use Rattle.graphql_schema.specs.Lookups.{own_name, is_object}
 use Rattle.graphql_merging.specs.Members.{Member, declared}
 use Rattle.graphql_merging.specs.Merging.{is_leaf, IsAmong, SameArguments, SameShapes, Agree, Merges, Merge, Merging, Together, in_set, in_sets, apart}
 use Rattle.graphql_merging.specs.Laws.{MergingIsAgreement, DisagreementIsConflict, AgreementIsMutual, MergingIsMutual, AgreesWithItself}

@@ -1,7 +1,7 @@
 -- What the rule that fields merge promises of its errors (GraphQL October 2021, 5.3.2 Field Selection Merging).
 use Rattle.std.specs.Prelude.{◌≡◌, Bool, List, []}
 use Rattle.std.specs.List.{All, Any, Contains}
-use Rattle.graphql_meta.specs.declared.meta.MetaType.{MetaType}
+use Rattle.graphql_schema.specs.declared.meta.MetaType.{MetaType}
 use Rattle.graphql_rule_errors.specs.Places.{Places}
 use Rattle.graphql_merging.specs.Members.{Member}
 use Rattle.graphql_merging.specs.Merging.{SameField, Merge, Merging, Together}

@@ -2,9 +2,9 @@
 use Rattle.std.specs.Prelude.{List, [], ◌∷◌, ◌++◌, Option, Some, None}
 use Rattle.std.specs.Option.{option_and_then}
 use Rattle.graphql_names.specs.Names.{Bytes}
-use Rattle.graphql_meta.specs.declared.meta.MetaType.{MetaType}
-use Rattle.graphql_meta.specs.Types.{TypeOf}
-use Rattle.graphql_schema_faults.specs.Lookups.{type_named}
+use Rattle.graphql_schema.specs.declared.meta.MetaType.{MetaType}
+use Rattle.graphql_schema.specs.Types.{TypeOf}
+use Rattle.graphql_schema.specs.Lookups.{type_named}
 use Rattle.graphql_declarations.specs.Lookups.{field_in, field_type}
 use Rattle.graphql_written_out.specs.Trees.{Head, Tree, none, field, inline}
 

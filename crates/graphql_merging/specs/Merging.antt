@@ -7,9 +7,9 @@ use Rattle.graphql_type_references.specs.declared.type_modifier.TypeModifier.{Ty
 use Rattle.graphql_type_references.specs.declared.type_modifier.TypeModifier.TheVariants as modifier
 use Rattle.graphql_values.specs.SameValue.{SameValue}
 use Rattle.graphql_tree.specs.Arguments.{Argument}
-use Rattle.graphql_meta.specs.declared.meta.MetaType.{MetaType}
-use Rattle.graphql_meta.specs.Types.{TypeOf}
-use Rattle.graphql_schema_faults.specs.Lookups.{type_named, own_name, is_object, is_scalar, is_enum}
+use Rattle.graphql_schema.specs.declared.meta.MetaType.{MetaType}
+use Rattle.graphql_schema.specs.Types.{TypeOf}
+use Rattle.graphql_schema.specs.Lookups.{type_named, own_name, is_object, is_scalar, is_enum}
 use Rattle.graphql_merging.specs.Members.{Member, declared, members_below}
 
 module _ {S : Type 0} (eq : S → S → Bool) where

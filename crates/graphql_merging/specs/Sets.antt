@@ -7,9 +7,9 @@ use Rattle.graphql_tree.specs.Definitions.{fragments_listed}
 use Rattle.graphql_tree.specs.declared.document.Fragment.{Fragment}
 use Rattle.graphql_tree.specs.declared.document.Definition.{Definition}
 use Rattle.graphql_tree.specs.declared.document.Definition.TheVariants as definition
-use Rattle.graphql_meta.specs.declared.meta.MetaType.{MetaType}
+use Rattle.graphql_schema.specs.declared.meta.MetaType.{MetaType}
 use Rattle.graphql_schema.specs.Declarations.{Declarations}
-use Rattle.graphql_schema_faults.specs.Lookups.{type_named}
+use Rattle.graphql_schema.specs.Lookups.{type_named}
 use Rattle.graphql_declarations.specs.Lookups.{root_of}
 use Rattle.graphql_written_out.specs.Trees.{Tree, none, field, inline}
 use Rattle.graphql_written_out.specs.Written.{written}

@@ -7,8 +7,7 @@ ghost use Rattle.graphql_merging.specs.Members as members;
 ghost use Rattle.graphql_merging.specs.Merging as merging;
 
 use graphql_declarations::{TypeLiteral, field_of, type_of_field};
-use graphql_meta::MetaType;
-use graphql_schema::SchemaType;
+use graphql_schema::{MetaType, SchemaType};
 
 /// The type of the field of this name, where its parent has it.
 pub(crate) fn declared_type<'t, S, C>(

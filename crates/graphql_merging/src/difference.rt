@@ -14,8 +14,7 @@ use crate::declarations::{are_different_objects, declared_type, is_leaf};
 use crate::selected::SelectedField;
 use crate::wraps::same_wraps;
 use graphql_declarations::TypeLiteral;
-use graphql_meta::MetaType;
-use graphql_schema::SchemaType;
+use graphql_schema::{MetaType, SchemaType};
 use graphql_tree::{Field, arguments_in};
 use std::alloc::{AllocError, Global};
 

@@ -1,6 +1,6 @@
 //! Fields of a document, each with the type around it.
 
-use graphql_meta::{MetaType, SchemaScalar};
+use graphql_schema::{MetaType, SchemaScalar};
 use graphql_text::Spanning;
 use graphql_tree::Field;
 

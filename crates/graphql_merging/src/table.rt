@@ -4,7 +4,7 @@ ghost use Rattle.std.specs.Prelude.{◌≡◌, slice_get};
 ghost use Rattle.std.specs.Option.{option_copied};
 
 use crate::selected::SelectedField;
-use graphql_meta::SchemaScalar;
+use graphql_schema::SchemaScalar;
 use graphql_text::Items;
 
 /// A field where a document writes it.

@@ -3,7 +3,7 @@ use Rattle.std.proofs.Common.{◌≡◌, refl, lit<, ℕ, suc, false, true, [], 
 use Rattle.std.specs.Prelude.{codes, if◌then◌else◌}
 use Rattle.std.specs.Str.{bytes_eq}
 use Rattle.graphql_names.specs.Names.{Bytes}
-use Rattle.graphql_meta.specs.Types.{reference_to}
+use Rattle.graphql_schema.specs.Types.{reference_to}
 use Rattle.graphql_written_out.specs.Trees.{Head, Tree, none, field}
 use Rattle.graphql_written_out.specs.Fields.{Found}
 use Rattle.graphql_written_out.specs.Groups.{groups}

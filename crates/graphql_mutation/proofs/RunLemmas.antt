@@ -5,7 +5,7 @@ use Rattle.graphql_scalars.specs.ScalarAnswers.{ScalarAnswer}
 use Rattle.graphql_names.specs.Names.{Bytes}
 use Rattle.graphql_text.specs.declared.position.SourcePosition.{SourcePosition}
 use Rattle.graphql_tree.specs.declared.document.Fragment.{Fragment}
-use Rattle.graphql_meta.specs.Types.{TypeOf}
+use Rattle.graphql_schema.specs.Types.{TypeOf}
 use Rattle.graphql_output_values.specs.declared.value.Value.{Value}
 use Rattle.graphql_output_values.specs.declared.value.Value.TheVariants as value
 use Rattle.graphql_written_out.specs.Trees.{Head, Tree}

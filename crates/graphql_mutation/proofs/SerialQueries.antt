@@ -6,7 +6,7 @@ use Rattle.graphql_output_values.specs.declared.value.Value.{Value}
 use Rattle.graphql_written_out.specs.Trees.{Head, Tree}
 use Rattle.graphql_written_out.specs.Fields.{Found}
 use Rattle.graphql_written_out.specs.Groups.{groups}
-use Rattle.graphql_meta.specs.Types.{TypeOf}
+use Rattle.graphql_schema.specs.Types.{TypeOf}
 use Rattle.graphql_evaluation.specs.Completion.{Members, blame_at}
 use Rattle.graphql_evaluation.specs.Engines.{Engine}
 use Rattle.graphql_evaluation.specs.Evaluation.{Group, at_declared, evaluate, found_in, group, keyed, sets_below}

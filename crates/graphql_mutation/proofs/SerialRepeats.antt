@@ -8,7 +8,7 @@ use Rattle.graphql_written_out.specs.Trees.{Head, Tree}
 use Rattle.graphql_written_out.specs.Fields.{Found}
 use Rattle.graphql_written_out.specs.Groups.{groups, keys, under}
 use Rattle.graphql_written_out.specs.Repeats.{Repeats}
-use Rattle.graphql_meta.specs.Types.{TypeOf}
+use Rattle.graphql_schema.specs.Types.{TypeOf}
 use Rattle.graphql_evaluation.specs.Completion.{Members, blame_at}
 use Rattle.graphql_evaluation.specs.Evaluation.{at_type, found_in, sets_below}
 use Rattle.graphql_evaluation.proofs.GroupRepeats.{adds-keys}

@@ -9,7 +9,7 @@ ghost use Rattle.graphql_mutation.specs.Serial.{step_of};
 use crate::mutation_value::GraphQLMutationValue;
 use graphql_execution::{Asked, Executor, arguments_of, of_resolver, of_schema, told_of_itself};
 use graphql_field_results::{FieldResult, Resolved};
-use graphql_meta::SchemaScalar;
+use graphql_schema::SchemaScalar;
 use graphql_text::Spanning;
 use graphql_tree::Field;
 

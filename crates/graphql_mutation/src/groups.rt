@@ -15,8 +15,8 @@ use crate::root_fields::show_field;
 use graphql_collect::{CollectedField, Group, fields_below, fields_of_set, grouped};
 use graphql_execution::{Executor, Selected, declared_type};
 use graphql_field_results::ExecutionError;
-use graphql_meta::SchemaScalar;
 use graphql_output_values::Value;
+use graphql_schema::SchemaScalar;
 use graphql_text::Items;
 use std::alloc::AllocError;
 

@@ -3,7 +3,7 @@
 use graphql_arguments::Arguments;
 use graphql_execution::GraphQLValue;
 use graphql_field_results::{FieldResult, Resolved};
-use graphql_meta::SchemaScalar;
+use graphql_schema::SchemaScalar;
 use std::alloc::Global;
 
 /// What answers the fields of a mutation's root, and changes the context (GraphQL October 2021, 6.2.2

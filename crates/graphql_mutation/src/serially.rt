@@ -13,8 +13,8 @@ use crate::groups::{answer_group, groups_of_root};
 use crate::mutation_value::GraphQLMutationValue;
 use graphql_execution::Executor;
 use graphql_field_results::ExecutionError;
-use graphql_meta::SchemaScalar;
 use graphql_output_values::{Object, Value};
+use graphql_schema::SchemaScalar;
 use graphql_text::{Items, Text, TextRef};
 use std::alloc::AllocError;
 

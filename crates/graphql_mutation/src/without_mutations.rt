@@ -6,7 +6,7 @@ use crate::mutation_value::GraphQLMutationValue;
 use graphql_arguments::Arguments;
 use graphql_execution::{Executor, GraphQLValue};
 use graphql_field_results::{FieldResult, Resolved};
-use graphql_meta::SchemaScalar;
+use graphql_schema::SchemaScalar;
 use std::alloc::Global;
 
 /// A resolver for a schema without a mutation type, where queries alone are executed and the root of no

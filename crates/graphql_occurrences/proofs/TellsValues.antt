@@ -10,8 +10,8 @@ use Rattle.graphql_values.specs.declared.input_value.InputValue.{InputValue, out
 use Rattle.graphql_values.specs.declared.input_value.InputValue.TheOpen.{InputValue-F}
 use Rattle.graphql_values.specs.declared.input_value.InputValue.TheVariants as value
 use Rattle.graphql_values.proofs.InputValueInduction.{value_ind}
-use Rattle.graphql_meta.specs.declared.directive_location.DirectiveLocation.{DirectiveLocation}
-use Rattle.graphql_meta.specs.declared.meta.argument.Argument.{Argument as DeclaredArgument}
+use Rattle.graphql_schema.specs.declared.directive_location.DirectiveLocation.{DirectiveLocation}
+use Rattle.graphql_schema.specs.declared.meta.argument.Argument.{Argument as DeclaredArgument}
 use Rattle.graphql_declarations.specs.Lookups.{Declarations}
 use Rattle.graphql_declarations.specs.Lookups.{directive_named}
 use Rattle.graphql_tree.specs.Arguments.{Argument}

@@ -1,13 +1,13 @@
 -- Where the values of a document stand, and its directives (GraphQL October 2021, 2.9 Input Values, 3.10 Input Objects, 3.13 Directives).
 use Rattle.std.specs.Prelude.{false, List, Option, Some, None}
 use Rattle.std.specs.Option.{option_map, option_and_then, is_some}
-use Rattle.graphql_meta.specs.declared.directive_location.DirectiveLocation.{DirectiveLocation}
-use Rattle.graphql_meta.specs.declared.directive_location.DirectiveLocation.TheVariants as location
-use Rattle.graphql_meta.specs.declared.meta.argument.Argument.{Argument}
-use Rattle.graphql_meta.specs.declared.meta.input_object.InputObjectMeta.{InputObjectMeta}
-use Rattle.graphql_meta.specs.declared.meta.MetaType.{MetaType}
-use Rattle.graphql_meta.specs.declared.meta.MetaType.TheVariants as meta
-use Rattle.graphql_meta.specs.Types.{TypeOf}
+use Rattle.graphql_schema.specs.declared.directive_location.DirectiveLocation.{DirectiveLocation}
+use Rattle.graphql_schema.specs.declared.directive_location.DirectiveLocation.TheVariants as location
+use Rattle.graphql_schema.specs.declared.meta.argument.Argument.{Argument}
+use Rattle.graphql_schema.specs.declared.meta.input_object.InputObjectMeta.{InputObjectMeta}
+use Rattle.graphql_schema.specs.declared.meta.MetaType.{MetaType}
+use Rattle.graphql_schema.specs.declared.meta.MetaType.TheVariants as meta
+use Rattle.graphql_schema.specs.Types.{TypeOf}
 use Rattle.graphql_names.specs.Names.{Bytes}
 pub use Rattle.graphql_declarations.specs.Lookups.{Declarations, declarations_of, argument_named, item_type, typename_field, field_arguments, field_type, directive_arguments, field_in, field_of, known, referred, root_of}
 use Rattle.graphql_tree.specs.declared.document.OperationType.{OperationType}

@@ -1,12 +1,12 @@
 -- The nodes of a document, each by its head: what it is, without what stands within it. And the types around one.
 use Rattle.std.specs.Prelude.{List, [], Option, Some, None, map}
 use Rattle.graphql_text.specs.Memory.{Text}
-use Rattle.graphql_meta.specs.declared.directive.DirectiveType.{DirectiveType}
-use Rattle.graphql_meta.specs.declared.directive_location.DirectiveLocation.{DirectiveLocation}
-use Rattle.graphql_meta.specs.declared.meta.argument.Argument as declared
-use Rattle.graphql_meta.specs.declared.meta.field.Field as declared_field
-use Rattle.graphql_meta.specs.declared.meta.MetaType.{MetaType}
-use Rattle.graphql_meta.specs.Types.{TypeOf}
+use Rattle.graphql_schema.specs.declared.directive.DirectiveType.{DirectiveType}
+use Rattle.graphql_schema.specs.declared.directive_location.DirectiveLocation.{DirectiveLocation}
+use Rattle.graphql_schema.specs.declared.meta.argument.Argument as declared
+use Rattle.graphql_schema.specs.declared.meta.field.Field as declared_field
+use Rattle.graphql_schema.specs.declared.meta.MetaType.{MetaType}
+use Rattle.graphql_schema.specs.Types.{TypeOf}
 use Rattle.graphql_names.specs.Names.{Bytes}
 use Rattle.graphql_tree.specs.Arguments.{Argument}
 use Rattle.graphql_tree.specs.declared.directive.Directive.{Directive}

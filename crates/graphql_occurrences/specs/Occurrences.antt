@@ -16,10 +16,10 @@ use Rattle.graphql_tree.specs.declared.document.Definition.{Definition}
 use Rattle.graphql_tree.specs.declared.document.Definition.TheVariants as definition
 use Rattle.graphql_tree.specs.Arguments.{Argument}
 use Rattle.graphql_tree.specs.Variables.{Variable}
-use Rattle.graphql_meta.specs.declared.meta.argument.Argument.{Argument as Declared}
-use Rattle.graphql_meta.specs.declared.directive_location.DirectiveLocation.{DirectiveLocation}
-use Rattle.graphql_meta.specs.declared.directive_location.DirectiveLocation.TheVariants as location
-use Rattle.graphql_meta.specs.declared.meta.MetaType.{MetaType}
+use Rattle.graphql_schema.specs.declared.meta.argument.Argument.{Argument as Declared}
+use Rattle.graphql_schema.specs.declared.directive_location.DirectiveLocation.{DirectiveLocation}
+use Rattle.graphql_schema.specs.declared.directive_location.DirectiveLocation.TheVariants as location
+use Rattle.graphql_schema.specs.declared.meta.MetaType.{MetaType}
 use Rattle.graphql_names.specs.Names.{Bytes}
 use Rattle.graphql_declarations.specs.Lookups.{Declarations}
 use Rattle.graphql_declarations.specs.Lookups.{directive_named}

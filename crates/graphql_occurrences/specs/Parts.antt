@@ -4,12 +4,12 @@ use Rattle.graphql_text.specs.declared.position.SourcePosition.{SourcePosition}
 use Rattle.graphql_values.specs.InputValues.{Placed}
 use Rattle.graphql_values.specs.declared.input_value.InputValue.{InputValue}
 use Rattle.graphql_tree.specs.Arguments.{Argument}
-use Rattle.graphql_meta.specs.declared.meta.argument.Argument.{Argument as Declared}
-use Rattle.graphql_meta.specs.declared.meta.field.Field.{Field as DeclaredField}
-use Rattle.graphql_meta.specs.declared.directive.DirectiveType.{DirectiveType}
-use Rattle.graphql_meta.specs.declared.directive_location.DirectiveLocation.{DirectiveLocation}
-use Rattle.graphql_meta.specs.declared.meta.MetaType.{MetaType}
-use Rattle.graphql_meta.specs.Types.{TypeOf}
+use Rattle.graphql_schema.specs.declared.meta.argument.Argument.{Argument as Declared}
+use Rattle.graphql_schema.specs.declared.meta.field.Field.{Field as DeclaredField}
+use Rattle.graphql_schema.specs.declared.directive.DirectiveType.{DirectiveType}
+use Rattle.graphql_schema.specs.declared.directive_location.DirectiveLocation.{DirectiveLocation}
+use Rattle.graphql_schema.specs.declared.meta.MetaType.{MetaType}
+use Rattle.graphql_schema.specs.Types.{TypeOf}
 use Rattle.graphql_names.specs.Names.{Bytes}
 
 -- where a value stands: the type of the values that are asked for, and whether the place has a default (5.8.5 All Variable Usages Are Allowed)

@@ -2,7 +2,7 @@
 
 use crate::around::Around;
 use graphql_declarations::{DeclaredArguments, KnownField};
-use graphql_meta::{DirectiveLocation, DirectiveType, SchemaScalar};
+use graphql_schema::{DirectiveLocation, DirectiveType, SchemaScalar};
 use graphql_text::{Spanning, Text, TextRef};
 use graphql_tree::{
     Definition, Directive, Field, Fragment, FragmentSpread, InlineFragment, Operation, Selection,

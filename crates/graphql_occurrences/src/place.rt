@@ -7,7 +7,7 @@ ghost use Rattle.graphql_occurrences.specs.Lookups as spec;
 ghost use Rattle.graphql_occurrences.specs.Lent.{arguments_lent, input_of, literal_of};
 
 use graphql_declarations::{DeclaredArguments, SchemaType, TypeLiteral};
-use graphql_meta::{Argument, InputObjectMeta, MetaType};
+use graphql_schema::{Argument, InputObjectMeta, MetaType};
 
 /// Where a value stands: in an argument, in a list, in an input object, or as the default of a
 /// variable (GraphQL October 2021, 5.8.5 All Variable Usages Are Allowed).

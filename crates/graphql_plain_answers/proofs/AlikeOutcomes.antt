@@ -4,7 +4,7 @@ use Rattle.std.proofs.lemmas.List.{map-append}
 use Rattle.graphql_names.specs.Names.{Bytes}
 use Rattle.graphql_type_references.specs.declared.type_modifier.TypeModifier.{TypeModifier}
 use Rattle.graphql_type_references.specs.declared.type_modifier.TypeModifier.TheVariants as modifier
-use Rattle.graphql_meta.specs.Types.{TypeOf}
+use Rattle.graphql_schema.specs.Types.{TypeOf}
 use Rattle.graphql_output_values.specs.declared.value.Value.{Value}
 use Rattle.graphql_output_values.specs.declared.value.Value.TheVariants as value
 use Rattle.graphql_field_results.specs.declared.execution_error.ExecutionError.{ExecutionError}

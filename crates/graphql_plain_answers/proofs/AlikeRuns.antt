@@ -1,7 +1,7 @@
 -- Alike sets give the same.
 use Rattle.std.proofs.Common.{◌≡◌, refl, ◌∙◌, ap, ℕ, zero, suc, List, [], ◌∷◌, ◌++◌, map, Option, Some, None, Result}
 use Rattle.graphql_names.specs.Names.{Bytes}
-use Rattle.graphql_meta.specs.Types.{TypeOf}
+use Rattle.graphql_schema.specs.Types.{TypeOf}
 use Rattle.graphql_output_values.specs.Objects.{Pair}
 use Rattle.graphql_output_values.specs.declared.value.Value.{Value}
 use Rattle.graphql_written_out.specs.Trees.{Directives, Head, Tree}

@@ -15,7 +15,7 @@ use Rattle.graphql_tree.specs.Unlocated.{without_place}
 use Rattle.graphql_arguments.specs.ArgumentValues.{Given, Value, value_named}
 use Rattle.graphql_arguments.specs.SameArguments.{SameInOrder}
 use Rattle.graphql_arguments.proofs.SameOrders.{in-order-same}
-use Rattle.graphql_meta.specs.declared.meta.MetaType.{MetaType}
+use Rattle.graphql_schema.specs.declared.meta.MetaType.{MetaType}
 use Rattle.graphql_schema.specs.declared.schema.SchemaType.{SchemaType}
 use Rattle.graphql_field_results.specs.declared.resolved.Resolved.TheVariants as resolved
 use Rattle.graphql_introspection.specs.Answers.{answer_of, found}

@@ -3,7 +3,7 @@ use Rattle.std.proofs.Common.{◌≡◌, refl, sym, ◌∙◌, ap, List, [], ◌
 use Rattle.std.specs.Option.{option_map}
 use Rattle.std.proofs.lemmas.List.{map-append}
 use Rattle.graphql_names.specs.Names.{Bytes}
-use Rattle.graphql_meta.specs.Types.{TypeOf}
+use Rattle.graphql_schema.specs.Types.{TypeOf}
 use Rattle.graphql_output_values.specs.declared.value.Value.{Value}
 use Rattle.graphql_written_out.specs.Trees.{Directives, Head, Tree, none, field, inline}
 use Rattle.graphql_written_out.specs.Fields.{Found}

@@ -10,7 +10,7 @@ use Rattle.graphql_values.specs.InputValues.{unplaced, unlocated}
 use Rattle.graphql_values.specs.Variables.{variables_in}
 use Rattle.graphql_values.specs.declared.input_value.InputValue.{InputValue}
 use Rattle.graphql_values.proofs.UnlocatedVariables.{same_variables}
-use Rattle.graphql_meta.specs.declared.meta.argument.Argument.{Argument as Declared}
+use Rattle.graphql_schema.specs.declared.meta.argument.Argument.{Argument as Declared}
 use Rattle.graphql_tree.specs.Arguments.{Argument}
 use Rattle.graphql_tree.specs.Unlocated.{unlocated_argument}
 use Rattle.graphql_final_variables.specs.Filled.{filled}

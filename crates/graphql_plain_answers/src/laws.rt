@@ -8,9 +8,9 @@ ghost use Rattle.graphql_plain_answers.specs.Laws.{PlainChangeTheSame, PlainDocu
 ghost use Rattle.graphql_plain_answers.specs.Laws.{PlainDocumentsAnswerAlike};
 ghost use Rattle.graphql_plain_answers.specs.Laws.{UnusedVariablesDoNotCount, UsedDefinitionsSuffice};
 
-use graphql_meta::SchemaScalar;
 use graphql_mutation::GraphQLMutationValue;
 use graphql_plain_tree::laws::stand_in_leaves_out;
+use graphql_schema::SchemaScalar;
 use graphql_values::ScalarValue;
 
 /// Selection sets that are alike for two engines over one schema give the same value, and the same

@@ -2,7 +2,7 @@
 use Rattle.std.proofs.Common.{◌≡◌, sym, ◌∙◌, ap, subst, ℕ, zero, suc, Bool, true, false, ◌||◌, List, [], ◌++◌, Some, None, cond, ⊎_elim}
 use Rattle.std.specs.List.{Contains}
 use Rattle.std.proofs.lemmas.List.Elements.{Contains-append_left, Contains-append_right, Contains-append_cases}
-use Rattle.graphql_meta.specs.declared.meta.MetaType.{MetaType}
+use Rattle.graphql_schema.specs.declared.meta.MetaType.{MetaType}
 use Rattle.graphql_written_out.specs.Trees.{Directives, Head, Tree, none, field, inline}
 use Rattle.graphql_evaluation.proofs.Elements.{none-in, only-one, here}
 use Rattle.graphql_merging.specs.Members.{Member, Scope, inside, member, members, scope_of}

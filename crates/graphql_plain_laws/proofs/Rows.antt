@@ -9,7 +9,7 @@ use Rattle.graphql_values.specs.declared.input_value.InputValue.TheVariants as v
 use Rattle.graphql_tree.specs.Variables.{Variable}
 use Rattle.graphql_tree.specs.declared.variable.VariableDefinition.{VariableDefinition}
 use Rattle.graphql_final_variables.specs.FinalValues.{final_value}
-use Rattle.graphql_meta.specs.Types.{reference_to}
+use Rattle.graphql_schema.specs.Types.{reference_to}
 use Rattle.graphql_schema.proofs.Rows.{beings}
 use Rattle.graphql_written_out.specs.Trees.{Directives, Tree}
 use Rattle.graphql_field_results.specs.declared.resolved.Resolved.TheVariants as resolved

@@ -1,7 +1,7 @@
 -- What merging and execution take from plain selection sets (GraphQL October 2021, 5.3.2 Field Selection Merging, 6.3 Executing Selection Sets).
 use Rattle.std.specs.Prelude.{◌≡◌, Bool, List, map}
 use Rattle.graphql_names.specs.Names.{Bytes}
-use Rattle.graphql_meta.specs.declared.meta.MetaType.{MetaType}
+use Rattle.graphql_schema.specs.declared.meta.MetaType.{MetaType}
 use Rattle.graphql_written_out.specs.Trees.{Directives, Tree}
 use Rattle.graphql_merging.specs.Members.{Scope, members}
 use Rattle.graphql_merging.specs.Merging.{Merging}

@@ -16,20 +16,20 @@ use Rattle.graphql_tree.specs.declared.document.Definition.TheVariants as defini
 use Rattle.graphql_tree.specs.declared.document.Operation.{Operation}
 use Rattle.graphql_tree.specs.declared.variable.VariableDefinitions.{VariableDefinitions}
 use Rattle.graphql_final_variables.specs.FinalValues.{variable_name}
-use Rattle.graphql_meta.specs.declared.meta.MetaType.{MetaType}
+use Rattle.graphql_schema.specs.declared.meta.MetaType.{MetaType}
 use Rattle.graphql_literal_checks.specs.InputTypes.{refuses_null}
 use Rattle.graphql_schema.specs.Declarations.{declarations_of}
 use Rattle.graphql_schema.specs.declared.root_node.RootNode.{RootNode}
-use Rattle.graphql_settled_fragments.proofs.KnownFieldTypes.{field-types-are-known}
-use Rattle.graphql_settled_fragments.proofs.ListItems.{contains-map, image-of}
+use Rattle.graphql_rules_document.proofs.KnownFieldTypes.{field-types-are-known}
+use Rattle.graphql_rules_document.proofs.ListItems.{contains-map, image-of}
 use Rattle.graphql_variable_checks.specs.Accepted.{AreAccepted, FitsVariable, IsAccepted, variable_type}
 use Rattle.graphql_plain_tree.specs.PlainDocuments.{definitions_as, document_of, operation_as}
 use Rattle.graphql_plain_tree.specs.PlainOperations.{PlainOperation, definitions_used, without_directives, variables_used}
 use Rattle.graphql_plain_text.specs.Laws.{IsTextOf, PlainTextIsDocument}
-use Rattle.graphql_plain_parts.specs.PlainRequests.{IsPlainDocument}
-use Rattle.graphql_plain_parts.proofs.OneOperation.{the-one}
-use Rattle.graphql_plain_parts.proofs.PlainDocumentParts.{definitions-back}
-use Rattle.graphql_plain_variables.proofs.UsedDefinitions.{used-from}
+use Rattle.graphql_plain_validity.specs.PlainRequests.{IsPlainDocument}
+use Rattle.graphql_plain_validity.proofs.OneOperation.{the-one}
+use Rattle.graphql_plain_validity.proofs.PlainDocumentParts.{definitions-back}
+use Rattle.graphql_plain_validity.proofs.UsedDefinitions.{used-from}
 use Rattle.graphql_plain_validity.specs.Laws.{IsValidText, PlainTextsAreValid}
 use Rattle.graphql_plain_validity.proofs.ValidTexts.{full}
 use Rattle.graphql_requests.specs.Operations.{chosen, has_name, mutation_root}

@@ -13,7 +13,7 @@ use Rattle.graphql_schema.specs.Schemas.{roots_of}
 use Rattle.graphql_schema.specs.declared.root_node.RootNode.{RootNode}
 use Rattle.graphql_schema.specs.declared.schema.SchemaType.{SchemaType}
 use Rattle.graphql_schema.proofs.RootLemmas.{mutation_is_object, query_is_object}
-use Rattle.graphql_schema_faults.specs.Lookups.{is_object, type_named}
+use Rattle.graphql_schema.specs.Lookups.{is_object, type_named}
 use Rattle.graphql_declarations.specs.Lookups.{root_of}
 use Rattle.graphql_written_out.specs.Written.{fragment_meant}
 use Rattle.graphql_visitors.specs.Subjects.{Subject}

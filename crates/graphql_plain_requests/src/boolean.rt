@@ -1,12 +1,11 @@
 //! Whether the `Boolean` of a schema takes `true`.
 
 ghost use Rattle.std.specs.Prelude.{◌↔◌, IfOk, IsTrue};
-ghost use Rattle.graphql_plain_rules.specs.Schemas.{TakesTrue};
+ghost use Rattle.graphql_plain_validity.specs.Schemas.{TakesTrue};
 ghost use Rattle.graphql_schema.specs.Declarations.{declarations_of};
 
-use graphql_meta::{Check, MetaType, SchemaScalar};
 use graphql_scalars::CheckError;
-use graphql_schema::SchemaType;
+use graphql_schema::{Check, MetaType, SchemaScalar, SchemaType};
 use graphql_values::InputValue;
 use std::alloc::AllocError;
 

@@ -5,12 +5,11 @@ ghost use Rattle.graphql_plain_requests.specs.Laws.{PlainAreNotRefused, PlainTex
 
 use graphql_filled_sets::laws::{spelled_sets_are_whole, written_sets_are_filled};
 use graphql_lexer::laws::one_list;
-use graphql_meta::SchemaScalar;
 use graphql_plain_text::laws::plain_text_is_document;
 use graphql_plain_validity::laws::plain_texts_are_valid;
 use graphql_requests::Meaning;
 use graphql_requests::laws::{executable_requests_are_not_refused, one_operation_is_executed};
-use graphql_schema::RootNode;
+use graphql_schema::{RootNode, SchemaScalar};
 use graphql_validation::laws::documents_without_a_fault_are_well_formed;
 
 /// A request has one plain text: it depends on the request's text, on the name of the operation, on the

@@ -24,13 +24,12 @@ use crate::plain_error::PlainError;
 use graphql_final_variables::FinalVariables;
 use graphql_language::TokenRecords;
 use graphql_lines::GraphQLRequest;
-use graphql_meta::SchemaScalar;
 use graphql_plain_print::{PrintError, print_operation};
 use graphql_requests::{
     GraphQLError, Meaning, chosen_operation, documents_without_a_fault_are_settled, read_records,
 };
 use graphql_rule_errors::RuleError;
-use graphql_schema::RootNode;
+use graphql_schema::{RootNode, SchemaScalar};
 use graphql_tree::{Definition, Operation};
 use graphql_values::Variables;
 use std::alloc::Global;

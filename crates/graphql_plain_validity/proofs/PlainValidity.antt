@@ -12,21 +12,21 @@ use Rattle.graphql_declarations.specs.Lookups.{root_of}
 use Rattle.graphql_occurrences.specs.Occurrences.{occurrences}
 use Rattle.graphql_visitors.specs.Subjects.{Subject}
 use Rattle.graphql_rules_local.proofs.LawLemmas.{no_introspection}
-use Rattle.graphql_settled_fragments.specs.Counted.{FieldTypesAreKnown}
+use Rattle.graphql_rules_document.specs.Counted.{FieldTypesAreKnown}
 use Rattle.graphql_validation.specs.Valid.{HasNoFault}
-use Rattle.graphql_plain_parts.specs.PlainRequests.{IsPlainDocument}
-use Rattle.graphql_plain_rules.specs.Laws.{HasOneOperation}
-use Rattle.graphql_plain_variables.specs.Laws.{DefaultsAreConstant}
-use Rattle.graphql_plain_rules.specs.Schemas.{TakesTrue}
-use Rattle.graphql_plain_variables.proofs.AllowedUses.{uses-stay-allowed}
-use Rattle.graphql_plain_variables.proofs.DefinedUses.{uses-stay-defined}
-use Rattle.graphql_plain_rules.proofs.LiteralRules.{arguments-stay, defaults-stay}
-use Rattle.graphql_plain_rules.proofs.LocalRules.{arguments-stay-declared, arguments-stay-distinct, arguments-stay-provided, conditions-stay-composite, declared-fields-stay, directives-are-placed, input-fields-stay-distinct, introspection-stays, leaves-stay, no-spread-is-left, types-stay-known, variables-stay-input}
-use Rattle.graphql_plain_rules.proofs.NameRules.{one-operation-is-left}
-use Rattle.graphql_plain_variables.proofs.VariableNames.{variable-names-stay}
-use Rattle.graphql_plain_rules.proofs.SpreadRules.{spreads-stay-possible}
-use Rattle.graphql_plain_variables.proofs.UsedVariables.{variables-stay-used}
-use Rattle.graphql_plain_merging.proofs.MergingStays.{fields-stay-merging}
+use Rattle.graphql_plain_validity.specs.PlainRequests.{IsPlainDocument}
+use Rattle.graphql_plain_validity.specs.RuleLaws.{HasOneOperation}
+use Rattle.graphql_plain_validity.specs.VariableLaws.{DefaultsAreConstant}
+use Rattle.graphql_plain_validity.specs.Schemas.{TakesTrue}
+use Rattle.graphql_plain_validity.proofs.AllowedUses.{uses-stay-allowed}
+use Rattle.graphql_plain_validity.proofs.DefinedUses.{uses-stay-defined}
+use Rattle.graphql_plain_validity.proofs.LiteralRules.{arguments-stay, defaults-stay}
+use Rattle.graphql_plain_validity.proofs.LocalRules.{arguments-stay-declared, arguments-stay-distinct, arguments-stay-provided, conditions-stay-composite, declared-fields-stay, directives-are-placed, input-fields-stay-distinct, introspection-stays, leaves-stay, no-spread-is-left, types-stay-known, variables-stay-input}
+use Rattle.graphql_plain_validity.proofs.NameRules.{one-operation-is-left}
+use Rattle.graphql_plain_validity.proofs.VariableNames.{variable-names-stay}
+use Rattle.graphql_plain_validity.proofs.SpreadRules.{spreads-stay-possible}
+use Rattle.graphql_plain_validity.proofs.UsedVariables.{variables-stay-used}
+use Rattle.graphql_plain_validity.proofs.MergingStays.{fields-stay-merging}
 use Rattle.graphql_plain_validity.specs.Laws.{PlainDocumentsStayValid}
 
 module _ {S C : Type 0} (eq : S → S → Bool) (laws : IsEquivalence eq) (answer : S → ScalarAnswer) (of_bool : Bool → S) (answers : (b : Bool) → answer (of_bool b) ≡ boolean b)

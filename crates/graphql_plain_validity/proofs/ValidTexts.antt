@@ -24,16 +24,16 @@ use Rattle.graphql_scopes.specs.Scopes.{fragment_scopes}
 use Rattle.graphql_visitors.specs.Subjects.{Subject}
 use Rattle.graphql_rules_document.proofs.CycleLaws.{fragments_end}
 use Rattle.graphql_rules_local.proofs.LawLemmas.{fields_declared, spreads_known, types_known}
-use Rattle.graphql_settled_fragments.specs.Counted.{AreKnown, FieldTypesAreKnown, IsSpread}
+use Rattle.graphql_rules_document.specs.Counted.{AreKnown, FieldTypesAreKnown, IsSpread}
 use Rattle.graphql_written_out.specs.Written.{fragment_meant, written}
 use Rattle.graphql_filled_sets.specs.Laws.{IsFull}
 use Rattle.graphql_filled_sets.proofs.SpelledSets.{document-whole}
 use Rattle.graphql_filled_sets.proofs.WrittenSets.{written-sets-are-filled}
 use Rattle.graphql_validation.specs.Valid.{HasNoFault}
 use Rattle.graphql_plain_text.proofs.PlainDocuments.{plain-document}
-use Rattle.graphql_plain_parts.specs.PlainRequests.{IsPlainDocument}
-use Rattle.graphql_plain_variables.proofs.SpelledDefaults.{spelled-defaults}
-use Rattle.graphql_plain_rules.proofs.SpreadRules.{named-map}
+use Rattle.graphql_plain_validity.specs.PlainRequests.{IsPlainDocument}
+use Rattle.graphql_plain_validity.proofs.SpelledDefaults.{spelled-defaults}
+use Rattle.graphql_plain_validity.proofs.SpreadRules.{named-map}
 use Rattle.graphql_plain_validity.specs.Laws.{PlainTextsAreValid}
 use Rattle.graphql_plain_validity.proofs.PlainValidity.{plain-documents-stay-valid}
 

@@ -22,9 +22,9 @@ use Rattle.graphql_declarations.specs.Lookups.{root_of}
 use Rattle.graphql_validation.specs.AllRules.{IsValidAt}
 use Rattle.graphql_plain_tree.specs.PlainOperations.{plain_operation}
 use Rattle.graphql_plain_text.specs.PlainTexts.{plain_text}
-use Rattle.graphql_plain_parts.specs.PlainRequests.{IsPlainDocument}
-use Rattle.graphql_plain_variables.specs.Laws.{DefaultsAreConstant}
-use Rattle.graphql_plain_rules.specs.Schemas.{TakesTrue}
+use Rattle.graphql_plain_validity.specs.PlainRequests.{IsPlainDocument}
+use Rattle.graphql_plain_validity.specs.VariableLaws.{DefaultsAreConstant}
+use Rattle.graphql_plain_validity.specs.Schemas.{TakesTrue}
 
 -- `eq`: the equality of scalars; `answer`: what a scalar answers; `accepts`: what the check of a type
 -- accepts

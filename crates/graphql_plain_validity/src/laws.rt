@@ -3,8 +3,7 @@
 ghost use Rattle.graphql_schema.specs.Declarations.{declarations_of};
 ghost use Rattle.graphql_plain_validity.specs.Laws.{PlainDocumentsStayValid, PlainTextsAreValid};
 
-use graphql_meta::SchemaScalar;
-use graphql_schema::SchemaType;
+use graphql_schema::{SchemaScalar, SchemaType};
 
 /// The plain document of a valid document is valid. For this the schema has the standard's `skip` and a
 /// `Boolean` that takes `true`, the operation's root type is there, and no variable stands in a default.

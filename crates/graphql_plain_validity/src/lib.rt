@@ -3,3 +3,7 @@
 #![tactic(auto)]
 
 pub mod laws;
+pub mod merging;
+pub mod parts;
+pub mod rules;
+pub mod variables;

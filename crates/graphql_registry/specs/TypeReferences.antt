@@ -3,7 +3,7 @@
 use Rattle.std.specs.Prelude.{◌++◌, ℕ, [], ◌∷◌, Option}
 use Rattle.graphql_type_references.specs.TypeReference.{nullable}
 use Rattle.graphql_type_references.specs.declared.type_modifier.TypeModifier.TheVariants as modifier
-use Rattle.graphql_meta.specs.Types.{TypeOf}
+use Rattle.graphql_schema.specs.Types.{TypeOf}
 
 -- lists of a type, of so many items where that is known, without `null` beside them
 abbrev pub list_of : TypeOf → Option ℕ → TypeOf

@@ -2,7 +2,7 @@
 
 ghost use Rattle.std.proofs.Common.{rules};
 ghost use Rattle.std.specs.Prelude.{Some, codes};
-ghost use Rattle.graphql_meta.specs.Types.{reference_to};
+ghost use Rattle.graphql_schema.specs.Types.{reference_to};
 
 use crate::graphql_type::{GraphQLType, named_type};
 use graphql_text::Text;

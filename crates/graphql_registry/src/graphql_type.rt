@@ -1,7 +1,7 @@
 //! Types of the program as types of a schema.
 
 ghost use Rattle.graphql_text.specs.Memory.{Gives};
-ghost use Rattle.graphql_meta.specs.Types.{reference_to};
+ghost use Rattle.graphql_schema.specs.Types.{reference_to};
 
 mod containers;
 mod pointers;
@@ -18,7 +18,7 @@ pub trait GraphQLType<S> {
     ghost use Rattle.std.specs.Prelude.{◌≡◌, ℕ, List, Option, Some};
     ghost use Rattle.std.specs.Option.{option_map};
     ghost use Rattle.graphql_text.specs.Memory.{Gives};
-    ghost use Rattle.graphql_meta.specs.Types.{TypeOf, reference_to};
+    ghost use Rattle.graphql_schema.specs.Types.{TypeOf, reference_to};
 
     /// The name of the type, if it has one.
     ghost type_name: { Option (List ℕ) };

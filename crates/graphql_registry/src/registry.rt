@@ -6,11 +6,11 @@ mod fields;
 ghost use Rattle.std.specs.Prelude.{◌≡◌, IfOk, OnErr};
 ghost use Rattle.std.specs.BTreeMap.{IsOrdered, IsUnchanged, values};
 ghost use Rattle.graphql_text.specs.Memory.{Gives};
-ghost use Rattle.graphql_meta.specs.Types.{own_name};
+ghost use Rattle.graphql_schema.specs.Types.{own_name};
 ghost use Rattle.graphql_registry.specs.Registries.{Registers};
 
-use graphql_meta::{MetaType, SchemaScalar};
 use graphql_names::{Name, NameParseError, Named};
+use graphql_schema::{MetaType, SchemaScalar};
 use graphql_text::Items;
 use std::alloc::{AllocError, Global};
 use std::collections::BTreeMap;

@@ -1,7 +1,7 @@
 -- The object of the worked rows.
 use Rattle.std.specs.Prelude.{[], ◌∷◌, None, codes}
-use Rattle.graphql_meta.specs.Types.{reference_to}
-use Rattle.graphql_meta.specs.declared.meta.object.ObjectMeta.{ObjectMeta}
+use Rattle.graphql_schema.specs.Types.{reference_to}
+use Rattle.graphql_schema.specs.declared.meta.object.ObjectMeta.{ObjectMeta}
 use Rattle.graphql_registry.specs.Registries.{field_of, typename_field}
 
 -- `A`, with `f: String!` and `__typename: String!`

@@ -1,7 +1,7 @@
 use crate::rows::object_registered_twice;
 use crate::told::check;
-use graphql_meta::{EnumValue, MetaType};
 use graphql_registry::{EmptyMutation, Registry};
+use graphql_schema::{EnumValue, MetaType};
 use graphql_text::{Items, Text};
 use graphql_values::DefaultScalarValue;
 use std::alloc::{AllocError, Global};

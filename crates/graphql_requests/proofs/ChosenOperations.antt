@@ -6,7 +6,7 @@ use Rattle.std.specs.Option.{option_map_or}
 use Rattle.std.proofs.lemmas.List.Elements.{Contains-append_right, Contains-append_cases}
 use Rattle.graphql_names.specs.Names.{Bytes}
 use Rattle.graphql_values.specs.InputValues.{Placed}
-use Rattle.graphql_settled_fragments.proofs.ListItems.{nothing-in, only-one}
+use Rattle.graphql_rules_document.proofs.ListItems.{nothing-in, only-one}
 use Rattle.graphql_tree.specs.Definitions.{operations_of}
 use Rattle.graphql_tree.specs.declared.document.Definition.{Definition}
 use Rattle.graphql_tree.specs.declared.document.Definition.TheVariants as definition

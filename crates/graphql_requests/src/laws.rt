@@ -3,7 +3,7 @@
 ghost use Rattle.graphql_requests.specs.Asked.{ExecutableAreNotRefused, OneIsExecuted};
 
 use crate::meaning::Meaning;
-use graphql_meta::SchemaScalar;
+use graphql_schema::SchemaScalar;
 
 /// A request that can be executed is refused by nothing but want of memory: no request is both executed
 /// and refused, so that the first step that fails decides what it is refused for.

@@ -1,6 +1,6 @@
 //! What the scalars of a schema mean, by one word for contracts.
 
-use graphql_meta::SchemaScalar;
+use graphql_schema::SchemaScalar;
 
 /// What the scalars of a schema mean. Each scalar type of schemas has it.
 pub trait Meaning: SchemaScalar {

@@ -1,3 +1,9 @@
+pub mod ListItems
+pub mod WrittenLevels
+pub mod CountedSpreads
+pub mod KnownFieldTypes
+pub mod SettledFragments
+pub mod SettledRows
 pub mod LoopLemmas
 pub mod NameSetLemmas
 pub mod FirstLemmas

@@ -1,6 +1,6 @@
 -- The errors of all rules for the definitions of a document, one rule after another (GraphQL October 2021, 5.2 Operations, 5.5 Fragments, 5.8 Variables).
 use Rattle.std.specs.Prelude.{List, ◌++◌}
-use Rattle.graphql_meta.specs.declared.meta.MetaType.{MetaType}
+use Rattle.graphql_schema.specs.declared.meta.MetaType.{MetaType}
 use Rattle.graphql_scopes.specs.Scopes.{OperationScope, Scopes}
 pub use Rattle.graphql_scopes.specs.Scopes.{FragmentScope, Spread, fragment_scope, fragment_scopes, spread_at}
 use Rattle.graphql_rules_document.specs.LoneAnonymousOperation.{anonymous_beside_others}

@@ -3,7 +3,7 @@ use Rattle.std.specs.Prelude.{◌≡◌, ◌↔◌, ◌⊎◌, ℕ, true, List, 
 use Rattle.std.specs.List.{All, Contains, IsDistinct, filter_map, flat_map}
 use Rattle.std.specs.Str.{bytes_eq}
 use Rattle.graphql_names.specs.Names.{Bytes, named}
-use Rattle.graphql_meta.specs.declared.meta.MetaType.{MetaType}
+use Rattle.graphql_schema.specs.declared.meta.MetaType.{MetaType}
 use Rattle.graphql_occurrences.specs.Parts.{Use}
 use Rattle.graphql_scopes.specs.Reached.{IsReached, uses_from}
 use Rattle.graphql_scopes.specs.Scopes.{FragmentScope, OperationScope}

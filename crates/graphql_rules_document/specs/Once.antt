@@ -1,6 +1,6 @@
 -- Rules over all operations and fragments of a document, as visitors, each of which is asked once.
 use Rattle.std.specs.Prelude.{◌≡◌, Bool, true, false, List, []}
-use Rattle.graphql_meta.specs.declared.meta.MetaType.{MetaType}
+use Rattle.graphql_schema.specs.declared.meta.MetaType.{MetaType}
 use Rattle.graphql_rule_errors.specs.Places.{Places}
 use Rattle.graphql_rules_document.specs.declared.once.Once.{Once}
 use Rattle.graphql_scopes.specs.Scopes.{FragmentScope, OperationScope, scopes_in}

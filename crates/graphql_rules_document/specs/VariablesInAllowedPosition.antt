@@ -6,8 +6,8 @@ use Rattle.graphql_type_references.specs.TypeReference.{is_non_null, nullable, o
 use Rattle.graphql_values.specs.InputValues.{Placed}
 use Rattle.graphql_values.specs.declared.input_value.InputValue.{InputValue}
 use Rattle.graphql_values.specs.declared.input_value.InputValue.TheVariants as value
-use Rattle.graphql_meta.specs.Types.{TypeOf}
-use Rattle.graphql_meta.specs.declared.meta.MetaType.{MetaType}
+use Rattle.graphql_schema.specs.Types.{TypeOf}
+use Rattle.graphql_schema.specs.declared.meta.MetaType.{MetaType}
 use Rattle.graphql_schema.specs.Subtypes.{is_subtype}
 use Rattle.graphql_occurrences.specs.Parts.{InputPlace, Use, VariablePart}
 use Rattle.graphql_scopes.specs.Reached.{uses_from}

@@ -1,8 +1,7 @@
 //! Rules over all operations and fragments of a document.
 
-use graphql_meta::SchemaScalar;
 use graphql_rule_errors::RuleError;
-use graphql_schema::SchemaType;
+use graphql_schema::{SchemaScalar, SchemaType};
 use graphql_scopes::{FragmentIndex, OperationScope};
 use graphql_text::Items;
 use std::alloc::{AllocError, Global};

@@ -11,7 +11,7 @@ ghost use Rattle.graphql_visitors.specs.Runs.{Runs, joined};
 ghost use Rattle.graphql_visitors.specs.Subjects.{Subject};
 
 use crate::document_rule::DocumentRule;
-use graphql_meta::SchemaScalar;
+use graphql_schema::SchemaScalar;
 
 /// There is no cycle exactly where no fragment reaches itself by its spreads.
 pub fn fragments_without_cycles_never_reach_themselves()

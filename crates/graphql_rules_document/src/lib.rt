@@ -14,6 +14,7 @@ pub mod no_undefined_variables;
 pub mod no_unused_fragments;
 pub mod no_unused_variables;
 mod once;
+pub mod settled;
 pub mod unique_fragment_names;
 pub mod unique_operation_names;
 pub mod unique_variable_names;

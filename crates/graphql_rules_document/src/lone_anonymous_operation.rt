@@ -7,9 +7,8 @@ ghost use Rattle.graphql_rule_errors.specs.Places.{Reports};
 
 use crate::document_rule::DocumentRule;
 use crate::once::Once;
-use graphql_meta::SchemaScalar;
 use graphql_rule_errors::{RuleError, report};
-use graphql_schema::SchemaType;
+use graphql_schema::{SchemaScalar, SchemaType};
 use graphql_scopes::{FragmentIndex, OperationScope};
 use graphql_text::Items;
 use std::alloc::{AllocError, Global};

@@ -9,10 +9,9 @@ ghost use Rattle.graphql_visitors.specs.Reports.{Reports};
 ghost use Rattle.graphql_visitors.specs.Subjects.{Subject, subject_of};
 
 use crate::document_rule::DocumentRule;
-use graphql_meta::SchemaScalar;
 use graphql_occurrences::Event;
 use graphql_rule_errors::RuleError;
-use graphql_schema::SchemaType;
+use graphql_schema::{SchemaScalar, SchemaType};
 use graphql_scopes::{FragmentIndex, scopes_of};
 use graphql_text::Items;
 use graphql_tree::Definition;

@@ -10,9 +10,8 @@ ghost use Rattle.graphql_scopes.specs.Lent.{fragment_of};
 
 use crate::document_rule::DocumentRule;
 use crate::once::Once;
-use graphql_meta::SchemaScalar;
 use graphql_rule_errors::{LentMention, RuleError, report_repeats};
-use graphql_schema::SchemaType;
+use graphql_schema::{SchemaScalar, SchemaType};
 use graphql_scopes::{FragmentIndex, FragmentScope, OperationScope};
 use graphql_text::Items;
 use std::alloc::{AllocError, Global};

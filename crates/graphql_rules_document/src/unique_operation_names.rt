@@ -11,9 +11,8 @@ ghost use Rattle.graphql_scopes.specs.Lent.{operation_of};
 
 use crate::document_rule::DocumentRule;
 use crate::once::Once;
-use graphql_meta::SchemaScalar;
 use graphql_rule_errors::{LentMention, RuleError, report_repeats};
-use graphql_schema::SchemaType;
+use graphql_schema::{SchemaScalar, SchemaType};
 use graphql_scopes::{FragmentIndex, OperationScope};
 use graphql_text::Items;
 use std::alloc::{AllocError, Global};

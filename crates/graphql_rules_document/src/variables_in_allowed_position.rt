@@ -14,10 +14,9 @@ ghost use Rattle.graphql_rules_document.specs.VariablesInAllowedPosition as spec
 use crate::document_rule::DocumentRule;
 use crate::first_variables::{Variable, first_variables};
 use crate::once::Once;
-use graphql_meta::SchemaScalar;
 use graphql_occurrences::{InputPlace, TypeLiteral};
 use graphql_rule_errors::{RuleError, report};
-use graphql_schema::SchemaType;
+use graphql_schema::{SchemaScalar, SchemaType};
 use graphql_scopes::{FragmentIndex, OperationScope, ReachedFragments, Use};
 use graphql_text::{Items, Spanning, TextRef};
 use graphql_type_references::{BorrowedType, Type, TypeModifier};

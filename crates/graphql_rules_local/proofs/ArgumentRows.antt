@@ -2,9 +2,9 @@
 use Rattle.std.proofs.Common.{◌≡◌, ℕ, ◌+◌, List, [], ◌∷◌, Some, None, refl}
 use Rattle.std.specs.Prelude.{codes}
 use Rattle.std.specs.List.{flat_map}
-use Rattle.graphql_meta.specs.declared.meta.field.Field.{Field}
-use Rattle.graphql_meta.specs.declared.meta.MetaType.{MetaType}
-use Rattle.graphql_meta.specs.declared.meta.MetaType.TheVariants as meta
+use Rattle.graphql_schema.specs.declared.meta.field.Field.{Field}
+use Rattle.graphql_schema.specs.declared.meta.MetaType.{MetaType}
+use Rattle.graphql_schema.specs.declared.meta.MetaType.TheVariants as meta
 use Rattle.graphql_names.specs.Names.{Bytes}
 use Rattle.graphql_rule_errors.specs.Places.{Places}
 use Rattle.graphql_schema.specs.Declarations.{Declarations}

@@ -7,11 +7,11 @@ use Rattle.std.proofs.lemmas.Grind.{flat_map-append}
 use Rattle.std.proofs.lemmas.List.Elements.{All-head, All-tail}
 use Rattle.std.proofs.lemmas.List.Folds.{flat_map-map}
 use Rattle.std.proofs.lemmas.Slice.Eq.{bytes_eq-Decides}
-use Rattle.graphql_meta.specs.declared.directive_location.DirectiveLocation.{DirectiveLocation}
-use Rattle.graphql_meta.specs.declared.directive_location.DirectiveLocation.TheVariants as location
-use Rattle.graphql_meta.specs.declared.meta.argument.Argument.{Argument as Declared}
-use Rattle.graphql_meta.specs.declared.meta.MetaType.{MetaType}
-use Rattle.graphql_meta.specs.Types.{TypeOf, own_name}
+use Rattle.graphql_schema.specs.declared.directive_location.DirectiveLocation.{DirectiveLocation}
+use Rattle.graphql_schema.specs.declared.directive_location.DirectiveLocation.TheVariants as location
+use Rattle.graphql_schema.specs.declared.meta.argument.Argument.{Argument as Declared}
+use Rattle.graphql_schema.specs.declared.meta.MetaType.{MetaType}
+use Rattle.graphql_schema.specs.Types.{TypeOf, own_name}
 use Rattle.graphql_names.proofs.NameMaps.{found_is_in}
 use Rattle.graphql_names.specs.Names.{Bytes, passes}
 use Rattle.graphql_occurrences.proofs.OccurrenceEquations.{parts_null, parts_scalar, parts_enum, parts_variable, parts_list, parts_object, parts_field, parts_spread, parts_inline}

@@ -2,9 +2,9 @@
 use Rattle.std.proofs.Common.{◌≡◌, ℕ, ◌+◌, List, [], ◌∷◌, Option, Some, None, refl}
 use Rattle.std.specs.Prelude.{codes}
 use Rattle.std.specs.List.{flat_map}
-use Rattle.graphql_meta.specs.declared.meta.MetaType.{MetaType}
-use Rattle.graphql_meta.specs.declared.meta.MetaType.TheVariants as meta
-use Rattle.graphql_meta.specs.Types.{TypeOf}
+use Rattle.graphql_schema.specs.declared.meta.MetaType.{MetaType}
+use Rattle.graphql_schema.specs.declared.meta.MetaType.TheVariants as meta
+use Rattle.graphql_schema.specs.Types.{TypeOf}
 use Rattle.graphql_names.specs.Names.{Bytes}
 use Rattle.graphql_occurrences.proofs.OccurrenceEquations.{parts_field, parts_inline, parts_spread}
 use Rattle.graphql_occurrences.proofs.Rows.{at, put, type_of, humans, query, select}

@@ -2,7 +2,7 @@
 use Rattle.std.proofs.Common.{◌≡◌, ◌||◌, ◌&&◌, List, [], ◌∷◌, ◌++◌, Bool, true, false, not, refl, sym, ap, ◌∙◌, append-nil}
 use Rattle.std.specs.List.{flat_map, list_all}
 use Rattle.std.proofs.lemmas.Grind.{flat_map-append}
-use Rattle.graphql_meta.specs.declared.meta.argument.Argument.{Argument as Declared}
+use Rattle.graphql_schema.specs.declared.meta.argument.Argument.{Argument as Declared}
 use Rattle.graphql_names.specs.Names.{Bytes}
 use Rattle.graphql_occurrences.specs.Parts.{Part, GivenPart}
 use Rattle.graphql_rule_errors.specs.Places.{Places, error_if}

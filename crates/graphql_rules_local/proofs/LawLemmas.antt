@@ -5,10 +5,10 @@ use Rattle.std.specs.Option.{ForSome, IsSome, is_some, is_none, option_map}
 use Rattle.std.specs.Str.{bytes_eq}
 use Rattle.std.proofs.lemmas.Bool.{true≢false, false≢true, not_from_false}
 use Rattle.std.proofs.lemmas.Option.{none-some, same_Some}
-use Rattle.graphql_meta.specs.declared.meta.argument.Argument.{Argument as Declared}
-use Rattle.graphql_meta.specs.declared.meta.field.Field.{Field as DeclaredField}
-use Rattle.graphql_meta.specs.declared.meta.MetaType.{MetaType}
-use Rattle.graphql_meta.specs.declared.meta.MetaType.TheVariants as meta
+use Rattle.graphql_schema.specs.declared.meta.argument.Argument.{Argument as Declared}
+use Rattle.graphql_schema.specs.declared.meta.field.Field.{Field as DeclaredField}
+use Rattle.graphql_schema.specs.declared.meta.MetaType.{MetaType}
+use Rattle.graphql_schema.specs.declared.meta.MetaType.TheVariants as meta
 use Rattle.graphql_names.specs.Names.{Bytes, is_one_of, passes}
 use Rattle.graphql_tree.specs.Definitions.{fragment_named}
 use Rattle.graphql_occurrences.specs.Lookups.{argument_named, field_type, known, referred}
@@ -17,7 +17,7 @@ use Rattle.graphql_rule_errors.specs.Places.{Places, error_if}
 use Rattle.graphql_schema.specs.Directives.{is_place}
 use Rattle.graphql_schema.specs.Executable.{is_optional}
 use Rattle.graphql_schema.specs.Possible.{overlap}
-use Rattle.graphql_schema_faults.specs.Faults.{is_composite}
+use Rattle.graphql_schema.specs.Faults.{is_composite}
 use Rattle.graphql_text.specs.declared.position.SourcePosition.{SourcePosition}
 use Rattle.graphql_tree.specs.Arguments.{Argument}
 use Rattle.graphql_values.specs.InputValues.{Placed}

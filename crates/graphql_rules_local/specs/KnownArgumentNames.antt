@@ -2,7 +2,7 @@
 use Rattle.std.specs.Prelude.{List, [], ◌∷◌, not, Option, Some, None}
 use Rattle.std.specs.List.{flat_map}
 use Rattle.std.specs.Option.{is_some}
-use Rattle.graphql_meta.specs.declared.meta.argument.Argument.{Argument as Declared}
+use Rattle.graphql_schema.specs.declared.meta.argument.Argument.{Argument as Declared}
 use Rattle.graphql_occurrences.specs.Lookups.{argument_named}
 use Rattle.graphql_occurrences.specs.Parts.{GivenPart}
 use Rattle.graphql_rule_errors.specs.Places.{Places, error_if}

@@ -3,10 +3,10 @@ use Rattle.std.specs.Prelude.{◌≡◌, ◌||◌, Bool, true, false, List, [], 
 use Rattle.std.specs.List.{Contains, IsDistinct, flat_map}
 use Rattle.std.specs.Option.{ForSome, IsSome}
 use Rattle.std.specs.Str.{bytes_eq}
-use Rattle.graphql_meta.specs.declared.directive.DirectiveType.{DirectiveType}
-use Rattle.graphql_meta.specs.declared.meta.argument.Argument.{Argument as Declared}
-use Rattle.graphql_meta.specs.declared.meta.field.Field.{Field as DeclaredField}
-use Rattle.graphql_meta.specs.declared.meta.MetaType.{MetaType}
+use Rattle.graphql_schema.specs.declared.directive.DirectiveType.{DirectiveType}
+use Rattle.graphql_schema.specs.declared.meta.argument.Argument.{Argument as Declared}
+use Rattle.graphql_schema.specs.declared.meta.field.Field.{Field as DeclaredField}
+use Rattle.graphql_schema.specs.declared.meta.MetaType.{MetaType}
 use Rattle.graphql_names.specs.Names.{Bytes, is_one_of}
 use Rattle.graphql_occurrences.specs.Lookups.{argument_named, field_type, known, referred}
 use Rattle.graphql_occurrences.specs.Parts.{DirectivePart, FieldPart, GivenPart, Part}
@@ -14,7 +14,7 @@ use Rattle.graphql_schema.specs.Declarations.{Declarations}
 use Rattle.graphql_schema.specs.Directives.{is_place}
 use Rattle.graphql_schema.specs.Executable.{is_optional}
 use Rattle.graphql_schema.specs.Possible.{overlap}
-use Rattle.graphql_schema_faults.specs.Faults.{is_composite}
+use Rattle.graphql_schema.specs.Faults.{is_composite}
 use Rattle.graphql_tree.specs.Arguments.{Argument}
 use Rattle.graphql_visitors.specs.Rules.{Rule}
 use Rattle.graphql_visitors.specs.Subjects.{Subject}

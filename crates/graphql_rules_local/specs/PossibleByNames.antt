@@ -1,7 +1,7 @@
 -- What the rule on possible spreads says of a fragment by the name of the type of which it is selected (GraphQL October 2021, 5.5.2.3 Fragment Spread Is Possible).
 use Rattle.std.specs.Prelude.{[], ◌∷◌}
 use Rattle.std.specs.Option.{option_map}
-use Rattle.graphql_meta.specs.Types.{own_name}
+use Rattle.graphql_schema.specs.Types.{own_name}
 use Rattle.graphql_names.specs.Names.{passes}
 use Rattle.graphql_tree.specs.Definitions.{fragment_named}
 use Rattle.graphql_occurrences.specs.Nodes.{Seen}

@@ -1,6 +1,6 @@
 -- A fragment whose type has no possible type in common with the type of which it is selected (GraphQL October 2021, 5.5.2.3 Fragment Spread Is Possible).
 use Rattle.std.specs.Prelude.{[], ◌∷◌, not, Bool}
-use Rattle.graphql_meta.specs.declared.meta.MetaType.{MetaType}
+use Rattle.graphql_schema.specs.declared.meta.MetaType.{MetaType}
 use Rattle.graphql_names.specs.Names.{Bytes, passes}
 use Rattle.std.specs.Option.{option_map}
 use Rattle.graphql_tree.specs.Definitions.{fragment_named}

@@ -1,7 +1,7 @@
 -- An argument that must be given, and is not (GraphQL October 2021, 5.4.2.1 Required Arguments).
 use Rattle.std.specs.Prelude.{[], ◌∷◌, ◌||◌, not, Bool, map, unwrap_or}
 use Rattle.std.specs.List.{flat_map}
-use Rattle.graphql_meta.specs.declared.meta.argument.Argument.{Argument as Declared}
+use Rattle.graphql_schema.specs.declared.meta.argument.Argument.{Argument as Declared}
 use Rattle.graphql_names.specs.Names.{Bytes, is_one_of}
 use Rattle.graphql_occurrences.specs.Parts.{GivenPart}
 use Rattle.graphql_rule_errors.specs.Places.{Places, error_if}

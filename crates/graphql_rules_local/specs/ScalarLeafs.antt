@@ -1,12 +1,12 @@
 -- A field of a leaf type with a selection set, or of a composite type without one (GraphQL October 2021, 5.3.3 Leaf Field Selections).
 use Rattle.std.specs.Prelude.{[], ◌∷◌, ◌||◌, Bool, if◌then◌else◌}
-use Rattle.graphql_meta.specs.declared.meta.MetaType.{MetaType}
+use Rattle.graphql_schema.specs.declared.meta.MetaType.{MetaType}
 use Rattle.graphql_names.specs.Names.{passes}
 use Rattle.graphql_occurrences.specs.Lookups.{field_type, referred}
 use Rattle.graphql_occurrences.specs.Parts.{AField}
 use Rattle.graphql_rule_errors.specs.Places.{error_if}
-use Rattle.graphql_schema_faults.specs.Faults.{is_composite}
-use Rattle.graphql_schema_faults.specs.Lookups.{is_scalar, is_enum}
+use Rattle.graphql_schema.specs.Faults.{is_composite}
+use Rattle.graphql_schema.specs.Lookups.{is_scalar, is_enum}
 use Rattle.graphql_visitors.specs.Rules.{Rule}
 
 module _ {S C : Type 0} where

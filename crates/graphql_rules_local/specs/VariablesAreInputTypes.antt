@@ -4,7 +4,7 @@ use Rattle.graphql_names.specs.Names.{passes}
 use Rattle.graphql_occurrences.specs.Lookups.{known}
 use Rattle.graphql_occurrences.specs.Parts.{VariableDefined}
 use Rattle.graphql_rule_errors.specs.Places.{error_if}
-use Rattle.graphql_schema_faults.specs.Faults.{is_composite}
+use Rattle.graphql_schema.specs.Faults.{is_composite}
 use Rattle.graphql_visitors.specs.Rules.{Rule}
 
 module _ {S C : Type 0} where

@@ -3,8 +3,8 @@
 ghost use Rattle.std.specs.Prelude.{◌≡◌};
 ghost use Rattle.graphql_rules_local.specs.DisableIntrospection as spec;
 
-use graphql_meta::SchemaScalar;
 use graphql_occurrences::{Event, Node};
+use graphql_schema::SchemaScalar;
 use graphql_text::Text;
 use graphql_visitors::{Local, LocalRule, ValidatorContext};
 use std::alloc::{AllocError, Global};

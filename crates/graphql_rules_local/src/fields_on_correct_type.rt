@@ -1,8 +1,8 @@
 //! Fields that no type has.
 
-use graphql_meta::SchemaScalar;
 use graphql_names::Named;
 use graphql_occurrences::{Event, Node};
+use graphql_schema::SchemaScalar;
 use graphql_text::Text;
 use graphql_visitors::{Local, LocalRule, ValidatorContext};
 use std::alloc::{AllocError, Global};

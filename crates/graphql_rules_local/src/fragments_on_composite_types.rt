@@ -7,9 +7,8 @@ ghost use Rattle.graphql_schema.specs.Declarations.{declarations_of};
 ghost use Rattle.graphql_visitors.specs.Reports.{Reports};
 
 use crate::kinds::is_composite;
-use graphql_meta::SchemaScalar;
 use graphql_occurrences::{Event, Node};
-use graphql_schema::SchemaType;
+use graphql_schema::{SchemaScalar, SchemaType};
 use graphql_text::{Spanning, Text, TextRef};
 use graphql_visitors::{Local, LocalRule, ValidatorContext};
 use std::alloc::{AllocError, Global};

@@ -10,10 +10,10 @@ ghost use Rattle.graphql_occurrences.specs.PartsOf.{parts_of};
 ghost use Rattle.graphql_visitors.specs.Subjects.{seen_in};
 ghost use Rattle.graphql_rules_local.specs.Givens.{given_in, given_of};
 
-use graphql_meta::{DirectiveType, SchemaScalar};
 use graphql_occurrences::{
     DeclaredArguments, Event, KnownField, Node, Owner, arguments_of_field, declared_by_directive,
 };
+use graphql_schema::{DirectiveType, SchemaScalar};
 use graphql_text::{SourcePosition, Spanning, TextRef};
 use graphql_tree::{Directive, Field, arguments_in};
 use graphql_values::InputValue;

@@ -2,9 +2,9 @@
 
 ghost use Rattle.std.specs.Prelude.{◌≡◌};
 ghost use Rattle.graphql_rules_local.specs.ScalarLeafs as spec;
-ghost use Rattle.graphql_schema_faults.specs.Faults as faults;
+ghost use Rattle.graphql_schema.specs.Faults as faults;
 
-use graphql_meta::MetaType;
+use graphql_schema::MetaType;
 
 /// Whether the type is an object, an interface or a union.
 pub(crate) fn is_composite<S, C>(meta: &MetaType<S, C>) -> bool

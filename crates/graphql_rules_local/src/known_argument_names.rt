@@ -7,8 +7,8 @@ ghost use Rattle.graphql_rules_local.specs.Givens.{given_of};
 ghost use Rattle.graphql_rules_local.specs.KnownArgumentNames.{undeclared, undeclared_in};
 
 use crate::given::{Given, given_at};
-use graphql_meta::SchemaScalar;
 use graphql_occurrences::{DeclaredArguments, Event, Owner};
+use graphql_schema::SchemaScalar;
 use graphql_text::{Spanning, Text, TextRef};
 use graphql_values::InputValue;
 use graphql_visitors::{Local, LocalRule, ValidatorContext};

@@ -8,8 +8,8 @@ ghost use Rattle.graphql_visitors.specs.Rules.{told_at};
 ghost use Rattle.graphql_visitors.specs.Subjects.{seen_in, subject_of};
 ghost use Rattle.graphql_rules_local.specs.KnownDirectives.{known_directives, misplaced};
 
-use graphql_meta::{DirectiveLocation, DirectiveType, SchemaScalar};
 use graphql_occurrences::{Event, Node};
+use graphql_schema::{DirectiveLocation, DirectiveType, SchemaScalar};
 use graphql_text::{Spanning, Text};
 use graphql_tree::Directive;
 use graphql_visitors::{Local, LocalRule, ValidatorContext};

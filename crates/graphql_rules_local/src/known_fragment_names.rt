@@ -7,8 +7,8 @@ ghost use Rattle.graphql_rule_errors.specs.Places.{error_if};
 ghost use Rattle.graphql_visitors.specs.Reports.{Reports};
 ghost use Rattle.graphql_visitors.specs.Subjects.{subject_of};
 
-use graphql_meta::SchemaScalar;
 use graphql_occurrences::{Event, Node};
+use graphql_schema::SchemaScalar;
 use graphql_text::{Spanning, Text, TextRef};
 use graphql_visitors::{Local, LocalRule, ValidatorContext};
 use std::alloc::{AllocError, Global};

@@ -7,8 +7,8 @@ ghost use Rattle.graphql_rule_errors.specs.Places.{error_if};
 ghost use Rattle.graphql_schema.specs.Declarations.{declarations_of};
 ghost use Rattle.graphql_visitors.specs.Reports.{Reports};
 
-use graphql_meta::SchemaScalar;
 use graphql_occurrences::{Event, Node};
+use graphql_schema::SchemaScalar;
 use graphql_text::{SourcePosition, Text};
 use graphql_visitors::{Local, LocalRule, ValidatorContext};
 use std::alloc::{AllocError, Global};

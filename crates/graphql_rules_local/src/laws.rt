@@ -28,11 +28,11 @@ ghost use Rattle.graphql_rules_local.specs.UniqueInputFieldNames.{unique_input_f
 ghost use Rattle.graphql_rules_local.specs.VariablesAreInputTypes.{no_input_type};
 ghost use Rattle.graphql_rules_local.specs.declared.possible_fragment_spreads.PossibleFragmentSpreads.{PossibleFragmentSpreads};
 ghost use Rattle.graphql_schema.specs.Declarations.{declarations_of};
-ghost use Rattle.graphql_schema_faults.specs.Faults.{is_composite};
+ghost use Rattle.graphql_schema.specs.Faults.{is_composite};
 ghost use Rattle.graphql_visitors.specs.Runs.{Runs, joined};
 ghost use Rattle.graphql_visitors.specs.Subjects.{Subject};
 
-use graphql_meta::SchemaScalar;
+use graphql_schema::SchemaScalar;
 
 /// `KnownFragmentNames` finds no fault exactly where each spread's name is that of a fragment of the
 /// document (GraphQL October 2021, 5.5.2.1 Fragment Spread Target Defined).

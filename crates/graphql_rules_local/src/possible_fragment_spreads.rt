@@ -12,10 +12,9 @@ ghost use Rattle.graphql_visitors.specs.Reports.{Reports};
 ghost use Rattle.graphql_visitors.specs.Subjects.{seen_in, subject_of};
 
 use crate::overlaps::Overlaps;
-use graphql_meta::SchemaScalar;
 use graphql_names::Named;
 use graphql_occurrences::{Event, Node};
-use graphql_schema::SchemaType;
+use graphql_schema::{SchemaScalar, SchemaType};
 use graphql_text::{SourcePosition, Spanning, Text};
 use graphql_tree::{FragmentSpread, InlineFragment};
 use graphql_visitors::{ValidatorContext, Visitor};

@@ -10,8 +10,8 @@ ghost use Rattle.graphql_rules_local.specs.Givens.{given_of};
 ghost use Rattle.graphql_rules_local.specs.ProvidedNonNullArguments.{missing, missing_in};
 
 use crate::given::{Given, given_at};
-use graphql_meta::{Argument, SchemaScalar};
 use graphql_occurrences::Event;
+use graphql_schema::{Argument, SchemaScalar};
 use graphql_text::{SourcePosition, Spanning, Text, TextRef};
 use graphql_values::InputValue;
 use graphql_visitors::{Local, LocalRule, ValidatorContext};

@@ -4,8 +4,8 @@ ghost use Rattle.std.specs.Prelude.{map};
 ghost use Rattle.graphql_rule_errors.specs.Repeats.{repeats};
 ghost use Rattle.graphql_visitors.specs.Reports.{Reports};
 
-use graphql_meta::SchemaScalar;
 use graphql_rule_errors::Mentions;
+use graphql_schema::SchemaScalar;
 use graphql_text::Items;
 use graphql_visitors::ValidatorContext;
 

@@ -7,9 +7,8 @@ ghost use Rattle.graphql_rules_local.specs.ScalarLeafs as spec;
 ghost use Rattle.graphql_schema.specs.Declarations.{declarations_of};
 
 use crate::kinds::{is_composite, is_leaf};
-use graphql_meta::{MetaType, SchemaScalar};
 use graphql_occurrences::{Event, Node, TypeLiteral};
-use graphql_schema::SchemaType;
+use graphql_schema::{MetaType, SchemaScalar, SchemaType};
 use graphql_text::{Text, TextRef};
 use graphql_type_references::Type;
 use graphql_visitors::{Local, LocalRule, ValidatorContext};

@@ -2,8 +2,8 @@
 
 use crate::given::given_at;
 use crate::repeats::report_repeats;
-use graphql_meta::SchemaScalar;
 use graphql_occurrences::Event;
+use graphql_schema::SchemaScalar;
 use graphql_visitors::{Local, LocalRule, ValidatorContext};
 
 /// A later argument of a name in a list of arguments (GraphQL October 2021, 5.4.2 Argument Uniqueness).

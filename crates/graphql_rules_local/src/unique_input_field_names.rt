@@ -6,8 +6,8 @@ ghost use Rattle.graphql_visitors.specs.Subjects.{seen_in, subject_of};
 ghost use Rattle.graphql_rules_local.specs.UniqueInputFieldNames.{unique_input_field_names};
 
 use crate::repeats::report_repeats;
-use graphql_meta::SchemaScalar;
 use graphql_occurrences::{Event, Node};
+use graphql_schema::SchemaScalar;
 use graphql_text::Spanning;
 use graphql_values::InputValue;
 use graphql_visitors::{Local, LocalRule, ValidatorContext};

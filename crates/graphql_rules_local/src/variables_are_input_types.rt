@@ -4,12 +4,11 @@ ghost use Rattle.std.specs.Prelude.{◌≡◌};
 ghost use Rattle.graphql_names.specs.Names.{passes};
 ghost use Rattle.graphql_occurrences.specs.Lookups.{known};
 ghost use Rattle.graphql_schema.specs.Declarations.{declarations_of};
-ghost use Rattle.graphql_schema_faults.specs.Faults as faults;
+ghost use Rattle.graphql_schema.specs.Faults as faults;
 
 use crate::kinds::is_composite;
-use graphql_meta::SchemaScalar;
 use graphql_occurrences::{Event, Node};
-use graphql_schema::SchemaType;
+use graphql_schema::{SchemaScalar, SchemaType};
 use graphql_text::{Text, TextRef};
 use graphql_type_references::Type;
 use graphql_visitors::{Local, LocalRule, ValidatorContext};

@@ -2,7 +2,7 @@
 use Rattle.std.proofs.Common.{sym, subst, ℕ, ◌<◌, Bool, ◌||◌, List}
 use Rattle.std.specs.List.{Contains}
 use Rattle.graphql_text.specs.declared.position.SourcePosition.{SourcePosition}
-use Rattle.graphql_meta.specs.declared.meta.MetaType.{MetaType}
+use Rattle.graphql_schema.specs.declared.meta.MetaType.{MetaType}
 use Rattle.graphql_merging.specs.Members.{Member}
 use Rattle.graphql_merging.specs.Merging.{Together, in_set, in_sets}
 use Rattle.graphql_merging.specs.Sets.{Set, members_of}

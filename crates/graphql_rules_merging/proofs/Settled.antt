@@ -5,7 +5,7 @@ use Rattle.std.proofs.lemmas.Bool.Decides.{Decides-eqb}
 use Rattle.std.proofs.lemmas.List.{map-append}
 use Rattle.graphql_values.specs.Laws.{SameAsItself}
 use Rattle.graphql_text.specs.declared.position.SourcePosition.{SourcePosition}
-use Rattle.graphql_meta.specs.declared.meta.MetaType.{MetaType}
+use Rattle.graphql_schema.specs.declared.meta.MetaType.{MetaType}
 use Rattle.graphql_rule_errors.specs.Places.{Places}
 use Rattle.graphql_merging.specs.Members.{Member}
 use Rattle.graphql_merging.specs.Merging.{Agree, apart}

@@ -1,7 +1,7 @@
 -- Which fields of two selection sets are compared, and what is told and begun of them (GraphQL October 2021, 5.3.2 Field Selection Merging).
 use Rattle.std.specs.Prelude.{◌≡◌, eqb, Bool, ◌||◌, List, [], ◌∷◌, ◌++◌, map, ◌⊎◌, if◌then◌else◌}
 use Rattle.std.specs.List.{Contains, flat_map}
-use Rattle.graphql_meta.specs.declared.meta.MetaType.{MetaType}
+use Rattle.graphql_schema.specs.declared.meta.MetaType.{MetaType}
 use Rattle.graphql_rule_errors.specs.Places.{Places, places}
 use Rattle.graphql_merging.specs.Members.{Member}
 use Rattle.graphql_merging.specs.Merging.{Agree, apart}

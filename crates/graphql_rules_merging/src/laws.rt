@@ -8,7 +8,7 @@ ghost use Rattle.graphql_rules_merging.specs.declared.visitor.OverlappingFieldsC
 ghost use Rattle.graphql_visitors.specs.Runs.{Runs, joined};
 ghost use Rattle.graphql_visitors.specs.Subjects.{Subject};
 
-use graphql_meta::SchemaScalar;
+use graphql_schema::SchemaScalar;
 
 /// Over the events of a document, a visitor that has not asked the rule yet tells just what the rule
 /// does of the document.

@@ -6,8 +6,8 @@ ghost use Rattle.graphql_visitors.specs.Reports.{ReportsBy};
 ghost use Rattle.graphql_visitors.specs.Subjects.{subject_of};
 
 use crate::overlapping_fields::overlapping_fields_can_be_merged;
-use graphql_meta::SchemaScalar;
 use graphql_occurrences::Event;
+use graphql_schema::SchemaScalar;
 use graphql_visitors::{ValidatorContext, Visitor};
 
 /// Each two fields of one response key that stand together in a selection set merge (GraphQL October

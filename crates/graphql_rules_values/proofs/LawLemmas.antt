@@ -5,8 +5,8 @@ use Rattle.std.specs.Option.{ForSome, is_some, option_map, option_to_list}
 use Rattle.std.proofs.lemmas.Bool.{false≢true}
 use Rattle.std.proofs.lemmas.List.Elements.{All-contains, All-from_recursion, recursion_from_All, Contains-get_or}
 use Rattle.std.proofs.lemmas.Option.{none-some, same_Some}
-use Rattle.graphql_meta.specs.declared.meta.argument.Argument.{Argument as Declared}
-use Rattle.graphql_meta.specs.declared.meta.MetaType.{MetaType}
+use Rattle.graphql_schema.specs.declared.meta.argument.Argument.{Argument as Declared}
+use Rattle.graphql_schema.specs.declared.meta.MetaType.{MetaType}
 use Rattle.graphql_occurrences.specs.Lookups.{argument_named, known}
 use Rattle.graphql_occurrences.specs.Parts.{GivenPart, Part, VariablePart, VariableDefined, Given}
 use Rattle.graphql_rule_errors.specs.Places.{Places}

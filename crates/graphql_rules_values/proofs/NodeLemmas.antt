@@ -3,10 +3,10 @@ use Rattle.std.proofs.Common.{◌≡◌, List, [], ◌++◌, map, Option, Some, 
 use Rattle.std.specs.List.{flat_map}
 use Rattle.std.specs.Option.{is_some, option_copied, option_map, option_to_list}
 use Rattle.std.proofs.lemmas.Bool.{false≢true}
-use Rattle.graphql_meta.specs.declared.directive.DirectiveType.{DirectiveType}
-use Rattle.graphql_meta.specs.declared.directive_location.DirectiveLocation.{DirectiveLocation}
-use Rattle.graphql_meta.specs.declared.meta.MetaType.{MetaType}
-use Rattle.graphql_meta.specs.declared.meta.field.Field as declared
+use Rattle.graphql_schema.specs.declared.directive.DirectiveType.{DirectiveType}
+use Rattle.graphql_schema.specs.declared.directive_location.DirectiveLocation.{DirectiveLocation}
+use Rattle.graphql_schema.specs.declared.meta.MetaType.{MetaType}
+use Rattle.graphql_schema.specs.declared.meta.field.Field as declared
 use Rattle.graphql_names.specs.Names.{Bytes}
 use Rattle.graphql_tree.specs.Documents.{arguments_in}
 use Rattle.graphql_occurrences.specs.Lent.{field_of_known, node_of}

@@ -2,7 +2,7 @@
 use Rattle.std.specs.Prelude.{List, [], Option, Some, None}
 use Rattle.std.specs.List.{flat_map}
 use Rattle.std.specs.Option.{option_map, option_to_list}
-use Rattle.graphql_meta.specs.declared.meta.argument.Argument.{Argument as Declared}
+use Rattle.graphql_schema.specs.declared.meta.argument.Argument.{Argument as Declared}
 use Rattle.graphql_occurrences.specs.Lookups.{argument_named}
 use Rattle.graphql_occurrences.specs.Parts.{Part, Given}
 use Rattle.graphql_scalars.specs.ScalarAnswers.{ScalarAnswer}

@@ -2,7 +2,7 @@
 use Rattle.std.specs.Prelude.{List}
 use Rattle.std.specs.List.{Contains}
 use Rattle.std.specs.Option.{ForSome, IsSome}
-use Rattle.graphql_meta.specs.declared.meta.MetaType.{MetaType}
+use Rattle.graphql_schema.specs.declared.meta.MetaType.{MetaType}
 use Rattle.graphql_occurrences.specs.Lookups.{argument_named, known}
 use Rattle.graphql_occurrences.specs.Parts.{GivenPart, VariablePart}
 use Rattle.graphql_scalars.specs.ScalarAnswers.{ScalarAnswer}

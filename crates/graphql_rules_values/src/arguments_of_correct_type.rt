@@ -10,10 +10,10 @@ ghost use Rattle.graphql_rules_values.specs.ArgumentsOfCorrectType.{literal_of, 
 ghost use Rattle.graphql_rules_values.specs.Literals.{Misfits};
 
 use crate::literals::{Role, report_literal};
-use graphql_meta::SchemaScalar;
 use graphql_occurrences::{
     DeclaredArguments, Event, KnownField, Node, arguments_of_field, declared_by_directive,
 };
+use graphql_schema::SchemaScalar;
 use graphql_text::{Spanning, TextRef};
 use graphql_tree::{Field, arguments_in};
 use graphql_values::InputValue;

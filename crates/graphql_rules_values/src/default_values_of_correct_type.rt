@@ -13,9 +13,8 @@ ghost use Rattle.graphql_rules_values.specs.DefaultValuesOfCorrectType.{default_
 ghost use Rattle.graphql_rules_values.specs.Literals.{Misfits};
 
 use crate::literals::{Role, report_literal};
-use graphql_meta::SchemaScalar;
 use graphql_occurrences::{Event, Node};
-use graphql_schema::SchemaType;
+use graphql_schema::{SchemaScalar, SchemaType};
 use graphql_text::{Spanning, TextRef};
 use graphql_tree::VariableDefinition;
 use graphql_visitors::{Relational, RelationalRule, ValidatorContext};

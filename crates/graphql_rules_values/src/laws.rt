@@ -10,7 +10,7 @@ ghost use Rattle.graphql_rules_values.specs.Laws.{ArgumentsFit, DefaultFits};
 ghost use Rattle.graphql_visitors.specs.Rules.{Tell};
 ghost use Rattle.graphql_visitors.specs.Subjects.{Subject};
 
-use graphql_meta::SchemaScalar;
+use graphql_schema::SchemaScalar;
 
 /// `ArgumentsOfCorrectType` tells nothing exactly where the value of each argument that is declared
 /// conforms to the type that is declared.

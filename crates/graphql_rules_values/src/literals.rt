@@ -5,7 +5,7 @@ ghost use Rattle.graphql_visitors.specs.Reports.{ReportsBy};
 ghost use Rattle.graphql_rules_values.specs.Literals.{Judged};
 
 use graphql_literal_checks::validate_literal_value;
-use graphql_meta::SchemaScalar;
+use graphql_schema::SchemaScalar;
 use graphql_text::{Spanning, Text};
 use graphql_type_references::{Type, TypeModifier};
 use graphql_values::InputValue;

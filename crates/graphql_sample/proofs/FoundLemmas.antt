@@ -4,14 +4,14 @@ use Rattle.std.proofs.lemmas.List.Sorted.{Contains-permutation}
 use Rattle.graphql_names.specs.Names.{Bytes}
 use Rattle.graphql_names.proofs.NameMaps.{in_is_found}
 use Rattle.graphql_scalars.specs.declared.default_scalar.DefaultScalarValue.{DefaultScalarValue}
-use Rattle.graphql_meta.specs.declared.introspection_checks.IntrospectionChecks.{IntrospectionChecks}
-use Rattle.graphql_meta.specs.declared.meta.MetaType.{MetaType}
+use Rattle.graphql_schema.specs.declared.introspection_checks.IntrospectionChecks.{IntrospectionChecks}
+use Rattle.graphql_schema.specs.declared.meta.MetaType.{MetaType}
 use Rattle.graphql_schema.specs.declared.schema.SchemaType.{SchemaType}
 use Rattle.graphql_schema.specs.Schemas.{IsSchemaOf, Makes}
-use Rattle.graphql_schema_faults.specs.Completed.{completed}
-use Rattle.graphql_schema_faults.specs.Faults.{Roots}
-use Rattle.graphql_schema_faults.specs.Lookups.{own_name, type_named}
-use Rattle.graphql_schema_faults.specs.declared.error.SchemaError.{SchemaError}
+use Rattle.graphql_schema.specs.Completed.{completed}
+use Rattle.graphql_schema.specs.Faults.{Roots}
+use Rattle.graphql_schema.specs.Lookups.{own_name, type_named}
+use Rattle.graphql_schema.specs.declared.error.SchemaError.{SchemaError}
 use Rattle.graphql_sample.specs.SampleTypes.{scalar, types, roots}
 
 module _ {C : Type 0} (of_text : Bytes → DefaultScalarValue) (int string boolean id : C)

@@ -7,14 +7,14 @@ use Rattle.graphql_scalars.specs.declared.default_scalar.DefaultScalarValue.TheV
 use Rattle.graphql_type_references.specs.declared.type_modifier.TypeModifier.{TypeModifier}
 use Rattle.graphql_type_references.specs.declared.type_modifier.TypeModifier.TheVariants as modifier
 use Rattle.graphql_introspection.specs.Metadata.{introspection_types}
-use Rattle.graphql_meta.specs.declared.introspection_checks.IntrospectionChecks.{IntrospectionChecks}
-use Rattle.graphql_meta.specs.declared.meta.argument.Argument.{Argument}
-use Rattle.graphql_meta.specs.declared.meta.deprecation.DeprecationStatus.TheVariants as status
-use Rattle.graphql_meta.specs.declared.meta.field.Field.{Field}
-use Rattle.graphql_meta.specs.declared.meta.object.ObjectMeta.{ObjectMeta}
-use Rattle.graphql_meta.specs.declared.meta.MetaType.{MetaType}
-use Rattle.graphql_meta.specs.declared.meta.MetaType.TheVariants as meta
-use Rattle.graphql_schema_faults.specs.Faults.{Roots}
+use Rattle.graphql_schema.specs.declared.introspection_checks.IntrospectionChecks.{IntrospectionChecks}
+use Rattle.graphql_schema.specs.declared.meta.argument.Argument.{Argument}
+use Rattle.graphql_schema.specs.declared.meta.deprecation.DeprecationStatus.TheVariants as status
+use Rattle.graphql_schema.specs.declared.meta.field.Field.{Field}
+use Rattle.graphql_schema.specs.declared.meta.object.ObjectMeta.{ObjectMeta}
+use Rattle.graphql_schema.specs.declared.meta.MetaType.{MetaType}
+use Rattle.graphql_schema.specs.declared.meta.MetaType.TheVariants as meta
+use Rattle.graphql_schema.specs.Faults.{Roots}
 
 abbrev pub Wraps : Type 0
 Wraps = List TypeModifier

@@ -3,17 +3,16 @@
 ghost use Rattle.std.specs.Prelude.{◌≡◌, IfOk, codes, map};
 ghost use Rattle.graphql_text.specs.Memory.{Gives};
 ghost use Rattle.graphql_schema.specs.Schemas.{Makes};
-ghost use Rattle.graphql_schema_faults.specs.Lookups.{type_named};
+ghost use Rattle.graphql_schema.specs.Lookups.{type_named};
 ghost use Rattle.graphql_sample.specs.SampleTypes as spec;
 
 use graphql_introspection::{introspection_metadata, type_reference};
-use graphql_meta::scalar_checks::StandardChecks;
-use graphql_meta::{
-    Argument, DeprecationStatus, Field, MetaType, ObjectMeta, ScalarMeta, TypeCheck,
-};
 use graphql_names::NamedItems;
-use graphql_schema::SchemaType;
-use graphql_schema_faults::SchemaError;
+use graphql_schema::scalar_checks::StandardChecks;
+use graphql_schema::{
+    Argument, DeprecationStatus, Field, MetaType, ObjectMeta, ScalarMeta, SchemaError, SchemaType,
+    TypeCheck,
+};
 use graphql_text::{Items, Text};
 use graphql_type_references::TypeModifier;
 use graphql_values::{DefaultScalarValue, ScalarValue};

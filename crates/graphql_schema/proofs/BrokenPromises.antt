@@ -5,12 +5,12 @@ use Rattle.std.specs.List.{find, list_any, list_all}
 use Rattle.std.specs.Option.{option_map, option_and_then, is_some, unwrap_or}
 use Rattle.std.proofs.lemmas.Bool.{not-false, and_from}
 use Rattle.std.proofs.lemmas.Bool.Decides.{Decides-and}
-use Rattle.graphql_meta.specs.declared.meta.field.Field.{Field}
-use Rattle.graphql_meta.specs.declared.meta.MetaType.{MetaType}
-use Rattle.graphql_meta.specs.Types.{fields_of}
+use Rattle.graphql_schema.specs.declared.meta.field.Field.{Field}
+use Rattle.graphql_schema.specs.declared.meta.MetaType.{MetaType}
+use Rattle.graphql_schema.specs.Types.{fields_of}
 use Rattle.graphql_names.specs.Names.{Bytes}
-use Rattle.graphql_schema_faults.specs.Lookups.{own_name, type_named, interfaces_of}
-use Rattle.graphql_schema_faults.specs.Faults.{Roots, IsFaultless}
+use Rattle.graphql_schema.specs.Lookups.{own_name, type_named, interfaces_of}
+use Rattle.graphql_schema.specs.Faults.{Roots, IsFaultless}
 use Rattle.graphql_schema.specs.declared.schema.promises.BrokenPromise.{BrokenPromise}
 use Rattle.graphql_schema.specs.Executable.{is_promised_field, keeps_named, keeps_interfaces, is_executable}
 use Rattle.graphql_schema.specs.Implementations.{IsExecutable}

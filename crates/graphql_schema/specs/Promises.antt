@@ -2,11 +2,11 @@
 use Rattle.std.specs.Prelude.{◌≡◌, ◌++◌, ◌&&◌, ◌∷◌, if◌then◌else◌, not, List, Bool, Option, Some, None, IsTrue}
 use Rattle.std.specs.List.{Contains, find, list_any, list_all}
 use Rattle.std.specs.Option.{option_map, option_and_then}
-use Rattle.graphql_meta.specs.declared.meta.field.Field.{Field}
-use Rattle.graphql_meta.specs.declared.meta.MetaType.{MetaType}
-use Rattle.graphql_meta.specs.Types.{fields_of}
+use Rattle.graphql_schema.specs.declared.meta.field.Field.{Field}
+use Rattle.graphql_schema.specs.declared.meta.MetaType.{MetaType}
+use Rattle.graphql_schema.specs.Types.{fields_of}
 use Rattle.graphql_names.specs.Names.{Bytes, is_one_of}
-use Rattle.graphql_schema_faults.specs.Lookups.{is_interface, own_name, type_named, interfaces_of}
+use Rattle.graphql_schema.specs.Lookups.{is_interface, own_name, type_named, interfaces_of}
 use Rattle.graphql_schema.specs.declared.schema.promises.BrokenPromise.{BrokenPromise}
 use Rattle.graphql_schema.specs.Executable.{is_promised_field, keeps_named, keeps_interfaces}
 use Rattle.graphql_schema.specs.Implementations.{KeepsField, KeepsInterface}

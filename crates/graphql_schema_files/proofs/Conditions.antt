@@ -3,13 +3,13 @@ use Rattle.std.proofs.Common.{◌≡◌, ◌&&◌, true, List, Option, Result, O
 use Rattle.serde_json.specs.Data.{Data}
 use Rattle.graphql_names.specs.Names.{Bytes, passes}
 use Rattle.graphql_scalars.specs.declared.default_scalar.DefaultScalarValue.TheVariants as scalar_value
-use Rattle.graphql_meta.specs.declared.meta.MetaType.{MetaType}
+use Rattle.graphql_schema.specs.declared.meta.MetaType.{MetaType}
 use Rattle.graphql_schema.specs.Directives.{has_standard_conditions, is_condition}
 use Rattle.graphql_schema.specs.Schemas.{IsSchemaOf}
 use Rattle.graphql_schema.specs.StandardDirectives.{directive_named, standard_directives}
 use Rattle.graphql_schema.specs.declared.root_node.RootNode.{RootNode}
 use Rattle.graphql_schema.specs.declared.schema.SchemaType.{SchemaType}
-use Rattle.graphql_schema_faults.specs.Faults.{Roots}
+use Rattle.graphql_schema.specs.Faults.{Roots}
 use Rattle.graphql_drafted_types.specs.DraftedTypes.{S}
 use Rattle.graphql_drafted_types.specs.SpelledTexts.{Value}
 use Rattle.graphql_schema_files.specs.SchemaFiles.{ReadsData}

@@ -2,14 +2,14 @@
 use Rattle.std.proofs.Common.{◌≡◌, List, Result, Ok, Err, sym, subst, ap, refl}
 use Rattle.graphql_text.specs.Memory.{UnlessMemory}
 use Rattle.graphql_scalars.specs.declared.default_scalar.DefaultScalarValue.TheVariants as scalar
-use Rattle.graphql_meta.specs.declared.meta.MetaType.{MetaType}
+use Rattle.graphql_schema.specs.declared.meta.MetaType.{MetaType}
 use Rattle.graphql_schema.specs.declared.root_node.RootNode.{RootNode}
 use Rattle.graphql_schema.specs.declared.schema.SchemaType.{SchemaType}
 use Rattle.graphql_schema.specs.Schemas.{Makes}
-use Rattle.graphql_schema_faults.specs.Completed.{completed}
-use Rattle.graphql_schema_faults.specs.Faults.{Roots, TellsFirst}
-use Rattle.graphql_schema_faults.specs.declared.error.SchemaError.{SchemaError}
-use Rattle.graphql_schema_faults.specs.declared.error.SchemaError.TheVariants as error
+use Rattle.graphql_schema.specs.Completed.{completed}
+use Rattle.graphql_schema.specs.Faults.{Roots, TellsFirst}
+use Rattle.graphql_schema.specs.declared.error.SchemaError.{SchemaError}
+use Rattle.graphql_schema.specs.declared.error.SchemaError.TheVariants as error
 use Rattle.graphql_schema_drafts.specs.declared.drafts.SchemaDraft.{SchemaDraft}
 use Rattle.graphql_drafted_types.specs.DraftedTypes.{S}
 use Rattle.graphql_drafted_types.specs.SpelledTexts.{Value}

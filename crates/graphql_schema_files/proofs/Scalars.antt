@@ -4,14 +4,14 @@ use Rattle.std.proofs.lemmas.List.Sorted.{Contains-permutation}
 use Rattle.serde_json.specs.Data.{Data}
 use Rattle.graphql_names.proofs.NameMaps.{in_is_found}
 use Rattle.graphql_scalars.specs.declared.default_scalar.DefaultScalarValue.TheVariants as scalar_value
-use Rattle.graphql_meta.specs.declared.introspection_checks.IntrospectionChecks.{IntrospectionChecks}
-use Rattle.graphql_meta.specs.declared.meta.MetaType.{MetaType}
+use Rattle.graphql_schema.specs.declared.introspection_checks.IntrospectionChecks.{IntrospectionChecks}
+use Rattle.graphql_schema.specs.declared.meta.MetaType.{MetaType}
 use Rattle.graphql_schema.specs.declared.root_node.RootNode.{RootNode}
 use Rattle.graphql_schema.specs.declared.schema.SchemaType.{SchemaType}
 use Rattle.graphql_schema.specs.Schemas.{IsSchemaOf}
-use Rattle.graphql_schema_faults.specs.Completed.{completed}
-use Rattle.graphql_schema_faults.specs.Faults.{Roots}
-use Rattle.graphql_schema_faults.specs.Lookups.{own_name}
+use Rattle.graphql_schema.specs.Completed.{completed}
+use Rattle.graphql_schema.specs.Faults.{Roots}
+use Rattle.graphql_schema.specs.Lookups.{own_name}
 use Rattle.graphql_drafted_types.specs.DraftedTypes.{S}
 use Rattle.graphql_drafted_types.specs.SpelledTexts.{Value}
 use Rattle.graphql_schema_files.specs.Builtin.{HasScalars, builtin_types, scalar}

@@ -4,11 +4,11 @@ use Rattle.std.specs.List.{All}
 use Rattle.graphql_names.specs.Names.{Bytes}
 use Rattle.graphql_scalars.specs.ScalarAnswers.{ScalarAnswer}
 use Rattle.graphql_values.specs.declared.input_value.InputValue.{InputValue}
-use Rattle.graphql_meta.specs.declared.meta.argument.Argument.{Argument}
-use Rattle.graphql_meta.specs.declared.meta.field.Field.{Field}
-use Rattle.graphql_meta.specs.declared.meta.MetaType.{MetaType}
-use Rattle.graphql_meta.specs.Types.{arguments_of, fields_of}
-use Rattle.graphql_schema_faults.specs.Lookups.{type_named}
+use Rattle.graphql_schema.specs.declared.meta.argument.Argument.{Argument}
+use Rattle.graphql_schema.specs.declared.meta.field.Field.{Field}
+use Rattle.graphql_schema.specs.declared.meta.MetaType.{MetaType}
+use Rattle.graphql_schema.specs.Types.{arguments_of, fields_of}
+use Rattle.graphql_schema.specs.Lookups.{type_named}
 use Rattle.graphql_literal_checks.specs.Conforms.{Conforms}
 use Rattle.graphql_literal_checks.specs.declared.source.Source.TheVariants.{Literal}
 use Rattle.graphql_schema_drafts.specs.declared.drafts.TypeDraft.{TypeDraft}

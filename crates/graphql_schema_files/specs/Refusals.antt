@@ -1,8 +1,8 @@
 -- What the refusals of the steps below are, of a file.
 use Rattle.graphql_lines.specs.declared.refusal.LineRefusal.{LineRefusal}
 use Rattle.graphql_lines.specs.declared.refusal.LineRefusal.TheVariants as refusal
-use Rattle.graphql_schema_faults.specs.declared.error.SchemaError.{SchemaError}
-use Rattle.graphql_schema_faults.specs.declared.error.SchemaError.TheVariants as error
+use Rattle.graphql_schema.specs.declared.error.SchemaError.{SchemaError}
+use Rattle.graphql_schema.specs.declared.error.SchemaError.TheVariants as error
 use Rattle.graphql_schema_files.specs.declared.schema_file_error.SchemaFileError.{SchemaFileError}
 use Rattle.graphql_schema_files.specs.declared.schema_file_error.SchemaFileError.TheVariants as fault
 

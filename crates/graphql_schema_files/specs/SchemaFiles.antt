@@ -8,12 +8,12 @@ use Rattle.graphql_lines.specs.Request.{data_of}
 use Rattle.graphql_names.specs.Names.{Bytes}
 use Rattle.graphql_scalars.specs.DefaultScalar.{answer}
 use Rattle.graphql_scalars.specs.declared.default_scalar.DefaultScalarValue.TheVariants as scalar
-use Rattle.graphql_meta.specs.declared.meta.MetaType.{MetaType}
+use Rattle.graphql_schema.specs.declared.meta.MetaType.{MetaType}
 use Rattle.graphql_schema.specs.declared.root_node.RootNode.{RootNode}
 use Rattle.graphql_schema.specs.declared.schema.SchemaType.{SchemaType}
 use Rattle.graphql_schema.specs.Schemas.{Makes, roots_named}
-use Rattle.graphql_schema_faults.specs.Completed.{completed}
-use Rattle.graphql_schema_faults.specs.Faults.{Roots, TellsFirst}
+use Rattle.graphql_schema.specs.Completed.{completed}
+use Rattle.graphql_schema.specs.Faults.{Roots, TellsFirst}
 use Rattle.graphql_schema_drafts.specs.declared.drafts.SchemaDraft.{SchemaDraft}
 use Rattle.graphql_schema_drafts.specs.NamedDrafts.{type_is_named}
 use Rattle.graphql_schema_drafts.specs.Shapes.{schema_of}

@@ -5,8 +5,8 @@ ghost use Rattle.graphql_text.specs.Memory.{Gives};
 ghost use Rattle.graphql_schema_files.specs.Builtin as spec;
 
 use graphql_introspection::introspection_metadata;
-use graphql_meta::scalar_checks::StandardChecks;
-use graphql_meta::{MetaType, ScalarMeta, TypeCheck};
+use graphql_schema::scalar_checks::StandardChecks;
+use graphql_schema::{MetaType, ScalarMeta, TypeCheck};
 use graphql_text::{Items, Text};
 use graphql_values::DefaultScalarValue;
 use std::alloc::{AllocError, Global};

@@ -7,8 +7,7 @@ ghost use Rattle.graphql_literal_checks.specs.declared.source.Source.TheVariants
 ghost use Rattle.graphql_schema_files.specs.Conforming as spec;
 
 use graphql_literal_checks::validate_literal_value;
-use graphql_meta::{Argument, Field, MetaType, SchemaScalar};
-use graphql_schema::SchemaType;
+use graphql_schema::{Argument, Field, MetaType, SchemaScalar, SchemaType};
 use graphql_schema_drafts::TypeDraft;
 use graphql_text::Text;
 use graphql_type_references::Type;

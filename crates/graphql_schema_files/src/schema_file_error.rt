@@ -4,7 +4,7 @@ ghost use Rattle.std.specs.Prelude.{◌≡◌};
 ghost use Rattle.graphql_schema_files.specs.Refusals.{refusal_of};
 ghost use Rattle.graphql_schema_files.specs.declared.schema_file_error.SchemaFileError.TheVariants.{Memory};
 
-use graphql_schema_faults::SchemaError;
+use graphql_schema::SchemaError;
 use std::alloc::AllocError;
 
 /// Why a file has no schema. The first that stands is told, in this order.

@@ -13,7 +13,7 @@ use Rattle.graphql_values.specs.declared.input_value.InputValue.TheVariants as v
 use Rattle.graphql_tree.specs.declared.document.Definition.{Definition}
 use Rattle.graphql_tree.specs.declared.document.Definition.TheVariants as definition
 use Rattle.graphql_schema.specs.Declarations.{Declarations}
-use Rattle.graphql_schema_faults.specs.Lookups.{own_name}
+use Rattle.graphql_schema.specs.Lookups.{own_name}
 use Rattle.graphql_occurrences.specs.Events.{events, definition_events, seen, top}
 use Rattle.graphql_occurrences.specs.Lookups.{root_of}
 use Rattle.graphql_occurrences.specs.Nodes.{Seen, Event, Enter, Leave, Inner, AtDocument, AtOperation, AtFragment, fragment_head, nulled, operation_head, placed_as, value_head, value_head_layer}

@@ -5,10 +5,10 @@ use Rattle.graphql_names.specs.Names.{Bytes}
 use Rattle.graphql_text.specs.declared.position.SourcePosition.{SourcePosition}
 use Rattle.graphql_values.specs.InputValues.{Placed}
 use Rattle.graphql_values.specs.declared.input_value.InputValue.TheVariants as value
-use Rattle.graphql_meta.specs.declared.meta.deprecation.DeprecationStatus.TheVariants as status
-use Rattle.graphql_meta.specs.declared.meta.field.Field.{Field}
-use Rattle.graphql_meta.specs.declared.meta.MetaType.{MetaType}
-use Rattle.graphql_meta.specs.declared.meta.MetaType.TheVariants as meta
+use Rattle.graphql_schema.specs.declared.meta.deprecation.DeprecationStatus.TheVariants as status
+use Rattle.graphql_schema.specs.declared.meta.field.Field.{Field}
+use Rattle.graphql_schema.specs.declared.meta.MetaType.{MetaType}
+use Rattle.graphql_schema.specs.declared.meta.MetaType.TheVariants as meta
 use Rattle.graphql_tree.specs.declared.document.Definition.{Definition}
 use Rattle.graphql_tree.specs.declared.document.Definition.TheVariants as definition
 use Rattle.graphql_tree.specs.declared.document.OperationType.TheVariants as kind

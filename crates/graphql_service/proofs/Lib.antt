@@ -1,3 +1,5 @@
+mod PlainRuns
+mod SameMeaning
 mod DistinctAnswers
 mod Answering
 mod ServedContexts

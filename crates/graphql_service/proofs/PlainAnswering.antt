@@ -13,8 +13,8 @@ use Rattle.graphql_lines.specs.declared.refusal.LineRefusal.TheVariants.{LineToo
 use Rattle.graphql_lines.specs.declared.request.GraphQLRequest.{GraphQLRequest}
 use Rattle.graphql_answers.specs.Lines.{IsLine, PlainHasDistinctKeys, ValuesAreLines, line_of}
 use Rattle.graphql_answers.specs.Responses.{plain_answer_of, refusal_of}
-use Rattle.graphql_plain_meaning.specs.PlainRequests.{HasNoPlainText, IsPlainTextWithin, PlainError}
-use Rattle.graphql_plain_meaning.specs.PlainRequests as error
+use Rattle.graphql_service.specs.PlainRequests.{HasNoPlainText, IsPlainTextWithin, PlainError}
+use Rattle.graphql_service.specs.PlainRequests as error
 use Rattle.graphql_service.specs.Answers.{Answerer, Appends, Asks}
 use Rattle.graphql_service.specs.Laws.{IsLineOfDistinctKeys}
 use Rattle.graphql_service.specs.PlainAnswers.{AnswersPlain, IsPlainAnswer, asks_nothing, not_plain, plain_to}

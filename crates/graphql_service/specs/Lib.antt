@@ -1,3 +1,6 @@
+pub mod Yields
+pub mod MeaningLaws
+pub mod PlainRequests
 pub mod Texts
 pub mod Answers
 pub mod Made

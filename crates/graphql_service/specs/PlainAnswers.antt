@@ -10,8 +10,8 @@ use Rattle.graphql_lines.specs.Request.{Request}
 use Rattle.graphql_lines.specs.declared.refusal.LineRefusal.{LineRefusal}
 use Rattle.graphql_answers.specs.Lines.{IsLine, line_of}
 use Rattle.graphql_answers.specs.Responses.{plain_answer_of, refusal_of}
-use Rattle.graphql_plain_meaning.specs.PlainRequests.{HasNoPlainText, IsPlainTextWithin, PlainError}
-use Rattle.graphql_plain_meaning.specs.PlainRequests as error
+use Rattle.graphql_service.specs.PlainRequests.{HasNoPlainText, IsPlainTextWithin, PlainError}
+use Rattle.graphql_service.specs.PlainRequests as error
 use Rattle.graphql_service.specs.Answers.{Answerer, Asks, IsNoRequest, answerer_of, asked_by}
 use Rattle.graphql_service.specs.Laws.{IsLineOfDistinctKeys}
 use Rattle.graphql_service.specs.Texts.{told_of_line, told_of_plain}

@@ -1,7 +1,7 @@
 //! Laws of answers: each function's contract is a law, and its body asks for the laws below it.
 
 ghost use Rattle.graphql_names.specs.Names.{Bytes};
-ghost use Rattle.graphql_plain_meaning.specs.Laws.{PlainMeansTheSame};
+ghost use Rattle.graphql_service.specs.MeaningLaws.{PlainMeansTheSame};
 ghost use Rattle.graphql_service.specs.Answers.{IsAnswer, answerer_of};
 ghost use Rattle.graphql_service.specs.Laws.{IsLineOfDistinctKeys};
 ghost use Rattle.graphql_service.specs.declared.service.Service.{Service};
@@ -12,9 +12,9 @@ use graphql_evaluation::laws::{data_have_distinct_keys, failures_tell_distinct_k
 use graphql_execution::Asked;
 use graphql_executor::{GraphQLMutationValue, Meaning, Resolving};
 use graphql_field_results::ExecutionError;
-use graphql_meta::SchemaScalar;
 use graphql_mutation::laws::runs_have_distinct_keys;
 use graphql_rule_errors::RuleError;
+use graphql_schema::SchemaScalar;
 
 /// Each object in an answer line has distinct keys, however deep (GraphQL October 2021, 7.2.2 Serialized
 /// Map Ordering).
@@ -43,5 +43,5 @@ pub fn plain_means_the_same<S: SchemaScalar, R: GraphQLMutationValue<S>>(
     ensures { PlainMeansTheSame ⟦<S as Meaning>⟧.meaning service.now.root_node
         (⟦<R as Resolving<S>>⟧.resolving service.now.resolver) }
 {
-    graphql_plain_meaning::laws::plain_means_the_same(&service.root_node, &service.resolver);
+    crate::meaning::plain_means_the_same(&service.root_node, &service.resolver);
 }

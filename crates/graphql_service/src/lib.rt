@@ -2,6 +2,7 @@
 #![tactic(auto)]
 
 pub mod laws;
+pub mod meaning;
 mod plain;
 mod plain_lines;
 mod plain_serving;
@@ -19,7 +20,9 @@ pub use graphql_lines::{
     GraphQLRequest, LineRefusal, json_of_line, request_from_line, request_in, text_to_json,
     value_to_json, variables_from_json,
 };
-pub use graphql_meta::scalar_checks::{self, StandardChecks};
-pub use graphql_plain_meaning::{PlainError, plain_request};
+pub use graphql_plain_requests::{
+    PlainError, boolean_takes_true, operation_name_of, plain_request,
+};
+pub use graphql_schema::scalar_checks::{self, StandardChecks};
 pub use graphql_streams::{ByteSink, ByteSource, Piped, ReadFailed, ServeError, WriteFailed};
 pub use service::{Service, ServiceFault};

@@ -5,7 +5,7 @@ ghost use Rattle.graphql_answers.specs.Lines.{IsLine};
 ghost use Rattle.graphql_lines.specs.Request.{HoldsRequest, Request};
 ghost use Rattle.graphql_lines.specs.Writing.{KeepsFront};
 ghost use Rattle.graphql_names.specs.Names.{Bytes};
-ghost use Rattle.graphql_plain_meaning.specs.PlainRequests.{HasNoPlainText, IsAcceptedAgain, IsDocumentAgain, IsPlainTextWithin, TakesStandIn, asked_of};
+ghost use Rattle.graphql_service.specs.PlainRequests.{HasNoPlainText, IsAcceptedAgain, IsDocumentAgain, IsPlainTextWithin, TakesStandIn, asked_of};
 ghost use Rattle.graphql_service.specs.Answers.{Appends, Asks, answerer_of};
 ghost use Rattle.graphql_service.specs.Laws.{IsLineOfDistinctKeys};
 ghost use Rattle.graphql_service.specs.PlainAnswers.{AnswersPlain, IsPlainAnswer};
@@ -13,15 +13,15 @@ ghost use Rattle.graphql_service.specs.PlainAnswers.{AnswersPlain, IsPlainAnswer
 use crate::refusal::{push_line_refusal, push_plain_error};
 use crate::response::push_plain_text;
 use crate::service::Service;
+use crate::{PlainError, plain_request};
 use graphql_answers::laws::{
     answers_have_distinct_keys, plain_answers_have_distinct_keys, values_are_lines,
 };
 use graphql_executor::{GraphQLMutationValue, Meaning, Resolving};
 use graphql_field_results::ExecutionError;
 use graphql_lines::{GraphQLRequest, LineRefusal, request_from_line};
-use graphql_meta::SchemaScalar;
-use graphql_plain_meaning::{PlainError, plain_request};
 use graphql_rule_errors::RuleError;
+use graphql_schema::SchemaScalar;
 use std::alloc::{AllocError, Global};
 
 impl<S: SchemaScalar + Drop, R: GraphQLMutationValue<S>> Service<S, R, R::Context> {

@@ -1,7 +1,7 @@
 //! What gives the plain texts of request lines.
 
 use crate::service::Service;
-use graphql_meta::SchemaScalar;
+use graphql_schema::SchemaScalar;
 
 /// A service that is asked for the plain texts of lines, and lent for it.
 #[derive(Drop)]

@@ -10,8 +10,8 @@ use crate::plain_lines::PlainLines;
 use crate::service::Service;
 use graphql_executor::{GraphQLMutationValue, Meaning, Resolving};
 use graphql_field_results::ExecutionError;
-use graphql_meta::SchemaScalar;
 use graphql_rule_errors::RuleError;
+use graphql_schema::SchemaScalar;
 use graphql_streams::{ByteSink, ByteSource, LineEngine, ServeError, serve_lines};
 use std::alloc::{AllocError, Global};
 

@@ -7,7 +7,7 @@ mod failure;
 ghost use Rattle.std.specs.Prelude.{◌≡◌, Ok};
 ghost use Rattle.graphql_text.specs.Memory.{Told};
 ghost use Rattle.graphql_scalars.specs.declared.check_error.CheckError.TheVariants.{Memory};
-ghost use Rattle.graphql_meta.specs.ScalarChecks.{IsBoolean, IsId, IsInt, IsString};
+ghost use Rattle.graphql_schema.specs.ScalarChecks.{IsBoolean, IsId, IsInt, IsString};
 
 use failure::Failure;
 use graphql_file_service::scalar_checks::{boolean_check, id_check, int_check, string_check};

@@ -1,13 +1,12 @@
 //! Schemas that make no service.
 
 use graphql_file_service::service::{Service, ServiceFault, StandardChecks};
-use graphql_meta::{
-    Argument, DeprecationStatus, DirectiveLocation, DirectiveType, Field, InterfaceMeta, MetaType,
-    ObjectMeta, ScalarMeta, TypeCheck,
-};
 use graphql_names::NamedItems;
 use graphql_sample::{SampleRecords, SampleResolver, sample_records};
-use graphql_schema::{RootNode, SchemaType};
+use graphql_schema::{
+    Argument, DeprecationStatus, DirectiveLocation, DirectiveType, Field, InterfaceMeta, MetaType,
+    ObjectMeta, RootNode, ScalarMeta, SchemaType, TypeCheck,
+};
 use graphql_text::{Items, Text};
 use graphql_type_references::{Type, TypeModifier};
 use graphql_values::DefaultScalarValue;

@@ -3,7 +3,7 @@
 ghost use Rattle.std.specs.Prelude.{◌≡◌, Ok};
 ghost use Rattle.graphql_text.specs.Memory.{Told};
 ghost use Rattle.graphql_scalars.specs.declared.check_error.CheckError.TheVariants.{Memory};
-ghost use Rattle.graphql_meta.specs.ScalarChecks.{IsBoolean, IsId, IsInt, IsString};
+ghost use Rattle.graphql_schema.specs.ScalarChecks.{IsBoolean, IsId, IsInt, IsString};
 
 use crate::alike::{self, are_alike};
 use crate::files::{is_told, served};
@@ -16,9 +16,8 @@ use graphql_file_service::service::scalar_checks::{
     boolean_check, id_check, int_check, string_check,
 };
 use graphql_file_service::service::{Service, ServiceFault, StandardChecks};
-use graphql_meta::{IntrospectionChecks, TypeCheck};
 use graphql_sample::{SampleRecords, SampleResolver, sample_records, schema_s};
-use graphql_schema::{RootNode, SchemaType};
+use graphql_schema::{IntrospectionChecks, RootNode, SchemaType, TypeCheck};
 use graphql_values::{DefaultScalarValue, InputValue};
 use std::alloc::{AllocError, Global};
 use std::process::Abort;

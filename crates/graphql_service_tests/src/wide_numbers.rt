@@ -8,10 +8,11 @@ use graphql_arguments::Arguments;
 use graphql_execution::{Executor, GraphQLValue};
 use graphql_field_results::{FieldResult, Resolved};
 use graphql_file_service::service::Service;
-use graphql_meta::{Argument, DeprecationStatus, Field, MetaType, ObjectMeta, ScalarMeta};
 use graphql_mutation::WithoutMutations;
 use graphql_names::NamedItems;
-use graphql_schema::{RootNode, SchemaType};
+use graphql_schema::{
+    Argument, DeprecationStatus, Field, MetaType, ObjectMeta, RootNode, ScalarMeta, SchemaType,
+};
 use graphql_text::{Items, Text};
 use graphql_type_references::Type;
 use std::alloc::Global;

@@ -8,10 +8,10 @@ ghost use Rattle.graphql_scalars.specs.declared.default_scalar.DefaultScalarValu
 ghost use Rattle.graphql_service_tests.specs.WideScalars as spec;
 ghost use Rattle.graphql_service_tests.specs.declared.wide_scalar.WideScalar.TheVariants as wide;
 
-use graphql_meta::{Check, SchemaScalar};
 use graphql_scalars::{
     CheckError, DefaultScalarValue, ParseScalarResult, ParseScalarValue, ScalarValue,
 };
+use graphql_schema::{Check, SchemaScalar};
 use graphql_text::{ParseError, ScalarToken, Text};
 use graphql_values::{InputValue, no_scalar};
 use std::alloc::{AllocError, Global};

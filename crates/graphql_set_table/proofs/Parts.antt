@@ -11,7 +11,7 @@ use Rattle.graphql_tree.specs.declared.selection.InlineFragment.{InlineFragment}
 use Rattle.graphql_tree.specs.declared.selection.Selection.{Selection}
 use Rattle.graphql_tree.specs.declared.selection.Selection.TheVariants as selection
 use Rattle.graphql_tree.proofs.SelectionInduction.{selection_ind}
-use Rattle.graphql_meta.specs.declared.meta.MetaType.{MetaType}
+use Rattle.graphql_schema.specs.declared.meta.MetaType.{MetaType}
 use Rattle.graphql_schema.specs.Declarations.{Declarations}
 use Rattle.graphql_written_out.specs.Trees.{Directives, Tree, none, field, inline}
 use Rattle.graphql_written_out.specs.Written.{listed, fragment_meant, head_of, condition_of, spread_as, write, written, Settled}

@@ -10,9 +10,9 @@ use Rattle.graphql_tree.specs.declared.selection.Field.{Field}
 use Rattle.graphql_tree.specs.declared.selection.InlineFragment.{InlineFragment}
 use Rattle.graphql_tree.specs.declared.selection.Selection.{Selection, out-Selection}
 use Rattle.graphql_tree.specs.declared.selection.Selection.TheOpen.{Selection-F}
-use Rattle.graphql_meta.specs.declared.meta.MetaType.{MetaType}
+use Rattle.graphql_schema.specs.declared.meta.MetaType.{MetaType}
 use Rattle.graphql_schema.specs.Declarations.{Declarations}
-use Rattle.graphql_schema_faults.specs.Lookups.{type_named}
+use Rattle.graphql_schema.specs.Lookups.{type_named}
 use Rattle.graphql_declarations.specs.Lookups.{root_of}
 use Rattle.graphql_written_out.specs.Written.{listed, fragment_meant, condition_of}
 use Rattle.graphql_merging.specs.Members.{Scope, inside, scope_of}

@@ -1,6 +1,6 @@
 //! Selection sets that have numbers.
 
-use graphql_meta::MetaType;
+use graphql_schema::MetaType;
 use graphql_tree::Selection;
 
 /// A selection set as it is written, and the type that it selects from, both lent.

@@ -10,8 +10,7 @@ ghost use Rattle.graphql_set_table.specs.Reading.{set_at};
 
 use crate::open_set::OpenSet;
 use graphql_declarations::{field_of, root_of, type_of_field};
-use graphql_meta::MetaType;
-use graphql_schema::SchemaType;
+use graphql_schema::{MetaType, SchemaType};
 use graphql_text::Spanning;
 use graphql_tree::{Definition, Field, InlineFragment, Selection};
 

@@ -2,11 +2,11 @@
 use Rattle.std.specs.Prelude.{◌&&◌, not, List, map}
 use Rattle.graphql_type_references.specs.TypeReference.{has_list}
 use Rattle.graphql_names.specs.Names.{passes}
-use Rattle.graphql_meta.specs.Types.{fields_of, own_name}
-use Rattle.graphql_meta.specs.declared.meta.field.Field.{Field}
-use Rattle.graphql_meta.specs.declared.meta.MetaType.{MetaType}
-use Rattle.graphql_schema_faults.specs.Faults.{is_composite}
-use Rattle.graphql_schema_faults.specs.Lookups.{by_kind, is_scalar, type_named}
+use Rattle.graphql_schema.specs.Types.{fields_of, own_name}
+use Rattle.graphql_schema.specs.declared.meta.field.Field.{Field}
+use Rattle.graphql_schema.specs.declared.meta.MetaType.{MetaType}
+use Rattle.graphql_schema.specs.Faults.{is_composite}
+use Rattle.graphql_schema.specs.Lookups.{by_kind, is_scalar, type_named}
 use Rattle.graphql_schema.specs.Possible.{possible_types}
 use Rattle.graphql_records.specs.declared.table_type.TableField.{TableField}
 use Rattle.graphql_records.specs.declared.table_type.TableType.{TableType}

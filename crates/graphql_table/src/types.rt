@@ -2,17 +2,16 @@
 
 ghost use Rattle.std.specs.Prelude.{◌≡◌, map};
 ghost use Rattle.graphql_text.specs.Memory.{Gives};
-ghost use Rattle.graphql_meta.specs.Types.{own_name};
+ghost use Rattle.graphql_schema.specs.Types.{own_name};
 ghost use Rattle.graphql_names.specs.Names.{passes};
 ghost use Rattle.graphql_schema.specs.Possible.{possible_types};
-ghost use Rattle.graphql_schema_faults.specs.Faults.{is_composite};
-ghost use Rattle.graphql_schema_faults.specs.Lookups.{is_scalar, type_named};
+ghost use Rattle.graphql_schema.specs.Faults.{is_composite};
+ghost use Rattle.graphql_schema.specs.Lookups.{is_scalar, type_named};
 ghost use Rattle.graphql_table.specs.TableTypes as spec;
 
-use graphql_meta::{Field, MetaType};
 use graphql_names::{Named, NamedItems};
 use graphql_records::{TableField, TableType};
-use graphql_schema::SchemaType;
+use graphql_schema::{Field, MetaType, SchemaType};
 use graphql_text::{Items, Text};
 use std::alloc::{AllocError, Global};
 

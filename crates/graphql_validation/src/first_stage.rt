@@ -16,7 +16,6 @@ ghost use Rattle.graphql_visitors.specs.Subjects.{subject_of};
 use crate::introspection::Introspection;
 use crate::one_walk::visit_and_gather;
 use graphql_document_walk::visit;
-use graphql_meta::SchemaScalar;
 use graphql_rule_errors::RuleError;
 use graphql_rules_document::scope_errors;
 use graphql_rules_local::{
@@ -26,7 +25,7 @@ use graphql_rules_local::{
     unique_input_field_names, variables_are_input_types,
 };
 use graphql_rules_values::{arguments_of_correct_type, default_values_of_correct_type};
-use graphql_schema::SchemaType;
+use graphql_schema::{SchemaScalar, SchemaType};
 use graphql_scopes::Scopes;
 use graphql_text::Items;
 use graphql_tree::Definition;

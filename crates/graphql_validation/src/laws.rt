@@ -18,7 +18,6 @@ pub use graphql_merging::laws::{
     direct_conflicts_are_right, fields_agree_with_themselves, merging_is_agreement,
     merging_is_mutual,
 };
-use graphql_meta::SchemaScalar;
 pub use graphql_occurrences::laws::events_tell_occurrences;
 pub use graphql_rule_errors::laws::{
     distinct_names_have_no_repeats, errors_stand_by_places_and_messages,
@@ -31,6 +30,7 @@ pub use graphql_rules_document::laws::{
     unique_operations_have_distinct_names, unique_variables_have_distinct_names,
     used_fragments_are_reached, used_variables_have_uses, uses_in_allowed_position_are_allowed,
 };
+pub use graphql_rules_document::settled::{ending_fragments_are_settled, field_types_are_known};
 pub use graphql_rules_local::laws::{
     arguments_are_declared, arguments_are_distinct, arguments_are_provided,
     conditions_are_composite, directives_may_stand, fields_are_declared,
@@ -44,13 +44,12 @@ pub use graphql_rules_values::laws::{
     declared_arguments_conform, defaults_conform, told_of_arguments_is_determined,
     told_of_defaults_is_determined,
 };
-use graphql_schema::SchemaType;
 pub use graphql_schema::laws::{
     overlap_is_symmetric, possible_is_below, subtype_is_reflexive, subtype_is_transitive,
     wrapped_subtype_decides,
 };
+use graphql_schema::{SchemaScalar, SchemaType};
 pub use graphql_scopes::laws::reached_is_least;
-pub use graphql_settled_fragments::laws::{ending_fragments_are_settled, field_types_are_known};
 pub use graphql_variable_checks::laws::{
     accepted_variables_are_not_told, definitions_of_distinct_names_are_found,
     final_values_are_given_or_defaults, given_values_conform, non_null_variables_have_values,

@@ -38,17 +38,17 @@ pub use first_stage::{first_stage_errors, visit_first_stage, visit_introspection
 pub use graphql_document_walk::{Walk, visit};
 pub use graphql_final_variables::FinalVariables;
 pub use graphql_literal_checks::{Source, validate_literal_value, validate_value};
-pub use graphql_meta::{
-    Argument, Check, DeprecationStatus, DirectiveLocation, DirectiveType, EnumMeta, EnumValue,
-    Field, InputObjectMeta, InterfaceMeta, ListMeta, MetaType, NullableMeta, ObjectMeta,
-    PlaceholderMeta, ScalarMeta, SchemaScalar, TypeCheck, TypeKind, UnionMeta, scalar_checks,
-};
 pub use graphql_names::NamedItems;
 pub use graphql_occurrences::{
     Around, DeclaredArguments, Event, InputPlace, KnownField, Node, Owner, Seen, TypeLiteral,
 };
 pub use graphql_rule_errors::RuleError;
-pub use graphql_schema::{RootNode, SchemaError, SchemaType, TypeType};
+pub use graphql_schema::{
+    Argument, Check, DeprecationStatus, DirectiveLocation, DirectiveType, EnumMeta, EnumValue,
+    Field, InputObjectMeta, InterfaceMeta, ListMeta, MetaType, NullableMeta, ObjectMeta,
+    PlaceholderMeta, RootNode, ScalarMeta, SchemaError, SchemaScalar, SchemaType, TypeCheck,
+    TypeKind, TypeType, UnionMeta, scalar_checks,
+};
 pub use graphql_variable_checks::validate_input_values;
 pub use graphql_visitors::{
     Local, LocalRule, MultiVisitorCons, MultiVisitorNil, Relational, RelationalRule,

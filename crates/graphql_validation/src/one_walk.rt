@@ -10,7 +10,7 @@ ghost use Rattle.graphql_visitors.specs.Runs.{Visited};
 ghost use Rattle.graphql_visitors.specs.Subjects.{subject_of};
 
 use graphql_document_walk::Walk;
-use graphql_meta::SchemaScalar;
+use graphql_schema::SchemaScalar;
 use graphql_scopes::{Gathering, Scopes};
 use graphql_visitors::{ValidatorContext, Visitor};
 

@@ -1,7 +1,7 @@
 ghost use Rattle.std.specs.Prelude.{◌≡◌};
 ghost use Rattle.graphql_text.specs.Memory.{Told};
 ghost use Rattle.graphql_scalars.specs.declared.check_error.CheckError.TheVariants.{Memory};
-ghost use Rattle.graphql_meta.specs.ScalarChecks.{IsString, IsBoolean};
+ghost use Rattle.graphql_schema.specs.ScalarChecks.{IsString, IsBoolean};
 ghost use Rattle.graphql_schema.specs.Checked.{check_named, SaysOf};
 
 use crate::examples::{alone, object, plain, text, with};

@@ -1,7 +1,7 @@
 ghost use Rattle.std.specs.Prelude.{◌≡◌, ◌↔◌};
 ghost use Rattle.graphql_text.specs.Memory.{Told};
 ghost use Rattle.graphql_scalars.specs.declared.check_error.CheckError.TheVariants.{Memory};
-ghost use Rattle.graphql_meta.specs.ScalarChecks.{IsBoolean};
+ghost use Rattle.graphql_schema.specs.ScalarChecks.{IsBoolean};
 
 use graphql_validation::scalar_checks::boolean_check;
 use graphql_validation::{Check, TypeCheck};

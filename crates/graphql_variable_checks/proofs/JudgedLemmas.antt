@@ -1,10 +1,10 @@
 -- What a reason, or none, tells of a definition.
 use Rattle.std.proofs.Common.{◌≡◌, List, Bool, false, not, Option, Some, None, Result, Ok, Err, IfOk, MatchOption, Bor, refl, sym, ap, subst, ◌∙◌}
 use Rattle.std.specs.Option.{is_some, option_copied}
-use Rattle.graphql_meta.specs.declared.meta.MetaType.{MetaType}
+use Rattle.graphql_schema.specs.declared.meta.MetaType.{MetaType}
 use Rattle.graphql_names.specs.Names.{Bytes}
 use Rattle.graphql_scalars.specs.ScalarAnswers.{ScalarAnswer}
-use Rattle.graphql_schema_faults.specs.Lookups.{type_named}
+use Rattle.graphql_schema.specs.Lookups.{type_named}
 use Rattle.graphql_tree.specs.Variables.{Variable}
 use Rattle.graphql_values.specs.declared.input_value.InputValue.{InputValue}
 use Rattle.graphql_final_variables.specs.FinalValues.{variable_name}

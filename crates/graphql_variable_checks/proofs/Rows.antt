@@ -9,7 +9,7 @@ use Rattle.graphql_final_variables.specs.FinalValues.{definition_named, final_va
 use Rattle.graphql_literal_checks.specs.Conforms.{Conforms, scalar, list, null, no_items, more_items}
 use Rattle.graphql_literal_checks.specs.declared.source.Source.TheVariants.{Sent}
 use Rattle.graphql_literal_checks.proofs.ConformsLemmas.{null_of}
-use Rattle.graphql_meta.specs.Types.{TypeOf, reference_to}
+use Rattle.graphql_schema.specs.Types.{TypeOf, reference_to}
 use Rattle.graphql_names.specs.Names.{Bytes}
 use Rattle.graphql_rule_errors.specs.Places.{Places}
 use Rattle.graphql_scalars.specs.ScalarAnswers.{ScalarAnswer, text}

@@ -7,7 +7,7 @@ use Rattle.graphql_final_variables.specs.FinalValues.{default_of, definition_nam
 use Rattle.graphql_literal_checks.specs.Conforms.{Conforms}
 use Rattle.graphql_literal_checks.specs.InputTypes.{refuses_null}
 use Rattle.graphql_literal_checks.specs.declared.source.Source.TheVariants.{Sent}
-use Rattle.graphql_meta.specs.declared.meta.MetaType.{MetaType}
+use Rattle.graphql_schema.specs.declared.meta.MetaType.{MetaType}
 use Rattle.graphql_names.specs.Names.{Bytes}
 use Rattle.graphql_rule_errors.specs.Places.{Places}
 use Rattle.graphql_scalars.specs.ScalarAnswers.{ScalarAnswer}

@@ -2,7 +2,7 @@
 
 ghost use Rattle.graphql_variable_checks.specs.Laws.{DistinctNamesAreFound, GivenValuesConform, NonNullHaveValues, NoneToldWhereAccepted, ToldIsDetermined, ValuesAreGivenOrDefaults};
 
-use graphql_meta::SchemaScalar;
+use graphql_schema::SchemaScalar;
 
 /// What is told of the values of variables is determined by the types of the schema, the definitions of
 /// the operation and the values that are given, whatever the checks of types answer.

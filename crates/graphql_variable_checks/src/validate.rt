@@ -11,9 +11,8 @@ ghost use Rattle.graphql_variable_checks.specs.Accepted as spec;
 
 use graphql_final_variables::{Variable, definitions_of};
 use graphql_literal_checks::{Source, validate_value};
-use graphql_meta::SchemaScalar;
 use graphql_rule_errors::{RuleError, report};
-use graphql_schema::SchemaType;
+use graphql_schema::{SchemaScalar, SchemaType};
 use graphql_text::{Items, Spanning, TextRef};
 use graphql_tree::Operation;
 use graphql_values::{InputValue, Type, Variables};

@@ -12,9 +12,9 @@ ghost use Rattle.graphql_tree.specs.Definitions.{fragment_named};
 ghost use Rattle.graphql_visitors.specs.Reports.{Adds, Reports};
 
 use crate::fragments::Fragments;
-use graphql_meta::{MetaType, SchemaScalar};
 use graphql_occurrences::{Around, InputPlace, SchemaType, TypeLiteral};
 use graphql_rule_errors::RuleError;
+use graphql_schema::{MetaType, SchemaScalar};
 use graphql_text::{Items, SourcePosition, Spanning, Text, TextRef};
 use graphql_tree::Definition;
 use std::alloc::{AllocError, Global};

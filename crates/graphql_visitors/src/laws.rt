@@ -16,7 +16,7 @@ ghost use Rattle.graphql_visitors.specs.declared.rules.Relational.{Relational};
 
 use crate::rules::{LocalRule, RelationalRule};
 use crate::visitor::Visitor;
-use graphql_meta::SchemaScalar;
+use graphql_schema::SchemaScalar;
 
 /// What a rule that looks at one part at a time tells over a document: what it says of each of the
 /// document's occurrences, in order.

@@ -4,8 +4,8 @@ ghost use Rattle.std.specs.Prelude.{◌≡◌};
 
 use crate::context::ValidatorContext;
 use crate::visitor::Visitor;
-use graphql_meta::SchemaScalar;
 use graphql_occurrences::Event;
+use graphql_schema::SchemaScalar;
 
 /// No visitor.
 #[derive(Drop)]
@@ -41,6 +41,13 @@ impl<A, B> MultiVisitorCons<A, B> {
             first: visitor,
             second: self,
         }
+    }
+
+    /// The first visitor, which stays in the list.
+    pub fn first(&self) -> &A
+        ensures { result.now ≡ self.now.first }
+    {
+        &self.first
     }
 }
 

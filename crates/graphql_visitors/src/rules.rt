@@ -2,8 +2,8 @@
 
 use crate::context::ValidatorContext;
 use crate::visitor::Visitor;
-use graphql_meta::SchemaScalar;
 use graphql_occurrences::Event;
+use graphql_schema::SchemaScalar;
 
 /// A rule that looks at one part of a document at a time.
 pub trait LocalRule<S: SchemaScalar> {

@@ -1,8 +1,8 @@
 //! Visitors.
 
 use crate::context::ValidatorContext;
-use graphql_meta::SchemaScalar;
 use graphql_occurrences::Event;
+use graphql_schema::SchemaScalar;
 
 /// What steps over the events of a document, one after the other, and reports errors.
 ///

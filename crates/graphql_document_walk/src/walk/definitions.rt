@@ -4,7 +4,7 @@ ghost use Rattle.std.specs.Prelude.{◌≡◌, OnOk};
 ghost use Rattle.std.specs.List.{flat_map};
 ghost use Rattle.std.specs.Option.{option_copied, option_map};
 ghost use Rattle.graphql_schema.specs.Declarations.{declarations_of};
-ghost use Rattle.graphql_schema_faults.specs.Lookups.{own_name};
+ghost use Rattle.graphql_schema.specs.Lookups.{own_name};
 ghost use Rattle.graphql_occurrences.specs.Lookups.{location_of};
 ghost use Rattle.graphql_tree.specs.Documents.{variables_in as variables_given};
 ghost use Rattle.graphql_occurrences.specs.Events.{default_events, definition_events, each, events, fragment_events, operation_events, variable_events};
@@ -14,9 +14,8 @@ ghost use Rattle.graphql_document_walk.specs.Pending.{Adds, Opens, OpensAny};
 use super::selections::directives_in;
 use super::tasks::{Part, Side, Task, add, tell};
 use graphql_declarations::{TypeLiteral, root_of};
-use graphql_meta::{DirectiveLocation, MetaType};
 use graphql_occurrences::{Around, InputPlace, Node};
-use graphql_schema::SchemaType;
+use graphql_schema::{DirectiveLocation, MetaType, SchemaType};
 use graphql_text::{Items, Spanning, TextRef};
 use graphql_tree::{
     Definition, Fragment, Operation, OperationType, VariableDefinition, VariableDefinitions,

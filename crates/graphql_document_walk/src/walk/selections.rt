@@ -9,9 +9,8 @@ ghost use Rattle.graphql_document_walk.specs.Pending.{Adds, Opens, OpensAny};
 
 use super::tasks::{Part, Side, Task, add, tell};
 use graphql_declarations::{arguments_of_field, declared_by_directive, field_of, type_of_field};
-use graphql_meta::DirectiveLocation;
 use graphql_occurrences::{Around, Node, Owner};
-use graphql_schema::SchemaType;
+use graphql_schema::{DirectiveLocation, SchemaType};
 use graphql_text::{Items, Spanning};
 use graphql_tree::{Directive, Field, FragmentSpread, InlineFragment, Selection, arguments_in};
 use std::alloc::AllocError;

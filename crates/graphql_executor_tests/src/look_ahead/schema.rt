@@ -3,17 +3,16 @@
 ghost use Rattle.std.specs.Prelude.{◌≡◌, Ok};
 ghost use Rattle.graphql_text.specs.Memory.{Told};
 ghost use Rattle.graphql_scalars.specs.declared.check_error.CheckError.TheVariants.{Memory};
-ghost use Rattle.graphql_meta.specs.ScalarChecks.{IsBoolean};
+ghost use Rattle.graphql_schema.specs.ScalarChecks.{IsBoolean};
 
 use crate::look_ahead::asked::{Row, ask};
 use graphql_executor::{IntrospectionChecks, introspection_metadata};
-use graphql_meta::scalar_checks::boolean_check;
-use graphql_meta::{
-    Argument, DeprecationStatus, EnumMeta, EnumValue, Field, InterfaceMeta, MetaType, ObjectMeta,
-    ScalarMeta, TypeCheck,
-};
 use graphql_names::NamedItems;
-use graphql_schema::{RootNode, SchemaType};
+use graphql_schema::scalar_checks::boolean_check;
+use graphql_schema::{
+    Argument, DeprecationStatus, EnumMeta, EnumValue, Field, InterfaceMeta, MetaType, ObjectMeta,
+    RootNode, ScalarMeta, SchemaType, TypeCheck,
+};
 use graphql_text::{Items, Text};
 use graphql_type_references::{Type, TypeModifier};
 use graphql_values::{DefaultScalarValue, InputValue};

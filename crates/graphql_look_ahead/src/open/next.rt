@@ -6,7 +6,7 @@ ghost use Rattle.graphql_look_ahead.specs.Open.{IsMet, IsNext, IsUnknown, rest_o
 
 use super::{Met, Open};
 use graphql_collect::Request;
-use graphql_meta::SchemaScalar;
+use graphql_schema::SchemaScalar;
 use graphql_tree::Selection;
 
 /// This selection, with the fragment that it means if it is a spread; `None` where it means none.

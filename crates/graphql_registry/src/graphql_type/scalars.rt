@@ -4,7 +4,7 @@ ghost use Rattle.std.proofs.Common.{rules};
 ghost use Rattle.std.specs.Prelude.{◌≡◌, Some, codes};
 ghost use Rattle.std.specs.Option.{option_map};
 ghost use Rattle.graphql_text.specs.Memory.{Gives};
-ghost use Rattle.graphql_meta.specs.Types.{reference_to};
+ghost use Rattle.graphql_schema.specs.Types.{reference_to};
 
 use super::{GraphQLType, named_type};
 use graphql_input_types::ID;

@@ -6,11 +6,11 @@ ghost use Rattle.graphql_registry.specs.Registries.{field_of, typename_field};
 
 use super::Registry;
 use crate::graphql_type::GraphQLType;
-use graphql_meta::{
+use graphql_names::NamedItems;
+use graphql_schema::{
     Argument, EnumMeta, EnumValue, Field, InputObjectMeta, InterfaceMeta, ListMeta, NullableMeta,
     ObjectMeta, ScalarMeta, UnionMeta,
 };
-use graphql_names::NamedItems;
 use graphql_text::{Items, Text};
 use std::alloc::{AllocError, Global};
 

@@ -3,12 +3,12 @@
 ghost use Rattle.std.specs.Prelude.{◌≡◌, true, Some, IfSome};
 ghost use Rattle.std.specs.List.{All};
 ghost use Rattle.std.specs.Option.{option_map, option_copied, option_and_then, is_some};
-ghost use Rattle.graphql_schema_faults.specs.Lookups.{type_named, is_object};
+ghost use Rattle.graphql_schema.specs.Lookups.{type_named, is_object};
 ghost use Rattle.graphql_names.specs.Names.{named, passes, IsByName};
 ghost use Rattle.graphql_schema.specs.Directives.{HaveInputTypes};
 
 use super::SchemaType;
-use graphql_meta::{DirectiveType, MetaType};
+use crate::{DirectiveType, MetaType};
 use graphql_text::Text;
 
 impl<S, C> SchemaType<S, C> {

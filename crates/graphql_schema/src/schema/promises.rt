@@ -2,7 +2,7 @@
 
 ghost use Rattle.std.specs.Prelude.{◌≡◌, ◌↔◌, IsNone, IfSome};
 ghost use Rattle.std.specs.Option.{option_copied};
-ghost use Rattle.graphql_schema_faults.specs.Lookups.{type_named};
+ghost use Rattle.graphql_schema.specs.Lookups.{type_named};
 ghost use Rattle.graphql_schema.specs.Implementations.{IsExecutable};
 ghost use Rattle.graphql_schema.specs.Promises as spec;
 ghost use Rattle.graphql_schema.specs.Promises.{IsFirstBroken};
@@ -10,7 +10,7 @@ ghost use Rattle.graphql_schema.specs.Schemas.{roots_of};
 
 use super::SchemaType;
 use super::executable::lists_all;
-use graphql_meta::{Field, MetaType};
+use crate::{Field, MetaType};
 use graphql_names::Named;
 use graphql_text::{Text, TextRef};
 

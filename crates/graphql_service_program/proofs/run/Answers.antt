@@ -1,5 +1,5 @@
-use Rattle.graphql_meta.proofs.CheckLemmas.{known_box}
-use Rattle.graphql_meta.proofs.ScalarCheckLemmas.{scalar_consistent}
+use Rattle.graphql_schema.proofs.CheckLemmas.{known_box}
+use Rattle.graphql_schema.proofs.ScalarCheckLemmas.{scalar_consistent}
 use Rattle.graphql_service_program.proofs.run.Goals as goal
 
 pub new-requires-7-clause-consistent : goal.new-requires-7-clause-consistent

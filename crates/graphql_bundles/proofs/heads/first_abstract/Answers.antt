@@ -1,5 +1,5 @@
 use Rattle.std.proofs.Common.{◌≡◌, ◌∙◌, ap, sym, subst, false, not, inl, inr}
-use Rattle.graphql_schema_faults.specs.Lookups.{is_object}
+use Rattle.graphql_schema.specs.Lookups.{is_object}
 use Rattle.graphql_merging.specs.declared.table.WrittenField.{WrittenField}
 use Rattle.graphql_bundles.proofs.ListLemmas.{take-cases}
 use Rattle.graphql_bundles.proofs.heads.first_abstract.Goals as goal

@@ -1,6 +1,6 @@
 use Rattle.std.proofs.Common.{◌≡◌, false, not, take}
 use Rattle.std.specs.List.{Contains}
-use Rattle.graphql_schema_faults.specs.Lookups.{is_object}
+use Rattle.graphql_schema.specs.Lookups.{is_object}
 use Rattle.graphql_merging.specs.declared.table.WrittenField.{WrittenField}
 use Rattle.graphql_bundles.proofs.heads.first_abstract.Given as goal
 

@@ -1,4 +1,4 @@
-use Rattle.graphql_meta.proofs.CheckLemmas.{known_box}
+use Rattle.graphql_schema.proofs.CheckLemmas.{known_box}
 use Rattle.graphql_cases.proofs.CheckedLemmas.{accepted_consistent, captured}
 use Rattle.graphql_cases.proofs.schemas.answer_next.Goals as goal
 

@@ -1,7 +1,7 @@
 use Rattle.std.proofs.Common.{◌≡◌, sym, ◌∙◌, Some}
 use Rattle.std.proofs.lemmas.Slice.Eq.{bytes_eq-Decides}
-use Rattle.graphql_meta.specs.Types.{own_name}
-use Rattle.graphql_schema_faults.specs.Lookups.{type_named}
+use Rattle.graphql_schema.specs.Types.{own_name}
+use Rattle.graphql_schema.specs.Lookups.{type_named}
 use Rattle.graphql_names.proofs.NameMaps.{found_is_in}
 use Rattle.graphql_execution.proofs.fields.possible_name.Goals as goal
 

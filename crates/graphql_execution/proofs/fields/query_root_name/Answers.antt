@@ -1,6 +1,6 @@
 use Rattle.std.proofs.Common.{◌∙◌}
 use Rattle.std.proofs.lemmas.Slice.Eq.{bytes_eq-Decides}
-use Rattle.graphql_meta.specs.Types.{own_name}
+use Rattle.graphql_schema.specs.Types.{own_name}
 use Rattle.graphql_names.proofs.NameMaps.{found_is_in}
 use Rattle.graphql_execution.proofs.fields.query_root_name.Goals as goal
 

@@ -1,5 +1,5 @@
-use Rattle.graphql_meta.proofs.CheckLemmas.{known_box}
-use Rattle.graphql_meta.proofs.ScalarCheckLemmas.{scalar_consistent}
+use Rattle.graphql_schema.proofs.CheckLemmas.{known_box}
+use Rattle.graphql_schema.proofs.ScalarCheckLemmas.{scalar_consistent}
 use Rattle.graphql_executor_tests.proofs.schemas.over.Goals as goal
 
 pub new-string-requires-clause-consistent : goal.new-string-requires-clause-consistent

@@ -1,5 +1,5 @@
 use Rattle.graphql_schema.specs.Declarations.{declarations_of}
-use Rattle.graphql_settled_fragments.proofs.KnownFieldTypes.{field-types-are-known}
+use Rattle.graphql_rules_document.proofs.KnownFieldTypes.{field-types-are-known}
 use Rattle.graphql_filled_sets.proofs.WrittenSets.{written-sets-are-filled}
 use Rattle.graphql_filled_sets.proofs.laws.written_sets_are_filled.Goals as goal
 

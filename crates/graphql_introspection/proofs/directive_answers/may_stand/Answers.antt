@@ -4,7 +4,7 @@ use Rattle.std.specs.List.{Contains}
 use Rattle.std.proofs.lemmas.Bool.Decides.{same_from_decides}
 use Rattle.std.proofs.lemmas.List.Folds.{list_any_at}
 use Rattle.std.proofs.lemmas.Map.Views.{Contains-from_any}
-use Rattle.graphql_meta.specs.contracts.directive_location.DirectiveLocation.{the_type}
+use Rattle.graphql_schema.specs.contracts.directive_location.DirectiveLocation.{the_type}
 use Rattle.graphql_schema.specs.Directives.{same_place, is_place}
 use Rattle.graphql_introspection.proofs.directive_answers.may_stand.Goals as goal
 use denote.Enum.Bare.{same_true, true_same}

@@ -1,6 +1,6 @@
 use Rattle.std.proofs.Common.{◌≡◌, sym, ap, ◌∙◌}
 use Rattle.std.specs.Option.{option_copied}
-use Rattle.graphql_schema_faults.specs.Lookups.{type_named}
+use Rattle.graphql_schema.specs.Lookups.{type_named}
 use Rattle.graphql_introspection.proofs.Filtering.{found, missed}
 use Rattle.graphql_introspection.proofs.type_answers.types_of_names.Goals.{in-Some+in_ok-push, in_default}
 use Rattle.graphql_introspection.proofs.type_answers.types_of_names.Goals as goal

@@ -1,6 +1,6 @@
 use Rattle.std.proofs.Common.{◌≡◌, map, take}
 use Rattle.std.specs.List.{filter_map}
-use Rattle.graphql_schema_faults.specs.Lookups.{type_named}
+use Rattle.graphql_schema.specs.Lookups.{type_named}
 use Rattle.graphql_introspection.proofs.type_answers.types_of_names.Given as goal
 
 abbrev pub invariant-names : goal.invariant-names

@@ -1,7 +1,7 @@
 use Rattle.std.proofs.Common.{◌≡◌, true, Some, sym, ap, ◌∙◌}
 use Rattle.std.proofs.lemmas.Slice.Eq.{bytes_eq-Decides}
 use Rattle.graphql_names.proofs.NameMaps.{found_is_in}
-use Rattle.graphql_schema_faults.specs.Lookups.{is_object, own_name, type_named}
+use Rattle.graphql_schema.specs.Lookups.{is_object, own_name, type_named}
 use Rattle.graphql_schema.specs.Subtypes.{is_named_subtype}
 use Rattle.graphql_law_rows.proofs.schemas.is_possible_at.Goals as goal
 

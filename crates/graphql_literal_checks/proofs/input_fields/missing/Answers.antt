@@ -1,5 +1,5 @@
 use Rattle.std.proofs.Common.{◌||◌, map, ap}
-use Rattle.graphql_meta.specs.declared.meta.argument.Argument.{Argument}
+use Rattle.graphql_schema.specs.declared.meta.argument.Argument.{Argument}
 use Rattle.graphql_names.specs.Names.{is_one_of}
 use Rattle.graphql_values.specs.declared.input_value.InputValue.{InputValue}
 use Rattle.graphql_values.specs.InputValues.{Pair}

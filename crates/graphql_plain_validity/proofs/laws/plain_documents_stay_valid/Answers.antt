@@ -1,5 +1,5 @@
 use Rattle.graphql_schema.specs.Declarations.{declarations_of}
-use Rattle.graphql_settled_fragments.proofs.KnownFieldTypes.{field-types-are-known}
+use Rattle.graphql_rules_document.proofs.KnownFieldTypes.{field-types-are-known}
 use Rattle.graphql_plain_validity.proofs.PlainValidity.{plain-documents-stay-valid}
 use Rattle.graphql_plain_validity.proofs.laws.plain_documents_stay_valid.Goals as goal
 

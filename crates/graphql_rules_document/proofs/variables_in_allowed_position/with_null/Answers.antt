@@ -1,5 +1,5 @@
 use Rattle.std.proofs.Common.{ap}
-use Rattle.graphql_meta.specs.Types.{TypeOf}
+use Rattle.graphql_schema.specs.Types.{TypeOf}
 use Rattle.graphql_rules_document.proofs.PositionLemmas.{with_list, without_non_null}
 use Rattle.graphql_rules_document.proofs.variables_in_allowed_position.with_null.Goals as goal
 

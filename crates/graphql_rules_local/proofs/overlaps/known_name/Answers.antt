@@ -1,7 +1,7 @@
 use Rattle.std.proofs.Common.{sym, ap, ◌∙◌}
 use Rattle.std.specs.Option.{option_copied}
 use Rattle.std.proofs.lemmas.Slice.Eq.{bytes_eq-Decides}
-use Rattle.graphql_meta.specs.Types.{own_name}
+use Rattle.graphql_schema.specs.Types.{own_name}
 use Rattle.graphql_names.proofs.NameMaps.{found_is_in}
 use Rattle.graphql_rules_local.proofs.overlaps.known_name.Goals as goal
 

@@ -1,5 +1,5 @@
 use Rattle.std.proofs.Common.{◌≡◌, Some, None, rules}
-use Rattle.graphql_schema_faults.specs.Lookups.{type_named}
+use Rattle.graphql_schema.specs.Lookups.{type_named}
 use Rattle.graphql_schema_files.specs.Conforming.{TypeConforms}
 use Rattle.graphql_schema_files.proofs.Conformed.{if_absent, if_there}
 use Rattle.graphql_schema_files.proofs.conforming.named_conforms.Goals as goal

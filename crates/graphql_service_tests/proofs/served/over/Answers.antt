@@ -1,5 +1,5 @@
-use Rattle.graphql_meta.proofs.CheckLemmas.{known_box}
-use Rattle.graphql_meta.proofs.ScalarCheckLemmas.{scalar_consistent}
+use Rattle.graphql_schema.proofs.CheckLemmas.{known_box}
+use Rattle.graphql_schema.proofs.ScalarCheckLemmas.{scalar_consistent}
 use Rattle.graphql_service_tests.proofs.served.over.Goals as goal
 
 pub new-int-requires-clause-consistent : goal.new-int-requires-clause-consistent

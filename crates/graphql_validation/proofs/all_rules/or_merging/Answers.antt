@@ -2,8 +2,8 @@ use Rattle.std.proofs.Common.{◌≡◌, [], subst, sym, ◌∙◌}
 use Rattle.std.proofs.lemmas.Bool.{false≢true}
 use Rattle.graphql_rule_errors.specs.Places.{places}
 use Rattle.graphql_schema.specs.Declarations.{declarations_of}
-use Rattle.graphql_settled_fragments.proofs.KnownFieldTypes.{field-types-are-known}
-use Rattle.graphql_settled_fragments.proofs.SettledFragments.{ending-fragments-are-settled}
+use Rattle.graphql_rules_document.proofs.KnownFieldTypes.{field-types-are-known}
+use Rattle.graphql_rules_document.proofs.SettledFragments.{ending-fragments-are-settled}
 use Rattle.graphql_visitors.specs.Subjects.{Subject}
 use Rattle.graphql_validation.specs.AllRules.{AllRules, IsValid, of_first_stage}
 use Rattle.graphql_validation.specs.FirstStage.{FirstStage}

@@ -1,6 +1,6 @@
 use Rattle.graphql_schema.specs.Declarations.{declarations_of}
-use Rattle.graphql_settled_fragments.proofs.KnownFieldTypes.{field-types-are-known}
-use Rattle.graphql_settled_fragments.proofs.SettledFragments.{ending-fragments-are-settled}
+use Rattle.graphql_rules_document.proofs.KnownFieldTypes.{field-types-are-known}
+use Rattle.graphql_rules_document.proofs.SettledFragments.{ending-fragments-are-settled}
 use Rattle.graphql_validation.proofs.AllRulesLemmas.{settled-where-well-formed}
 use Rattle.graphql_validation.proofs.WellFormedLemmas.{well_formed}
 use Rattle.graphql_validation.proofs.laws.documents_without_a_fault_are_settled.Goals as goal

@@ -1,6 +1,6 @@
 use Rattle.std.proofs.Common.{◌∙◌}
-use Rattle.graphql_meta.proofs.CheckLemmas.{known_box}
-use Rattle.graphql_meta.proofs.ScalarCheckLemmas.{scalar_consistent, scalar_accepted}
+use Rattle.graphql_schema.proofs.CheckLemmas.{known_box}
+use Rattle.graphql_schema.proofs.ScalarCheckLemmas.{scalar_consistent, scalar_accepted}
 use Rattle.graphql_validation_tests.proofs.scalar_checks.boolean_accepts_truth_values.Goals as goal
 
 pub new-boolean-requires-clause-consistent : goal.new-boolean-requires-clause-consistent

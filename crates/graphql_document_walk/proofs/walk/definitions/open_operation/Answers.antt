@@ -1,7 +1,7 @@
 use Rattle.std.proofs.Common.{◌++◌, ap, ◌∙◌}
 use Rattle.std.specs.Prelude.{[], unwrap_or}
 use Rattle.std.specs.Option.{option_map}
-use Rattle.graphql_schema_faults.specs.Lookups.{own_name}
+use Rattle.graphql_schema.specs.Lookups.{own_name}
 use Rattle.graphql_schema.specs.Declarations.{declarations_of}
 use Rattle.graphql_occurrences.specs.Lookups.{location_of}
 use Rattle.graphql_tree.specs.Documents.{variables_in}

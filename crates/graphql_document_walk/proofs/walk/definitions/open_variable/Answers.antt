@@ -1,6 +1,6 @@
 use Rattle.std.proofs.Common.{◌++◌, ap, ◌∙◌, Some}
 use Rattle.std.specs.Prelude.{[], unwrap_or}
-use Rattle.graphql_meta.specs.declared.directive_location.DirectiveLocation.TheVariants as location
+use Rattle.graphql_schema.specs.declared.directive_location.DirectiveLocation.TheVariants as location
 use Rattle.graphql_schema.specs.Declarations.{declarations_of}
 use Rattle.graphql_occurrences.specs.Lookups.{bare_place}
 use Rattle.graphql_occurrences.specs.Events.{asked, directives_events, default_events}

@@ -1,6 +1,6 @@
 use Rattle.std.proofs.Common.{◌∷◌, ◌++◌, OnOk, ap, subst, ◌∙◌}
 use Rattle.std.specs.Prelude.{[], unwrap_or}
-use Rattle.graphql_meta.specs.declared.directive_location.DirectiveLocation.TheVariants as location
+use Rattle.graphql_schema.specs.declared.directive_location.DirectiveLocation.TheVariants as location
 use Rattle.graphql_schema.specs.Declarations.{declarations_of}
 use Rattle.graphql_occurrences.specs.Lookups.{field_arguments, field_of, field_type}
 use Rattle.graphql_tree.specs.Documents.{arguments_in}

@@ -1,5 +1,5 @@
 use Rattle.std.proofs.Common.{◌≡◌, true, Ok, length, ap, sym, refl}
-use Rattle.graphql_meta.specs.Types.{TypeOf}
+use Rattle.graphql_schema.specs.Types.{TypeOf}
 use Rattle.graphql_literal_checks.specs.InputTypes.{allows}
 use Rattle.graphql_literal_checks.specs.Judged.{ListFits, lent, are_constant}
 use Rattle.graphql_literal_checks.proofs.ConformsLemmas.{Each, list_with, within_list}

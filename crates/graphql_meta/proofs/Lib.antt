@@ -1,2 +1,0 @@
-pub mod CheckLemmas
-pub mod ScalarCheckLemmas

@@ -1,2 +1,0 @@
-mod PlainRuns
-mod SameMeaning

@@ -1,3 +1,0 @@
-pub mod BareWritten
-pub mod BareMerging
-pub mod MergingStays

@@ -1,5 +1,0 @@
-use Rattle.graphql_plain_merging.proofs.BareMerging.{merging-without-places}
-use Rattle.graphql_plain_merging.proofs.laws.merging_without_places.Goals as goal
-
-pub returns : goal.returns
-returns g c = merging-without-places _ _ _ g.met.S.Eq.laws

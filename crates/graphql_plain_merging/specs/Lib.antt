@@ -1,2 +1,0 @@
-pub mod BareTrees
-pub mod Laws

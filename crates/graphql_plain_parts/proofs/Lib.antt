@@ -1,9 +1,0 @@
-pub mod EachItem
-pub mod ReachedParts
-pub mod ValueParts
-pub mod WrittenParts
-pub mod PlainSetParts
-pub mod PlainDocumentParts
-pub mod PartKinds
-pub mod OneOperation
-pub mod Rows

@@ -1,5 +1,0 @@
-use Rattle.graphql_plain_parts.proofs.PartKinds.{plain-kinds-stem}
-use Rattle.graphql_plain_parts.proofs.laws.plain_kinds_stem.Goals as goal
-
-pub returns : goal.returns
-returns g c = plain-kinds-stem _ _ _ _

@@ -1,5 +1,0 @@
-use Rattle.graphql_plain_parts.proofs.PlainDocumentParts.{plain-parts-stem}
-use Rattle.graphql_plain_parts.proofs.laws.plain_parts_stem.Goals as goal
-
-pub returns : goal.returns
-returns g c = plain-parts-stem _ _ _ _

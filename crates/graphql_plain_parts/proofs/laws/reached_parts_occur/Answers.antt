@@ -1,5 +1,0 @@
-use Rattle.graphql_plain_parts.proofs.ReachedParts.{reached-parts-occur}
-use Rattle.graphql_plain_parts.proofs.laws.reached_parts_occur.Goals as goal
-
-pub returns : goal.returns
-returns g c = reached-parts-occur

@@ -1,4 +1,0 @@
-pub mod PlainRequests
-pub mod StemmingParts
-pub mod PartKinds
-pub mod Laws

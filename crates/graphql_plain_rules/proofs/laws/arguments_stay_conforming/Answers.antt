@@ -1,7 +1,0 @@
-use Rattle.graphql_plain_rules.proofs.LiteralRules.{arguments-stay}
-use Rattle.graphql_plain_rules.proofs.laws.arguments_stay_conforming.Goals as goal
-
-pub returns : goal.returns
-returns g c = λ schema.
-    arguments-stay _ g.met.S.Eq.laws g.S.ScalarValue.answer g.S.Check.Check.accepts
-    g.met.S.Check.Check.respects_same schema g.S.ScalarValue.of_bool

@@ -1,5 +1,0 @@
-use Rattle.graphql_plain_rules.proofs.LocalRules.{arguments-stay-distinct}
-use Rattle.graphql_plain_rules.proofs.laws.arguments_stay_distinct.Goals as goal
-
-pub returns : goal.returns
-returns g c = arguments-stay-distinct _ _

@@ -1,5 +1,0 @@
-use Rattle.graphql_plain_rules.proofs.LocalRules.{arguments-stay-provided}
-use Rattle.graphql_plain_rules.proofs.laws.arguments_stay_provided.Goals as goal
-
-pub returns : goal.returns
-returns g c = λ schema standard. arguments-stay-provided _ _ schema standard

@@ -1,5 +1,0 @@
-use Rattle.graphql_plain_rules.proofs.LocalRules.{directives-are-placed}
-use Rattle.graphql_plain_rules.proofs.laws.directives_are_placed.Goals as goal
-
-pub returns : goal.returns
-returns g c = λ schema standard. directives-are-placed _ _ schema standard

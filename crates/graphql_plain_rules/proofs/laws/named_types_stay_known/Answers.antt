@@ -1,5 +1,0 @@
-use Rattle.graphql_plain_rules.proofs.LocalRules.{types-stay-known}
-use Rattle.graphql_plain_rules.proofs.laws.named_types_stay_known.Goals as goal
-
-pub returns : goal.returns
-returns g c = types-stay-known _ _

@@ -1,5 +1,0 @@
-use Rattle.graphql_plain_rules.proofs.LocalRules.{no-spread-is-left}
-use Rattle.graphql_plain_rules.proofs.laws.no_spread_is_left.Goals as goal
-
-pub returns : goal.returns
-returns g c = no-spread-is-left _ _

@@ -1,5 +1,0 @@
-use Rattle.graphql_plain_rules.proofs.LocalRules.{introspection-stays}
-use Rattle.graphql_plain_rules.proofs.laws.nothing_is_introspected_still.Goals as goal
-
-pub returns : goal.returns
-returns g c = introspection-stays _ _

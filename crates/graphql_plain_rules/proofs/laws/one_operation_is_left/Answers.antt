@@ -1,5 +1,0 @@
-use Rattle.graphql_plain_rules.proofs.NameRules.{one-operation-is-left}
-use Rattle.graphql_plain_rules.proofs.laws.one_operation_is_left.Goals as goal
-
-pub returns : goal.returns
-returns g c = one-operation-is-left _ _

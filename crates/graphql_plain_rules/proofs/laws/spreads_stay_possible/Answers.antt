@@ -1,5 +1,0 @@
-use Rattle.graphql_plain_rules.proofs.SpreadRules.{spreads-stay-possible}
-use Rattle.graphql_plain_rules.proofs.laws.spreads_stay_possible.Goals as goal
-
-pub returns : goal.returns
-returns g c = spreads-stay-possible _ _

@@ -1,5 +1,0 @@
-use Rattle.graphql_plain_rules.proofs.LocalRules.{variables-stay-input}
-use Rattle.graphql_plain_rules.proofs.laws.variables_stay_of_input_types.Goals as goal
-
-pub returns : goal.returns
-returns g c = variables-stay-input _ _

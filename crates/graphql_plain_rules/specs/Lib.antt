@@ -1,2 +1,0 @@
-pub mod Schemas
-pub mod Laws

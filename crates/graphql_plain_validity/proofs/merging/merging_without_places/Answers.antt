@@ -1,0 +1,5 @@
+use Rattle.graphql_plain_validity.proofs.BareMerging.{merging-without-places}
+use Rattle.graphql_plain_validity.proofs.merging.merging_without_places.Goals as goal
+
+pub returns : goal.returns
+returns g c = merging-without-places _ _ _ g.met.S.Eq.laws

@@ -1,0 +1,108 @@
+//! What validation rules say of plain documents: each function's contract is a law, and its body does
+//! nothing.
+
+ghost use Rattle.graphql_schema.specs.Declarations.{Declarations};
+ghost use Rattle.graphql_rules_local.specs.DisableIntrospection.{introspection_field};
+ghost use Rattle.graphql_rules_local.specs.FieldsOnCorrectType.{unknown_field};
+ghost use Rattle.graphql_rules_local.specs.FragmentsOnCompositeTypes.{no_composite};
+ghost use Rattle.graphql_rules_local.specs.KnownArgumentNames.{known_argument_names};
+ghost use Rattle.graphql_rules_local.specs.KnownFragmentNames.{unknown_fragment};
+ghost use Rattle.graphql_rules_local.specs.KnownTypeNames.{unknown_type};
+ghost use Rattle.graphql_rules_local.specs.PossibleFragmentSpreads.{impossible_spread};
+ghost use Rattle.graphql_rules_local.specs.ProvidedNonNullArguments.{provided_non_null_arguments};
+ghost use Rattle.graphql_rules_local.specs.ScalarLeafs.{wrong_leaf};
+ghost use Rattle.graphql_rules_local.specs.UniqueArgumentNames.{unique_argument_names};
+ghost use Rattle.graphql_rules_local.specs.UniqueInputFieldNames.{unique_input_field_names};
+ghost use Rattle.graphql_rules_local.specs.VariablesAreInputTypes.{no_input_type};
+ghost use Rattle.graphql_plain_validity.specs.RuleLaws.{ArgumentsStayConforming, DefaultsStayConforming, DirectivesArePlaced, OneOperationIsLeft, StaysSilent, StaysSilentBesideSkip};
+
+use graphql_schema::SchemaScalar;
+use graphql_values::ScalarValue;
+
+/// `FieldsOnCorrectType` finds no fault in a plain document where it finds none in the request's
+/// document: each field is declared (5.3.1 Field Selections).
+pub fn fields_stay_declared<S: ScalarValue, C>()
+    ensures { (schema : Declarations S C) → StaysSilent S.answer S.of_bool schema unknown_field }
+{}
+
+/// `ScalarLeafs` likewise: a set that is left out whole keeps a selection (5.3.3 Leaf Field Selections).
+pub fn leaves_stay_without_sets<S: ScalarValue, C>()
+    ensures { (schema : Declarations S C) → StaysSilent S.answer S.of_bool schema wrong_leaf }
+{}
+
+/// `FragmentsOnCompositeTypes` likewise (5.5.1.3 Fragments on Composite Types).
+pub fn conditions_stay_composite<S: ScalarValue, C>()
+    ensures { (schema : Declarations S C) → StaysSilent S.answer S.of_bool schema no_composite }
+{}
+
+/// `KnownTypeNames` likewise (5.5.1.2 Fragment Spread Type Existence, 5.8.2 Variables Are Input Types).
+pub fn named_types_stay_known<S: ScalarValue, C>()
+    ensures { (schema : Declarations S C) → StaysSilent S.answer S.of_bool schema unknown_type }
+{}
+
+/// `VariablesAreInputTypes` likewise (5.8.2 Variables Are Input Types).
+pub fn variables_stay_of_input_types<S: ScalarValue, C>()
+    ensures { (schema : Declarations S C) → StaysSilent S.answer S.of_bool schema no_input_type }
+{}
+
+/// `UniqueArgumentNames` likewise (5.4.2 Argument Uniqueness).
+pub fn arguments_stay_distinct<S: ScalarValue, C>()
+    ensures { (schema : Declarations S C) → StaysSilent S.answer S.of_bool schema unique_argument_names }
+{}
+
+/// `UniqueInputFieldNames` likewise (5.6.3 Input Object Field Uniqueness).
+pub fn input_fields_stay_distinct<S: ScalarValue, C>()
+    ensures { (schema : Declarations S C) → StaysSilent S.answer S.of_bool schema unique_input_field_names }
+{}
+
+/// The rule against introspection likewise (4.2 Schema Introspection).
+pub fn nothing_is_introspected_still<S: ScalarValue, C>()
+    ensures { (schema : Declarations S C) → StaysSilent S.answer S.of_bool schema introspection_field }
+{}
+
+/// `KnownFragmentNames` likewise: no spread is left (5.5.2.1 Fragment Spread Target Defined).
+pub fn no_spread_is_left<S: ScalarValue, C>()
+    ensures { (schema : Declarations S C) → StaysSilent S.answer S.of_bool schema unknown_fragment }
+{}
+
+/// `PossibleFragmentSpreads` likewise: an inline fragment that stands for a spread applies where the
+/// spread does (5.5.2.3 Fragment Spread Is Possible).
+pub fn spreads_stay_possible<S: ScalarValue, C>()
+    ensures { (schema : Declarations S C) → StaysSilent S.answer S.of_bool schema impossible_spread }
+{}
+
+/// `KnownDirectives` finds no fault in a plain document, where the schema's `skip` is the standard's: of
+/// directives those of stand-ins alone are left (5.7 Directives).
+pub fn directives_are_placed<S: ScalarValue, C>()
+    ensures { (schema : Declarations S C) → DirectivesArePlaced S.answer S.of_bool schema }
+{}
+
+/// `KnownArgumentNames` finds no fault in a plain document where it finds none in the request's document,
+/// over the same schemas (5.4.1 Argument Names).
+pub fn arguments_stay_declared<S: ScalarValue, C>()
+    ensures { (schema : Declarations S C) → StaysSilentBesideSkip S.answer S.of_bool schema known_argument_names }
+{}
+
+/// `ProvidedNonNullArguments` likewise (5.4.2.1 Required Arguments).
+pub fn arguments_stay_provided<S: ScalarValue, C>()
+    ensures { (schema : Declarations S C) → StaysSilentBesideSkip S.answer S.of_bool schema provided_non_null_arguments }
+{}
+
+/// `ArgumentsOfCorrectType` likewise, where moreover the schema's `Boolean` takes `true` (5.6.1 Values of
+/// Correct Type).
+pub fn arguments_stay_conforming<S: SchemaScalar>()
+    ensures { (schema : Declarations S S.Check) → ArgumentsStayConforming S.answer S.of_bool schema S.Check.accepts }
+{}
+
+/// `DefaultValuesOfCorrectType` finds no fault in a plain document where it finds none in the request's
+/// document (5.6.1 Values of Correct Type).
+pub fn defaults_stay_conforming<S: SchemaScalar>()
+    ensures { (schema : Declarations S S.Check) → DefaultsStayConforming S.answer S.of_bool schema S.Check.accepts }
+{}
+
+/// A plain document is one operation without fragments: the rules on the names of operations and of
+/// fragments find no fault in it, nor do those on unused fragments and on cycles (5.2 Operations, 5.5
+/// Fragments).
+pub fn one_operation_is_left<S: ScalarValue, C>()
+    ensures { (schema : Declarations S C) → OneOperationIsLeft S.answer S.of_bool schema }
+{}

@@ -1,9 +1,0 @@
-pub mod UsesReached
-pub mod VariableNames
-pub mod AllowedUses
-pub mod UsedNames
-pub mod UsedDefinitions
-pub mod SpelledDefaults
-pub mod DefinedUses
-pub mod UsesThere
-pub mod UsedVariables

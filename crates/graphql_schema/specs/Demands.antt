@@ -1,0 +1,36 @@
+-- What is asked of the types that names refer to (GraphQL October 2021, 3.4.2 Input and Output Types, 3.6 to 3.8).
+use Rattle.std.specs.Prelude.{◌&&◌, not, List, [], Bool, Option}
+use Rattle.std.specs.Option.{is_some}
+use Rattle.graphql_schema.specs.declared.meta.MetaType.{MetaType}
+use Rattle.graphql_schema.specs.declared.faults.demand.Demand.{Demand}
+use Rattle.graphql_schema.specs.declared.faults.demand.Demand.TheVariants as demand
+use Rattle.graphql_names.specs.Names.{Bytes, is_one_of, passes}
+use Rattle.graphql_schema.specs.Lookups.{type_named, is_object, is_scalar, is_interface, is_input_object, interfaces_of, members_of, output_names, input_names, references_of}
+use Rattle.graphql_schema.specs.Faults.{is_composite, refers}
+
+module _ {S C : Type 0} where
+  -- the type of a name, if there is one, is not what is asked for
+  abbrev pub is_unmet : Demand → Option (MetaType S C) → Bool
+  is_unmet demand.Known found = not (is_some found)
+  is_unmet demand.Output found = passes is_input_object found
+  is_unmet demand.Input found = passes is_composite found
+  is_unmet demand.Object found = not (passes is_object found)
+  is_unmet demand.Interface found = not (passes is_interface found)
+  is_unmet demand.Scalar found = not (passes is_scalar found)
+
+  -- the references of a type of which it is asked
+  abbrev pub asked_of : Demand → MetaType S C → List Bytes
+  asked_of demand.Known m = references_of m
+  asked_of demand.Output m = output_names m
+  asked_of demand.Input m = input_names m
+  asked_of demand.Object m = members_of m
+  asked_of demand.Interface m = interfaces_of m
+  asked_of demand.Scalar m = []
+
+  -- it is one of the names, and its type is not what is asked for
+  abbrev pub misses : Demand → List (MetaType S C) → List Bytes → Bytes → Bool
+  misses wanted types names name = is_one_of names name && is_unmet wanted (type_named types name)
+
+  -- one of the types refers to it where that is asked, and its type is not what is asked for
+  abbrev pub is_referred : Demand → List (MetaType S C) → Bytes → Bool
+  is_referred wanted types name = refers (asked_of wanted) types name && is_unmet wanted (type_named types name)

@@ -1,4 +1,0 @@
-pub mod FaultsFound
-pub mod FaultsTwice
-pub mod FaultKinds
-pub mod Rearranged

@@ -1,4 +1,0 @@
-pub mod Lookups
-pub mod Completed
-pub mod Faults
-pub mod Demands

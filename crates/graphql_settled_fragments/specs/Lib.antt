@@ -1,3 +1,0 @@
-pub mod SpreadNames
-pub mod Counted
-pub mod Laws
