@@ -4,7 +4,8 @@ use Rattle.std.specs.List.{Contains, list_any, position_or_len, slice_set, AllBy
 use Rattle.std.specs.Str.{bytes_eq}
 use Rattle.std.specs.Cmp.Lexicographic.{nat_list_eq_equiv}
 use Rattle.std.proofs.lemmas.Bool.{false≢true}
-use Rattle.std.proofs.lemmas.List.{map-append}
+use Rattle.std.proofs.lemmas.List.{map-append, length-append}
+use Rattle.std.proofs.lemmas.List.Sums.{sum_by-set, sum_by_push}
 use Rattle.std.proofs.lemmas.List.Elements.{filter-append, Contains-append_left, Contains-append_cases}
 use Rattle.std.proofs.lemmas.Map.Keys.{IsDistinct-head, IsDistinct-tail}
 use Rattle.std.proofs.lemmas.Map.Views.{list_any-from_Contains}
@@ -14,6 +15,7 @@ use Rattle.indexmap.proofs.CallerLemmas.{Contains-insert_key}
 use Rattle.graphql_names.specs.Names.{Bytes}
 use Rattle.graphql_merging.specs.declared.table.WrittenField.{WrittenField}
 use Rattle.graphql_merging.proofs.Nested.{one-only, in-nothing}
+use Rattle.graphql_bundles.specs.Counted.{fields_of_groups}
 use Rattle.graphql_bundles.specs.Groups.{KeyGroup, IsGrouped, under, key_at, begun, takes, put}
 use Rattle.graphql_bundles.proofs.ListLemmas.{take-one, map_of, filter_nothing}
 
@@ -62,6 +64,10 @@ module _ {S C : Type 0} (x : WrittenField S C) where
   abbrev with_it : KeyGroup S C → KeyGroup S C
   with_it g = (g.0, g.1 ++ x ∷ [])
 
+  length-names : (hs : List (KeyGroup S C)) → length (map (λ h. h.0) hs) ≡ length hs
+  length-names [] = refl
+  length-names (h ∷ hs) = ap suc (length-names hs)
+
   -- the group at a place, with the field
   abbrev Taken : List (KeyGroup S C) → KeyGroup S C → ℕ → Type 0
   Taken gs d n = slice_set gs n (with_it (get_or gs n d)) ≡ map (takes x) gs
@@ -100,10 +106,23 @@ module _ {S C : Type 0} (x : WrittenField S C) where
       (λ j. slice_set begins n ((own j).0, (grown ∙ ap (λ (h : KeyGroup S C). h.1 ++ x ∷ []) own) j))
       ∙ placed begins g n (subst (IsDistinct bytes_eq) names u) (at ∙ ap (position_or_len (bytes_eq (key_at x))) names) short
       ∙ ap (map (takes x)) are
+
+  -- the groups with the field have one field more
+  pub put-counts : (gs begins : List (KeyGroup S C)) (keys : List Bytes) (n : ℕ) (g : KeyGroup S C) (fs : List (WrittenField S C)) → begins ≡ begun x gs
+      → keys ≡ map (λ h. h.0) begins → n < length keys → g ≡ get_or begins n g → fs ≡ g.1 ++ x ∷ []
+      → fields_of_groups (slice_set begins n (g.0, fs)) ≡ fields_of_groups gs + 1
+  put-counts gs begins keys n g fs are names within own grown =
+      let short : n < length begins = omega (arith, within, ap length names, length-names begins) in
+      let size = λ (h : KeyGroup S C). length h.1 in
+      let put = sum_by-set size begins n (g.0, fs) g short in
+      let old = ap size own in
+      let more = ap length grown ∙ length-append g.1 (x ∷ []) in
+      let same = ap fields_of_groups are ∙ cases (list_any (bytes_eq (key_at x)) (map (λ h. h.0) gs)) in
+      omega (arith, put, old, more, same)
     where
-      length-names : (hs : List (KeyGroup S C)) → length (map (λ h. h.0) hs) ≡ length hs
-      length-names [] = refl
-      length-names (h ∷ hs) = ap suc (length-names hs)
+      cases : (q : Bool) → fields_of_groups (cond q gs (gs ++ (key_at x, []) ∷ [])) ≡ fields_of_groups gs
+      cases true = refl
+      cases false = let pushed = sum_by_push (λ (h : KeyGroup S C). length h.1) gs (key_at x, []) in omega (arith, pushed)
 
   -- the groups of the fields with it
   module _ (ys : List (WrittenField S C)) (gs : List (KeyGroup S C)) (are : IsGrouped ys gs) where

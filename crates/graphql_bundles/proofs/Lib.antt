@@ -16,3 +16,5 @@ pub mod DirectLemmas
 pub mod VisitLemmas
 pub mod EndLemmas
 pub mod EndLaw
+pub mod Sums
+pub mod Counts

@@ -5,5 +5,6 @@ pub mod Direct
 pub mod Ends
 pub mod Going
 pub mod Groups
+pub mod Counted
 pub mod Steps
 pub mod Laws

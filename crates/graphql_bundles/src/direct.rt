@@ -1,11 +1,11 @@
 //! The fields that stand directly in one set are compared by classes.
 
-ghost use Rattle.std.specs.Prelude.{◌≡◌, ◌≤◌, [], ◌∷◌, List, IfOk, OnOk, length};
+ghost use Rattle.std.specs.Prelude.{◌≡◌, ◌+◌, ◌*◌, ◌≤◌, [], ◌∷◌, List, IfOk, OnOk, length};
 ghost use Rattle.graphql_rule_errors.specs.Places.{places};
 ghost use Rattle.graphql_tree.specs.declared.document.Fragment.{Fragment};
 ghost use Rattle.graphql_bundles.specs.Direct.{ComparesBefore, DirectParts, SortsOut};
 
-use crate::telling::compare;
+use crate::telling::{compare, count_comparison};
 use graphql_merging::{WrittenField, first_difference};
 use graphql_rule_errors::RuleError;
 use graphql_schema::{SchemaScalar, SchemaType};
@@ -29,13 +29,15 @@ fn compare_before<S: PartialEq, C>(
     earlier: &[WrittenField<'_, '_, S, C>],
     field: &WrittenField<'_, '_, S, C>,
     told: &mut Items<RuleError>,
+    comparisons: &mut u128,
 ) -> Result<(), AllocError>
-    ensures { OnOk result ((fragments : List (Fragment S)) →
+    ensures counted { OnOk result (comparisons.new ≤ comparisons.old + length earlier.now) }
+    ensures told { OnOk result ((fragments : List (Fragment S)) →
         ComparesBefore S.eq schema.now.types fragments earlier.now field.now
         (places told.old) (places told.new)) }
 {
     for other in earlier {
-        compare(alloc, schema, false, false, other, field, told)?;
+        compare(alloc, schema, false, false, other, field, told, comparisons)?;
     }
     Ok(())
 }
@@ -49,20 +51,28 @@ fn sort_out<'d, 'a, S: PartialEq, C>(
     field: &WrittenField<'d, 'a, S, C>,
     split: &mut Split<'d, 'a, S, C>,
     told: &mut Items<RuleError>,
+    comparisons: &mut u128,
 ) -> Result<(), AllocError>
-    ensures { OnOk result ((fragments : List (Fragment S)) →
+    ensures counted { OnOk result (comparisons.new + length split.old.alike * length split.old.others
+        ≤ comparisons.old + 1 + length split.new.alike * length split.new.others) }
+    ensures one { OnOk result (length split.new.alike + length split.new.others
+        ≡ length split.old.alike + length split.old.others + 1) }
+    ensures sorted { OnOk result ((fragments : List (Fragment S)) →
         SortsOut S.eq schema.now.types fragments head.now field.now split.old split.new
         (places told.old) (places told.new)) }
 {
+    count_comparison(comparisons);
     let difference = first_difference(alloc, schema, false, &head.selected, &field.selected)?;
     match difference {
         None => {
-            compare_before(alloc, schema, split.others.as_slice(), field, told)?;
+            let others = split.others.as_slice();
+            compare_before(alloc, schema, others, field, told, comparisons)?;
             split.alike.push(*field)?;
             Ok(())
         }
         Some(_) => {
-            compare_before(alloc, schema, split.alike.as_slice(), field, told)?;
+            let alike = split.alike.as_slice();
+            compare_before(alloc, schema, alike, field, told, comparisons)?;
             split.others.push(*field)?;
             Ok(())
         }
@@ -77,7 +87,11 @@ fn sort_all<'d, 'a, S: PartialEq, C>(
     head: &WrittenField<'d, 'a, S, C>,
     fields: &[WrittenField<'d, 'a, S, C>],
     told: &mut Items<RuleError>,
+    comparisons: &mut u128,
 ) -> Result<Items<WrittenField<'d, 'a, S, C>>, AllocError>
+    ensures counted { let all = 1 + length fields.now in
+        IfOk result (λ rest. comparisons.new + length rest * length rest
+        ≤ comparisons.old + all * all) }
     ensures parts { IfOk result (λ rest. (fragments : List (Fragment S)) →
         DirectParts S.eq schema.now.types fragments (head.now ∷ fields.now) rest
         (places told.old) (places told.new)) }
@@ -89,7 +103,7 @@ fn sort_all<'d, 'a, S: PartialEq, C>(
     };
     split.alike.push(*head)?;
     for field in fields {
-        sort_out(alloc, schema, head, field, &mut split, told)?;
+        sort_out(alloc, schema, head, field, &mut split, told, comparisons)?;
     }
     Ok(split.others)
 }
@@ -101,15 +115,19 @@ pub(crate) fn direct_group<'d, 'a, S: PartialEq, C>(
     schema: &SchemaType<S, C>,
     fields: &[WrittenField<'d, 'a, S, C>],
     told: &mut Items<RuleError>,
+    comparisons: &mut u128,
 ) -> Result<(), AllocError>
-    ensures { OnOk result ((fragments : List (Fragment S)) →
+    ensures counted { let all = length fields.now in
+        OnOk result (comparisons.new ≤ comparisons.old + all * all) }
+    ensures told { OnOk result ((fragments : List (Fragment S)) →
         DirectParts S.eq schema.now.types fragments fields.now []
         (places told.old) (places told.new)) }
 {
     let mut rest = Items::new(alloc);
     rest.extend_from_slice(fields)?;
     'classes: while let Some(head) = rest.first().copied() {
-        let more = sort_all(alloc, schema, &head, &rest.as_slice()[1..], told)?;
+        let behind = &rest.as_slice()[1..];
+        let more = sort_all(alloc, schema, &head, behind, told, comparisons)?;
         rest = more;
     }
     Ok(())

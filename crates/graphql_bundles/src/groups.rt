@@ -1,7 +1,8 @@
 //! Fields by their response keys.
 
-ghost use Rattle.std.specs.Prelude.{◌≡◌, map, IfOk, OnOk};
+ghost use Rattle.std.specs.Prelude.{◌≡◌, ◌+◌, length, map, IfOk, OnOk};
 ghost use Rattle.std.specs.List.{flat_map};
+ghost use Rattle.graphql_bundles.specs.Counted.{fields_of_groups};
 ghost use Rattle.graphql_bundles.specs.Groups.{IsGrouped, fields_in, key_at, put};
 
 use graphql_merging::{SetTable, WrittenField};
@@ -48,6 +49,7 @@ fn put<'d, 'a, S, C>(
     requires { keys.old.keys ≡ map (λ g. g.0) groups.old }
     ensures put { OnOk result (groups.new ≡ put field.now groups.old) }
     ensures keys { OnOk result (keys.new.keys ≡ map (λ g. g.0) groups.new) }
+    ensures one { OnOk result (fields_of_groups groups.new ≡ fields_of_groups groups.old + 1) }
 {
     let (place, added) = keys.insert_full(key_of(field))?;
     if added {
@@ -63,7 +65,8 @@ pub(crate) fn grouped<'d, 'a, S, C>(
     alloc: Global,
     fields: &[WrittenField<'d, 'a, S, C>],
 ) -> Result<Items<KeyGroup<'d, 'a, S, C>>, AllocError>
-    ensures { IfOk result (IsGrouped fields.now) }
+    ensures grouped { IfOk result (IsGrouped fields.now) }
+    ensures whole { IfOk result (λ groups. fields_of_groups groups ≡ length fields.now) }
 {
     let mut keys: IndexSet<TextRef<'d>> = IndexSet::new(alloc);
     let mut groups = Items::new(alloc);

@@ -1,6 +1,6 @@
 //! Each field of a group is compared with the first of its class.
 
-ghost use Rattle.std.specs.Prelude.{◌≡◌, ℕ, false, true, List, map, filter, IfOk, OnOk, not};
+ghost use Rattle.std.specs.Prelude.{◌≡◌, ℕ, ◌+◌, ◌≤◌, false, true, List, Some, length, map, filter, IfOk, OnOk, not};
 ghost use Rattle.std.specs.List.{Contains};
 ghost use Rattle.std.specs.Option.{option_map};
 ghost use Rattle.graphql_schema.specs.Lookups.{is_object};
@@ -8,6 +8,7 @@ ghost use Rattle.graphql_rule_errors.specs.Places.{places};
 ghost use Rattle.graphql_tree.specs.declared.document.Fragment.{Fragment};
 ghost use Rattle.graphql_merging.specs.Tables.{piece_field};
 ghost use Rattle.graphql_bundles.specs.Bundles as bundles;
+ghost use Rattle.graphql_bundles.specs.Counted.{fields_of_parts};
 ghost use Rattle.graphql_bundles.specs.Steps.{ArePartNamed, AreShaped, Compares, IsFoundOf};
 ghost use Rattle.graphql_bundles.specs.Groups as groups;
 
@@ -135,14 +136,16 @@ pub(crate) fn compare_shapes<S: PartialEq, C>(
     around: bool,
     group: &[WrittenField<'_, '_, S, C>],
     told: &mut Items<RuleError>,
+    comparisons: &mut u128,
 ) -> Result<(), AllocError>
-    ensures { OnOk result ((fragments : List (Fragment S)) →
+    ensures counted { OnOk result (comparisons.new ≤ comparisons.old + length group.now) }
+    ensures told { OnOk result ((fragments : List (Fragment S)) →
         let fields = map (piece_field fragments) group.now in
         Compares (IsFoundOf S.eq schema.now.types true fields) (AreShaped schema.now.types fields)
         (places told.old) (places told.new)) }
 {
     match first_declared(group) {
-        Some(head) => compare_with(alloc, schema, true, around, &head, group, told),
+        Some(head) => { compare_with(alloc, schema, true, around, &head, group, told, comparisons) }
         None => Ok(()),
     }
 }
@@ -155,8 +158,11 @@ fn compare_part<S: PartialEq, C>(
     group: &[WrittenField<'_, '_, S, C>],
     name: &str,
     told: &mut Items<RuleError>,
+    comparisons: &mut u128,
 ) -> Result<(), AllocError>
-    ensures { OnOk result ((fragments : List (Fragment S)) →
+    ensures counted { OnOk result (comparisons.new
+        ≤ comparisons.old + length (filter (groups.is_of (Some name.now)) group.now)) }
+    ensures told { OnOk result ((fragments : List (Fragment S)) →
         let fields = map (piece_field fragments) group.now in
         Compares (IsFoundOf S.eq schema.now.types false fields)
         (ArePartNamed S.eq schema.now.types fields (bundles.one name.now))
@@ -164,7 +170,10 @@ fn compare_part<S: PartialEq, C>(
 {
     let fields = fields_in_part(alloc, group, Some(name))?;
     match fields.first().copied() {
-        Some(head) => compare_with(alloc, schema, false, false, &head, fields.as_slice(), told),
+        Some(head) => {
+            let part = fields.as_slice();
+            compare_with(alloc, schema, false, false, &head, part, told, comparisons)
+        }
         None => Ok(()),
     }
 }
@@ -177,8 +186,11 @@ fn compare_parts<S: PartialEq, C>(
     group: &[WrittenField<'_, '_, S, C>],
     names: &[TextRef<'_>],
     told: &mut Items<RuleError>,
+    comparisons: &mut u128,
 ) -> Result<(), AllocError>
-    ensures { OnOk result ((fragments : List (Fragment S)) →
+    ensures counted { OnOk result (comparisons.new
+        ≤ comparisons.old + fields_of_parts group.now names.now) }
+    ensures told { OnOk result ((fragments : List (Fragment S)) →
         let fields = map (piece_field fragments) group.now in
         Compares (IsFoundOf S.eq schema.now.types false fields)
         ((name : List ℕ) → Contains names.now name
@@ -186,7 +198,7 @@ fn compare_parts<S: PartialEq, C>(
         (places told.old) (places told.new)) }
 {
     for name in names {
-        compare_part(alloc, schema, group, name.as_str(), told)?;
+        compare_part(alloc, schema, group, name.as_str(), told, comparisons)?;
     }
     Ok(())
 }
@@ -200,9 +212,11 @@ pub(crate) fn compare_names<S: PartialEq, C>(
     group: &[WrittenField<'_, '_, S, C>],
     names: &[TextRef<'_>],
     told: &mut Items<RuleError>,
+    comparisons: &mut u128,
 ) -> Result<(), AllocError>
     requires { names.now ≡ groups.names_in group.now }
-    ensures { OnOk result ((fragments : List (Fragment S)) →
+    ensures counted { OnOk result (comparisons.new ≤ comparisons.old + length group.now) }
+    ensures told { OnOk result ((fragments : List (Fragment S)) →
         let fields = map (piece_field fragments) group.now in
         Compares (IsFoundOf S.eq schema.now.types false fields)
         ((part : bundles.Part) → Contains (bundles.parts false names.now) part
@@ -210,7 +224,7 @@ pub(crate) fn compare_names<S: PartialEq, C>(
         (places told.old) (places told.new)) }
 {
     match first_abstract(group) {
-        Some(head) => compare_with(alloc, schema, false, false, &head, group, told),
-        None => compare_parts(alloc, schema, group, names, told),
+        Some(head) => { compare_with(alloc, schema, false, false, &head, group, told, comparisons) }
+        None => compare_parts(alloc, schema, group, names, told, comparisons),
     }
 }

@@ -20,4 +20,4 @@ mod telling;
 mod visits;
 
 pub use outcome::{Outcome, told_by_bundles};
-pub use telling::tell;
+pub use telling::{count_comparison, tell};

@@ -1,7 +1,8 @@
 //! How going through bundles ends.
 
-ghost use Rattle.std.specs.Prelude.{List, IfOk};
+ghost use Rattle.std.specs.Prelude.{List, ◌+◌, ◌*◌, ◌≤◌, max, IfOk, OnOk};
 ghost use Rattle.graphql_tree.specs.declared.document.Fragment.{Fragment};
+ghost use Rattle.graphql_merging.specs.FieldNodes.{fields_written};
 ghost use Rattle.graphql_merging.specs.Tables.{pieces_of};
 ghost use Rattle.graphql_bundles.specs.Ends.{Ends};
 
@@ -29,27 +30,47 @@ pub enum Outcome {
 /// which they are found: first of fields that stand directly in one set, each two that differ, then
 /// of fields that stand together in a bundle, each with the first of its class. The sets below
 /// `definitions` are those of the document's definitions. At most `limit` sets and fields are taken
-/// up by bundles, and besides those of one bundle. An error of the call is want of memory.
+/// up by bundles, and besides those of one bundle, and no bundle is gone through where there could be
+/// more than `most` comparisons then. An error of the call is want of memory.
 pub fn told_by_bundles<S: PartialEq, C>(
     alloc: Global,
     schema: &SchemaType<S, C>,
     table: &SetTable<'_, '_, S, C>,
     definitions: usize,
     limit: usize,
+    most: u128,
+    comparisons: &mut u128,
 ) -> Result<Outcome, AllocError>
-    ensures { IfOk result (λ outcome. (fragments : List (Fragment S)) →
+    ensures counted { let all = fields_written table.now.sets in
+        OnOk result (comparisons.new ≤ max (comparisons.old + all * all) most) }
+    ensures ends { IfOk result (λ outcome. (fragments : List (Fragment S)) →
         Ends (pieces_of fragments table.now) S.eq schema.now.types definitions outcome) }
 {
     let mut told = Items::new(alloc);
     let sets = visited_sets(alloc, table, definitions)?;
-    direct_sets(alloc, schema, table, sets.as_slice(), &mut told)?;
+    direct_sets(
+        alloc,
+        schema,
+        table,
+        sets.as_slice(),
+        &mut told,
+        comparisons,
+    )?;
     let mut progress = Progress {
         told,
         bundles: IndexSet::new(alloc),
         left: limit,
         is_within: true,
     };
-    pass_all(alloc, schema, table, definitions, &mut progress)?;
+    pass_all(
+        alloc,
+        schema,
+        table,
+        definitions,
+        most,
+        &mut progress,
+        comparisons,
+    )?;
     if progress.is_within {
         Ok(Outcome::Told(progress.told))
     } else {

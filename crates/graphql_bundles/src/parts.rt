@@ -1,6 +1,6 @@
 //! The parts of a group, and the bundles of their own sets.
 
-ghost use Rattle.std.specs.Prelude.{◌≡◌, ℕ, true, false, List, IfOk, OnOk, map};
+ghost use Rattle.std.specs.Prelude.{◌≡◌, ℕ, ◌+◌, ◌*◌, ◌≤◌, true, false, List, IfOk, OnOk, length, map};
 ghost use Rattle.std.specs.List.{Contains};
 ghost use Rattle.std.specs.Option.{option_map};
 ghost use Rattle.graphql_tree.specs.declared.document.Fragment.{Fragment};
@@ -143,8 +143,10 @@ pub(crate) fn pass_group<S: PartialEq, C>(
     around: bool,
     group: &[WrittenField<'_, '_, S, C>],
     progress: &mut Progress,
+    comparisons: &mut u128,
 ) -> Result<(), AllocError>
-    ensures { OnOk result ((fragments : List (Fragment S)) →
+    ensures counted { OnOk result (comparisons.new ≤ comparisons.old + 2 * length group.now) }
+    ensures passed { OnOk result ((fragments : List (Fragment S)) →
         let t = pieces_of fragments table.now in
         let types = schema.now.types in
         let group = group_of fragments group.now in
@@ -152,11 +154,26 @@ pub(crate) fn pass_group<S: PartialEq, C>(
         (λ stage. IsGroupPassed t S.eq types stage.bundles stage.told around group)
         (stage_of progress.old) (stage_of progress.new)) }
 {
-    compare_shapes(alloc, schema, around, group, &mut progress.told)?;
+    compare_shapes(
+        alloc,
+        schema,
+        around,
+        group,
+        &mut progress.told,
+        comparisons,
+    )?;
     if around {
         return begin_part(alloc, table, group, None, true, progress);
     }
     let names = names_of(alloc, group)?;
-    compare_names(alloc, schema, group, names.as_slice(), &mut progress.told)?;
-    begin_parts(alloc, table, group, names.as_slice(), progress)
+    let objects = names.as_slice();
+    compare_names(
+        alloc,
+        schema,
+        group,
+        objects,
+        &mut progress.told,
+        comparisons,
+    )?;
+    begin_parts(alloc, table, group, objects, progress)
 }

@@ -1,11 +1,12 @@
 //! Bundles are gone through, from those of the definitions on.
 
-ghost use Rattle.std.specs.Prelude.{◌≡◌, ℕ, ◌<◌, false, [], List, Some, OnOk, length, slice_get};
+ghost use Rattle.std.specs.Prelude.{◌≡◌, ◌↔◌, ℕ, ◌+◌, ◌-◌, ◌*◌, ◌<◌, ◌≤◌, max, false, [], List, Some, IsTrue, OnOk, length, slice_get};
 ghost use Rattle.std.specs.List.{Contains};
 ghost use Rattle.graphql_text.specs.declared.position.SourcePosition.{SourcePosition};
 ghost use Rattle.graphql_tree.specs.declared.document.Fragment.{Fragment};
 ghost use Rattle.graphql_merging.specs.Tables.{pieces_of};
 ghost use Rattle.graphql_bundles.specs.Bundles.{Bundle, IsFoundAmong, IsGathered, IsPassed};
+ghost use Rattle.graphql_bundles.specs.Counted.{fields_of_groups};
 ghost use Rattle.graphql_bundles.specs.Going.{IsFoundIn, IsGoing, LeadsTo, stage_of};
 ghost use Rattle.graphql_bundles.specs.Steps.{FoundInGroups, Goes, GroupsLeadTo, GroupsPassed, HoldsSets, KeepsTold, OfDefinitions};
 
@@ -24,8 +25,11 @@ fn pass_groups<S: PartialEq, C>(
     around: bool,
     groups: &[KeyGroup<'_, '_, S, C>],
     progress: &mut Progress,
+    comparisons: &mut u128,
 ) -> Result<(), AllocError>
-    ensures { OnOk result ((fragments : List (Fragment S)) →
+    ensures counted { OnOk result (comparisons.new
+        ≤ comparisons.old + 2 * fields_of_groups groups.now) }
+    ensures passed { OnOk result ((fragments : List (Fragment S)) →
         let t = pieces_of fragments table.now in
         let types = schema.now.types in
         Goes (FoundInGroups S.eq types fragments around groups.now)
@@ -34,20 +38,32 @@ fn pass_groups<S: PartialEq, C>(
         (stage_of progress.old) (stage_of progress.new)) }
 {
     for group in groups {
-        pass_group(alloc, schema, table, around, group.1.as_slice(), progress)?;
+        let fields = group.1.as_slice();
+        pass_group(alloc, schema, table, around, fields, progress, comparisons)?;
     }
     Ok(())
 }
 
-/// Goes through a bundle. An error of the call is want of memory.
+/// Whether two comparisons of each of so many fields are no more than there may be.
+fn has_room(comparisons: u128, fields: usize, most: u128) -> bool
+    ensures { IsTrue result ↔ (2 * fields ≤ most - comparisons) }
+{
+    2 * (fields as u128) <= most.saturating_sub(comparisons)
+}
+
+/// Goes through a bundle, unless there could be more than `most` comparisons then. An error of the
+/// call is want of memory.
 fn pass_bundle<S: PartialEq, C>(
     alloc: Global,
     schema: &SchemaType<S, C>,
     table: &SetTable<'_, '_, S, C>,
     number: usize,
+    most: u128,
     progress: &mut Progress,
+    comparisons: &mut u128,
 ) -> Result<(), AllocError>
-    ensures { OnOk result ((fragments : List (Fragment S)) (b : Bundle) →
+    ensures counted { OnOk result (comparisons.new ≤ max comparisons.old most) }
+    ensures passed { OnOk result ((fragments : List (Fragment S)) (b : Bundle) →
         slice_get (stage_of progress.old).bundles number ≡ Some b →
         let t = pieces_of fragments table.now in
         let types = schema.now.types in
@@ -60,9 +76,21 @@ fn pass_bundle<S: PartialEq, C>(
     };
     let around = bundle.around;
     let fields = fields_of_sets(alloc, table, bundle.sets.as_slice())?;
+    if !has_room(*comparisons, fields.len(), most) {
+        progress.is_within = false;
+        return Ok(());
+    }
     progress.spend(fields.len());
     let groups = grouped(alloc, fields.as_slice())?;
-    pass_groups(alloc, schema, table, around, groups.as_slice(), progress)
+    pass_groups(
+        alloc,
+        schema,
+        table,
+        around,
+        groups.as_slice(),
+        progress,
+        comparisons,
+    )
 }
 
 /// Begins the bundles of the sets of the definitions. An error is want of memory.
@@ -85,15 +113,19 @@ fn begin_definitions<S, C>(
 }
 
 /// Goes through the bundles of the definitions, and those that are begun on the way, as long as the
-/// bound is not met. An error of the call is want of memory.
+/// bound is not met and there can't be more than `most` comparisons. An error of the call is want of
+/// memory.
 pub(crate) fn pass_all<S: PartialEq, C>(
     alloc: Global,
     schema: &SchemaType<S, C>,
     table: &SetTable<'_, '_, S, C>,
     definitions: usize,
+    most: u128,
     progress: &mut Progress,
+    comparisons: &mut u128,
 ) -> Result<(), AllocError>
     requires { (stage_of progress.old).bundles ≡ [] }
+    ensures counted { OnOk result (comparisons.new ≤ max comparisons.old most) }
     ensures kept { OnOk result (KeepsTold (stage_of progress.old) (stage_of progress.new)) }
     ensures going { OnOk result ((fragments : List (Fragment S)) →
         let t = pieces_of fragments table.now in
@@ -112,7 +144,7 @@ pub(crate) fn pass_all<S: PartialEq, C>(
         if !progress.is_within {
             return Ok(());
         }
-        pass_bundle(alloc, schema, table, number, progress)?;
+        pass_bundle(alloc, schema, table, number, most, progress, comparisons)?;
     }
     if progress.bundles.len() <= limit {
         return Ok(());

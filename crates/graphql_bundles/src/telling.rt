@@ -1,11 +1,12 @@
 //! Two fields of one response key are compared.
 
-ghost use Rattle.std.specs.Prelude.{◌≡◌, [], ◌∷◌, List, map, OnOk};
+ghost use Rattle.std.specs.Prelude.{◌≡◌, ◌+◌, ◌≤◌, [], ◌∷◌, List, length, map, OnOk};
 ghost use Rattle.graphql_rule_errors.specs.Places.{Reports, places};
 ghost use Rattle.graphql_tree.specs.declared.document.Fragment.{Fragment};
 ghost use Rattle.graphql_merging.specs.Merging.{Agree};
 ghost use Rattle.graphql_merging.specs.Selected.{seen};
 ghost use Rattle.graphql_merging.specs.Told.{AddsErrors, in_order};
+ghost use Rattle.graphql_bundles.specs.Counted.{one_more};
 
 use crate::messages::message_of;
 use graphql_merging::{Difference, SelectedField, WrittenField, first_difference};
@@ -70,6 +71,14 @@ fn tell_as<S: PartialEq, C>(
     tell(alloc, first.unwrap_or(difference), left, right, told)
 }
 
+/// Counts that a comparison of two fields begins. The count stays at the greatest number once it is
+/// there.
+pub fn count_comparison(comparisons: &mut u128)
+    ensures { comparisons.new ≡ one_more comparisons.old }
+{
+    *comparisons = comparisons.saturating_add(1);
+}
+
 /// Compares two fields of one response key, and tells it where they do not agree. `around`: whether
 /// it is done as if fields around them had parents that are different objects, `said`: whether they
 /// do, by which it is told in what they differ first. An error of the call is want of memory.
@@ -81,12 +90,15 @@ pub(crate) fn compare<S: PartialEq, C>(
     left: &WrittenField<'_, '_, S, C>,
     right: &WrittenField<'_, '_, S, C>,
     told: &mut Items<RuleError>,
+    comparisons: &mut u128,
 ) -> Result<(), AllocError>
-    ensures { OnOk result ((fragments : List (Fragment S))
+    ensures counted { comparisons.new ≡ one_more comparisons.old }
+    ensures told { OnOk result ((fragments : List (Fragment S))
         → AddsErrors (Agree S.eq schema.now.types around)
         ((seen fragments left.now.selected, seen fragments right.now.selected) ∷ [])
         (places told.old) (places told.new)) }
 {
+    count_comparison(comparisons);
     let one = &left.selected;
     let other = &right.selected;
     let difference = first_difference(alloc, schema, around, one, other)?;
@@ -106,14 +118,16 @@ pub(crate) fn compare_with<S: PartialEq, C>(
     head: &WrittenField<'_, '_, S, C>,
     others: &[WrittenField<'_, '_, S, C>],
     told: &mut Items<RuleError>,
+    comparisons: &mut u128,
 ) -> Result<(), AllocError>
-    ensures { OnOk result ((fragments : List (Fragment S))
+    ensures counted { OnOk result (comparisons.new ≤ comparisons.old + length others.now) }
+    ensures told { OnOk result ((fragments : List (Fragment S))
         → AddsErrors (Agree S.eq schema.now.types around)
         (map (λ f. (seen fragments head.now.selected, seen fragments f.selected)) others.now)
         (places told.old) (places told.new)) }
 {
     for other in others {
-        compare(alloc, schema, around, said, head, other, told)?;
+        compare(alloc, schema, around, said, head, other, told, comparisons)?;
     }
     Ok(())
 }

@@ -1,12 +1,13 @@
 //! The sets of a document, each gone to once, and what is told of the fields that stand directly in
 //! them.
 
-ghost use Rattle.std.specs.Prelude.{◌↔◌, ◌<◌, ◌++◌, ℕ, List, IfOk, OnOk, map};
+ghost use Rattle.std.specs.Prelude.{◌↔◌, ◌+◌, ◌*◌, ◌<◌, ◌≤◌, ◌++◌, ℕ, List, length, IfOk, OnOk, map};
 ghost use Rattle.std.specs.List.{Contains};
 ghost use Rattle.graphql_rule_errors.specs.Places.{places};
 ghost use Rattle.graphql_tree.specs.declared.document.Fragment.{Fragment};
 ghost use Rattle.graphql_merging.specs.Tables.{pieces_of};
 ghost use Rattle.graphql_bundles.specs.Closed.{AddsNumbers};
+ghost use Rattle.graphql_bundles.specs.Counted.{fields_of_groups, fields_of_sets};
 ghost use Rattle.graphql_bundles.specs.Direct.{IsWalked, TellsDirect, TellsDirects, all_seen};
 ghost use Rattle.graphql_bundles.specs.Groups.{IsGrouped};
 
@@ -80,14 +81,17 @@ fn direct_groups<S: PartialEq, C>(
     fields: &[WrittenField<'_, '_, S, C>],
     groups: &[KeyGroup<'_, '_, S, C>],
     told: &mut Items<RuleError>,
+    comparisons: &mut u128,
 ) -> Result<(), AllocError>
     requires { IsGrouped fields.now groups.now }
-    ensures { OnOk result ((fragments : List (Fragment S)) →
+    ensures counted { let all = fields_of_groups groups.now in
+        OnOk result (comparisons.new ≤ comparisons.old + all * all) }
+    ensures told { OnOk result ((fragments : List (Fragment S)) →
         TellsDirect S.eq schema.now.types (all_seen fragments fields.now)
         (places told.old) (places told.new)) }
 {
     for group in groups {
-        direct_group(alloc, schema, group.1.as_slice(), told)?;
+        direct_group(alloc, schema, group.1.as_slice(), told, comparisons)?;
     }
     Ok(())
 }
@@ -98,13 +102,16 @@ fn direct_set<S: PartialEq, C>(
     schema: &SchemaType<S, C>,
     fields: &[WrittenField<'_, '_, S, C>],
     told: &mut Items<RuleError>,
+    comparisons: &mut u128,
 ) -> Result<(), AllocError>
-    ensures { OnOk result ((fragments : List (Fragment S)) →
+    ensures counted { let all = length fields.now in
+        OnOk result (comparisons.new ≤ comparisons.old + all * all) }
+    ensures told { OnOk result ((fragments : List (Fragment S)) →
         TellsDirect S.eq schema.now.types (all_seen fragments fields.now)
         (places told.old) (places told.new)) }
 {
     let groups = grouped(alloc, fields)?;
-    direct_groups(alloc, schema, fields, groups.as_slice(), told)
+    direct_groups(alloc, schema, fields, groups.as_slice(), told, comparisons)
 }
 
 /// Compares the fields that stand directly in each of these sets. An error of the call is want of
@@ -115,14 +122,17 @@ pub(crate) fn direct_sets<S: PartialEq, C>(
     table: &SetTable<'_, '_, S, C>,
     sets: &[usize],
     told: &mut Items<RuleError>,
+    comparisons: &mut u128,
 ) -> Result<(), AllocError>
-    ensures { OnOk result ((fragments : List (Fragment S)) →
+    ensures counted { let all = fields_of_sets table.now sets.now in
+        OnOk result (comparisons.new ≤ comparisons.old + all * all) }
+    ensures told { OnOk result ((fragments : List (Fragment S)) →
         TellsDirects S.eq schema.now.types (pieces_of fragments table.now) sets.now
         (places told.old) (places told.new)) }
 {
     for number in sets {
         if let Some(set) = table.get(*number) {
-            direct_set(alloc, schema, set.fields.as_slice(), told)?;
+            direct_set(alloc, schema, set.fields.as_slice(), told, comparisons)?;
         }
     }
     Ok(())

@@ -1,13 +1,13 @@
 //! What visitors tell over a document, each in a walk of its own, and what holds of a document without a
 //! fault.
 
-ghost use Rattle.std.specs.Prelude.{◌≡◌, ◌++◌, IfOk, IsPermutation, true};
+ghost use Rattle.std.specs.Prelude.{◌≡◌, ◌++◌, IfOk, IsPermutation, false, true};
 ghost use Rattle.graphql_rules_document.specs.NoUnusedFragments.{never_reached};
 ghost use Rattle.graphql_rules_document.specs.Once.{said_of};
 ghost use Rattle.graphql_rules_local.specs.FieldsOnCorrectType.{unknown_field};
 ghost use Rattle.graphql_rules_local.specs.KnownFragmentNames.{unknown_fragment};
 ghost use Rattle.graphql_rules_local.specs.PossibleFragmentSpreads.{impossible_spread};
-ghost use Rattle.graphql_rules_merging.specs.Visitor.{RuleTold};
+ghost use Rattle.graphql_rules_merging.specs.Visitor.{IsCounted, RuleTold};
 ghost use Rattle.graphql_schema.specs.Declarations.{declarations_of};
 ghost use Rattle.graphql_validation.specs.FirstStage.{ArgumentsTold, DefaultsTold, places_of};
 ghost use Rattle.graphql_validation.specs.WellFormed.{IsWellFormed};
@@ -23,7 +23,7 @@ use graphql_rules_local::{
     FieldsOnCorrectType, KnownFragmentNames, fields_on_correct_type, known_fragment_names,
     possible_fragment_spreads,
 };
-use graphql_rules_merging::laws::visitor_tells_of_document;
+use graphql_rules_merging::laws::{visitor_counts_comparisons, visitor_tells_of_document};
 use graphql_rules_merging::visitor as merging;
 use graphql_rules_values::laws::{told_of_arguments_is_determined, told_of_defaults_is_determined};
 use graphql_rules_values::{
@@ -122,6 +122,17 @@ pub fn report_overlapping_fields<'a, 't, S: SchemaScalar>(context: &mut Validato
     visitor_tells_of_document::<S>();
     let mut rule = merging::factory();
     visit(&mut rule, context);
+}
+
+/// How many times the rule that fields merge compares two fields of a document: at most twice the square
+/// of its field nodes, unless memory runs out. What the rule tells is reported.
+pub fn count_comparisons<'a, 't, S: SchemaScalar>(context: &mut ValidatorContext<'a, 't, S>) -> u128
+    ensures { context.new.failed ≡ false → IsCounted (subject_of context.old) 0 result }
+{
+    visitor_counts_comparisons::<S>();
+    let mut rule = merging::factory();
+    visit(&mut rule, context);
+    rule.comparisons()
 }
 
 /// Whether the rules of the first stage find no fault in a document: then it is well-formed. An error is

@@ -10,6 +10,8 @@ pub mod Comparisons
 pub mod WholeSets
 pub mod Underway
 pub mod Measure
+pub mod Weights
+pub mod Spare
 pub mod Meeting
 pub mod Settled
 pub mod Merged

@@ -1,5 +1,5 @@
 -- What the rule promises of errors holds of others that name the same places.
-use Rattle.std.proofs.Common.{subst, ◌↔◌, ℕ, Bool, List, get_or}
+use Rattle.std.proofs.Common.{subst, ◌↔◌, Bool, List, get_or}
 use Rattle.std.specs.List.{Contains}
 use Rattle.std.proofs.lemmas.List.Elements.{All-contains, Contains-get_or}
 use Rattle.graphql_schema.specs.declared.meta.MetaType.{MetaType}

@@ -1,13 +1,14 @@
 //! Fields are compared, two by two.
 
-ghost use Rattle.std.specs.Prelude.{◌≡◌, ◌+◌, ◌<◌, [], ◌∷◌, List, map, length, drop, OnOk};
+ghost use Rattle.std.specs.Prelude.{◌≡◌, ◌+◌, ◌*◌, ◌<◌, ◌≤◌, [], ◌∷◌, List, map, length, drop, OnOk};
 ghost use Rattle.graphql_tree.specs.declared.document.Fragment.{Fragment};
 ghost use Rattle.graphql_merging.specs.Tables.{pieces_of, piece_field};
+ghost use Rattle.graphql_bundles.specs.Counted.{one_more};
 ghost use Rattle.graphql_rules_merging.specs.Comparing.{Compares, stage_of, with_each, between, later};
 
 use crate::begin::begin_sets;
 use crate::progress::Progress;
-use graphql_bundles::tell;
+use graphql_bundles::{count_comparison, tell};
 use graphql_merging::{SetTable, WrittenField, first_difference, is_excused};
 use graphql_schema::SchemaType;
 use graphql_written_out::response_key;
@@ -25,8 +26,10 @@ fn compare<S: PartialEq, C>(
     right: &WrittenField<'_, '_, S, C>,
     progress: &mut Progress,
 ) -> Result<(), AllocError>
-    ensures { OnOk result ((fragments : List (Fragment S)) → Compares S.eq schema.now.types (pieces_of fragments table.now) around ((piece_field fragments left.now, piece_field fragments right.now) ∷ []) (stage_of progress.old) (stage_of progress.new)) }
+    ensures counted { progress.new.comparisons ≡ one_more progress.old.comparisons }
+    ensures compared { OnOk result ((fragments : List (Fragment S)) → Compares S.eq schema.now.types (pieces_of fragments table.now) around ((piece_field fragments left.now, piece_field fragments right.now) ∷ []) (stage_of progress.old) (stage_of progress.new)) }
 {
+    count_comparison(&mut progress.comparisons);
     let one = &left.selected;
     let other = &right.selected;
     if response_key(&one.field.item) != response_key(&other.field.item) {
@@ -52,7 +55,9 @@ fn compare_with<S: PartialEq, C>(
     others: &[WrittenField<'_, '_, S, C>],
     progress: &mut Progress,
 ) -> Result<(), AllocError>
-    ensures { OnOk result ((fragments : List (Fragment S)) → Compares S.eq schema.now.types (pieces_of fragments table.now) around (with_each (piece_field fragments left.now) (map (piece_field fragments) others.now)) (stage_of progress.old) (stage_of progress.new)) }
+    ensures counted { OnOk result (progress.new.comparisons
+        ≤ progress.old.comparisons + length others.now) }
+    ensures compared { OnOk result ((fragments : List (Fragment S)) → Compares S.eq schema.now.types (pieces_of fragments table.now) around (with_each (piece_field fragments left.now) (map (piece_field fragments) others.now)) (stage_of progress.old) (stage_of progress.new)) }
 {
     for right in others {
         compare(alloc, schema, table, around, left, right, progress)?;
@@ -81,7 +86,9 @@ pub(crate) fn compare_within<S: PartialEq, C>(
     fields: &[WrittenField<'_, '_, S, C>],
     progress: &mut Progress,
 ) -> Result<(), AllocError>
-    ensures { OnOk result ((fragments : List (Fragment S)) → Compares S.eq schema.now.types (pieces_of fragments table.now) around (later (map (piece_field fragments) fields.now)) (stage_of progress.old) (stage_of progress.new)) }
+    ensures counted { let all = length fields.now in
+        OnOk result (2 * progress.new.comparisons ≤ 2 * progress.old.comparisons + all * all) }
+    ensures compared { OnOk result ((fragments : List (Fragment S)) → Compares S.eq schema.now.types (pieces_of fragments table.now) around (later (map (piece_field fragments) fields.now)) (stage_of progress.old) (stage_of progress.new)) }
 {
     for (index, first) in fields.iter().enumerate() {
         compare_with(
@@ -108,7 +115,9 @@ pub(crate) fn compare_between<S: PartialEq, C>(
     rights: &[WrittenField<'_, '_, S, C>],
     progress: &mut Progress,
 ) -> Result<(), AllocError>
-    ensures { OnOk result ((fragments : List (Fragment S)) → Compares S.eq schema.now.types (pieces_of fragments table.now) around (between (map (piece_field fragments) lefts.now) (map (piece_field fragments) rights.now)) (stage_of progress.old) (stage_of progress.new)) }
+    ensures counted { OnOk result (progress.new.comparisons
+        ≤ progress.old.comparisons + length lefts.now * length rights.now) }
+    ensures compared { OnOk result ((fragments : List (Fragment S)) → Compares S.eq schema.now.types (pieces_of fragments table.now) around (between (map (piece_field fragments) lefts.now) (map (piece_field fragments) rights.now)) (stage_of progress.old) (stage_of progress.new)) }
 {
     for left in lefts {
         compare_with(alloc, schema, table, around, left, rights, progress)?;

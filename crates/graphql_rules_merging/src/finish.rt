@@ -1,8 +1,9 @@
 //! All pairs of selection sets are compared.
 
-ghost use Rattle.std.specs.Prelude.{◌≡◌, ℕ, ◌<◌, List, IfOk, OnOk, false};
+ghost use Rattle.std.specs.Prelude.{◌≡◌, ℕ, ◌+◌, ◌*◌, ◌<◌, ◌≤◌, List, IfOk, OnOk, false};
 ghost use Rattle.graphql_rule_errors.specs.Places.{places};
 ghost use Rattle.graphql_tree.specs.declared.document.Fragment.{Fragment};
+ghost use Rattle.graphql_merging.specs.FieldNodes.{fields_written};
 ghost use Rattle.graphql_merging.specs.Tables.{pieces_of};
 ghost use Rattle.graphql_rules_merging.specs.Agenda.{listed_of, pair_of, Begins};
 ghost use Rattle.graphql_rules_merging.specs.Comparing.{Stage};
@@ -42,18 +43,23 @@ pub(crate) fn merge_errors<S: PartialEq, C>(
     schema: &SchemaType<S, C>,
     table: &SetTable<'_, '_, S, C>,
     definitions: usize,
+    comparisons: &mut u128,
 ) -> Result<Items<RuleError>, AllocError>
-    ensures { IfOk result (λ errors. (fragments : List (Fragment S)) → (stage : Stage)
+    ensures counted { let all = fields_written table.now.sets in
+        OnOk result (comparisons.new ≤ comparisons.old + all * all) }
+    ensures finished { IfOk result (λ errors. (fragments : List (Fragment S)) → (stage : Stage)
         × (stage.told ≡ places errors)
         × IsFinished S.eq schema.now.types (pieces_of fragments table.now) definitions stage) }
 {
     let mut progress = Progress {
         told: Items::new(alloc),
         agenda: Agenda::new(alloc),
+        comparisons: *comparisons,
     };
     begin_definitions(table, &mut progress.agenda, definitions)?;
     'pairs: while let Some(pair) = progress.agenda.next()? {
         compare_sets(alloc, schema, table, pair, &mut progress)?;
     }
+    *comparisons = progress.comparisons;
     Ok(progress.told)
 }

@@ -15,5 +15,5 @@ mod queue;
 mod sets;
 pub mod visitor;
 
-pub use overlapping_fields::overlapping_fields_can_be_merged;
+pub use overlapping_fields::{overlapping_fields_can_be_merged, overlapping_fields_counted};
 pub use visitor::{OverlappingFieldsCanBeMerged, report_overlapping_fields};

@@ -1,6 +1,6 @@
 //! The rule OverlappingFieldsCanBeMerged (GraphQL October 2021, 5.3.2 Field Selection Merging).
 
-ghost use Rattle.std.specs.Prelude.{List, IfOk, IsSorted};
+ghost use Rattle.std.specs.Prelude.{List, ◌+◌, ◌*◌, ◌≤◌, IfOk, OnOk, IsSorted};
 ghost use Rattle.std.specs.List.Sorted.{IsStrictlySortedBy};
 ghost use Rattle.graphql_merging.specs.Contract.{IsSound, IsDirect, IsComplete};
 ghost use Rattle.graphql_merging.specs.Sets.{document_sets};
@@ -9,6 +9,7 @@ ghost use Rattle.graphql_written_out.specs.Written.{Settled};
 ghost use Rattle.graphql_rule_errors.specs.Places.{places};
 ghost use Rattle.graphql_schema.specs.Declarations.{declarations_of};
 ghost use Rattle.graphql_tree.specs.declared.document.Fragment.{Fragment};
+ghost use Rattle.graphql_merging.specs.FieldNodes.{document_nodes, fields_written};
 ghost use Rattle.graphql_merging.specs.Tables.{pieces_of};
 ghost use Rattle.graphql_rules_merging.specs.Finished.{AreFound};
 
@@ -33,6 +34,26 @@ fn bound_of<S, C>(table: &SetTable<'_, '_, S, C>) -> usize {
     written.saturating_mul(64).saturating_add(128)
 }
 
+/// How many fields stand directly in the sets of a table.
+fn count_fields<S, C>(table: &SetTable<'_, '_, S, C>) -> usize
+    ensures { result ≤ fields_written table.now.sets }
+{
+    let mut fields: usize = 0;
+    for set in table.sets.as_slice() {
+        fields = fields.saturating_add(set.fields.len());
+    }
+    fields
+}
+
+/// How many comparisons of two fields there may be with those of bundles: as many more as there are
+/// pairs of two of these fields.
+fn most_of<S, C>(table: &SetTable<'_, '_, S, C>, comparisons: u128) -> u128
+    ensures { let all = fields_written table.now.sets in result ≤ comparisons + all * all }
+{
+    let fields = count_fields(table) as u128;
+    comparisons.saturating_add(fields.saturating_mul(fields))
+}
+
 /// The errors of the fields of these sets that do not merge, in the order in which they are found:
 /// those that going through bundles tells. Where it met its bound and told nothing, each two fields
 /// of one response key that stand together are compared. The sets below `definitions` are those of
@@ -42,16 +63,21 @@ fn found_errors<S: PartialEq, C>(
     schema: &SchemaType<S, C>,
     table: &SetTable<'_, '_, S, C>,
     definitions: usize,
+    comparisons: &mut u128,
 ) -> Result<Items<RuleError>, AllocError>
-    ensures { IfOk result (λ errors. (fragments : List (Fragment S)) →
+    ensures counted { let all = fields_written table.now.sets in
+        OnOk result (comparisons.new ≤ comparisons.old + 2 * (all * all)) }
+    ensures found { IfOk result (λ errors. (fragments : List (Fragment S)) →
         AreFound S.eq schema.now.types (pieces_of fragments table.now) definitions (places errors)) }
 {
-    let told = told_by_bundles(alloc, schema, table, definitions, bound_of(table))?;
+    let limit = bound_of(table);
+    let most = most_of(table, *comparisons);
+    let told = told_by_bundles(alloc, schema, table, definitions, limit, most, comparisons)?;
     match told {
         Outcome::Told(errors) => Ok(errors),
         Outcome::TooMany(errors) => {
             if errors.is_empty() {
-                return merge_errors(alloc, schema, table, definitions);
+                return merge_errors(alloc, schema, table, definitions, comparisons);
             }
             Ok(errors)
         }
@@ -64,14 +90,41 @@ fn errors_of_table<'d, 'a, S: PartialEq, C>(
     schema: &SchemaType<S, C>,
     table: SetTable<'d, 'a, S, C>,
     definitions: usize,
+    comparisons: &mut u128,
 ) -> Result<Items<RuleError>, AllocError>
-    ensures { IfOk result (λ errors. (fragments : List (Fragment S)) →
+    ensures counted { let all = fields_written table.entry.sets in
+        OnOk result (comparisons.new ≤ comparisons.old + 2 * (all * all)) }
+    ensures found { IfOk result (λ errors. (fragments : List (Fragment S)) →
         AreFound S.eq schema.now.types (pieces_of fragments table.entry) definitions
         (places errors)) }
 {
-    let outcome = found_errors(alloc, schema, &table, definitions);
+    let outcome = found_errors(alloc, schema, &table, definitions, comparisons);
     let_go(table);
     outcome
+}
+
+/// The same as [`overlapping_fields_can_be_merged`], and how many times two fields were compared is
+/// added to `comparisons`: at most twice the square of the document's field nodes, also where fragments
+/// lead to themselves. The count stays at the greatest number once it is there. An error of the call is
+/// want of memory.
+pub fn overlapping_fields_counted<S: Eq, C>(
+    alloc: Global,
+    schema: &SchemaType<S, C>,
+    document: &[Definition<'_, S>],
+    comparisons: &mut u128,
+) -> Result<Items<RuleError>, AllocError>
+    ensures counted { let nodes = document_nodes document.now in
+        OnOk result (comparisons.new ≤ comparisons.old + 2 * nodes * nodes) }
+    ensures merging { let types = schema.now.types in
+        let sets = document_sets (declarations_of schema.now) document.now in
+        IfOk result (λ errors. Settled (fragments_listed document.now) → IsSound S.eq types sets (places errors)
+        × IsDirect S.eq types sets (places errors) × IsComplete S.eq types sets (places errors)) }
+    ensures sorted { IfOk result (IsSorted ⟦<RuleError as Ord>⟧.cmp) }
+    ensures once { IfOk result (IsStrictlySortedBy ⟦<RuleError as Ord>⟧.cmp) }
+{
+    let table = numbered_sets(alloc, schema, document)?;
+    let found = errors_of_table(alloc, schema, table, document.len(), comparisons)?;
+    Ok(put_in_order(found))
 }
 
 /// The errors of the fields of a document that do not merge, in order: by their places, and those of
@@ -92,7 +145,6 @@ pub fn overlapping_fields_can_be_merged<S: Eq, C>(
     ensures sorted { IfOk result (IsSorted ⟦<RuleError as Ord>⟧.cmp) }
     ensures once { IfOk result (IsStrictlySortedBy ⟦<RuleError as Ord>⟧.cmp) }
 {
-    let table = numbered_sets(alloc, schema, document)?;
-    let found = errors_of_table(alloc, schema, table, document.len())?;
-    Ok(put_in_order(found))
+    let mut comparisons = 0;
+    overlapping_fields_counted(alloc, schema, document, &mut comparisons)
 }

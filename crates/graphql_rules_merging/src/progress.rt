@@ -12,4 +12,7 @@ pub(crate) struct Progress {
 
     /// The pairs of sets.
     pub agenda: Agenda,
+
+    /// How many times two fields were compared.
+    pub comparisons: u128,
 }

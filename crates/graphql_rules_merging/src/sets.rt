@@ -1,10 +1,11 @@
 //! Selection sets are compared, two by two.
 
-ghost use Rattle.std.specs.Prelude.{◌≡◌, List, map, OnOk};
+ghost use Rattle.std.specs.Prelude.{◌≡◌, ◌+◌, ◌*◌, ◌≤◌, List, length, map, OnOk};
 ghost use Rattle.graphql_tree.specs.declared.document.Fragment.{Fragment};
 ghost use Rattle.graphql_merging.specs.Tables.{pieces_of, piece_field};
 ghost use Rattle.graphql_merging.specs.Told.{AddsErrors, Fits};
 ghost use Rattle.graphql_rules_merging.specs.Agenda.{Begins};
+ghost use Rattle.graphql_rules_merging.specs.Counted.{twice_compared};
 ghost use Rattle.graphql_rules_merging.specs.Comparing.{ComparesSets, DoAgree, OwnSets, later, members_in, stage_of};
 
 use crate::agenda::SetPair;
@@ -25,7 +26,9 @@ fn compare_itself<S: PartialEq, C>(
     fields: &[WrittenField<'_, '_, S, C>],
     progress: &mut Progress,
 ) -> Result<(), AllocError>
-    ensures { OnOk result ((fragments : List (Fragment S)) → AddsErrors (Fits S.eq schema.now.types around) (map members_in (later (map (piece_field fragments) fields.now))) (stage_of progress.old).told (stage_of progress.new).told × Begins (pieces_of fragments table.now) (OwnSets around (DoAgree S.eq schema.now.types around) (map (piece_field fragments) fields.now) (map (piece_field fragments) fields.now)) (OwnSets around (λ p. Unit {0}) (map (piece_field fragments) fields.now) (map (piece_field fragments) fields.now)) (stage_of progress.old).listed (stage_of progress.new).listed) }
+    ensures counted { let all = length fields.now in
+        OnOk result (2 * progress.new.comparisons ≤ 2 * progress.old.comparisons + all * all) }
+    ensures compared { OnOk result ((fragments : List (Fragment S)) → AddsErrors (Fits S.eq schema.now.types around) (map members_in (later (map (piece_field fragments) fields.now))) (stage_of progress.old).told (stage_of progress.new).told × Begins (pieces_of fragments table.now) (OwnSets around (DoAgree S.eq schema.now.types around) (map (piece_field fragments) fields.now) (map (piece_field fragments) fields.now)) (OwnSets around (λ p. Unit {0}) (map (piece_field fragments) fields.now) (map (piece_field fragments) fields.now)) (stage_of progress.old).listed (stage_of progress.new).listed) }
 {
     begin_own_sets(table, &mut progress.agenda, fields, around)?;
     compare_within(alloc, schema, table, around, fields, progress)
@@ -40,7 +43,9 @@ pub(crate) fn compare_sets<S: PartialEq, C>(
     pair: SetPair,
     progress: &mut Progress,
 ) -> Result<(), AllocError>
-    ensures { OnOk result ((fragments : List (Fragment S)) → ComparesSets S.eq schema.now.types (pieces_of fragments table.now) pair (stage_of progress.old) (stage_of progress.new)) }
+    ensures counted { OnOk result (2 * progress.new.comparisons
+        ≤ 2 * progress.old.comparisons + twice_compared table.now pair) }
+    ensures compared { OnOk result ((fragments : List (Fragment S)) → ComparesSets S.eq schema.now.types (pieces_of fragments table.now) pair (stage_of progress.old) (stage_of progress.new)) }
 {
     let Some(one) = table.get(pair.left) else {
         return Ok(());

@@ -1,4 +1,4 @@
-use Rattle.std.proofs.Common.{◌≡◌, ◌∙◌, ap, sym, subst, ℕ, ◌-◌, ◌<◌, ◌≤◌, List, ◌∷◌, ◌++◌, take, take_all, drop, length-drop, slice_get, Some, length, arith}
+use Rattle.std.proofs.Common.{◌≡◌, ◌∙◌, ap, sym, subst, ℕ, ◌+◌, ◌*◌, ◌-◌, ◌<◌, ◌≤◌, List, ◌∷◌, ◌++◌, take, take_all, drop, length-drop, slice_get, Some, length, arith}
 use Rattle.graphql_rule_errors.specs.Places.{places}
 use Rattle.graphql_bundles.specs.Direct.{DirectParts}
 use Rattle.graphql_bundles.proofs.DirectLemmas.{parts-first, parts-more, first-rest}
@@ -14,24 +14,6 @@ behind xs rest h e at =
     let shorter = length-drop 1 xs in
     ap (λ ys. h ∷ ys) (take_all (length xs - 1) (drop 1 xs) (omega (arith, shorter))) ∙ ap (λ ys. h ∷ drop 1 ys) e ∙ first-rest rest h at
 
-pub classes-init : goal.classes-init
-classes-init g c = λ fragments.
-    let fields = c.args.fields.now in
-    subst (λ rest. DirectParts g.S.PartialEq.eq c.args.schema.now.types fragments fields rest (places c.args.told.now) (places c.args.told.now))
-    (sym (c.in_ok-extend_from_slice.ensures.ok ∙ ap (λ fs. fs ++ fields) c.new-rest.ensures))
-    (parts-first g.S.PartialEq.eq c.args.schema.now.types fragments fields (places c.args.told.now))
-
-pub classes-preserved : goal.classes-preserved
-classes-preserved g c = λ fragments.
-    let eq = g.S.PartialEq.eq in
-    let types = c.args.schema.now.types in
-    let rest = c.classes.rest in
-    let at : slice_get rest 0 ≡ Some c.in-Some.head = sym c.first.ensures ∙ sym c.copied.ensures ∙ c.in-Some.is in
-    parts-more eq types fragments c.args.fields.now rest c.in_ok-more.more (places c.args.told.now) (places c.classes.told) (places c.sort_all.new.told)
-    (c.classes.invariant fragments)
-    (subst (λ fs. DirectParts eq types fragments fs c.in_ok-more.more (places c.classes.told) (places c.sort_all.new.told))
-    (behind c.as_slice.result.now rest c.in-Some.head c.as_slice.ensures at) (c.in_ok-more.ensures.parts fragments))
-
 pub classes-smaller : goal.classes-smaller
 classes-smaller g c =
     let rest = c.classes.rest in
@@ -39,7 +21,41 @@ classes-smaller g c =
     fewer-than (length c.in_ok-more.more) c.in-Some.head (take (length c.as_slice.result.now - 1) (drop 1 c.as_slice.result.now)) rest
     (behind c.as_slice.result.now rest c.in-Some.head c.as_slice.ensures at) c.in_ok-more.ensures.fewer
 
-pub returns : goal.returns
-returns g c = λ fragments.
+pub returns-clause-told : goal.returns-clause-told
+returns-clause-told g c = λ fragments.
     subst (λ rest. DirectParts g.S.PartialEq.eq c.args.schema.now.types fragments c.args.fields.now rest (places c.args.told.now) (places c.classes.told))
-    (none-first c.classes.rest (sym c.first.ensures ∙ sym c.copied.ensures ∙ c.in_default.is)) (c.classes.invariant fragments)
+    (none-first c.classes.rest (sym c.first.ensures ∙ sym c.copied.ensures ∙ c.in_default.is)) (c.classes.invariant.told fragments)
+
+pub returns-clause-counted : goal.returns-clause-counted
+returns-clause-counted g c = omega (arith, c.classes.invariant.counted)
+
+pub classes-init : goal.classes-init
+classes-init g c = record {
+  counted =
+      let same = ap length (c.in_ok-extend_from_slice.ensures.ok ∙ ap (λ fs. fs ++ c.args.fields.now) c.new-rest.ensures) in
+      subst (λ k. c.args.comparisons.now + k * k ≤ c.args.comparisons.now + length c.args.fields.now * length c.args.fields.now) (sym same) (omega arith);
+  told = λ fragments.
+      let fields = c.args.fields.now in
+      subst (λ rest. DirectParts g.S.PartialEq.eq c.args.schema.now.types fragments fields rest (places c.args.told.now) (places c.args.told.now))
+      (sym (c.in_ok-extend_from_slice.ensures.ok ∙ ap (λ fs. fs ++ fields) c.new-rest.ensures))
+      (parts-first g.S.PartialEq.eq c.args.schema.now.types fragments fields (places c.args.told.now));
+}
+
+pub classes-preserved : goal.classes-preserved
+classes-preserved g c = record {
+  counted =
+      let rest = c.classes.rest in
+      let at : slice_get rest 0 ≡ Some c.in-Some.head = sym c.first.ensures ∙ sym c.copied.ensures ∙ c.in-Some.is in
+      let whole = ap length (behind c.as_slice.result.now rest c.in-Some.head c.as_slice.ensures at) in
+      let squares = ap (λ k. k * k) whole in
+      omega (arith, squares, c.in_ok-more.ensures.counted, c.classes.invariant.counted);
+  told = λ fragments.
+      let eq = g.S.PartialEq.eq in
+      let types = c.args.schema.now.types in
+      let rest = c.classes.rest in
+      let at : slice_get rest 0 ≡ Some c.in-Some.head = sym c.first.ensures ∙ sym c.copied.ensures ∙ c.in-Some.is in
+      parts-more eq types fragments c.args.fields.now rest c.in_ok-more.more (places c.args.told.now) (places c.classes.told) (places c.sort_all.new.told)
+      (c.classes.invariant.told fragments)
+      (subst (λ fs. DirectParts eq types fragments fs c.in_ok-more.more (places c.classes.told) (places c.sort_all.new.told))
+      (behind c.as_slice.result.now rest c.in-Some.head c.as_slice.ensures at) (c.in_ok-more.ensures.parts fragments));
+}

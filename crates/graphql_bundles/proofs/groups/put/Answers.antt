@@ -3,7 +3,7 @@ use Rattle.std.specs.List.{list_any, position_or_len, slice_set}
 use Rattle.std.specs.Str.{bytes_eq}
 use Rattle.indexmap.specs.IndexSet.{insert_key}
 use Rattle.graphql_bundles.specs.Groups.{key_at, begun, put}
-use Rattle.graphql_bundles.proofs.GroupLemmas.{begun-new, begun-old, keys-put, put-at, keys-begun, place-inserted}
+use Rattle.graphql_bundles.proofs.GroupLemmas.{begun-new, begun-old, keys-put, put-at, keys-begun, place-inserted, put-counts}
 use Rattle.graphql_bundles.proofs.groups.put.Goals as goal
 use Rattle.graphql_bundles.proofs.groups.put.Goals.{then-added+in_ok-push, else-added}
 
@@ -30,4 +30,6 @@ returns g c =
     record {
       put = all;
       keys = named ∙ sym (keys-put x c.args.groups.now) ∙ ap (map (λ h. h.0)) (sym all);
+      one = put-counts x c.args.groups.now c.if-added.groups c.insert_full.new.self.keys c.in_ok-place.place c.index_mut.result.now c.push-2.new.self begins
+          (named ∙ sym (keys-begun x c.args.groups.now) ∙ ap (map (λ h. h.0)) (sym begins)) c.in_ok-place.ensures.within c.index_mut.ensures.value c.in_ok-push-2.ensures.ok;
     }

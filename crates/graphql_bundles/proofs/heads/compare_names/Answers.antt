@@ -1,18 +1,25 @@
+use Rattle.std.proofs.Common.{arith}
 use Rattle.std.proofs.lemmas.Result.{on_ok_weaker}
 use Rattle.graphql_rule_errors.specs.Places.{places}
 use Rattle.graphql_bundles.proofs.CompareLemmas.{names-none, names-some}
+use Rattle.graphql_bundles.proofs.Counts.{parts-within}
 use Rattle.graphql_bundles.proofs.heads.compare_names.Goals as goal
 
-pub returns-in-Some : goal.returns-in-Some
-returns-in-Some g c =
+pub returns-in-Some-clause-told : goal.returns-in-Some-clause-told
+returns-in-Some-clause-told g c =
     on_ok_weaker c.compare_with.result
     (λ told fragments. names-some g.S.PartialEq.eq c.args.schema.now.types fragments c.args.group.now c.args.names.now c.in-Some.head (places c.args.told.now)
     (places c.compare_with.new.told) c.in-Some.ensures (told fragments))
-    c.compare_with.ensures
+    c.compare_with.ensures.told
 
-pub returns-in-None : goal.returns-in-None
-returns-in-None g c =
+pub returns-in-None-clause-told : goal.returns-in-None-clause-told
+returns-in-None-clause-told g c =
     on_ok_weaker c.compare_parts.result
     (λ told fragments. names-none g.S.PartialEq.eq c.args.schema.now.types fragments c.args.group.now c.args.names.now (places c.args.told.now)
     (places c.compare_parts.new.told) c.requires c.in-None.ensures (told fragments))
-    c.compare_parts.ensures
+    c.compare_parts.ensures.told
+
+pub returns-in-None-clause-counted : goal.returns-in-None-clause-counted
+returns-in-None-clause-counted g c =
+    let few = parts-within c.args.group.now c.args.names.now c.requires c.in-None.ensures in
+    on_ok_weaker c.compare_parts.result (λ counted. omega (arith, counted, few)) c.compare_parts.ensures.counted

@@ -3,13 +3,13 @@ use Rattle.graphql_rule_errors.specs.Places.{places}
 use Rattle.graphql_bundles.proofs.CompareLemmas.{shapes-none, shapes-some}
 use Rattle.graphql_bundles.proofs.heads.compare_shapes.Goals as goal
 
-pub returns-in-Some : goal.returns-in-Some
-returns-in-Some g c =
+pub returns-in-Some-clause-told : goal.returns-in-Some-clause-told
+returns-in-Some-clause-told g c =
     on_ok_weaker c.compare_with.result
     (λ told fragments. shapes-some g.S.PartialEq.eq c.args.schema.now.types fragments c.args.group.now c.in-Some.head (places c.args.told.now)
     (places c.compare_with.new.told) c.in-Some.ensures (told fragments))
-    c.compare_with.ensures
+    c.compare_with.ensures.told
 
-pub returns-in-None : goal.returns-in-None
-returns-in-None g c = λ fragments.
+pub returns-in-None-clause-told : goal.returns-in-None-clause-told
+returns-in-None-clause-told g c = λ fragments.
     shapes-none g.S.PartialEq.eq c.args.schema.now.types fragments c.args.group.now (places c.args.told.now) c.in-None.ensures

@@ -14,6 +14,7 @@ view b = record { sets = b.sets.items; around = b.around }
 
 pub loop-number-init : goal.loop-number-init
 loop-number-init g c = record {
+  counted = omega arith;
   kept = kept-more (λ e. ⊥) (OfDefinitions (pieces_of [] c.args.table.now) c.args.definitions) (Definitions (pieces_of [] c.args.table.now) c.args.definitions)
       (stage_of c.args.progress.now) (stage_of c.args.progress.now) (stage_of c.begin_definitions.new.progress) (kept-none (stage_of c.args.progress.now))
       (c.in_ok-begin_definitions.ensures []);
@@ -34,10 +35,11 @@ loop-number-preserved g c =
     (bundles-within view c.loop-number.progress.bundles.keys c.len.result c.loop-number.number c.len.ensures.len c.if-len-number.false) in
     let t = pieces_of {C = g.row.C.Denot} [] c.args.table.now in
     record {
+      counted = omega (arith, c.loop-number.invariant.counted, c.in_ok-pass_bundle.ensures.counted);
       kept = kept-more (IsFoundIn t eq types b) (LeadsTo t b) (λ stage. IsPassed t eq types stage.bundles stage.told b) (stage_of c.args.progress.now) old new
-          c.loop-number.invariant.kept (c.in_ok-pass_bundle.ensures [] b at);
+          c.loop-number.invariant.kept (c.in_ok-pass_bundle.ensures.passed [] b at);
       going = λ fragments right. going-more eq types c.args.table.now fragments c.args.definitions c.loop-number.number b old new at
-          (c.loop-number.invariant.going fragments right) (c.in_ok-pass_bundle.ensures fragments b at);
+          (c.loop-number.invariant.going fragments right) (c.in_ok-pass_bundle.ensures.passed fragments b at);
     }
 
 pub returns-then-len-number-clause-going : goal.returns-then-len-number-clause-going

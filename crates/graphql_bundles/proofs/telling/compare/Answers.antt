@@ -7,8 +7,8 @@ use Rattle.graphql_merging.specs.Told.{Differs, in_order}
 use Rattle.graphql_merging.proofs.Reports.{adds-one, adds-none, differing}
 use Rattle.graphql_bundles.proofs.telling.compare.Goals as goal
 
-pub returns-in-Some : goal.returns-in-Some
-returns-in-Some g c =
+pub returns-in-Some-clause-told : goal.returns-in-Some-clause-told
+returns-in-Some-clause-told g c =
     let eq = g.S.PartialEq.eq in
     let types = c.args.schema.now.types in
     let left = c.args.left.now.selected in
@@ -22,8 +22,8 @@ returns-in-Some g c =
     refl told.at)
     c.tell_as.ensures
 
-pub returns-in-None : goal.returns-in-None
-returns-in-None g c = λ fragments.
+pub returns-in-None-clause-told : goal.returns-in-None-clause-told
+returns-in-None-clause-told g c = λ fragments.
     let left = seen fragments c.args.left.now.selected in
     let right = seen fragments c.args.right.now.selected in
     adds-none (Agree g.S.PartialEq.eq c.args.schema.now.types c.args.around) left right (places c.args.told.now)

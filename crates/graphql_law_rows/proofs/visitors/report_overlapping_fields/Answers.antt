@@ -12,4 +12,4 @@ returns g c =
     c.visit.ensures.visited c.visit.ensures.around
     (λ ts runs.
     c.visitor_tells_of_document.ensures subject c.factory-rule.result c.visit.new.visitor ts
-    c.factory-rule.ensures runs)
+    c.factory-rule.ensures.fresh runs)

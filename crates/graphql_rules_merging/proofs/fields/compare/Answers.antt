@@ -11,20 +11,20 @@ use Rattle.graphql_rules_merging.proofs.Texts.{unlike_text}
 use Rattle.graphql_rules_merging.proofs.Comparisons.{compares_unlike, compares_differ, compares_agree}
 use Rattle.graphql_rules_merging.proofs.fields.compare.Goals as goal
 
-pub returns-then-ne : goal.returns-then-ne
-returns-then-ne g c = λ fragments.
+pub returns-then-ne-clause-compared : goal.returns-then-ne-clause-compared
+returns-then-ne-clause-compared g c = λ fragments.
     compares_unlike g.S.PartialEq.eq c.args.schema.now.types (pieces_of fragments c.args.table.now) c.args.around
     (piece_field fragments c.args.left.now, piece_field fragments c.args.right.now) (stage_of c.args.progress.now)
     (λ key. unlike_text c.response_key.result.now c.response_key-2.result.now c.ne.result c.ne.ensures c.if-ne.true (c.response_key.ensures ∙ key ∙ sym c.response_key-2.ensures))
 
-pub returns-in-Some : goal.returns-in-Some
-returns-in-Some g c =
+pub returns-in-Some-clause-compared : goal.returns-in-Some-clause-compared
+returns-in-Some-clause-compared g c =
     let key = sym c.response_key.ensures ∙ same-text c.response_key.result.now c.response_key-2.result.now c.ne.result c.ne.ensures c.if-ne.false ∙ c.response_key-2.ensures in
     on_ok_weaker c.tell.result
     (λ told fragments.
     compares_differ g.S.PartialEq.eq c.args.schema.now.types (pieces_of fragments c.args.table.now) c.args.around
     (piece_field fragments c.args.left.now, piece_field fragments c.args.right.now) (stage_of c.args.progress.now)
-    (stage_of (record { told = c.tell.new.told; agenda = c.args.progress.now.agenda }))
+    (stage_of (record { told = c.tell.new.told; agenda = c.args.progress.now.agenda; comparisons = c.count_comparison.new.comparisons }))
     (in_order c.args.left.now.selected.field.now.span.start c.args.right.now.selected.field.now.span.start) key
     (differing g.S.PartialEq.eq c.args.schema.now.types c.args.around (seen fragments c.args.left.now.selected) (seen fragments c.args.right.now.selected) c.in-Some.difference
     (subst (Differs g.S.PartialEq.eq c.args.schema.now.types c.args.around (seen fragments c.args.left.now.selected) (seen fragments c.args.right.now.selected)) c.in-Some.is
@@ -32,14 +32,14 @@ returns-in-Some g c =
     refl told.at refl)
     c.tell.ensures
 
-pub returns-in-None : goal.returns-in-None
-returns-in-None g c =
+pub returns-in-None-clause-compared : goal.returns-in-None-clause-compared
+returns-in-None-clause-compared g c =
     let key = sym c.response_key.ensures ∙ same-text c.response_key.result.now c.response_key-2.result.now c.ne.result c.ne.ensures c.if-ne.false ∙ c.response_key-2.ensures in
     on_ok_weaker c.begin_sets.result
     (λ begun fragments.
     compares_agree g.S.PartialEq.eq c.args.schema.now.types (pieces_of fragments c.args.table.now) c.args.around
     (piece_field fragments c.args.left.now, piece_field fragments c.args.right.now) (stage_of c.args.progress.now)
-    (stage_of (record { told = c.args.progress.now.told; agenda = c.begin_sets.new.agenda })) key
+    (stage_of (record { told = c.args.progress.now.told; agenda = c.begin_sets.new.agenda; comparisons = c.count_comparison.new.comparisons })) key
     (subst (Differs g.S.PartialEq.eq c.args.schema.now.types c.args.around (seen fragments c.args.left.now.selected) (seen fragments c.args.right.now.selected)) c.in-None.is
     (c.in_ok-difference.ensures fragments))
     refl

@@ -1,4 +1,4 @@
-use Rattle.std.proofs.Common.{sym, subst, List, ◌↔◌}
+use Rattle.std.proofs.Common.{sym, subst, ◌↔◌}
 use Rattle.std.specs.List.{Contains}
 use Rattle.std.specs.List.Sorted.{IsPermutation, IsStrictlySortedBy}
 use Rattle.graphql_rule_errors.specs.Places.{places}

@@ -1,16 +1,5 @@
-use Rattle.std.proofs.Common.{◌≡◌, subst}
-use Rattle.graphql_rule_errors.specs.Places.{places}
-use Rattle.graphql_schema.specs.Declarations.{declarations_of}
-use Rattle.graphql_visitors.specs.Subjects.{Subject, subject_of}
-use Rattle.graphql_rules_merging.proofs.Visits.{reported_by}
-use Rattle.graphql_rules_merging.specs.Visitor.{RuleTold}
+use Rattle.graphql_rules_merging.proofs.Visits.{told_alone}
 use Rattle.graphql_rules_merging.proofs.visitor.report_overlapping_fields.Goals as goal
 
-pub returns-in-Ok : goal.returns-in-Ok
-returns-in-Ok g c =
-    let context = c.args.context.now in
-    let here : Subject g.row.S.Denot g.row.S-Check.Denot = record { schema = declarations_of c.schema.result.now; document = c.document.result.now } in
-    let same : here ≡ subject_of context = (λ i. record { schema = declarations_of ((c.schema.ensures i).now); document = (c.document.ensures i).now }) in
-    let told : RuleTold g.S.PartialEq.eq here (places c.in-Ok.errors) = (λ settled. let h = c.in-Ok.ensures.merging settled in record { sound = h.0; direct = h.1; complete = h.2 }) in
-    reported_by (RuleTold g.S.PartialEq.eq (subject_of context)) c.in-Ok.errors context c.append_errors.new.self (subst (λ s. RuleTold g.S.PartialEq.eq s (places c.in-Ok.errors)) same told)
-    c.append_errors.ensures
+pub returns : goal.returns
+returns g c = told_alone g.S.PartialEq.eq c.args.context.now c.report_counted.new.context 0 c.report_counted.new.comparisons c.report_counted.ensures
