@@ -36,6 +36,9 @@ pub enum Sought {
     /// Its events.
     Events,
 
+    /// How many times two of its fields are compared.
+    Comparisons,
+
     /// Its errors.
     Errors(Judge),
 }
@@ -81,6 +84,7 @@ fn sought_of(words: &str) -> Option<Sought> {
     match words {
         "definitions" => Some(Sought::Definitions),
         "events" => Some(Sought::Events),
+        "comparisons" => Some(Sought::Comparisons),
         _ => match judge_of(words) {
             Some(judge) => Some(Sought::Errors(judge)),
             None => None,

@@ -116,6 +116,21 @@ fn count_errors(
     write!(told, "=> errors: {}\n", errors.len())
 }
 
+/// Tells how many times the rule that fields merge, the first of a list of visitors, compares two
+/// fields of a document.
+fn count_comparisons(
+    alloc: Global,
+    root: &Root,
+    document: &[Definition<'_>],
+    told: &mut String,
+) -> Result<(), AllocError> {
+    let mut context = ValidatorContext::new(alloc, root.schema(), document)?;
+    let mut rules = MultiVisitorNil.with(overlapping_fields::factory());
+    visit(&mut rules, &mut context);
+    let _errors = context.into_errors()?;
+    write!(told, "=> comparisons: {}\n", rules.first().comparisons())
+}
+
 /// Tells how many definitions a document has.
 fn count_definitions(document: &[Definition<'_>], told: &mut String) -> Result<(), AllocError> {
     write!(told, "=> definitions: {}\n", document.len())
@@ -132,6 +147,7 @@ fn tell(
     let answered = match sought {
         Sought::Definitions => count_definitions(document, told),
         Sought::Events => tell_events(alloc, root, document, told),
+        Sought::Comparisons => count_comparisons(alloc, root, document, told),
         Sought::Errors(judge) => tell_errors(alloc, root, judge, document, told),
     };
     answered?;
@@ -149,6 +165,7 @@ fn count(
     let answered = match sought {
         Sought::Definitions => count_definitions(document, told),
         Sought::Events => count_events(alloc, root, document, told),
+        Sought::Comparisons => count_comparisons(alloc, root, document, told),
         Sought::Errors(judge) => count_errors(alloc, root, judge, document, told),
     };
     answered?;
