@@ -1,0 +1,4 @@
+pub mod DefinitionLaws
+pub mod DefinitionReadings
+pub mod WholeTexts
+pub mod DefinitionParts

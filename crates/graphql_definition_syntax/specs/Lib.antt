@@ -1,0 +1,3 @@
+pub mod ReadDefinitions
+pub mod Definitions
+pub mod Texts

@@ -1,0 +1,2 @@
+pub mod EachTurns
+pub mod Told

@@ -1,0 +1,2 @@
+pub mod ExactScalars
+pub mod SameGiven

@@ -1,0 +1,4 @@
+use Rattle.graphql_schema_rows.proofs.items.argument_of.Goals as goal
+
+pub returns-in_ok-bad_row-in-Err : goal.returns-in_ok-bad_row-in-Err
+returns-in_ok-bad_row-in-Err g c = λ told. (c.in-Err.fault, c.in-Err.ensures.fault c.in_ok-bad_row-in-Err.ensures.0, c.in_ok-bad_row-in-Err.ensures.1)

@@ -1,0 +1,8 @@
+use Rattle.std.proofs.Common.{take}
+use Rattle.std.specs.List.{AllZip}
+use Rattle.graphql_schema_rows.specs.Rows as spec
+use Rattle.graphql_schema_rows.proofs.rows.arguments_of.Given as goal
+
+-- what those passed so far mean
+abbrev pub invariant-rows : goal.invariant-rows
+invariant-rows g l = AllZip (spec.ArgumentMeans g.S.ParseScalarValue.reads g.S.ScalarValue.of_bool) (take l.row-index l.rows) l.arguments

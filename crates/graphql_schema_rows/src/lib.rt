@@ -1,0 +1,15 @@
+//! A schema in rows of text: each type by its name and a row for each field, argument or value, as
+//! a user writes them (GraphQL October 2021, 3.4 Types): `friends(first: Int = 10): [Human!]!`.
+#![tactic(auto)]
+
+mod items;
+mod row_fault;
+mod rows;
+mod standard_types;
+mod type_row;
+mod types;
+
+pub use row_fault::RowFault;
+pub use standard_types::built_ins;
+pub use type_row::{TypeRow, type_of_row};
+pub use types::{enumeration, input_object, interface, object, union_type};
