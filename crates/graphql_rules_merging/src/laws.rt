@@ -1,4 +1,4 @@
-//! The law of the rule as a visitor: the function's contract is the law, and its body does nothing.
+//! The laws of the rule as a visitor: each function's contract is a law, and its body does nothing.
 
 ghost use Rattle.std.specs.Prelude.{◌≡◌, false, List};
 ghost use Rattle.graphql_occurrences.specs.Events.{events};
