@@ -1,6 +1,7 @@
 -- Where all bundles are gone through, nothing is left to compare.
-use Rattle.std.proofs.Common.{◌≡◌, refl, sym, subst, ◌∙◌, ℕ, ◌<◌, Bool, true, false, ◌||◌, List, [], Option, Some, None, inl, inr}
-use Rattle.std.specs.List.{Contains}
+use Rattle.std.proofs.Common.{◌≡◌, refl, sym, subst, ◌∙◌, ℕ, ◌<◌, Bool, true, false, ◌||◌, List, [], get_or, Option, Some, None, inl, inr}
+use Rattle.std.specs.List.{All, Contains}
+use Rattle.std.proofs.lemmas.List.Elements.{Contains-get_or}
 use Rattle.std.proofs.lemmas.Bool.{false≢true, or_cases}
 use Rattle.graphql_values.specs.Laws.{SameByAThird}
 use Rattle.graphql_schema.specs.declared.meta.MetaType.{MetaType}
@@ -8,12 +9,15 @@ use Rattle.graphql_schema.specs.Types.{TypeOf}
 use Rattle.graphql_schema.specs.Lookups.{own_name, is_object}
 use Rattle.graphql_rule_errors.specs.Places.{Places}
 use Rattle.graphql_merging.specs.Members.{Member, declared, members_below}
-use Rattle.graphql_merging.specs.Merging.{SameField, SameShapes, Agree, in_set, in_sets, apart}
-use Rattle.graphql_merging.specs.Sets.{Set, members_of}
+use Rattle.graphql_merging.specs.Done.{all_sets}
+use Rattle.graphql_merging.specs.Merging.{SameField, SameShapes, Agree, Merging, in_set, in_sets, apart}
+use Rattle.graphql_merging.specs.Sets.{Set, members_of, sets_of}
 use Rattle.graphql_merging.specs.Pieces.{Pieces, PieceField, StandsIn, directly, in_fragment, IsPieceOf, HasOwnPieces, IsSettled}
 use Rattle.graphql_bundles.specs.Bundles.{Bundle, Part, Group, every, parts, in_part, IsNamed, OwnOf, StandsAmong, Holds, IsVoid, IsGathered, Stood, IsGroupOf, HasShape, IsAlike, IsPassed, MeetAll, IsReachedBundle, of_definition, of_part}
 use Rattle.graphql_bundles.specs.BundleLaws.{AlikeAgree, BundlesSettle, BundlesStayTogether, FoundIsTold, BundlesMeetContract}
-use Rattle.graphql_merging.proofs.Contracts.{done-meets}
+use Rattle.graphql_merging.proofs.Contracts.{done-meets, set-of-root}
+use Rattle.graphql_merging.proofs.Nested.{nested-sets-follow}
+use Rattle.graphql_merging.proofs.Settled.{settled-piece}
 use Rattle.graphql_bundles.proofs.Alike.{same-field-by-a-third, shapes-third, shapes-none}
 use Rattle.graphql_merging.proofs.DirectFields.{In, to-In, from-In}
 use Rattle.graphql_bundles.proofs.PartLemmas.{Covered, covered, both-apart, never-apart}
@@ -51,7 +55,7 @@ module _ (S C : Type 0) (eq : S → S → Bool) (third : SameByAThird eq) (types
           same-field-by-a-third S C eq third types f.member g.member h.0 (h.1 f i c.left) (h.1 g j c.right)
 
   module _ (bundles : List Bundle) where
-    gathered-stood : (x : Bool) (P : ℕ → Type 0) (p q : ℕ) → IsGathered t bundles x P → P p → P q → Stood t bundles p q x
+    pub gathered-stood : (x : Bool) (P : ℕ → Type 0) (p q : ℕ) → IsGathered t bundles x P → P p → P q → Stood t bundles p q x
     gathered-stood x P p q (inl none) i j = inl (inl (none p i))
     gathered-stood x P p q (inr b) i j = inr (b.0, b.1, b.2, b.3 p i, b.3 q j)
 
@@ -179,3 +183,22 @@ bundles-meet-contract S C eq third types roots t bundles errors owns begun passe
       directs = directs;
       settled = (λ none. bundles-settle S C eq third types t bundles errors passed none);
     })
+
+-- bundles that are all gone through without errors: each set merges
+pub bundles-merge : (S C : Type 0) (eq : S → S → Bool) → SameByAThird eq → (types : List (MetaType S C)) (roots : List (Set S C)) (t : Pieces S C)
+    (bundles : List Bundle) (errors : Places) → HasOwnPieces t eq types
+    → ((set : Set S C) → Contains roots set → (k : ℕ) × IsPieceOf t k (members_of types set) × IsGathered t bundles false (λ p. p ≡ k))
+    → ((b : Bundle) → Contains bundles b → IsPassed t eq types bundles errors b) → errors ≡ []
+    → All (λ set. Merging eq types (members_of types set)) (all_sets types roots)
+bundles-merge S C eq third types roots t bundles errors owns begun passed none k d within =
+    let set = get_or (all_sets types roots) k d in
+    let r = set-of-root types roots set (Contains-get_or (all_sets types roots) k d within) in
+    let piece = begun r.0 r.1 in
+    let stood = gathered-stood S C eq third types t bundles false (λ p. p ≡ piece.0) piece.0 piece.0 piece.2 refl refl in
+    let settled = bundles-settle S C eq third types t bundles errors passed none in
+    let whole = settled-piece eq types t (Stood t bundles) owns settled piece.0 (members_of types r.0) stood piece.1 in
+    let inner = nested-sets-follow S C eq types r.0 whole in
+    one-of (λ (s : Set S C). Merging eq types (members_of types s)) (sets_of types r.0) inner set r.2
+  where
+    one-of : {X : Type 0} (P : X → Type 0) (xs : List X) → All P xs → (x : X) → Contains xs x → P x
+    one-of P xs h x i = subst P i.2 (h i.0 x i.1)

@@ -99,21 +99,23 @@ module _ {S C : Type 0} (t : Pieces S C) (sets : List ℕ) where
   opened-all index all past h = subst (λ xs. IsOpened t sets xs all) (take_all index all past) h
 
   -- those in which fields stand
-  pub closed-from : (all closed : List ℕ) → IsOpened t sets all all → AreThose (λ p. t.direct p ≡ [] → ⊥) all closed → IsClosure t sets closed
-  closed-from all closed h those = record {
-    holds = (λ p i. held p (h.has p i));
-    only = (λ f s. let p = (those s.0).0 s.1 in let c = h.from s.0 p.0 in (c.0, c.1, c.2 f (directly s.0 f s.2)));
-  }
-    where
-      some : (p : ℕ) (f : PieceField S C) → Contains (t.direct p) f → t.direct p ≡ [] → ⊥
-      some p f i e = in-nothing f (subst (λ fs. Contains fs f) e i)
+  module _ (all closed : List ℕ) (opened : IsOpened t sets all all) (those : AreThose (λ p. t.direct p ≡ [] → ⊥) all closed) where
+    some : (p : ℕ) (f : PieceField S C) → Contains (t.direct p) f → t.direct p ≡ [] → ⊥
+    some p f i e = in-nothing f (subst (λ fs. Contains fs f) e i)
 
-      held : (p : ℕ) → Contains all p → Holds t closed p
-      held p i f s = held-in p f i s
-        where
-          held-in : (p : ℕ) (f : PieceField S C) → Contains all p → StandsIn t p f → StandsAmong t closed f
-          held-in _ _ i (directly p f j) = (p, (those p).1 (i, some p f j), j)
-          held-in _ _ i (in_fragment p q f j s) = held-in q f (h.inner p q i j) s
+    -- what stands in one of all stands directly in one of them
+    pub closed-holds : (p : ℕ) → Contains all p → Holds t closed p
+    closed-holds p i f s = held-in p f i s
+      where
+        held-in : (p : ℕ) (f : PieceField S C) → Contains all p → StandsIn t p f → StandsAmong t closed f
+        held-in _ _ i (directly p f j) = (p, (those p).1 (i, some p f j), j)
+        held-in _ _ i (in_fragment p q f j s) = held-in q f (opened.inner p q i j) s
+
+    pub closed-from : IsClosure t sets closed
+    closed-from = record {
+      holds = (λ p i. closed-holds p (opened.has p i));
+      only = (λ f s. let p = (those s.0).0 s.1 in let c = opened.from s.0 p.0 in (c.0, c.1, c.2 f (directly s.0 f s.2)));
+    }
 
   -- the same by what a look-up answers
   pub opened-at : (index number : ℕ) (all new numbers : List ℕ) → slice_get all index ≡ Some number → IsOpened t sets (take index all) all
@@ -124,6 +126,18 @@ module _ {S C : Type 0} (t : Pieces S C) (sets : List ℕ) where
 
   pub opened-end : (index : ℕ) (all : List ℕ) → slice_get all index ≡ None → IsOpened t sets (take index all) all → IsOpened t sets all all
   opened-end index all at h = opened-all index all (past-end all index at) h
+
+-- a set in which no fragment stands
+pub closed-alone : {S C : Type 0} (t : Pieces S C) (number : ℕ) (closed : List ℕ) → t.inner number ≡ []
+    → AreThose (λ p. t.direct p ≡ [] → ⊥) (number ∷ []) closed → IsClosure t (number ∷ []) closed
+closed-alone t number closed none those =
+    closed-from t (number ∷ []) (number ∷ []) closed
+    (record {
+      has = (λ p i. i);
+      inner = (λ p r i j. in-nothing r (subst (λ ns. Contains ns r) none (subst (λ q. Contains (t.inner q) r) (sym (one-only number p i)) j)));
+      from = (λ p i. (p, i, λ f k. k));
+    })
+    those
 
 -- those that are such, one more looked at
 module _ (P : ℕ → Type 0) where

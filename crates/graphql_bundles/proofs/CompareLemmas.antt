@@ -24,7 +24,7 @@ use Rattle.graphql_merging.proofs.Nested.{in-nothing}
 use Rattle.graphql_merging.proofs.Standing.{agreement-is-mutual, agree-under}
 use Rattle.graphql_bundles.specs.Bundles.{Part, one, parts, in_part}
 use Rattle.graphql_bundles.specs.Steps.{Compares, AreShaped, ArePartNamed, IsFoundOf}
-use Rattle.graphql_bundles.specs.Groups.{IsFound, is_of, is_declared, names_in}
+use Rattle.graphql_bundles.specs.Groups.{IsFoundAt, is_of, is_declared, names_in}
 use Rattle.graphql_bundles.proofs.ListLemmas.{map_has, map_of, filter_has, filter_of, take-cases}
 use Rattle.graphql_bundles.proofs.PartLemmas.{of-name}
 use Rattle.graphql_bundles.proofs.PartCases.{part-cases}
@@ -119,7 +119,7 @@ module _ {S C : Type 0} (eq : S → S → Bool) (types : List (MetaType S C)) (f
   unknown (Some s) e = absurd (false≢true (sym e))
 
   -- shapes: none is declared
-  pub shapes-none : (group : List (WrittenField S C)) (old : Places) → IsFound is_declared group None
+  pub shapes-none : (group : List (WrittenField S C)) (old : Places) → IsFoundAt is_declared group None
       → Compares (IsFoundOf eq types true (fields group)) (AreShaped types (fields group)) old old
   shapes-none group old none = compares-none (IsFoundOf eq types true (fields group)) (AreShaped types (fields group)) old (
     None,
@@ -128,16 +128,16 @@ module _ {S C : Type 0} (eq : S → S → Bool) (types : List (MetaType S C)) (f
   )
 
   -- all are compared with the first that is
-  pub shapes-some : (group : List (WrittenField S C)) (h : WrittenField S C) (old new : Places) → IsFound is_declared group (Some h)
+  pub shapes-some : (group : List (WrittenField S C)) (h : WrittenField S C) (old new : Places) → Contains group h → is_declared h ≡ true
       → AddsErrors (Agree eq types true) (map {B = Pair} (beside h) group) old new
       → Compares (IsFoundOf eq types true (fields group)) (AreShaped types (fields group)) old new
-  shapes-some group h old new found adds =
+  shapes-some group h old new here is adds =
       compares-weaker (Differs true h group) (IsFoundOf eq types true (fields group)) (AllAgree true h group) (AreShaped types (fields group)) old new
-      (of-group true true h group group (λ e. e) found.0 (λ f i. i)) shaped (compares-with true h group old new adds)
+      (of-group true true h group group (λ e. e) here (λ f i. i)) shaped (compares-with true h group old new adds)
     where
       shaped : AllAgree true h group → AreShaped types (fields group)
       shaped agree =
-          let s = known (declared (at h)) found.1 in (
+          let s = known (declared (at h)) is in (
             Some s.0,
             λ f i. let m = map_of (piece_field fragments) group f i in
                 subst (λ (g : PieceField S C). SameShapes types (declared g.member) (Some s.0)) m.2
@@ -185,11 +185,11 @@ module _ {S C : Type 0} (eq : S → S → Bool) (types : List (MetaType S C)) (f
 
   -- all are compared with one whose parent is no object type
   pub names-some : (group : List (WrittenField S C)) (names : List Bytes) (h : WrittenField S C) (old new : Places)
-      → IsFound (λ f. not (is_object f.selected.parent.now)) group (Some h) → AddsErrors (Agree eq types false) (map {B = Pair} (beside h) group) old new
+      → Contains group h → not (is_object h.selected.parent.now) ≡ true → AddsErrors (Agree eq types false) (map {B = Pair} (beside h) group) old new
       → Compares (IsFoundOf eq types false (fields group)) (EachPart group names) old new
-  names-some group names h old new found adds =
+  names-some group names h old new here is adds =
       compares-weaker (Differs false h group) (IsFoundOf eq types false (fields group)) (AllAgree false h group) (EachPart group names) old new
-      (of-group false false h group group (λ e. e) found.0 (λ f i. i)) named (compares-with false h group old new adds)
+      (of-group false false h group group (λ e. e) here (λ f i. i)) named (compares-with false h group old new adds)
     where
       never : (p o : Bool) (same : Bool) → not o ≡ true → ((p && o) && not same) ≡ false
       never true true same e = absurd (false≢true e)
@@ -200,13 +200,13 @@ module _ {S C : Type 0} (eq : S → S → Bool) (types : List (MetaType S C)) (f
       named agree part _ _ _ _ = (
         at h,
         λ g j u. let m = map_of (piece_field fragments) group g j in
-            let parents = never (is_object (at m.0).parent) (is_object (at h).parent) (bytes_eq (own_name (at m.0).parent) (own_name (at h).parent)) found.1 in
+            let parents = never (is_object (at m.0).parent) (is_object (at h).parent) (bytes_eq (own_name (at m.0).parent) (own_name (at h).parent)) is in
             subst (λ (p : PieceField S C). SameField eq types p.member (at h)) m.2 (same-of (at h) (at m.0) parents (agree m.0 m.1)),
       )
 
   -- the fields of each object type are
   pub names-none : (group : List (WrittenField S C)) (names : List Bytes) (old new : Places) → names ≡ names_in group
-      → IsFound (λ f. not (is_object f.selected.parent.now)) group None
+      → IsFoundAt (λ f. not (is_object f.selected.parent.now)) group None
       → Compares (IsFoundOf eq types false (fields group)) ((name : Bytes) → Contains names name → ArePartNamed eq types (fields group) (one name)) old new
       → Compares (IsFoundOf eq types false (fields group)) (EachPart group names) old new
   names-none group names old new are none h =

@@ -1,12 +1,12 @@
 -- How many fields there are in sets that are all different, and in the parts of a group.
-use Rattle.std.proofs.Common.{◌≡◌, refl, ap, sym, ◌∙◌, ℕ, ◌+◌, ◌*◌, ◌<◌, ◌≤◌, max, arith, nat_eq, Bool, true, false, not, ◌||◌, cond, fold, List, [], ◌∷◌, ◌++◌, filter, length, get_or, take, Some, None, inl, inr}
+use Rattle.std.proofs.Common.{◌≡◌, refl, ap, sym, ◌∙◌, ℕ, ◌+◌, ◌-◌, ◌*◌, ◌<◌, ◌≤◌, arith, nat_eq, Bool, true, false, not, ◌||◌, cond, fold, List, [], ◌∷◌, ◌++◌, filter, length, get_or, take, Some, None, inl, inr}
 use Rattle.std.specs.List.{Contains, IsDistinct, list_any, sum_by}
 use Rattle.std.specs.Option.{option_map_or}
 use Rattle.std.specs.Str.{bytes_eq}
 use Rattle.std.specs.Cmp.Lexicographic.{nat_list_eq_equiv}
 use Rattle.std.proofs.lemmas.Bool.{cases_lt, false≢true}
 use Rattle.std.proofs.lemmas.List.{get_or_past}
-use Rattle.std.proofs.lemmas.List.Sums.{sum_by_more}
+use Rattle.std.proofs.lemmas.List.Sums.{sum_by-cons, sum_by_more}
 use Rattle.std.proofs.lemmas.Map.Keys.{IsDistinct-push}
 use Rattle.std.proofs.lemmas.Nat.{mul-le}
 use Rattle.std.proofs.lemmas.Option.{slice_get-get_or, slice_get_past}
@@ -16,10 +16,19 @@ use Rattle.graphql_merging.specs.FieldNodes.{fields_written}
 use Rattle.graphql_merging.specs.declared.table.SetTable.{SetTable}
 use Rattle.graphql_merging.specs.declared.table.WrittenField.{WrittenField}
 use Rattle.graphql_merging.specs.declared.table.WrittenSet.{WrittenSet}
-use Rattle.graphql_bundles.specs.Counted.{fields_of_parts, fields_of_sets}
-use Rattle.graphql_bundles.specs.Groups.{IsFound, fields_in, is_of, names_in, with_name}
+use Rattle.graphql_bundles.specs.Counted.{fields_of_parts, fields_of_sets, repeats_in_parts}
+use Rattle.graphql_bundles.specs.Groups.{IsFoundAt, fields_in, is_of, names_in, with_name}
 use Rattle.graphql_bundles.proofs.ListLemmas.{here, there}
 use Rattle.graphql_bundles.proofs.Sums.{at-places, in-classes}
+
+-- one less of each is one less in all, or nothing
+but-first : {X : Type 0} (f : X → ℕ) (xs : List X) → sum_by (λ x. f x - 1) xs ≤ sum_by f xs - 1
+but-first f [] = omega arith
+but-first f (x ∷ xs) =
+    let rest = but-first f xs in
+    let all = sum_by-cons f x xs in
+    let less = sum_by-cons (λ y. f y - 1) x xs in
+    omega (arith, rest, all, less)
 
 module _ {S C : Type 0} where
   -- the names of object types are all different
@@ -44,7 +53,7 @@ module _ {S C : Type 0} where
 
   -- where all parents are object types, each field is in one of the parts
   pub parts-within : (group : List (WrittenField S C)) (names : List Bytes) → names ≡ names_in group
-      → IsFound (λ f. not (is_object f.selected.parent.now)) group None → fields_of_parts group names ≤ length group
+      → IsFoundAt (λ f. not (is_object f.selected.parent.now)) group None → fields_of_parts group names ≤ length group
   unfolding IsDistinct
   parts-within group names are none =
       let key = λ (f : WrittenField S C). own_name f.selected.parent.now in
@@ -62,6 +71,14 @@ module _ {S C : Type 0} where
       alike : (n : Bytes) → filter (is_of (Some n)) group ≡ filter (λ (f : WrittenField S C). bytes_eq (own_name f.selected.parent.now) n) group
       alike n = kept-alike (is_of (Some n)) (λ f. bytes_eq (own_name f.selected.parent.now) n) group
           (λ f i. in-part (is_object f.selected.parent.now) (bytes_eq (own_name f.selected.parent.now) n) (none f i))
+
+  -- the same, the first of each aside
+  pub repeats-within : (group : List (WrittenField S C)) (names : List Bytes) → names ≡ names_in group
+      → IsFoundAt (λ f. not (is_object f.selected.parent.now)) group None → repeats_in_parts group names ≤ length group - 1
+  repeats-within group names are none =
+      let all = parts-within group names are none in
+      let fewer = but-first (λ name. length (filter (is_of (Some name)) group)) names in
+      omega (arith, all, fewer)
 
   -- a set that the table does not have is empty
   abbrev pub nothing : WrittenSet S C
@@ -89,11 +106,10 @@ module _ {S C : Type 0} where
       sum_by_more (λ (s : WrittenSet S C). length s.fields) sets i set within
       ∙ ap (λ (s : WrittenSet S C). sum_by (λ (x : WrittenSet S C). length x.fields) (take i sets) + length s.fields) (sym is)
 
-  -- what the bundles and the direct fields are compared
-  pub both-within : (table : SetTable S C) (ks : List ℕ) (start direct new most : ℕ) → IsDistinct nat_eq ks
-      → direct ≤ start + fields_of_sets table ks * fields_of_sets table ks → new ≤ max direct most
-      → new ≤ max (start + fields_written table.sets * fields_written table.sets) most
-  both-within table ks start direct new most apart h k =
+  -- what the direct fields are compared
+  pub direct-within : (table : SetTable S C) (ks : List ℕ) (old new : ℕ) → IsDistinct nat_eq ks
+      → new ≤ old + fields_of_sets table ks * fields_of_sets table ks → new ≤ old + fields_written table.sets * fields_written table.sets
+  direct-within table ks old new apart h =
       let few = sets-within table ks apart in
       let squares = mul-le (fields_of_sets table ks) (fields_of_sets table ks) (fields_written table.sets) (fields_written table.sets) few few in
-      omega (arith, h, k, squares)
+      omega (arith, h, squares)

@@ -2,7 +2,6 @@
 use Rattle.std.proofs.Common.{◌≡◌, refl, ap, sym, subst, ◌∙◌, arith, ℕ, ◌+◌, ◌<◌, ◌≤◌, Bool, true, false, List, [], ◌∷◌, ◌++◌, map, filter, take, length, get_or, append-nil, append_assoc, Result, Ok, Err, OnOk, ◌⊎◌, inl, inr}
 use Rattle.std.specs.List.{Contains}
 use Rattle.std.proofs.lemmas.Bool.{false≢true}
-use Rattle.std.proofs.lemmas.Bool.Decides.{eqb_tells}
 use Rattle.std.proofs.lemmas.List.Elements.{Contains-append_cases}
 use Rattle.graphql_text.specs.declared.position.SourcePosition.{SourcePosition}
 use Rattle.graphql_names.specs.Names.{Bytes}
@@ -17,7 +16,7 @@ use Rattle.graphql_merging.proofs.Standing.{agree-under}
 use Rattle.graphql_bundles.specs.Bundles.{Bundle, Part, Group, one, every, parts, in_part, OwnOf, StandsAmong, IsGathered, IsGroupPassed}
 use Rattle.graphql_bundles.specs.Closed.{IsClosure}
 use Rattle.graphql_bundles.specs.Going.{Stage, Grows, HoldsPart, GroupLeadsTo}
-use Rattle.graphql_bundles.specs.Steps.{Goes, Compares, AreShaped, ArePartNamed, IsFoundOf, HoldsSets, OfDefinitions}
+use Rattle.graphql_bundles.specs.Steps.{Goes, Compares, AreShaped, ArePartNamed, IsFoundOf, HoldsSets}
 use Rattle.graphql_bundles.specs.Groups.{group_of, is_of, names_in}
 use Rattle.graphql_bundles.proofs.BundleLemmas.{grows-none}
 use Rattle.graphql_bundles.proofs.GoingLemmas.{gathered-later, still}
@@ -127,39 +126,6 @@ module _ {S C : Type 0} (t : Pieces S C) where
   -- the bundles of definitions
   abbrev pub Definitions : ℕ → Stage → Type 0
   Definitions n stage = (k : ℕ) → k < n → IsGathered t stage.bundles false (λ p. p ≡ k)
-
-  definitions-stay : (F : List SourcePosition → Type 0) (M : Bundle → Type 0) (n : ℕ) → Stays F M (Definitions n)
-  definitions-stay F M n s u grows h k less = gathered-stays F M false (λ p. p ≡ k) s u grows (h k less)
-
-  pub definitions-none : (definitions : ℕ) (stage : Stage) → Goes (λ e. ⊥) (OfDefinitions t definitions) (Definitions 0) stage stage
-  definitions-none definitions stage = goes-none (λ e. ⊥) (OfDefinitions t definitions) (Definitions 0) stage (λ k less. absurd (omega (arith, less)))
-
-  pub definitions-more : (definitions n : ℕ) (old mid new : Stage) → n < definitions → Goes (λ e. ⊥) (OfDefinitions t definitions) (Definitions n) old mid
-      → Goes (λ e. ⊥) (HoldsSets t false (n ∷ [])) (λ stage. IsGathered t stage.bundles false (Contains (n ∷ []))) mid new
-      → Goes (λ e. ⊥) (OfDefinitions t definitions) (Definitions (n + 1)) old new
-  definitions-more definitions n old mid new less f g =
-      goes-both (λ e. ⊥) (OfDefinitions t definitions) (Definitions n) (λ stage. IsGathered t stage.bundles false (Contains (n ∷ []))) (Definitions (n + 1)) old mid new
-      (definitions-stay (λ e. ⊥) (OfDefinitions t definitions) n) joins f
-      (goes-weaker (λ e. ⊥) (λ e. ⊥) (HoldsSets t false (n ∷ [])) (OfDefinitions t definitions) (λ stage. IsGathered t stage.bundles false (Contains (n ∷ [])))
-      (λ stage. IsGathered t stage.bundles false (Contains (n ∷ []))) mid new (λ e i. i) (λ b h. (n, less, h)) (λ s h. h) g)
-    where
-      before : (k n : ℕ) → k < n + 1 → (k ≡ n → ⊥) → k < n
-      before k n h e = omega (arith, h, e)
-
-      below : (k n : ℕ) → k < n + 1 → (k < n) ⊎ (k ≡ n)
-      below k n h = elim (eqb_tells k n) [ inl e ↦ inr e.1 | inr e ↦ inl (before k n h e.1) ]
-
-      joins : (s : Stage) → Definitions n s → IsGathered t s.bundles false (Contains (n ∷ [])) → Definitions (n + 1) s
-      joins s all last k h = elim (below k n h) [
-        | inl l ↦ all k l
-        | inr e ↦ gathered-as s.bundles false (Contains (n ∷ [])) (λ p. p ≡ k) (λ p q. subst (Contains (n ∷ [])) (sym (q ∙ e)) (here n [])) last
-      ]
-
-  pub definitions-as : (definitions n : ℕ) (old new : Stage) → definitions ≤ n → Goes (λ e. ⊥) (OfDefinitions t definitions) (Definitions n) old new
-      → Goes (λ e. ⊥) (OfDefinitions t definitions) (Definitions definitions) old new
-  definitions-as definitions n old new past h =
-      goes-weaker (λ e. ⊥) (λ e. ⊥) (OfDefinitions t definitions) (OfDefinitions t definitions) (Definitions n) (Definitions definitions) old new
-      (λ e i. i) (λ b k. k) (λ s k j less. k j (omega (arith, less, past))) h
 
 -- what is told of fields that are compared
 pub compares-goes : (F : List SourcePosition → Type 0) (M : Bundle → Type 0) (P : Type 0) (told more : Places) (bundles : List Bundle) (w : Bool) → Compares F P told more

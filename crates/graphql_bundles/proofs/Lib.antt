@@ -4,6 +4,7 @@ pub mod PartCases
 pub mod Bundled
 pub mod DirectClasses
 pub mod ListLemmas
+pub mod LoneLemmas
 pub mod GroupLemmas
 pub mod NameLemmas
 pub mod CompareLemmas
@@ -11,6 +12,7 @@ pub mod ClosedLemmas
 pub mod GoingLemmas
 pub mod BundleLemmas
 pub mod GoesLemmas
+pub mod HeldLemmas
 pub mod PassLemmas
 pub mod DirectLemmas
 pub mod VisitLemmas

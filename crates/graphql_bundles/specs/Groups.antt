@@ -80,7 +80,8 @@ module _ {S C : Type 0} where
   group_of fragments fields =
       record { fields = map (piece_field fragments) fields; names = names_in fields }
 
--- the first item that passes the test, or none does
-abbrev pub IsFound : {X : Type 0} → (X → Bool) → List X → Option X → Type 0
-IsFound {X} test xs None = (x : X) → Contains xs x → test x ≡ false
-IsFound {X} test xs (Some h) = Contains xs h × (test h ≡ true)
+-- the place of an item that passes the test, or none does
+abbrev pub IsFoundAt : {X : Type 0} → (X → Bool) → List X → Option ℕ → Type 0
+IsFoundAt {X} test xs None = (x : X) → Contains xs x → test x ≡ false
+IsFoundAt {X} test xs (Some place) =
+    (h : X) × (slice_get xs place ≡ Some h) × (test h ≡ true)

@@ -8,3 +8,4 @@ pub mod Groups
 pub mod Counted
 pub mod Steps
 pub mod Laws
+pub mod Held

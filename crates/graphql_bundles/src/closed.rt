@@ -1,6 +1,6 @@
 //! The sets in which the fields of some sets stand.
 
-ghost use Rattle.std.specs.Prelude.{◌≡◌, ◌↔◌, [], List, IsTrue, IfOk, OnOk};
+ghost use Rattle.std.specs.Prelude.{◌≡◌, ◌↔◌, [], ◌∷◌, List, IsTrue, IfOk, OnOk};
 ghost use Rattle.graphql_tree.specs.declared.document.Fragment.{Fragment};
 ghost use Rattle.graphql_merging.specs.Tables.{pieces_of};
 ghost use Rattle.graphql_bundles.specs.Closed.{AddsNumbers, AreThose, IsClosure, IsOpened};
@@ -21,7 +21,7 @@ pub(crate) fn add_numbers(sets: &mut IndexSet<usize>, numbers: &[usize]) -> Resu
 }
 
 /// These sets and those of the fragments in them, each once; none if there are more than `limit`.
-fn with_fragments<S, C>(
+pub(crate) fn with_fragments<S, C>(
     alloc: Global,
     table: &SetTable<'_, '_, S, C>,
     sets: &[usize],
@@ -55,7 +55,7 @@ fn has_fields<S, C>(table: &SetTable<'_, '_, S, C>, number: usize) -> bool
 }
 
 /// Those of the sets in which fields stand directly, in order.
-fn with_fields<S, C>(
+pub(crate) fn with_fields<S, C>(
     alloc: Global,
     table: &SetTable<'_, '_, S, C>,
     sets: &[usize],
@@ -74,9 +74,9 @@ fn with_fields<S, C>(
     Ok(some)
 }
 
-/// The sets in which what stands in some sets stands directly, in order; and how many sets were
-/// gone through.
-pub(crate) fn closed_sets<S, C>(
+/// The sets in which what stands in some sets stands directly, in order, by going through the
+/// fragments in them; and how many sets were gone through.
+fn closed_many<S, C>(
     alloc: Global,
     table: &SetTable<'_, '_, S, C>,
     sets: &[usize],
@@ -88,4 +88,49 @@ pub(crate) fn closed_sets<S, C>(
     let all = with_fragments(alloc, table, sets, limit)?;
     let closed = with_fields(alloc, table, all.as_slice())?;
     Ok((closed, all.len()))
+}
+
+/// Whether no fragment stands directly in the set of this number.
+pub(crate) fn is_without_fragments<S, C>(table: &SetTable<'_, '_, S, C>, number: usize) -> bool
+    ensures { IsTrue result → (fragments : List (Fragment S)) →
+        (pieces_of fragments table.now).inner number ≡ [] }
+{
+    match table.get(number) {
+        Some(set) => set.inner.is_empty(),
+        None => true,
+    }
+}
+
+/// The same of one set, which is all there is where no fragment stands in it.
+fn closed_one<S, C>(
+    alloc: Global,
+    table: &SetTable<'_, '_, S, C>,
+    number: usize,
+    limit: usize,
+) -> Result<(Vec<usize>, usize), Stop>
+    ensures { IfOk result (λ closed. (fragments : List (Fragment S)) →
+        IsClosure (pieces_of fragments table.now) (number ∷ []) closed.0.items) }
+{
+    if !is_without_fragments(table, number) {
+        return closed_many(alloc, table, &[number], limit);
+    }
+    let closed = with_fields(alloc, table, &[number])?;
+    Ok((closed, 1))
+}
+
+/// The sets in which what stands in some sets stands directly, in order; and how many sets were
+/// gone through.
+pub(crate) fn closed_sets<S, C>(
+    alloc: Global,
+    table: &SetTable<'_, '_, S, C>,
+    sets: &[usize],
+    limit: usize,
+) -> Result<(Vec<usize>, usize), Stop>
+    ensures { IfOk result (λ closed. (fragments : List (Fragment S)) →
+        IsClosure (pieces_of fragments table.now) sets.now closed.0.items) }
+{
+    match sets {
+        [number] => closed_one(alloc, table, *number, limit),
+        _ => closed_many(alloc, table, sets, limit),
+    }
 }

@@ -1,6 +1,6 @@
 //! Each field of a group is compared with the first of its class.
 
-ghost use Rattle.std.specs.Prelude.{◌≡◌, ℕ, ◌+◌, ◌≤◌, false, true, List, Some, length, map, filter, IfOk, OnOk, not};
+ghost use Rattle.std.specs.Prelude.{◌≡◌, ℕ, ◌+◌, ◌-◌, ◌≤◌, false, true, List, Some, length, map, filter, IfOk, OnOk, not};
 ghost use Rattle.std.specs.List.{Contains};
 ghost use Rattle.std.specs.Option.{option_map};
 ghost use Rattle.graphql_schema.specs.Lookups.{is_object};
@@ -8,7 +8,7 @@ ghost use Rattle.graphql_rule_errors.specs.Places.{places};
 ghost use Rattle.graphql_tree.specs.declared.document.Fragment.{Fragment};
 ghost use Rattle.graphql_merging.specs.Tables.{piece_field};
 ghost use Rattle.graphql_bundles.specs.Bundles as bundles;
-ghost use Rattle.graphql_bundles.specs.Counted.{fields_of_parts};
+ghost use Rattle.graphql_bundles.specs.Counted.{repeats_in_parts};
 ghost use Rattle.graphql_bundles.specs.Steps.{ArePartNamed, AreShaped, Compares, IsFoundOf};
 ghost use Rattle.graphql_bundles.specs.Groups as groups;
 
@@ -91,46 +91,42 @@ pub(crate) fn names_of<'d, S, C>(
 }
 
 /// Whether the schema has the field.
-fn is_declared<S, C>(field: &WrittenField<'_, '_, S, C>) -> bool
+pub fn is_declared<S, C>(field: &WrittenField<'_, '_, S, C>) -> bool
     ensures { result ≡ groups.is_declared field.now }
 {
     let name = field.selected.field.item.name.item.as_str();
     field_of(Some(field.selected.parent), name).is_some()
 }
 
-/// The first field that the schema has.
-fn first_declared<'d, 'a, S, C>(
-    group: &[WrittenField<'d, 'a, S, C>],
-) -> Option<WrittenField<'d, 'a, S, C>>
-    ensures { groups.IsFound groups.is_declared group.now result }
+/// The place of the first field that the schema has.
+fn first_declared<S, C>(group: &[WrittenField<'_, '_, S, C>]) -> Option<usize>
+    ensures { groups.IsFoundAt groups.is_declared group.now result }
 {
-    for field in group {
-        if is_declared(field) {
-            return Some(*field);
+    for place in 0..group.len() {
+        if is_declared(&group[place]) {
+            return Some(place);
         }
     }
     None
 }
 
-/// The first field whose parent is no object type.
-fn first_abstract<'d, 'a, S, C>(
-    group: &[WrittenField<'d, 'a, S, C>],
-) -> Option<WrittenField<'d, 'a, S, C>>
-    ensures { groups.IsFound (λ f. not (is_object f.selected.parent.now)) group.now result }
+/// The place of the first field whose parent is no object type.
+fn first_abstract<S, C>(group: &[WrittenField<'_, '_, S, C>]) -> Option<usize>
+    ensures { groups.IsFoundAt (λ f. not (is_object f.selected.parent.now)) group.now result }
 {
-    for field in group {
-        let of_object = is_of_object(field);
+    for place in 0..group.len() {
+        let of_object = is_of_object(&group[place]);
         if !of_object {
-            return Some(*field);
+            return Some(place);
         }
     }
     None
 }
 
 /// Compares the shapes of all with that of the first that is declared. `around`: whether fields
-/// around them have parents that are different objects; where they do not, two fields that differ in
-/// name or arguments too are told for that. An error of the call is want of memory.
-pub(crate) fn compare_shapes<S: PartialEq, C>(
+/// around them have parents that are different objects; where they do not, two fields that differ
+/// in name or arguments too are told for that. An error of the call is want of memory.
+pub(crate) fn compare_shapes<S: Eq, C>(
     alloc: Global,
     schema: &SchemaType<S, C>,
     around: bool,
@@ -138,21 +134,23 @@ pub(crate) fn compare_shapes<S: PartialEq, C>(
     told: &mut Items<RuleError>,
     comparisons: &mut u128,
 ) -> Result<(), AllocError>
-    ensures counted { OnOk result (comparisons.new ≤ comparisons.old + length group.now) }
+    ensures counted { OnOk result (comparisons.new ≤ comparisons.old + (length group.now - 1)) }
     ensures told { OnOk result ((fragments : List (Fragment S)) →
         let fields = map (piece_field fragments) group.now in
         Compares (IsFoundOf S.eq schema.now.types true fields) (AreShaped schema.now.types fields)
         (places told.old) (places told.new)) }
 {
     match first_declared(group) {
-        Some(head) => { compare_with(alloc, schema, true, around, &head, group, told, comparisons) }
+        Some(place) => {
+            compare_with(alloc, schema, true, around, group, place, told, comparisons)
+        }
         None => Ok(()),
     }
 }
 
 /// Compares the names and arguments of the fields of a part with those of its first. An error of
 /// the call is want of memory.
-fn compare_part<S: PartialEq, C>(
+fn compare_part<S: Eq, C>(
     alloc: Global,
     schema: &SchemaType<S, C>,
     group: &[WrittenField<'_, '_, S, C>],
@@ -161,7 +159,7 @@ fn compare_part<S: PartialEq, C>(
     comparisons: &mut u128,
 ) -> Result<(), AllocError>
     ensures counted { OnOk result (comparisons.new
-        ≤ comparisons.old + length (filter (groups.is_of (Some name.now)) group.now)) }
+        ≤ comparisons.old + (length (filter (groups.is_of (Some name.now)) group.now) - 1)) }
     ensures told { OnOk result ((fragments : List (Fragment S)) →
         let fields = map (piece_field fragments) group.now in
         Compares (IsFoundOf S.eq schema.now.types false fields)
@@ -169,18 +167,16 @@ fn compare_part<S: PartialEq, C>(
         (places told.old) (places told.new)) }
 {
     let fields = fields_in_part(alloc, group, Some(name))?;
-    match fields.first().copied() {
-        Some(head) => {
-            let part = fields.as_slice();
-            compare_with(alloc, schema, false, false, &head, part, told, comparisons)
-        }
-        None => Ok(()),
+    let part = fields.as_slice();
+    if part.is_empty() {
+        return Ok(());
     }
+    compare_with(alloc, schema, false, false, part, 0, told, comparisons)
 }
 
 /// Compares the names and arguments of the fields of each part with those of its first. An error of
 /// the call is want of memory.
-fn compare_parts<S: PartialEq, C>(
+fn compare_parts<S: Eq, C>(
     alloc: Global,
     schema: &SchemaType<S, C>,
     group: &[WrittenField<'_, '_, S, C>],
@@ -189,7 +185,7 @@ fn compare_parts<S: PartialEq, C>(
     comparisons: &mut u128,
 ) -> Result<(), AllocError>
     ensures counted { OnOk result (comparisons.new
-        ≤ comparisons.old + fields_of_parts group.now names.now) }
+        ≤ comparisons.old + repeats_in_parts group.now names.now) }
     ensures told { OnOk result ((fragments : List (Fragment S)) →
         let fields = map (piece_field fragments) group.now in
         Compares (IsFoundOf S.eq schema.now.types false fields)
@@ -206,7 +202,7 @@ fn compare_parts<S: PartialEq, C>(
 /// Compares names and arguments: of all fields with one whose parent is no object type, where there
 /// is one, or else of those of each object type with the first of them. An error of the call is
 /// want of memory.
-pub(crate) fn compare_names<S: PartialEq, C>(
+pub(crate) fn compare_names<S: Eq, C>(
     alloc: Global,
     schema: &SchemaType<S, C>,
     group: &[WrittenField<'_, '_, S, C>],
@@ -215,7 +211,7 @@ pub(crate) fn compare_names<S: PartialEq, C>(
     comparisons: &mut u128,
 ) -> Result<(), AllocError>
     requires { names.now ≡ groups.names_in group.now }
-    ensures counted { OnOk result (comparisons.new ≤ comparisons.old + length group.now) }
+    ensures counted { OnOk result (comparisons.new ≤ comparisons.old + (length group.now - 1)) }
     ensures told { OnOk result ((fragments : List (Fragment S)) →
         let fields = map (piece_field fragments) group.now in
         Compares (IsFoundOf S.eq schema.now.types false fields)
@@ -224,7 +220,9 @@ pub(crate) fn compare_names<S: PartialEq, C>(
         (places told.old) (places told.new)) }
 {
     match first_abstract(group) {
-        Some(head) => { compare_with(alloc, schema, false, false, &head, group, told, comparisons) }
+        Some(place) => {
+            compare_with(alloc, schema, false, false, group, place, told, comparisons)
+        }
         None => compare_parts(alloc, schema, group, names, told, comparisons),
     }
 }

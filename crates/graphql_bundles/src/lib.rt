@@ -7,6 +7,7 @@
 
 mod bundle;
 mod closed;
+mod definitions;
 mod direct;
 mod groups;
 mod heads;
@@ -19,5 +20,6 @@ mod stop;
 mod telling;
 mod visits;
 
+pub use heads::is_declared;
 pub use outcome::{Outcome, told_by_bundles};
 pub use telling::{count_comparison, tell};

@@ -1,8 +1,9 @@
 //! The parts of a group, and the bundles of their own sets.
 
-ghost use Rattle.std.specs.Prelude.{◌≡◌, ℕ, ◌+◌, ◌*◌, ◌≤◌, true, false, List, IfOk, OnOk, length, map};
+ghost use Rattle.std.specs.Prelude.{◌≡◌, ℕ, ◌+◌, ◌-◌, ◌*◌, ◌≤◌, true, false, List, [], ◌∷◌, IfOk, OnOk, length, map};
 ghost use Rattle.std.specs.List.{Contains};
 ghost use Rattle.std.specs.Option.{option_map};
+ghost use Rattle.graphql_schema.specs.declared.meta.MetaType.{MetaType};
 ghost use Rattle.graphql_tree.specs.declared.document.Fragment.{Fragment};
 ghost use Rattle.graphql_merging.specs.Tables.{pieces_of, piece_field};
 ghost use Rattle.graphql_bundles.specs.Bundles.{IsGathered, IsGroupPassed, OwnOf, Part};
@@ -134,9 +135,28 @@ fn begin_parts<S, C>(
     begin_each(alloc, table, group, names, progress)
 }
 
-/// Goes through a group: compares its fields, and begins the bundles of its parts. An error of the
+/// Goes through a group of one field, which is alone in each of its parts: begins the bundle of its
+/// own set. An error is want of memory.
+fn pass_lone<S: Eq, C>(
+    alloc: Global,
+    table: &SetTable<'_, '_, S, C>,
+    around: bool,
+    field: &WrittenField<'_, '_, S, C>,
+    progress: &mut Progress,
+) -> Result<(), AllocError>
+    ensures { OnOk result ((fragments : List (Fragment S)) (types : List (MetaType S C)) →
+        let t = pieces_of fragments table.now in
+        let group = group_of fragments (field.now ∷ []) in
+        Goes (IsFoundOf S.eq types around group.fields) (GroupLeadsTo t around group)
+        (λ stage. IsGroupPassed t S.eq types stage.bundles stage.told around group)
+        (stage_of progress.old) (stage_of progress.new)) }
+{
+    begin_sets(alloc, table, &[field.own], around, progress)
+}
+
+/// The same of any group: compares its fields, and begins the bundles of its parts. An error of the
 /// call is want of memory.
-pub(crate) fn pass_group<S: PartialEq, C>(
+fn pass_many<S: Eq, C>(
     alloc: Global,
     schema: &SchemaType<S, C>,
     table: &SetTable<'_, '_, S, C>,
@@ -145,7 +165,7 @@ pub(crate) fn pass_group<S: PartialEq, C>(
     progress: &mut Progress,
     comparisons: &mut u128,
 ) -> Result<(), AllocError>
-    ensures counted { OnOk result (comparisons.new ≤ comparisons.old + 2 * length group.now) }
+    ensures counted { OnOk result (comparisons.new ≤ comparisons.old + 2 * (length group.now - 1)) }
     ensures passed { OnOk result ((fragments : List (Fragment S)) →
         let t = pieces_of fragments table.now in
         let types = schema.now.types in
@@ -176,4 +196,30 @@ pub(crate) fn pass_group<S: PartialEq, C>(
         comparisons,
     )?;
     begin_parts(alloc, table, group, objects, progress)
+}
+
+/// Goes through a group: compares its fields, and begins the bundles of its parts. An error of the
+/// call is want of memory.
+pub(crate) fn pass_group<S: Eq, C>(
+    alloc: Global,
+    schema: &SchemaType<S, C>,
+    table: &SetTable<'_, '_, S, C>,
+    around: bool,
+    group: &[WrittenField<'_, '_, S, C>],
+    progress: &mut Progress,
+    comparisons: &mut u128,
+) -> Result<(), AllocError>
+    ensures counted { OnOk result (comparisons.new ≤ comparisons.old + 2 * (length group.now - 1)) }
+    ensures passed { OnOk result ((fragments : List (Fragment S)) →
+        let t = pieces_of fragments table.now in
+        let types = schema.now.types in
+        let group = group_of fragments group.now in
+        Goes (IsFoundOf S.eq types around group.fields) (GroupLeadsTo t around group)
+        (λ stage. IsGroupPassed t S.eq types stage.bundles stage.told around group)
+        (stage_of progress.old) (stage_of progress.new)) }
+{
+    match group {
+        [field] => pass_lone(alloc, table, around, field, progress),
+        _ => pass_many(alloc, schema, table, around, group, progress, comparisons),
+    }
 }

@@ -6,19 +6,20 @@ ghost use Rattle.graphql_text.specs.declared.position.SourcePosition.{SourcePosi
 ghost use Rattle.graphql_tree.specs.declared.document.Fragment.{Fragment};
 ghost use Rattle.graphql_merging.specs.Tables.{pieces_of};
 ghost use Rattle.graphql_bundles.specs.Bundles.{Bundle, IsFoundAmong, IsGathered, IsPassed};
-ghost use Rattle.graphql_bundles.specs.Counted.{fields_of_groups};
+ghost use Rattle.graphql_bundles.specs.Counted.{repeats_in_groups};
 ghost use Rattle.graphql_bundles.specs.Going.{IsFoundIn, IsGoing, LeadsTo, stage_of};
 ghost use Rattle.graphql_bundles.specs.Steps.{FoundInGroups, Goes, GroupsLeadTo, GroupsPassed, HoldsSets, KeepsTold, OfDefinitions};
 
 use crate::bundle::Progress;
+use crate::definitions::begin_definitions;
 use crate::groups::{KeyGroup, fields_of_sets, grouped};
-use crate::parts::{begin_sets, pass_group};
+use crate::parts::pass_group;
 use graphql_merging::SetTable;
 use graphql_schema::SchemaType;
 use std::alloc::{AllocError, Global};
 
 /// Goes through the groups of a bundle. An error of the call is want of memory.
-fn pass_groups<S: PartialEq, C>(
+fn pass_groups<S: Eq, C>(
     alloc: Global,
     schema: &SchemaType<S, C>,
     table: &SetTable<'_, '_, S, C>,
@@ -28,7 +29,7 @@ fn pass_groups<S: PartialEq, C>(
     comparisons: &mut u128,
 ) -> Result<(), AllocError>
     ensures counted { OnOk result (comparisons.new
-        ≤ comparisons.old + 2 * fields_of_groups groups.now) }
+        ≤ comparisons.old + 2 * repeats_in_groups groups.now) }
     ensures passed { OnOk result ((fragments : List (Fragment S)) →
         let t = pieces_of fragments table.now in
         let types = schema.now.types in
@@ -44,16 +45,25 @@ fn pass_groups<S: PartialEq, C>(
     Ok(())
 }
 
-/// Whether two comparisons of each of so many fields are no more than there may be.
-fn has_room(comparisons: u128, fields: usize, most: u128) -> bool
-    ensures { IsTrue result ↔ (2 * fields ≤ most - comparisons) }
+/// Whether two comparisons of each field of these groups but the first of each are no more than
+/// there may be.
+fn has_room<S, C>(comparisons: u128, groups: &[KeyGroup<'_, '_, S, C>], most: u128) -> bool
+    ensures { IsTrue result → 2 * repeats_in_groups groups.now ≤ most - comparisons }
 {
-    2 * (fields as u128) <= most.saturating_sub(comparisons)
+    let mut room = most.saturating_sub(comparisons);
+    for group in groups {
+        let wanted = 2 * (group.1.len().saturating_sub(1) as u128);
+        if wanted > room {
+            return false;
+        }
+        room -= wanted;
+    }
+    true
 }
 
 /// Goes through a bundle, unless there could be more than `most` comparisons then. An error of the
 /// call is want of memory.
-fn pass_bundle<S: PartialEq, C>(
+fn pass_bundle<S: Eq, C>(
     alloc: Global,
     schema: &SchemaType<S, C>,
     table: &SetTable<'_, '_, S, C>,
@@ -76,12 +86,12 @@ fn pass_bundle<S: PartialEq, C>(
     };
     let around = bundle.around;
     let fields = fields_of_sets(alloc, table, bundle.sets.as_slice())?;
-    if !has_room(*comparisons, fields.len(), most) {
+    let groups = grouped(alloc, fields.as_slice())?;
+    if !has_room(*comparisons, groups.as_slice(), most) {
         progress.is_within = false;
         return Ok(());
     }
     progress.spend(fields.len());
-    let groups = grouped(alloc, fields.as_slice())?;
     pass_groups(
         alloc,
         schema,
@@ -93,29 +103,10 @@ fn pass_bundle<S: PartialEq, C>(
     )
 }
 
-/// Begins the bundles of the sets of the definitions. An error is want of memory.
-fn begin_definitions<S, C>(
-    alloc: Global,
-    table: &SetTable<'_, '_, S, C>,
-    definitions: usize,
-    progress: &mut Progress,
-) -> Result<(), AllocError>
-    ensures { OnOk result ((fragments : List (Fragment S)) →
-        let t = pieces_of fragments table.now in
-        Goes (λ e. ⊥) (OfDefinitions t definitions)
-        (λ stage. (k : ℕ) → k < definitions → IsGathered t stage.bundles false (λ p. p ≡ k))
-        (stage_of progress.old) (stage_of progress.new)) }
-{
-    for definition in 0..definitions {
-        begin_sets(alloc, table, &[definition], false, progress)?;
-    }
-    Ok(())
-}
-
 /// Goes through the bundles of the definitions, and those that are begun on the way, as long as the
-/// bound is not met and there can't be more than `most` comparisons. An error of the call is want of
-/// memory.
-pub(crate) fn pass_all<S: PartialEq, C>(
+/// bound is not met and there can't be more than `most` comparisons. An error of the call is want
+/// of memory.
+pub(crate) fn pass_all<S: Eq, C>(
     alloc: Global,
     schema: &SchemaType<S, C>,
     table: &SetTable<'_, '_, S, C>,

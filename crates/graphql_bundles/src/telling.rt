@@ -1,11 +1,12 @@
 //! Two fields of one response key are compared.
 
-ghost use Rattle.std.specs.Prelude.{◌≡◌, ◌+◌, ◌≤◌, [], ◌∷◌, List, length, map, OnOk};
+ghost use Rattle.std.specs.Prelude.{◌≡◌, ◌+◌, ◌-◌, ◌<◌, ◌≤◌, [], ◌∷◌, List, Some, length, map, slice_get, OnOk};
 ghost use Rattle.graphql_rule_errors.specs.Places.{Reports, places};
 ghost use Rattle.graphql_tree.specs.declared.document.Fragment.{Fragment};
 ghost use Rattle.graphql_merging.specs.Merging.{Agree};
 ghost use Rattle.graphql_merging.specs.Selected.{seen};
 ghost use Rattle.graphql_merging.specs.Told.{AddsErrors, in_order};
+ghost use Rattle.graphql_merging.specs.declared.table.WrittenField.{WrittenField};
 ghost use Rattle.graphql_bundles.specs.Counted.{one_more};
 
 use crate::messages::message_of;
@@ -108,26 +109,77 @@ pub(crate) fn compare<S: PartialEq, C>(
     }
 }
 
-/// Compares fields with one of their response key, in order, by the same flags. An error of the call
-/// is want of memory.
-pub(crate) fn compare_with<S: PartialEq, C>(
+/// Compares a field of a group with another of them, by the same flags, and no field with itself.
+/// An error of the call is want of memory.
+fn compare_another<S: Eq, C>(
     alloc: Global,
     schema: &SchemaType<S, C>,
     around: bool,
     said: bool,
-    head: &WrittenField<'_, '_, S, C>,
-    others: &[WrittenField<'_, '_, S, C>],
+    group: &[WrittenField<'_, '_, S, C>],
+    place: usize,
+    other: usize,
     told: &mut Items<RuleError>,
     comparisons: &mut u128,
 ) -> Result<(), AllocError>
-    ensures counted { OnOk result (comparisons.new ≤ comparisons.old + length others.now) }
-    ensures told { OnOk result ((fragments : List (Fragment S))
+    requires place { place < length group.now }
+    requires other { other < length group.now }
+    ensures counted { comparisons.new ≤ comparisons.old + 1 }
+    ensures itself { place ≡ other → comparisons.new ≡ comparisons.old }
+    ensures told { OnOk result ((fragments : List (Fragment S)) (left right : WrittenField S C)
+        → slice_get group.now place ≡ Some left → slice_get group.now other ≡ Some right
         → AddsErrors (Agree S.eq schema.now.types around)
-        (map (λ f. (seen fragments head.now.selected, seen fragments f.selected)) others.now)
+        ((seen fragments left.selected, seen fragments right.selected) ∷ [])
         (places told.old) (places told.new)) }
 {
-    for other in others {
-        compare(alloc, schema, around, said, head, other, told, comparisons)?;
+    if place == other {
+        return Ok(());
+    }
+    let left = &group[place];
+    compare(
+        alloc,
+        schema,
+        around,
+        said,
+        left,
+        &group[other],
+        told,
+        comparisons,
+    )
+}
+
+/// Compares the field at a place of a group with the others, in order, by the same flags. An error
+/// of the call is want of memory.
+pub(crate) fn compare_with<S: Eq, C>(
+    alloc: Global,
+    schema: &SchemaType<S, C>,
+    around: bool,
+    said: bool,
+    group: &[WrittenField<'_, '_, S, C>],
+    place: usize,
+    told: &mut Items<RuleError>,
+    comparisons: &mut u128,
+) -> Result<(), AllocError>
+    requires { place < length group.now }
+    ensures counted { OnOk result (comparisons.new ≤ comparisons.old + (length group.now - 1)) }
+    ensures told { OnOk result ((fragments : List (Fragment S)) (head : WrittenField S C)
+        → slice_get group.now place ≡ Some head
+        → AddsErrors (Agree S.eq schema.now.types around)
+        (map (λ f. (seen fragments head.selected, seen fragments f.selected)) group.now)
+        (places told.old) (places told.new)) }
+{
+    for other in 0..group.len() {
+        compare_another(
+            alloc,
+            schema,
+            around,
+            said,
+            group,
+            place,
+            other,
+            told,
+            comparisons,
+        )?;
     }
     Ok(())
 }

@@ -44,7 +44,10 @@ fn add_sets_of<S, C>(
 }
 
 /// The numbers of the sets of the definitions. An error is want of memory.
-fn definition_numbers(alloc: Global, definitions: usize) -> Result<IndexSet<usize>, AllocError>
+pub(crate) fn definition_numbers(
+    alloc: Global,
+    definitions: usize,
+) -> Result<IndexSet<usize>, AllocError>
     ensures { IfOk result (λ sets. (k : ℕ) → Contains sets.keys k ↔ (k < definitions)) }
 {
     let mut sets = IndexSet::new(alloc);

@@ -58,7 +58,7 @@ fn most_of<S, C>(table: &SetTable<'_, '_, S, C>, comparisons: u128) -> u128
 /// those that going through bundles tells. Where it met its bound and told nothing, each two fields
 /// of one response key that stand together are compared. The sets below `definitions` are those of
 /// the document's definitions. An error of the call is want of memory.
-fn found_errors<S: PartialEq, C>(
+fn found_errors<S: Eq, C>(
     alloc: Global,
     schema: &SchemaType<S, C>,
     table: &SetTable<'_, '_, S, C>,
@@ -75,17 +75,12 @@ fn found_errors<S: PartialEq, C>(
     let told = told_by_bundles(alloc, schema, table, definitions, limit, most, comparisons)?;
     match told {
         Outcome::Told(errors) => Ok(errors),
-        Outcome::TooMany(errors) => {
-            if errors.is_empty() {
-                return merge_errors(alloc, schema, table, definitions, comparisons);
-            }
-            Ok(errors)
-        }
+        Outcome::Undecided => merge_errors(alloc, schema, table, definitions, comparisons),
     }
 }
 
 /// The same, and these sets are let go. An error of the call is want of memory.
-fn errors_of_table<'d, 'a, S: PartialEq, C>(
+fn errors_of_table<'d, 'a, S: Eq, C>(
     alloc: Global,
     schema: &SchemaType<S, C>,
     table: SetTable<'d, 'a, S, C>,

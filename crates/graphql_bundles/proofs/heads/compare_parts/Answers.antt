@@ -1,8 +1,8 @@
-use Rattle.std.proofs.Common.{◌∙◌, ◌+◌, ◌≤◌, ap, arith, List, ℕ, Some, length, filter, map, false, subst, take_all}
+use Rattle.std.proofs.Common.{◌∙◌, ◌+◌, ◌-◌, ◌≤◌, ap, arith, List, ℕ, Some, length, filter, map, false, subst, take_all}
 use Rattle.std.proofs.lemmas.List.Sums.{sum_by_more}
 use Rattle.graphql_rule_errors.specs.Places.{places}
 use Rattle.graphql_merging.specs.Tables.{piece_field}
-use Rattle.graphql_bundles.specs.Counted.{fields_of_parts}
+use Rattle.graphql_bundles.specs.Counted.{repeats_in_parts}
 use Rattle.graphql_bundles.specs.Groups.{is_of}
 use Rattle.graphql_bundles.specs.Steps.{Compares, IsFoundOf}
 use Rattle.graphql_bundles.proofs.CompareLemmas.{SomeParts, parts-first, parts-more}
@@ -16,7 +16,7 @@ returns-clause-told g c = λ fragments.
 
 pub returns-clause-counted : goal.returns-clause-counted
 returns-clause-counted g c =
-    subst (λ ns. c.loop-name.comparisons ≤ c.args.comparisons.now + fields_of_parts c.args.group.now ns)
+    subst (λ ns. c.loop-name.comparisons ≤ c.args.comparisons.now + repeats_in_parts c.args.group.now ns)
     (take_all c.loop-name.name-index c.args.names.now c.loop-name-test.false) c.loop-name.invariant.counted
 
 pub loop-name-init : goal.loop-name-init
@@ -30,7 +30,7 @@ loop-name-preserved g c = record {
   counted =
       let names = c.args.names.now in
       let i = c.loop-name.name-index in
-      let size = λ (name : List ℕ). length (filter (is_of (Some name)) c.args.group.now) in
+      let size = λ (name : List ℕ). length (filter (is_of (Some name)) c.args.group.now) - 1 in
       let more = sum_by_more size names i c.name-item.result c.loop-name-test.true in
       let here = ap size (c.as_str.ensures ∙ c.name-item.is) in
       omega (arith, more, here, c.loop-name.invariant.counted, c.in_ok-compare_part.ensures.counted);

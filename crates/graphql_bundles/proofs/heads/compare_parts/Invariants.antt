@@ -4,14 +4,14 @@ use Rattle.graphql_rule_errors.specs.Places.{places}
 use Rattle.graphql_tree.specs.declared.document.Fragment.{Fragment}
 use Rattle.graphql_merging.specs.Tables.{piece_field}
 use Rattle.graphql_bundles.specs.Bundles.{one}
-use Rattle.graphql_bundles.specs.Counted.{fields_of_parts}
+use Rattle.graphql_bundles.specs.Counted.{repeats_in_parts}
 use Rattle.graphql_bundles.specs.Steps.{ArePartNamed, Compares, IsFoundOf}
 use Rattle.graphql_bundles.proofs.heads.compare_parts.Given as goal
 
 -- the parts so far
 abbrev pub invariant-loop-name : goal.invariant-loop-name
 invariant-loop-name g l = record {
-  counted : l.comparisons ≤ l.initial.comparisons + fields_of_parts l.group (take l.name-index l.names);
+  counted : l.comparisons ≤ l.initial.comparisons + repeats_in_parts l.group (take l.name-index l.names);
   told : (fragments : List (Fragment g.row.S.Denot))
       → Compares (IsFoundOf g.S.PartialEq.eq l.schema.types false (map (piece_field fragments) l.group))
       ((name : List ℕ) → Contains (take l.name-index l.names) name → ArePartNamed g.S.PartialEq.eq l.schema.types (map (piece_field fragments) l.group) (one name))

@@ -4,5 +4,5 @@ use Rattle.graphql_schema.specs.Lookups.{is_object}
 use Rattle.graphql_merging.specs.declared.table.WrittenField.{WrittenField}
 use Rattle.graphql_bundles.proofs.heads.first_abstract.Given as goal
 
-abbrev pub invariant-loop-field : goal.invariant-loop-field
-invariant-loop-field g l = (f : WrittenField g.row.S.Denot g.row.C.Denot) → Contains (take l.field-index l.group) f → not (is_object f.selected.parent.now) ≡ false
+abbrev pub invariant-loop-place : goal.invariant-loop-place
+invariant-loop-place g l = (f : WrittenField g.row.S.Denot g.row.C.Denot) → Contains (take l.place l.group) f → not (is_object f.selected.parent.now) ≡ false

@@ -4,9 +4,9 @@ use Rattle.graphql_bundles.specs.Groups.{is_declared}
 use Rattle.graphql_bundles.proofs.ListLemmas.{take-cases}
 use Rattle.graphql_bundles.proofs.heads.first_declared.Goals as goal
 
-pub loop-field-preserved : goal.loop-field-preserved
-loop-field-preserved g c = λ f i.
-    elim (take-cases c.args.group.now c.loop-field.field-index c.field-item.result c.loop-field-test.true c.field-item.is f i) [
-      | inl j ↦ c.loop-field.invariant f j
+pub loop-place-preserved : goal.loop-place-preserved
+loop-place-preserved g c = λ f i.
+    elim (take-cases c.args.group.now c.loop-place.place c.index-group-place.result c.loop-place-test.true c.index-group-place.is f i) [
+      | inl j ↦ c.loop-place.invariant f j
       | inr e ↦ subst (λ (h : WrittenField g.row.S.Denot g.row.C.Denot). is_declared h ≡ false) e (sym c.is_declared.ensures ∙ c.if-is_declared.false)
     ]

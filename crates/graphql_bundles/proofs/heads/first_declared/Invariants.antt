@@ -4,5 +4,5 @@ use Rattle.graphql_merging.specs.declared.table.WrittenField.{WrittenField}
 use Rattle.graphql_bundles.specs.Groups.{is_declared}
 use Rattle.graphql_bundles.proofs.heads.first_declared.Given as goal
 
-abbrev pub invariant-loop-field : goal.invariant-loop-field
-invariant-loop-field g l = (f : WrittenField g.row.S.Denot g.row.C.Denot) → Contains (take l.field-index l.group) f → is_declared f ≡ false
+abbrev pub invariant-loop-place : goal.invariant-loop-place
+invariant-loop-place g l = (f : WrittenField g.row.S.Denot g.row.C.Denot) → Contains (take l.place l.group) f → is_declared f ≡ false

@@ -1,51 +1,53 @@
-use Rattle.std.proofs.Common.{◌+◌, ◌*◌, ◌≤◌, ap, refl, subst, map, true, false}
+use Rattle.std.proofs.Common.{◌≡◌, refl, ap, sym, subst, ◌∙◌, map, true, List, [], ◌∷◌, inl, inr}
+use Rattle.std.specs.List.{Contains}
+use Rattle.std.proofs.lemmas.Bool.{false≢true}
 use Rattle.graphql_rule_errors.specs.Places.{places}
+use Rattle.graphql_rule_errors.specs.declared.rule_error.RuleError.{RuleError}
 use Rattle.graphql_merging.specs.Tables.{pieces_of}
+use Rattle.graphql_merging.proofs.Nested.{in-nothing}
 use Rattle.graphql_bundles.specs.Bundles.{Bundle}
-use Rattle.graphql_bundles.specs.Direct.{TellsDirects}
+use Rattle.graphql_bundles.specs.Ends.{IsEnd}
 use Rattle.graphql_bundles.specs.Going.{stage_of}
 use Rattle.graphql_bundles.specs.declared.bundle.Bundle.{Bundle as Begun}
-use Rattle.graphql_bundles.specs.Counted.{fields_of_sets}
-use Rattle.graphql_bundles.proofs.Counts.{both-within}
-use Rattle.graphql_bundles.proofs.EndLemmas.{ends-at}
+use Rattle.graphql_bundles.proofs.EndLemmas.{ends-untold, ends-told, still-told}
 use Rattle.graphql_bundles.proofs.outcome.told_by_bundles.Goals as goal
 
 abbrev view : Begun → Bundle
 view b = record { sets = b.sets.items; around = b.around }
 
 pub pass_all-requires : goal.pass_all-requires
-pass_all-requires g c = ap (map view) c.new.ensures.empty
+pass_all-requires g c = ap (map view) c.new-2.ensures.empty
 
-pub returns-then-progress-clause-ends : goal.returns-then-progress-clause-ends
-returns-then-progress-clause-ends g c = λ fragments.
+pub returns-in-true-clause-ends : goal.returns-in-true-clause-ends
+returns-in-true-clause-ends g c = λ fragments.
     let eq = g.S.PartialEq.eq in
     let types = c.args.schema.now.types in
     let t = pieces_of {C = g.row.C.Denot} fragments c.args.table.now in
-    ends-at eq types t c.args.definitions c.in_ok-sets.sets.keys (places c.new-told.result) (places c.direct_sets.new.told) (places c.pass_all.new.progress.told)
-    (stage_of c.pass_all.new.progress) true (ap places c.new-told.ensures) (c.in_ok-sets.ensures fragments)
-    (subst (λ ns. TellsDirects eq types t ns (places c.new-told.result) (places c.direct_sets.new.told)) c.as_slice.ensures.keys (c.in_ok-direct_sets.ensures.told fragments))
-    c.in_ok-pass_all.ensures.kept (c.in_ok-pass_all.ensures.going fragments) refl c.if-progress.true
+    let told = c.pass_all.new.progress.told in
+    let untold = c.is_empty.ensures.0 c.if-is_empty.true in
+    let going = c.in_ok-pass_all.ensures.going fragments (λ e i. in-nothing e (subst (λ es. Contains (places es) e) c.new.ensures i)) in (
+      true,
+      subst (λ w. IsEnd t eq types c.args.definitions w (places told)) c.in-true.is
+          (ends-untold eq types t c.args.definitions (stage_of c.pass_all.new.progress) (places told) refl (ap places untold) going),
+      inl refl,
+    )
+
+-- without places there are no errors
+unnamed : (errors : List RuleError) → places errors ≡ [] → errors ≡ []
+unnamed [] e = refl
+unnamed (x ∷ xs) e = cc
 
 pub returns-clause-ends : goal.returns-clause-ends
 returns-clause-ends g c = λ fragments.
     let eq = g.S.PartialEq.eq in
     let types = c.args.schema.now.types in
     let t = pieces_of {C = g.row.C.Denot} fragments c.args.table.now in
-    ends-at eq types t c.args.definitions c.in_ok-sets.sets.keys (places c.new-told.result) (places c.direct_sets.new.told) (places c.pass_all.new.progress.told)
-    (stage_of c.pass_all.new.progress) false (ap places c.new-told.ensures) (c.in_ok-sets.ensures fragments)
-    (subst (λ ns. TellsDirects eq types t ns (places c.new-told.result) (places c.direct_sets.new.told)) c.as_slice.ensures.keys (c.in_ok-direct_sets.ensures.told fragments))
-    c.in_ok-pass_all.ensures.kept (c.in_ok-pass_all.ensures.going fragments) refl c.if-progress.false
-
-pub returns-then-progress-clause-counted : goal.returns-then-progress-clause-counted
-returns-then-progress-clause-counted g c =
-    let direct = subst (λ ns. c.direct_sets.new.comparisons ≤ c.args.comparisons.now + fields_of_sets c.args.table.now ns * fields_of_sets c.args.table.now ns)
-    c.as_slice.ensures.keys c.in_ok-direct_sets.ensures.counted in
-    both-within c.args.table.now c.in_ok-sets.sets.keys c.args.comparisons.now c.direct_sets.new.comparisons c.pass_all.new.comparisons c.args.most
-    c.as_slice.ensures.unique direct c.in_ok-pass_all.ensures.counted
-
-pub returns-clause-counted : goal.returns-clause-counted
-returns-clause-counted g c =
-    let direct = subst (λ ns. c.direct_sets.new.comparisons ≤ c.args.comparisons.now + fields_of_sets c.args.table.now ns * fields_of_sets c.args.table.now ns)
-    c.as_slice.ensures.keys c.in_ok-direct_sets.ensures.counted in
-    both-within c.args.table.now c.in_ok-sets.sets.keys c.args.comparisons.now c.direct_sets.new.comparisons c.pass_all.new.comparisons c.args.most
-    c.as_slice.ensures.unique direct c.in_ok-pass_all.ensures.counted
+    let stage = stage_of c.pass_all.new.progress in
+    let errors = places c.tell_direct.new.told in
+    let going = c.in_ok-pass_all.ensures.going fragments (λ e i. in-nothing e (subst (λ es. Contains (places es) e) c.new.ensures i)) in
+    let tells = c.in_ok-tell_direct.ensures.told fragments in (
+      stage.is_within,
+      ends-told eq types t c.args.definitions stage errors tells going,
+      inr (still-told eq types t c.args.definitions stage errors tells
+          (λ untold. false≢true (sym c.if-is_empty.false ∙ c.is_empty.ensures.1 (unnamed c.pass_all.new.progress.told untold)))),
+    )

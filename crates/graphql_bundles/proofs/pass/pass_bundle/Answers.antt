@@ -1,10 +1,10 @@
-use Rattle.std.proofs.Common.{◌∙◌, sym, ap, arith, refl, false, length, subst}
+use Rattle.std.proofs.Common.{◌∙◌, sym, ap, arith, refl, false, subst}
 use Rattle.std.specs.List.{flat_map}
 use Rattle.std.proofs.lemmas.Result.{on_ok_weaker}
 use Rattle.graphql_merging.specs.Tables.{pieces_of}
 use Rattle.graphql_bundles.specs.Bundles.{Bundle, IsPassed}
 use Rattle.graphql_bundles.specs.declared.bundle.Bundle.{Bundle as Begun}
-use Rattle.graphql_bundles.specs.Counted.{fields_of_groups}
+use Rattle.graphql_bundles.specs.Counted.{repeats_in_groups}
 use Rattle.graphql_bundles.specs.Going.{IsFoundIn, LeadsTo, stage_of}
 use Rattle.graphql_bundles.specs.Steps.{FoundInGroups, Goes, GroupsLeadTo, GroupsPassed}
 use Rattle.graphql_bundles.specs.Groups.{IsGrouped, fields_in}
@@ -33,7 +33,7 @@ returns-clause-passed g c =
     (subst (λ fs. IsGrouped fs c.in_ok-groups.groups) c.as_slice-2.ensures c.in_ok-groups.ensures.grouped)
     (stage_of c.args.progress.now) (stage_of c.spend.new.self) (stage_of c.pass_groups.new.progress) c.spend.ensures
     (subst (λ gs. Goes (FoundInGroups eq types fragments here.around gs) (GroupsLeadTo t fragments here.around gs)
-    (GroupsPassed t eq types fragments here.around gs) (stage_of c.spend.new.self) (stage_of c.pass_groups.new.progress)) c.as_slice-3.ensures (goes fragments))))
+    (GroupsPassed t eq types fragments here.around gs) (stage_of c.spend.new.self) (stage_of c.pass_groups.new.progress)) c.as_slice-4.ensures (goes fragments))))
     c.pass_groups.ensures.passed
 
 pub returns-then-not-has_room-clause-passed : goal.returns-then-not-has_room-clause-passed
@@ -46,6 +46,6 @@ returns-then-not-has_room-clause-passed g c = λ fragments b at.
 
 pub returns-clause-counted : goal.returns-clause-counted
 returns-clause-counted g c =
-    let room = c.has_room.ensures.0 c.if-not-has_room.false in
-    let whole = ap fields_of_groups c.as_slice-3.ensures ∙ c.in_ok-groups.ensures.whole ∙ ap length c.as_slice-2.ensures in
-    on_ok_weaker c.pass_groups.result (λ counted. omega (arith, counted, room, whole, c.len.ensures)) c.pass_groups.ensures.counted
+    let room = c.has_room.ensures c.if-not-has_room.false in
+    let asked = ap repeats_in_groups (c.as_slice-3.ensures ∙ sym c.as_slice-4.ensures) in
+    on_ok_weaker c.pass_groups.result (λ counted. omega (arith, counted, room, asked)) c.pass_groups.ensures.counted

@@ -1,11 +1,11 @@
-use Rattle.std.proofs.Common.{◌+◌, ◌*◌, ◌≤◌, ap, arith, length, List, subst, take_all}
+use Rattle.std.proofs.Common.{◌+◌, ◌-◌, ◌*◌, ◌≤◌, ap, arith, length, List, subst, take_all}
 use Rattle.std.proofs.lemmas.List.Sums.{sum_by_more}
 use Rattle.graphql_merging.specs.Tables.{pieces_of}
 use Rattle.graphql_merging.specs.declared.table.WrittenField.{WrittenField}
 use Rattle.graphql_bundles.specs.Bundles.{IsGroupPassed}
 use Rattle.graphql_bundles.specs.Going.{GroupLeadsTo, stage_of}
 use Rattle.graphql_bundles.specs.Steps.{FoundInGroups, Goes, GroupsLeadTo, GroupsPassed, IsFoundOf}
-use Rattle.graphql_bundles.specs.Counted.{fields_of_groups}
+use Rattle.graphql_bundles.specs.Counted.{repeats_in_groups}
 use Rattle.graphql_bundles.specs.Groups.{KeyGroup, group_of}
 use Rattle.graphql_bundles.proofs.PassLemmas.{groups-none, groups-more}
 use Rattle.graphql_bundles.proofs.pass.pass_groups.Goals as goal
@@ -21,7 +21,7 @@ returns-clause-passed g c = λ fragments.
 
 pub returns-clause-counted : goal.returns-clause-counted
 returns-clause-counted g c =
-    subst (λ gs. c.loop-group.comparisons ≤ c.args.comparisons.now + 2 * fields_of_groups gs)
+    subst (λ gs. c.loop-group.comparisons ≤ c.args.comparisons.now + 2 * repeats_in_groups gs)
     (take_all c.loop-group.group-index c.args.groups.now c.loop-group-test.false) c.loop-group.invariant.counted
 
 pub loop-group-init : goal.loop-group-init
@@ -34,7 +34,7 @@ loop-group-init g c = record {
 pub loop-group-preserved : goal.loop-group-preserved
 loop-group-preserved g c = record {
   counted =
-      let size = λ (h : KeyGroup g.row.S.Denot g.row.C.Denot). length h.1 in
+      let size = λ (h : KeyGroup g.row.S.Denot g.row.C.Denot). length h.1 - 1 in
       let more = sum_by_more size c.args.groups.now c.loop-group.group-index c.group-item.result c.loop-group-test.true in
       let here = ap size c.group-item.is in
       let fields = ap length c.as_slice-fields.ensures in

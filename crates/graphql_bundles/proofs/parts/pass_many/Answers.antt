@@ -8,7 +8,7 @@ use Rattle.graphql_bundles.specs.Going.{GroupLeadsTo, stage_of}
 use Rattle.graphql_bundles.specs.Steps.{ArePartNamed, Compares, Goes, IsFoundOf}
 use Rattle.graphql_bundles.specs.Groups.{group_of}
 use Rattle.graphql_bundles.proofs.GoesLemmas.{group-apart, group-whole}
-use Rattle.graphql_bundles.proofs.parts.pass_group.Goals as goal
+use Rattle.graphql_bundles.proofs.parts.pass_many.Goals as goal
 
 pub returns-then-around-clause-passed : goal.returns-then-around-clause-passed
 returns-then-around-clause-passed g c =
