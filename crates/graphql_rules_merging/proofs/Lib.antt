@@ -19,3 +19,4 @@ pub mod Reordered
 pub mod InOrder
 pub mod Joined
 pub mod Visits
+pub mod Classing

@@ -5,3 +5,4 @@ pub mod Counted
 pub mod Comparing
 pub mod Finished
 pub mod Visitor
+pub mod Classes

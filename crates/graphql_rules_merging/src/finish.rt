@@ -11,6 +11,7 @@ ghost use Rattle.graphql_rules_merging.specs.Finished.{IsFinished};
 
 use crate::agenda::Agenda;
 use crate::begin::begin_sets;
+use crate::classes::classes_of;
 use crate::progress::Progress;
 use crate::sets::compare_sets;
 use graphql_merging::SetTable;
@@ -38,7 +39,7 @@ fn begin_definitions<S, C>(
 
 /// The errors of the fields that do not merge, in the order in which they are found. The sets below
 /// `definitions` are those of the document's definitions. An error of the call is want of memory.
-pub(crate) fn merge_errors<S: PartialEq, C>(
+pub(crate) fn merge_errors<S: Eq, C>(
     alloc: Global,
     schema: &SchemaType<S, C>,
     table: &SetTable<'_, '_, S, C>,
@@ -56,9 +57,11 @@ pub(crate) fn merge_errors<S: PartialEq, C>(
         agenda: Agenda::new(alloc),
         comparisons: *comparisons,
     };
+    let classes = classes_of(alloc, schema, table)?;
+    let numbers = classes.as_slice();
     begin_definitions(table, &mut progress.agenda, definitions)?;
     'pairs: while let Some(pair) = progress.agenda.next()? {
-        compare_sets(alloc, schema, table, pair, &mut progress)?;
+        compare_sets(alloc, schema, table, numbers, pair, &mut progress)?;
     }
     *comparisons = progress.comparisons;
     Ok(progress.told)

@@ -4,6 +4,7 @@
 
 mod agenda;
 mod begin;
+mod classes;
 mod fields;
 mod finish;
 pub mod laws;

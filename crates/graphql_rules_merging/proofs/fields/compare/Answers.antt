@@ -1,4 +1,6 @@
-use Rattle.std.proofs.Common.{◌≡◌, refl, ap, sym, subst, ◌∙◌}
+use Rattle.std.proofs.Common.{◌≡◌, refl, ap, sym, subst, ◌∙◌, []}
+use Rattle.graphql_bundles.proofs.ListLemmas.{here}
+use Rattle.graphql_rules_merging.proofs.Classing.{alike-agree}
 use Rattle.std.proofs.lemmas.Result.{on_ok_weaker}
 use Rattle.graphql_merging.specs.Selected.{seen}
 use Rattle.graphql_merging.specs.Tables.{pieces_of, piece_field}
@@ -32,17 +34,36 @@ returns-in-Some-clause-compared g c =
     refl told.at refl)
     c.tell.ensures
 
+pub returns-then-are_of_one_class-clause-compared : goal.returns-then-are_of_one_class-clause-compared
+returns-then-are_of_one_class-clause-compared g c =
+    let left = c.args.left.now in
+    let right = c.args.right.now in
+    let eq = g.S.PartialEq.eq in
+    let types = c.args.schema.now.types in
+    let class = c.are_of_one_class.ensures c.if-are_of_one_class.true in
+    let alike = c.requires left right (here left []) (here right []) class.0 class.1 in
+    on_ok_weaker c.begin_sets.result
+    (λ begun fragments.
+    compares_agree eq types (pieces_of fragments c.args.table.now) c.args.around
+    (piece_field fragments left, piece_field fragments right) (stage_of c.args.progress.now)
+    (stage_of (record { told = c.args.progress.now.told; agenda = c.begin_sets.new.agenda; comparisons = c.count_comparison.new.comparisons })) alike.key
+    (alike-agree eq types fragments c.args.around left right alike)
+    refl
+    (subst (λ k. Begins (pieces_of fragments c.args.table.now) (λ pair. pair ≡ k) (λ pair. pair ≡ k) (listed_of c.args.progress.now.agenda) (listed_of c.begin_sets.new.agenda))
+    (ap (pair_of left.own right.own) (c.is_excused-excused.ensures fragments)) (begun fragments)))
+    c.begin_sets.ensures
+
 pub returns-in-None-clause-compared : goal.returns-in-None-clause-compared
 returns-in-None-clause-compared g c =
     let key = sym c.response_key.ensures ∙ same-text c.response_key.result.now c.response_key-2.result.now c.ne.result c.ne.ensures c.if-ne.false ∙ c.response_key-2.ensures in
-    on_ok_weaker c.begin_sets.result
+    on_ok_weaker c.begin_sets-in-None.result
     (λ begun fragments.
     compares_agree g.S.PartialEq.eq c.args.schema.now.types (pieces_of fragments c.args.table.now) c.args.around
     (piece_field fragments c.args.left.now, piece_field fragments c.args.right.now) (stage_of c.args.progress.now)
-    (stage_of (record { told = c.args.progress.now.told; agenda = c.begin_sets.new.agenda; comparisons = c.count_comparison.new.comparisons })) key
+    (stage_of (record { told = c.args.progress.now.told; agenda = c.begin_sets-in-None.new.agenda; comparisons = c.count_comparison.new.comparisons })) key
     (subst (Differs g.S.PartialEq.eq c.args.schema.now.types c.args.around (seen fragments c.args.left.now.selected) (seen fragments c.args.right.now.selected)) c.in-None.is
     (c.in_ok-difference.ensures fragments))
     refl
-    (subst (λ k. Begins (pieces_of fragments c.args.table.now) (λ pair. pair ≡ k) (λ pair. pair ≡ k) (listed_of c.args.progress.now.agenda) (listed_of c.begin_sets.new.agenda))
-    (ap (pair_of c.args.left.now.own c.args.right.now.own) (c.is_excused-excused.ensures fragments)) (begun fragments)))
-    c.begin_sets.ensures
+    (subst (λ k. Begins (pieces_of fragments c.args.table.now) (λ pair. pair ≡ k) (λ pair. pair ≡ k) (listed_of c.args.progress.now.agenda) (listed_of c.begin_sets-in-None.new.agenda))
+    (ap (pair_of c.args.left.now.own c.args.right.now.own) (c.is_excused-excused-in-None.ensures fragments)) (begun fragments)))
+    c.begin_sets-in-None.ensures

@@ -1,7 +1,9 @@
-use Rattle.std.proofs.Common.{arith, map, take, take_all, subst}
+use Rattle.std.proofs.Common.{arith, map, take, take_all, subst, [], ◌∷◌}
 use Rattle.graphql_merging.specs.Tables.{pieces_of, piece_field}
 use Rattle.graphql_rules_merging.specs.Comparing.{with_each, stage_of, Compares}
 use Rattle.graphql_rules_merging.proofs.Comparisons.{with_each_more, compares_none, compares_both}
+use Rattle.graphql_bundles.proofs.ListLemmas.{at-place, here}
+use Rattle.graphql_rules_merging.proofs.Classing.{classed-one}
 use Rattle.graphql_rules_merging.proofs.fields.compare_with.Goals as goal
 
 pub returns-clause-compared : goal.returns-clause-compared
@@ -28,3 +30,8 @@ loop-right-preserved g c = record {
       (with_each one (map (piece_field fragments) (take c.loop-right.right-index c.args.others.now))) _ (stage_of c.args.progress.now) (stage_of c.loop-right.progress)
       (stage_of c.compare.new.progress) (c.loop-right.invariant.compared fragments) (c.in_ok-compare.ensures.compared fragments));
 }
+
+pub compare-requires : goal.compare-requires
+compare-requires g c =
+    classed-one g.S.PartialEq.eq c.args.schema.now.types c.args.classes.now c.args.left.now c.right-item.result (c.args.left.now ∷ []) c.args.others.now
+    (here c.args.left.now []) (at-place c.args.others.now c.loop-right.right-index c.right-item.result c.loop-right-test.true c.right-item.is) c.requires

@@ -1,9 +1,14 @@
-use Rattle.std.proofs.Common.{ℕ, ◌-◌, ◌≡◌, ◌∙◌, ◌+◌, ◌*◌, ap, arith, length, length-drop, map, drop, subst, sym, []}
+use Rattle.std.proofs.Common.{ℕ, ◌-◌, ◌≡◌, ◌∙◌, ◌+◌, ◌*◌, ap, arith, length, length-drop, map, drop, take, subst, sym, []}
 use Rattle.std.proofs.lemmas.List.{drop_all}
 use Rattle.graphql_merging.specs.Tables.{pieces_of, piece_field}
 use Rattle.graphql_rules_merging.specs.Comparing.{with_each, later, stage_of, Compares}
 use Rattle.graphql_rules_merging.proofs.Weights.{later-square}
 use Rattle.graphql_rules_merging.proofs.Comparisons.{later_more, compares_none, compares_both}
+use Rattle.std.specs.List.{Contains}
+use Rattle.std.proofs.lemmas.List.{take-append-drop}
+use Rattle.std.proofs.lemmas.List.Elements.{Contains-append_right}
+use Rattle.graphql_bundles.proofs.ListLemmas.{at-place}
+use Rattle.graphql_rules_merging.proofs.Classing.{classed-with}
 use Rattle.graphql_rules_merging.proofs.fields.compare_within.Goals as goal
 
 pub returns-clause-compared : goal.returns-clause-compared
@@ -50,3 +55,13 @@ loop-index-preserved g c = record {
       (stage_of c.loop-index.progress) (stage_of c.compare_with.new.progress)) c.after.ensures (c.in_ok-compare_with.ensures.compared fragments))
       h));
 }
+
+pub compare_with-requires : goal.compare_with-requires
+compare_with-requires g c =
+    let fields = c.args.fields.now in
+    let i = c.loop-index.index in
+    classed-with g.S.PartialEq.eq c.args.schema.now.types c.args.classes.now c.index-fields-index.result fields fields c.after.result.now
+    (at-place fields i c.index-fields-index.result c.loop-index-test.true c.index-fields-index.is)
+    (λ h k. subst (λ fs. Contains fs h) (take-append-drop (i + 1) fields)
+    (Contains-append_right (take (i + 1) fields) (drop (i + 1) fields) h (subst (λ fs. Contains fs h) c.after.ensures k)))
+    c.requires

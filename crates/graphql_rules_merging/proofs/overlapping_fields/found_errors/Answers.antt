@@ -1,8 +1,5 @@
-use Rattle.std.proofs.Common.{arith, subst, inl}
-use Rattle.std.proofs.lemmas.Result.{on_ok_weaker}
-use Rattle.graphql_merging.specs.FieldNodes.{fields_written}
+use Rattle.std.proofs.Common.{subst, inl}
 use Rattle.graphql_merging.specs.Tables.{pieces_of}
-use Rattle.graphql_bundles.specs.Counted.{direct_of}
 use Rattle.graphql_bundles.specs.Ends.{Ends}
 use Rattle.graphql_rules_merging.proofs.overlapping_fields.found_errors.Goals as goal
 

@@ -1,4 +1,4 @@
-use Rattle.std.proofs.Common.{◌≡◌, ◌*◌, arith, length, ap, sym, ◌∙◌, map, inl, inr}
+use Rattle.std.proofs.Common.{◌≡◌, ◌*◌, arith, length, ap, sym, subst, ◌∙◌, map, inl, inr}
 use Rattle.std.proofs.lemmas.Result.{on_ok_weaker}
 use Rattle.graphql_merging.specs.Tables.{pieces_of, piece_field}
 use Rattle.graphql_rules_merging.specs.Comparing.{stage_of}
@@ -7,6 +7,8 @@ use Rattle.graphql_rules_merging.proofs.Numbered.{direct_at, fields-of, inner_at
 use Rattle.graphql_rules_merging.proofs.Weights.{weight-one, weight-two}
 use Rattle.graphql_rules_merging.proofs.WholeSets.{compares_empty, compares_itself, compares_other}
 use Rattle.graphql_rules_merging.specs.Agenda.{listed_of}
+use Rattle.graphql_bundles.specs.Groups.{fields_in}
+use Rattle.graphql_rules_merging.specs.Classes.{AreClassed}
 use Rattle.graphql_rules_merging.proofs.sets.compare_sets.Goals as goal
 
 pub returns-in_default-clause-compared : goal.returns-in_default-clause-compared
@@ -74,3 +76,19 @@ returns-else-pair-clause-counted g c =
     let both : length c.as_slice-fields.result.now * length c.as_slice-else-pair.result.now ≡ fields_at table left * fields_at table right = (λ i. one i * other i) in
     let weighs = weight-two (fields_at table) left right c.if-pair.false in
     on_ok_weaker c.compare_between.result (λ counted. omega (arith, counted, weighs, both)) c.compare_between.ensures.counted
+
+pub compare_itself-requires : goal.compare_itself-requires
+compare_itself-requires g c =
+    let left = c.args.pair.left in
+    let are = c.as_slice-fields.ensures ∙ fields-of c.args.table.now left c.in-Some.one.now c.in-Some.ensures in
+    subst (λ fs. AreClassed g.S.PartialEq.eq c.args.schema.now.types c.args.classes.now fs fs) (sym are) (c.requires left left)
+
+pub compare_between-requires : goal.compare_between-requires
+compare_between-requires g c =
+    let table = c.args.table.now in
+    let left = c.args.pair.left in
+    let right = c.args.pair.right in
+    let one = c.as_slice-fields.ensures ∙ fields-of table left c.in-Some.one.now c.in-Some.ensures in
+    let other = c.as_slice-else-pair.ensures ∙ fields-of table right c.in-Some-get.other.now c.in-Some-get.ensures in
+    subst (λ fs. AreClassed g.S.PartialEq.eq c.args.schema.now.types c.args.classes.now fs c.as_slice-else-pair.result.now) (sym one)
+    (subst (λ gs. AreClassed g.S.PartialEq.eq c.args.schema.now.types c.args.classes.now (fields_in table left) gs) (sym other) (c.requires left right))
