@@ -12,6 +12,7 @@ ghost use Rattle.graphql_names.specs.NameMaps.{IsRepeat};
 ghost use Rattle.graphql_names.specs.declared.name_map.NameMapError.TheVariants.{Memory};
 
 use crate::named::Named;
+use crate::named_items::{FEW, first_named};
 use graphql_text::{Items, Text};
 use std::alloc::{AllocError, AllocFailed, Global};
 use std::marker::Model;
@@ -114,6 +115,9 @@ impl<T: Named> NameMap<T> {
     pub fn get(&self, name: &str) -> Option<&T>
         ensures { option_copied result ≡ named T.name_of self.now name.now }
     {
+        if self.items.len() <= FEW {
+            return first_named(self.items.as_slice(), name);
+        }
         match self.place_of(name) {
             Ok(place) => self.items.get(place),
             Err(_) => None,

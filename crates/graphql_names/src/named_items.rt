@@ -84,11 +84,15 @@ impl<T: Named> NamedItems<T> {
         self.items.is_empty()
     }
 
-    /// The first item of this name, or `None` where no item has it. Finds it by binary search.
+    /// The first item of this name, or `None` where no item has it: among few it is looked for one by
+    /// one, among more by binary search.
     pub fn get(&self, name: &str) -> Option<&T>
         ensures { option_copied result ≡ named T.name_of self.now name.now }
     {
         let items = self.items.as_slice();
+        if items.len() <= FEW {
+            return first_named(items, name);
+        }
         match self
             .by_name
             .get(begin_of(items, self.by_name.as_slice(), name))
@@ -117,6 +121,16 @@ impl<T: Named> NamedItems<T> {
             }
         }
     }
+}
+
+/// Among so many items a name is looked for one by one, and among more by binary search.
+pub(crate) const FEW: usize = 32;
+
+/// The first item of this name, looked for one by one.
+pub(crate) fn first_named<'a, T: Named>(items: &'a [T], name: &str) -> Option<&'a T>
+    ensures { option_copied result ≡ named T.name_of items.now name.now }
+{
+    items.iter().find(|item| item.name() == name)
 }
 
 /// The name of the item at a place; past the end the empty one.

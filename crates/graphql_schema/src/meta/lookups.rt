@@ -54,7 +54,7 @@ impl<S, C> MetaType<S, C> {
 
     /// The field of this name of an object or an interface (GraphQL October 2021, 3.6 Objects, 3.7
     /// Interfaces), the first where there are several. `None` where there is none; other types have
-    /// no fields. Finds it by binary search.
+    /// no fields. Among many it is found by binary search.
     pub fn field_by_name(&self, name: &str) -> Option<&Field<S>>
         ensures { option_copied result ≡ find (λ field. bytes_eq field.name name.now) (fields_of self.now) }
     {
