@@ -1,3 +1,11 @@
-pub mod WideScalars
 pub mod AnyScalars
+pub mod Beings
+pub mod Counters
+pub mod Kinds
+pub mod OnlyResponses
+pub mod PersonKeys
+pub mod Persons
+pub mod SameKinds
 pub mod Samples
+pub mod ToldKeys
+pub mod WideScalars

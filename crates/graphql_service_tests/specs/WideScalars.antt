@@ -7,8 +7,8 @@ use Rattle.graphql_scalars.specs.DefaultScalar as default
 use Rattle.graphql_scalars.specs.ScalarAnswers.{ScalarAnswer, integer, boolean, text}
 use Rattle.graphql_scalars.specs.declared.default_scalar.DefaultScalarValue.{DefaultScalarValue}
 use Rattle.graphql_scalars.specs.declared.default_scalar.DefaultScalarValue.TheVariants as narrow
-use Rattle.graphql_service_tests.specs.declared.wide_scalar.WideScalar.{WideScalar}
-use Rattle.graphql_service_tests.specs.declared.wide_scalar.WideScalar.TheVariants as wide
+use Rattle.graphql_service_tests.specs.declared.service.wide_scalar.WideScalar.{WideScalar}
+use Rattle.graphql_service_tests.specs.declared.service.wide_scalar.WideScalar.TheVariants as wide
 
 -- the same scalar
 abbrev pub widened : DefaultScalarValue → WideScalar

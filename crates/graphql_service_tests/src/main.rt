@@ -1,32 +1,10 @@
-//! Tests of the service layer.
+//! Tests of execution (`executor`) and of the service layer (`service`).
 //!
-//! They show what no contract says: that lines are requests and values become JSON where there is
-//! memory, what worked requests are answered, and how lines are read and answers written.
-//!
-//! They stand in a program that does nothing, since what a library stands on is read by the gate along
-//! every way that leads there.
+//! They stand in a program that does nothing, since what a library stands on is read by the gate
+//! along every way that leads there.
 #![tactic(auto)]
 
-#[cfg(test)]
-mod alike;
-#[cfg(test)]
-mod files;
-#[cfg(test)]
-mod introspected;
-#[cfg(test)]
-mod lines;
-#[cfg(test)]
-mod plain;
-#[cfg(test)]
-mod rows;
-#[cfg(test)]
-mod schemas;
-#[cfg(test)]
-mod served;
-#[cfg(test)]
-mod serving;
-#[cfg(test)]
-mod wide_numbers;
-pub mod wide_scalar;
+pub mod executor;
+pub mod service;
 
 fn main() {}

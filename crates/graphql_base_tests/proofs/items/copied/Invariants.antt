@@ -1,5 +1,0 @@
-use Rattle.std.proofs.Common.{◌≡◌, map}
-use Rattle.graphql_base_tests.proofs.items.copied.Given as goal
-
-abbrev pub invariant-loop-item : goal.invariant-loop-item
-invariant-loop-item l = l.copy ≡ map (λ x. x.now) l.yielded

@@ -1,5 +1,0 @@
-use Rattle.std.proofs.Common.{◌≡◌, ℕ, ◌<◌, get_or}
-use Rattle.graphql_base_tests.proofs.items.set_each.Given as goal
-
-abbrev pub invariant-loop-item : goal.invariant-loop-item
-invariant-loop-item l = (k : ℕ) → k < l.item-index → get_or l.item-items k 0 ≡ 7

@@ -1,6 +1,0 @@
-use Rattle.graphql_schema.proofs.CheckLemmas.{known_box}
-use Rattle.graphql_schema.proofs.ScalarCheckLemmas.{scalar_consistent}
-use Rattle.graphql_executor_tests.proofs.look_ahead.schema.over.Goals as goal
-
-pub new-boolean-requires-clause-consistent : goal.new-boolean-requires-clause-consistent
-new-boolean-requires-clause-consistent g c = scalar_consistent _ (λ p r said. rw (known_box c.into_dyn_box.result c.into_dyn_box.ensures.0) at said)

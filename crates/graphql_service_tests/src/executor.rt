@@ -1,0 +1,17 @@
+//! Tests of execution: what requests are answered over a resolver of the tests' own.
+
+#[cfg(test)]
+mod answered;
+pub mod answered_alone;
+pub mod beings;
+mod completed;
+#[cfg(test)]
+mod costly;
+pub mod counter;
+mod kennel;
+pub mod look_ahead;
+#[cfg(test)]
+mod rows;
+#[cfg(test)]
+mod schemas;
+mod told;

@@ -1,0 +1,26 @@
+//! Tests of the service layer.
+//!
+//! They show what no contract says: that lines are requests and values become JSON where there is
+//! memory, what worked requests are answered, and how lines are read and answers written.
+
+#[cfg(test)]
+mod alike;
+#[cfg(test)]
+mod files;
+#[cfg(test)]
+mod introspected;
+#[cfg(test)]
+mod lines;
+#[cfg(test)]
+mod plain;
+#[cfg(test)]
+mod rows;
+#[cfg(test)]
+mod schemas;
+#[cfg(test)]
+mod served;
+#[cfg(test)]
+mod serving;
+#[cfg(test)]
+mod wide_numbers;
+pub mod wide_scalar;

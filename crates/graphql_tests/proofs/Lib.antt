@@ -1,0 +1,2 @@
+pub mod RegistryRowLemmas
+pub mod SpelledNames

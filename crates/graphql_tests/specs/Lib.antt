@@ -1,0 +1,2 @@
+pub mod RegistryRows
+pub mod SpelledNames

@@ -1,9 +1,0 @@
-use Rattle.graphql_schema.proofs.CheckLemmas.{known_box}
-use Rattle.graphql_schema.proofs.ScalarCheckLemmas.{scalar_consistent}
-use Rattle.graphql_validation_tests.proofs.boxed_checks.a_schema_says_what_its_types_accept.Goals as goal
-
-pub new-string-requires-clause-consistent : goal.new-string-requires-clause-consistent
-new-string-requires-clause-consistent g c = scalar_consistent _ (λ p r said. rw (known_box c.into_dyn_box.result c.into_dyn_box.ensures.0) at said)
-
-pub new-boolean-requires-clause-consistent : goal.new-boolean-requires-clause-consistent
-new-boolean-requires-clause-consistent g c = scalar_consistent _ (λ p r said. rw (known_box c.into_dyn_box-in_ok-new-2.result c.into_dyn_box-in_ok-new-2.ensures.0) at said)
