@@ -32,6 +32,9 @@ pub struct Walk<'a, 't, S, C = <S as SchemaScalar>::Check> {
     tasks: Items<Task<'a, 't, S, C>>,
 }
 
+/// Room for so many tasks is asked for at once.
+const AHEAD: usize = 16;
+
 impl<'a, 't, S, C> Walk<'a, 't, S, C> {
     /// A walk from the start of `document`, with the types of `schema`. An error is want of memory.
     pub fn new(
@@ -42,7 +45,7 @@ impl<'a, 't, S, C> Walk<'a, 't, S, C> {
         ensures schema { IfOk result (λ walk. walk.schema ≡ schema.entry) }
         ensures events { IfOk result (λ walk. ahead walk ≡ events (declarations_of schema.now) document.now) }
     {
-        let mut tasks = Items::new(alloc);
+        let mut tasks = Items::with_capacity(alloc, AHEAD)?;
         add(
             schema,
             &mut tasks,

@@ -5,6 +5,7 @@ ghost use Rattle.graphql_schema.specs.Declarations.{declarations_of};
 ghost use Rattle.graphql_occurrences.specs.Events.{seen};
 ghost use Rattle.graphql_occurrences.specs.Lent.{around_of, event_of, node_of};
 ghost use Rattle.graphql_document_walk.specs.Pending.{Adds, Opens, part_events, told};
+ghost use Rattle.graphql_document_walk.specs.Siblings as spec;
 
 use graphql_declarations::DeclaredArguments;
 use graphql_occurrences::{Around, Event, Node, Owner};
@@ -88,7 +89,25 @@ fn put<T: Drop>(items: &mut Items<T>, item: T) -> Result<(), AllocError>
     Ok(())
 }
 
-/// Puts a part on top, to be gone through. An error is want of memory.
+/// How many siblings stand in a part. A document, a set and a value stand alone.
+fn siblings_in<S>(part: &Part<'_, '_, S>) -> usize
+    ensures { result ≡ spec.siblings_in part.now }
+{
+    match part {
+        Part::Document(_) => 1,
+        Part::Definitions(definitions) => definitions.len(),
+        Part::Variables(variables) => variables.len(),
+        Part::Directives(_, directives) => directives.len(),
+        Part::Arguments(_, _, arguments) => arguments.len(),
+        Part::Set(_) => 1,
+        Part::Selections(selections) => selections.len(),
+        Part::Value(_) => 1,
+        Part::Items(items) => items.len(),
+        Part::Pairs(pairs) => pairs.len(),
+    }
+}
+
+/// Puts a part on top, to be gone through, if anything stands in it. An error is want of memory.
 pub(crate) fn add<'a, 't, S, C>(
     schema: &'a SchemaType<S, C>,
     tasks: &mut Items<Task<'a, 't, S, C>>,
@@ -97,6 +116,9 @@ pub(crate) fn add<'a, 't, S, C>(
 ) -> Result<(), AllocError>
     ensures { OnOk result (Adds (declarations_of schema.now) (part_events (declarations_of schema.now) part.entry (around_of around.entry)) tasks.old tasks.new) }
 {
+    if siblings_in(&part) == 0 {
+        return Ok(());
+    }
     put(
         tasks,
         Task {
