@@ -1,7 +1,7 @@
 //! The fields of selection sets for an object type, each fragment entered once.
 
 ghost use Rattle.std.specs.Prelude.{◌≡◌, ◌≤◌, ◌<◌, ◌+◌, ℕ, List, [], ◌∷◌, Some, length, slice_get, OnOk, IfOk, map};
-ghost use Rattle.std.specs.Option.{option_map};
+ghost use Rattle.std.specs.Option.{option_map, option_map_or};
 ghost use Rattle.std.specs.List.{flat_map, list_any};
 ghost use Rattle.std.specs.Str.{bytes_eq};
 ghost use Rattle.graphql_tree.specs.declared.selection.Selection.TheVariants as selection;
@@ -304,9 +304,22 @@ pub fn fields_of_set<'d, 'a, S: SchemaScalar>(
     ensures few { IfOk result (λ found. length found ≤ size set.now + left_in [] (fragments_in request.now)) }
 {
     let mut visited: IndexSet<TextRef<'a>> = IndexSet::new(alloc);
-    let mut found = Items::new(alloc);
+    let mut found = Items::with_capacity(alloc, set.len())?;
     collect(alloc, request, object, set, &mut visited, &mut found)?;
     Ok(found)
+}
+
+/// How many selections stand in the set of the group's first field.
+fn many_below<S>(group: &[CollectedField<'_, '_, S>]) -> usize
+    ensures { result ≡ option_map_or (λ first. length (listed first.field.now.item.selection_set)) (slice_get group.now 0) 0 }
+{
+    match group.first() {
+        Some(first) => match &first.field.item.selection_set {
+            Some(set) => set.len(),
+            None => 0,
+        },
+        None => 0,
+    }
 }
 
 /// The same of the sets of a group's fields together (6.4.3 Value Completion, MergeSelectionSets): each
@@ -322,7 +335,7 @@ pub fn fields_below<'d, 'a, S: SchemaScalar>(
     ensures few { IfOk result (λ found. length found ≤ size_below group.now + left_in [] (fragments_in request.now)) }
 {
     let mut visited: IndexSet<TextRef<'a>> = IndexSet::new(alloc);
-    let mut found = Items::new(alloc);
+    let mut found = Items::with_capacity(alloc, many_below(group))?;
     for occurrence in group {
         collect_below(alloc, request, object, occurrence, &mut visited, &mut found)?;
     }

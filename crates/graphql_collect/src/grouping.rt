@@ -1,7 +1,9 @@
 //! Fields by their response keys.
 
 ghost use Rattle.std.specs.Prelude.{◌≡◌, map, IfOk, OnOk};
-ghost use Rattle.graphql_collect.specs.Grouped.{IsGrouped, key_at, put};
+ghost use Rattle.std.specs.List.{IsDistinct, position_or_len};
+ghost use Rattle.std.specs.Str.{bytes_eq};
+ghost use Rattle.graphql_collect.specs.Grouped.{IsGrouped, begun, key_at, put};
 
 use crate::collected_field::CollectedField;
 use graphql_text::{Items, TextRef};
@@ -19,24 +21,100 @@ fn key_of<'d, S>(occurrence: &CollectedField<'d, '_, S>) -> TextRef<'d>
     TextRef::new(response_key(&occurrence.field.item))
 }
 
-/// Puts the field to the group of its key, which is a new one, and the last, if there is none. An error
-/// is want of memory.
+/// So many fields, at most, are grouped without a set of their keys.
+const FEW: usize = 8;
+
+/// The place of the group of this key, or that after the last if there is none. A scan.
+fn place_of<S>(groups: &[Group<'_, '_, S>], key: &str) -> usize
+    ensures { result ≡ position_or_len (bytes_eq key.now) (map (λ g. g.0) groups.now) }
+{
+    groups
+        .iter()
+        .position(|group| key == group.0.as_str())
+        .unwrap_or(groups.len())
+}
+
+/// Begins a group for the field's key, the last, if its place is after all groups. An error is want
+/// of memory.
+fn begin_at<'d, 'a, S>(
+    alloc: Global,
+    occurrence: &CollectedField<'d, 'a, S>,
+    place: usize,
+    groups: &mut Items<Group<'d, 'a, S>>,
+) -> Result<(), AllocError>
+    requires { place ≡ position_or_len (bytes_eq (key_at occurrence.now)) (map (λ g. g.0) groups.old) }
+    ensures { OnOk result (groups.new ≡ begun occurrence.now groups.old) }
+{
+    if place == groups.len() {
+        groups.push((key_of(occurrence), Items::new(alloc)))?;
+    }
+    Ok(())
+}
+
+/// Puts the field to the group of its key, which stands at this place, or is a new one, and the
+/// last, if the place is after all groups. An error is want of memory.
+fn put_at<'d, 'a, S>(
+    alloc: Global,
+    occurrence: &CollectedField<'d, 'a, S>,
+    place: usize,
+    groups: &mut Items<Group<'d, 'a, S>>,
+) -> Result<(), AllocError>
+    requires distinct { IsDistinct bytes_eq (map (λ g. g.0) groups.old) }
+    requires place { place ≡ position_or_len (bytes_eq (key_at occurrence.now)) (map (λ g. g.0) groups.old) }
+    ensures put { OnOk result (groups.new ≡ put occurrence.now groups.old) }
+    ensures distinct { OnOk result (IsDistinct bytes_eq (map (λ g. g.0) groups.new)) }
+{
+    begin_at(alloc, occurrence, place, groups)?;
+    groups[place].1.push(*occurrence)?;
+    Ok(())
+}
+
+/// Puts the field to the group of its key, which the set of the groups' keys finds. An error is
+/// want of memory.
 fn put<'d, 'a, S>(
     alloc: Global,
     occurrence: &CollectedField<'d, 'a, S>,
     keys: &mut IndexSet<TextRef<'d>>,
     groups: &mut Items<Group<'d, 'a, S>>,
 ) -> Result<(), AllocError>
-    requires { keys.old.keys ≡ map (λ g. g.0) groups.old }
+    requires distinct { IsDistinct bytes_eq (map (λ g. g.0) groups.old) }
+    requires keys { keys.old.keys ≡ map (λ g. g.0) groups.old }
     ensures put { OnOk result (groups.new ≡ put occurrence.now groups.old) }
+    ensures distinct { OnOk result (IsDistinct bytes_eq (map (λ g. g.0) groups.new)) }
     ensures keys { OnOk result (keys.new.keys ≡ map (λ g. g.0) groups.new) }
 {
-    let (place, added) = keys.insert_full(key_of(occurrence))?;
-    if added {
-        groups.push((key_of(occurrence), Items::new(alloc)))?;
+    let (place, _) = keys.insert_full(key_of(occurrence))?;
+    put_at(alloc, occurrence, place, groups)
+}
+
+/// The groups of few fields, where each key is looked for among the groups.
+fn grouped_few<'d, 'a, S>(
+    alloc: Global,
+    found: &[CollectedField<'d, 'a, S>],
+) -> Result<Items<Group<'d, 'a, S>>, AllocError>
+    ensures { IfOk result (IsGrouped found.now) }
+{
+    let mut groups = Items::with_capacity(alloc, found.len())?;
+    for occurrence in found {
+        let place = place_of(groups.as_slice(), key_of(occurrence).as_str());
+        put_at(alloc, occurrence, place, &mut groups)?;
     }
-    groups[place].1.push(*occurrence)?;
-    Ok(())
+    Ok(groups)
+}
+
+/// The groups of any number of fields, where each key is looked for in a set.
+fn grouped_many<'d, 'a, S>(
+    alloc: Global,
+    found: &[CollectedField<'d, 'a, S>],
+) -> Result<Items<Group<'d, 'a, S>>, AllocError>
+    ensures { IfOk result (IsGrouped found.now) }
+{
+    let mut keys: IndexSet<TextRef<'d>> = IndexSet::new(alloc);
+    let mut groups = Items::with_capacity(alloc, found.len())?;
+    for occurrence in found {
+        put(alloc, occurrence, &mut keys, &mut groups)?;
+    }
+    Ok(groups)
 }
 
 /// The fields by their response keys, in order of first appearance (GraphQL October 2021, 6.3.2 Field
@@ -47,10 +125,8 @@ pub fn grouped<'d, 'a, S>(
 ) -> Result<Items<Group<'d, 'a, S>>, AllocError>
     ensures { IfOk result (IsGrouped found.now) }
 {
-    let mut keys: IndexSet<TextRef<'d>> = IndexSet::new(alloc);
-    let mut groups = Items::new(alloc);
-    for occurrence in found {
-        put(alloc, occurrence, &mut keys, &mut groups)?;
+    if found.len() <= FEW {
+        return grouped_few(alloc, found);
     }
-    Ok(groups)
+    grouped_many(alloc, found)
 }

@@ -8,11 +8,11 @@ use Rattle.graphql_collect.proofs.collecting.fields_below.Goals as goal
 pub loop-occurrence-init : goal.loop-occurrence-init
 loop-occurrence-init g c =
     let none_visited : c.new-visited.result.keys ≡ [] = search rules in
-    let none_found : c.new-found.result ≡ [] = search rules in
+    let none_found : c.in_ok-found.found ≡ [] = c.in_ok-found.ensures in
     let same : left_in c.new-visited.result.keys (fragments_in c.args.request.now) ≡ left_in [] (fragments_in c.args.request.now) = ap (λ (z : List (List ℕ)). left_in z (fragments_in c.args.request.now)) none_visited in
-    let short : length c.new-found.result ≡ 0 = ap length none_found in
+    let short : length c.in_ok-found.found ≡ 0 = ap length none_found in
     record {
-      walked = ends g.S.ScalarValue.answer c.args.request.now c.args.object.now [] [] [] [] [] c.new-visited.result.keys c.new-found.result none_visited none_found
+      walked = ends g.S.ScalarValue.answer c.args.request.now c.args.object.now [] [] [] [] [] c.new-visited.result.keys c.in_ok-found.found none_visited none_found
           (begins g.S.ScalarValue.answer c.args.request.now c.args.object.now [] []);
       sized = omega (arith, same, short);
     }
