@@ -1,13 +1,14 @@
 -- Groups, one field more.
-use Rattle.std.proofs.Common.{◌≡◌, refl, sym, ◌∙◌, ap, subst, ℕ, suc, ◌+◌, ◌<◌, arith, Bool, true, false, not, List, [], ◌∷◌, ◌++◌, map, length, take, get_or, cond, append-nil, inl, inr}
-use Rattle.std.specs.List.{Contains, list_any, position_or_len, slice_set, AllByRecursion, IsDistinct}
+use Rattle.std.proofs.Common.{◌≡◌, refl, sym, ◌∙◌, ap, subst, ℕ, suc, ◌+◌, ◌<◌, arith, Bool, true, false, not, ◌||◌, nat_lt, List, [], ◌∷◌, ◌++◌, map, length, take, get_or, cond, Some, None, append-nil, inl, inr}
+use Rattle.std.specs.List.{Contains, list_any, position, position_or_len, slice_set, AllByRecursion, IsDistinct}
+use Rattle.std.specs.Option.{unwrap_or}
 use Rattle.std.specs.Str.{bytes_eq}
 use Rattle.std.specs.Cmp.Lexicographic.{nat_list_eq_equiv}
-use Rattle.std.proofs.lemmas.Bool.{false≢true}
+use Rattle.std.proofs.lemmas.Bool.{false≢true, ltb-false}
 use Rattle.std.proofs.lemmas.List.{map-append, length-append}
-use Rattle.std.proofs.lemmas.List.Sums.{sum_by-set, sum_by_push}
+use Rattle.std.proofs.lemmas.List.Sums.{prefix_len-le-length, sum_by-set, sum_by_push}
 use Rattle.std.proofs.lemmas.List.Elements.{filter-append, Contains-append_left, Contains-append_cases}
-use Rattle.std.proofs.lemmas.Map.Keys.{IsDistinct-head, IsDistinct-tail}
+use Rattle.std.proofs.lemmas.Map.Keys.{IsDistinct-head, IsDistinct-tail, IsDistinct-push}
 use Rattle.std.proofs.lemmas.Map.Views.{list_any-from_Contains}
 use Rattle.std.proofs.lemmas.Slice.Eq.{bytes_eq-Decides}
 use Rattle.indexmap.specs.IndexSet.{insert_key}
@@ -19,24 +20,82 @@ use Rattle.graphql_bundles.specs.Counted.{fields_of_groups}
 use Rattle.graphql_bundles.specs.Groups.{KeyGroup, IsGrouped, under, key_at, begun, takes, put}
 use Rattle.graphql_bundles.proofs.ListLemmas.{take-one, map_of, filter_nothing}
 
+-- the place of a group by its key, in a scan
+module _ {X : Type 0} (p : Bytes → Bool) where
+  by-key : (gs : List (Bytes × X)) → position_or_len (λ g. p g.0) gs ≡ position_or_len p (map (λ g. g.0) gs)
+  by-key [] = refl
+  by-key (g ∷ gs) = ap (λ n. cond (not (p g.0)) (1 + n) 0) (by-key gs)
+
+  pub scanned : (gs : List (Bytes × X)) → unwrap_or (position (λ g. p g.0) gs) (length gs) ≡ position_or_len p (map (λ g. g.0) gs)
+  scanned gs = cases (nat_lt (position_or_len (λ g. p g.0) gs) (length gs)) refl ∙ by-key gs
+    where
+      cases : (q : Bool) → nat_lt (position_or_len (λ g. p g.0) gs) (length gs) ≡ q
+          → unwrap_or (cond q (Some (position_or_len (λ g. p g.0) gs)) None) (length gs) ≡ position_or_len (λ g. p g.0) gs
+      cases true t = refl
+      cases false t = omega (arith, ltb-false _ _ t, prefix_len-le-length (λ (g : Bytes × X). not (p g.0)) gs)
+
 -- a field is put to its group
 module _ {S C : Type 0} (x : WrittenField S C) where
-  module _ (keys : List Bytes) (gs more : List (KeyGroup S C)) (are : keys ≡ map (λ g. g.0) gs) where
-    pub begun-new : true ≡ not (list_any (bytes_eq (key_at x)) keys) → more ≡ gs ++ (key_at x, []) ∷ [] → more ≡ begun x gs
-    begun-new t e = e ∙ cases (list_any (bytes_eq (key_at x)) (map (λ g. g.0) gs)) (t ∙ ap (λ ks. not (list_any (bytes_eq (key_at x)) ks)) are)
+  abbrev names : List (KeyGroup S C) → List Bytes
+  names = map (λ g. g.0)
+
+  -- the place of the field's key
+  abbrev place : List Bytes → ℕ
+  place = position_or_len (bytes_eq (key_at x))
+
+  length-names : (gs : List (KeyGroup S C)) → length (names gs) ≡ length gs
+  length-names [] = refl
+  length-names (g ∷ gs) = ap suc (length-names gs)
+
+  -- a key that is there stands before the end, and another one after it
+  there : (ks : List Bytes) → list_any (bytes_eq (key_at x)) ks ≡ true → place ks < length ks
+  there [] t = absurd cc
+  there (k ∷ ks) t = cases (bytes_eq (key_at x) k) (there ks) t
+    where
+      cases : (q : Bool) → (list_any (bytes_eq (key_at x)) ks ≡ true → place ks < length ks) → q || list_any (bytes_eq (key_at x)) ks ≡ true → cond (not q) (1 + place ks) 0 < suc (length ks)
+      cases true ih t = omega arith
+      cases false ih t = omega (arith, ih t)
+
+  nowhere : (ks : List Bytes) → list_any (bytes_eq (key_at x)) ks ≡ false → place ks ≡ length ks
+  nowhere [] t = refl
+  nowhere (k ∷ ks) t = cases (bytes_eq (key_at x) k) (nowhere ks) t
+    where
+      cases : (q : Bool) → (list_any (bytes_eq (key_at x)) ks ≡ false → place ks ≡ length ks) → q || list_any (bytes_eq (key_at x)) ks ≡ false → cond (not q) (1 + place ks) 0 ≡ suc (length ks)
+      cases true ih t = absurd cc
+      cases false ih t = omega (arith, ih t)
+
+  module _ (n : ℕ) (gs : List (KeyGroup S C)) (at : n ≡ place (names gs)) where
+    pub begun-new : n ≡ length gs → gs ++ (key_at x, []) ∷ [] ≡ begun x gs
+    begun-new last = cases (list_any (bytes_eq (key_at x)) (names gs)) refl
       where
-        cases : (q : Bool) → true ≡ not q → gs ++ (key_at x, []) ∷ [] ≡ cond q gs (gs ++ (key_at x, []) ∷ [])
-        cases true t = cc
+        cases : (q : Bool) → list_any (bytes_eq (key_at x)) (names gs) ≡ q → gs ++ (key_at x, []) ∷ [] ≡ cond q gs (gs ++ (key_at x, []) ∷ [])
+        cases true t = absurd (omega (arith, there (names gs) t, length-names gs, at, last))
         cases false t = refl
 
-    pub begun-old : false ≡ not (list_any (bytes_eq (key_at x)) keys) → more ≡ gs → more ≡ begun x gs
-    begun-old t e = e ∙ cases (list_any (bytes_eq (key_at x)) (map (λ g. g.0) gs)) (t ∙ ap (λ ks. not (list_any (bytes_eq (key_at x)) ks)) are)
+    pub begun-old : (n ≡ length gs → ⊥) → gs ≡ begun x gs
+    begun-old other = cases (list_any (bytes_eq (key_at x)) (names gs)) refl
       where
-        cases : (q : Bool) → false ≡ not q → gs ≡ cond q gs (gs ++ (key_at x, []) ∷ [])
+        cases : (q : Bool) → list_any (bytes_eq (key_at x)) (names gs) ≡ q → gs ≡ cond q gs (gs ++ (key_at x, []) ∷ [])
         cases true t = refl
-        cases false t = cc
+        cases false t = absurd (other (at ∙ nowhere (names gs) t ∙ length-names gs))
 
-  pub keys-begun : (gs : List (KeyGroup S C)) → map (λ g. g.0) (begun x gs) ≡ insert_key bytes_eq (map (λ g. g.0) gs) (key_at x)
+    -- the place is one of the groups, once the key has one
+    pub place-within : n < length (begun x gs)
+    place-within = cases (list_any (bytes_eq (key_at x)) (names gs)) refl
+      where
+        cases : (q : Bool) → list_any (bytes_eq (key_at x)) (names gs) ≡ q → n < length (cond q gs (gs ++ (key_at x, []) ∷ []))
+        cases true t = omega (arith, there (names gs) t, length-names gs, at)
+        cases false t = omega (arith, nowhere (names gs) t, length-names gs, at, length-append gs ((key_at x, []) ∷ []))
+
+  -- keys stay distinct where one is inserted
+  distinct-inserted : (ks : List Bytes) → IsDistinct bytes_eq ks → IsDistinct bytes_eq (insert_key bytes_eq ks (key_at x))
+  distinct-inserted ks u = cases (list_any (bytes_eq (key_at x)) ks) refl
+    where
+      cases : (q : Bool) → list_any (bytes_eq (key_at x)) ks ≡ q → IsDistinct bytes_eq (cond q ks (ks ++ key_at x ∷ []))
+      cases true t = u
+      cases false t = IsDistinct-push nat_list_eq_equiv ks (key_at x) u t
+
+  keys-begun : (gs : List (KeyGroup S C)) → map (λ g. g.0) (begun x gs) ≡ insert_key bytes_eq (map (λ g. g.0) gs) (key_at x)
   keys-begun gs = cases (list_any (bytes_eq (key_at x)) (map (λ g. g.0) gs))
     where
       cases : (q : Bool) → map (λ (g : KeyGroup S C). g.0) (cond q gs (gs ++ (key_at x, []) ∷ [])) ≡ cond q (map (λ g. g.0) gs) (map (λ g. g.0) gs ++ key_at x ∷ [])
@@ -64,10 +123,6 @@ module _ {S C : Type 0} (x : WrittenField S C) where
   abbrev with_it : KeyGroup S C → KeyGroup S C
   with_it g = (g.0, g.1 ++ x ∷ [])
 
-  length-names : (hs : List (KeyGroup S C)) → length (map (λ h. h.0) hs) ≡ length hs
-  length-names [] = refl
-  length-names (h ∷ hs) = ap suc (length-names hs)
-
   -- the group at a place, with the field
   abbrev Taken : List (KeyGroup S C) → KeyGroup S C → ℕ → Type 0
   Taken gs d n = slice_set gs n (with_it (get_or gs n d)) ≡ map (takes x) gs
@@ -87,7 +142,7 @@ module _ {S C : Type 0} (x : WrittenField S C) where
           subst (Taken (g ∷ gs) d) (sym next) (λ j. passed g t j ∷ ih (position_or_len (bytes_eq (key_at x)) (map (λ h. h.0) gs)) refl (omega (arith, within, next)) j)
 
   -- the place of the key stays when it is inserted
-  pub place-inserted : (ks : List Bytes) → position_or_len (bytes_eq (key_at x)) ks ≡ position_or_len (bytes_eq (key_at x)) (insert_key bytes_eq ks (key_at x))
+  place-inserted : (ks : List Bytes) → position_or_len (bytes_eq (key_at x)) ks ≡ position_or_len (bytes_eq (key_at x)) (insert_key bytes_eq ks (key_at x))
   place-inserted ks = cases (list_any (bytes_eq (key_at x)) ks)
     where
       pushed : (ks : List Bytes) → position_or_len (bytes_eq (key_at x)) ks ≡ position_or_len (bytes_eq (key_at x)) (ks ++ key_at x ∷ [])
@@ -99,20 +154,22 @@ module _ {S C : Type 0} (x : WrittenField S C) where
       cases false = pushed ks
 
   -- the field at the end of the group at its key's place
-  pub put-at : (gs begins : List (KeyGroup S C)) (keys : List Bytes) (n : ℕ) (g : KeyGroup S C) (fs : List (WrittenField S C)) → begins ≡ begun x gs → keys ≡ map (λ h. h.0) begins
-      → IsDistinct bytes_eq keys → n ≡ position_or_len (bytes_eq (key_at x)) keys → n < length keys → g ≡ get_or begins n g → fs ≡ g.1 ++ x ∷ [] → slice_set begins n (g.0, fs) ≡ put x gs
-  put-at gs begins keys n g fs are names u at within own grown =
-      let short : n < length begins = omega (arith, within, ap length names, length-names begins) in
+  pub put-at : (gs begins : List (KeyGroup S C)) (n : ℕ) (g : KeyGroup S C) (fs : List (WrittenField S C)) → begins ≡ begun x gs → IsDistinct bytes_eq (names gs) → n ≡ place (names gs) → g ≡ get_or begins n g
+      → fs ≡ g.1 ++ x ∷ [] → slice_set begins n (g.0, fs) ≡ put x gs
+  put-at gs begins n g fs are u at own grown =
+      let keyed : names begins ≡ insert_key bytes_eq (names gs) (key_at x) = ap names are ∙ keys-begun gs in
       (λ j. slice_set begins n ((own j).0, (grown ∙ ap (λ (h : KeyGroup S C). h.1 ++ x ∷ []) own) j))
-      ∙ placed begins g n (subst (IsDistinct bytes_eq) names u) (at ∙ ap (position_or_len (bytes_eq (key_at x))) names) short
+      ∙ placed begins g n (subst (IsDistinct bytes_eq) (sym keyed) (distinct-inserted (names gs) u)) (at ∙ place-inserted (names gs) ∙ ap place (sym keyed)) (subst (λ hs. n < length hs) (sym are) (place-within n gs at))
       ∙ ap (map (takes x)) are
 
+  pub distinct-put : (gs : List (KeyGroup S C)) → IsDistinct bytes_eq (names gs) → IsDistinct bytes_eq (names (put x gs))
+  distinct-put gs u = subst (IsDistinct bytes_eq) (sym (keys-put gs)) (distinct-inserted (names gs) u)
+
   -- the groups with the field have one field more
-  pub put-counts : (gs begins : List (KeyGroup S C)) (keys : List Bytes) (n : ℕ) (g : KeyGroup S C) (fs : List (WrittenField S C)) → begins ≡ begun x gs
-      → keys ≡ map (λ h. h.0) begins → n < length keys → g ≡ get_or begins n g → fs ≡ g.1 ++ x ∷ []
-      → fields_of_groups (slice_set begins n (g.0, fs)) ≡ fields_of_groups gs + 1
-  put-counts gs begins keys n g fs are names within own grown =
-      let short : n < length begins = omega (arith, within, ap length names, length-names begins) in
+  pub put-counts : (gs begins : List (KeyGroup S C)) (n : ℕ) (g : KeyGroup S C) (fs : List (WrittenField S C)) → begins ≡ begun x gs → n ≡ place (names gs) → g ≡ get_or begins n g
+      → fs ≡ g.1 ++ x ∷ [] → fields_of_groups (slice_set begins n (g.0, fs)) ≡ fields_of_groups gs + 1
+  put-counts gs begins n g fs are at own grown =
+      let short : n < length begins = subst (λ hs. n < length hs) (sym are) (place-within n gs at) in
       let size = λ (h : KeyGroup S C). length h.1 in
       let put = sum_by-set size begins n (g.0, fs) g short in
       let old = ap size own in
