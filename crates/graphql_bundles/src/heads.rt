@@ -22,7 +22,7 @@ use indexmap::IndexSet;
 use std::alloc::{AllocError, Global};
 
 /// The name of the parent of a field, if that is an object type.
-fn object_name<'d, S, C>(field: &WrittenField<'d, '_, S, C>) -> Option<TextRef<'d>>
+pub fn object_name<'d, S, C>(field: &WrittenField<'d, '_, S, C>) -> Option<TextRef<'d>>
     ensures { result ≡ groups.object_name field.now.selected.parent.now }
 {
     match field.selected.parent {

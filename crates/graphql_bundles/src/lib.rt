@@ -20,6 +20,6 @@ mod stop;
 mod telling;
 mod visits;
 
-pub use heads::is_declared;
+pub use heads::{is_declared, object_name};
 pub use outcome::{Outcome, told_by_bundles};
 pub use telling::{count_comparison, tell};

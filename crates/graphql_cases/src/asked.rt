@@ -39,6 +39,9 @@ pub enum Sought {
     /// How many times two of its fields are compared.
     Comparisons,
 
+    /// Whether its fields merge, by bundles of selection sets and by comparing each two.
+    Merging,
+
     /// Its errors.
     Errors(Judge),
 }
@@ -85,6 +88,7 @@ fn sought_of(words: &str) -> Option<Sought> {
         "definitions" => Some(Sought::Definitions),
         "events" => Some(Sought::Events),
         "comparisons" => Some(Sought::Comparisons),
+        "merging by bundles and by pairs" => Some(Sought::Merging),
         _ => match judge_of(words) {
             Some(judge) => Some(Sought::Errors(judge)),
             None => None,

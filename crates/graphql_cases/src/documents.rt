@@ -9,7 +9,8 @@ use graphql_language::parse_document_source;
 use graphql_text::Items;
 use graphql_tree::Definition;
 use graphql_validation::rules::{
-    no_fragment_cycles, no_unused_fragments, overlapping_fields, overlapping_fields_can_be_merged,
+    no_fragment_cycles, no_unused_fragments, overlapping_fields, overlapping_fields_by_pairs,
+    overlapping_fields_can_be_merged,
 };
 use graphql_validation::{
     MultiVisitorNil, RuleError, ValidatorContext, first_stage_errors, root_node_errors,
@@ -131,6 +132,30 @@ fn count_comparisons(
     write!(told, "=> comparisons: {}\n", rules.first().comparisons())
 }
 
+/// What the errors of the rule that fields merge say.
+fn verdict(errors: &[RuleError]) -> &'static str {
+    if errors.is_empty() {
+        "merge"
+    } else {
+        "do not merge"
+    }
+}
+
+/// Tells whether the fields of a document merge, by bundles of selection sets and by comparing each
+/// two.
+fn tell_merging(
+    alloc: Global,
+    root: &Root,
+    document: &[Definition<'_>],
+    told: &mut String,
+) -> Result<(), AllocError> {
+    let bundled = overlapping_fields_can_be_merged(alloc, root.schema(), document)?;
+    let paired = overlapping_fields_by_pairs(alloc, root.schema(), document)?;
+    let by_bundles = verdict(bundled.as_slice());
+    let by_pairs = verdict(paired.as_slice());
+    write!(told, "=> {by_bundles} by bundles, {by_pairs} by pairs\n")
+}
+
 /// Tells how many definitions a document has.
 fn count_definitions(document: &[Definition<'_>], told: &mut String) -> Result<(), AllocError> {
     write!(told, "=> definitions: {}\n", document.len())
@@ -148,6 +173,7 @@ fn tell(
         Sought::Definitions => count_definitions(document, told),
         Sought::Events => tell_events(alloc, root, document, told),
         Sought::Comparisons => count_comparisons(alloc, root, document, told),
+        Sought::Merging => tell_merging(alloc, root, document, told),
         Sought::Errors(judge) => tell_errors(alloc, root, judge, document, told),
     };
     answered?;
@@ -166,6 +192,7 @@ fn count(
         Sought::Definitions => count_definitions(document, told),
         Sought::Events => count_events(alloc, root, document, told),
         Sought::Comparisons => count_comparisons(alloc, root, document, told),
+        Sought::Merging => tell_merging(alloc, root, document, told),
         Sought::Errors(judge) => count_errors(alloc, root, judge, document, told),
     };
     answered?;

@@ -1,13 +1,14 @@
-//! Fields that have one response key, one name with arguments and one shape, by numbers, so that
-//! two of them need not be compared part by part.
+//! Fields that have one response key, one name with arguments and one shape, by numbers, and their
+//! parents, so that two of them need not be compared part by part.
 
-ghost use Rattle.std.specs.Prelude.{◌≡◌, ℕ, true, List, IfOk, IsTrue, not};
+ghost use Rattle.std.specs.Prelude.{◌≡◌, ℕ, true, IfOk, IsTrue};
 ghost use Rattle.std.specs.List.{Contains};
 ghost use Rattle.graphql_merging.specs.declared.table.WrittenField.{WrittenField};
 ghost use Rattle.graphql_bundles.specs.Groups as groups;
-ghost use Rattle.graphql_rules_merging.specs.Classes.{AreAlike, AreClasses, HasClass};
+ghost use Rattle.graphql_rules_merging.specs.Classes.{AreAlike, AreAllNumbered, HasClass, HasPlace, IsNumbered};
 
-use graphql_bundles::is_declared;
+use crate::field_numbers::{FieldNumbers, numbers_at};
+use graphql_bundles::{is_declared, object_name};
 use graphql_merging::{SelectedField, SetTable, WrittenField, first_difference};
 use graphql_schema::{SchemaScalar, SchemaType};
 use graphql_text::{Items, TextRef};
@@ -18,15 +19,20 @@ use std::alloc::{AllocError, Global};
 /// How many classes there are of one response key at most; further fields have none.
 const CLASSES: usize = 64;
 
-/// Classes as they are tried.
+/// Numbers as they are tried.
 #[derive(Drop)]
-struct Draft<'d, 'a, S, C = <S as SchemaScalar>::Check> {
-    /// The classes of fields, by the numbers of their own sets: one more than the place of the
-    /// head, or zero for none.
-    numbers: Vec<usize>,
+pub(crate) struct Draft<'d, 'a, S, C = <S as SchemaScalar>::Check> {
+    /// Those of the fields, by the numbers of their own sets.
+    pub(crate) numbers: Vec<FieldNumbers>,
 
     /// The first field of each class.
-    heads: Items<WrittenField<'d, 'a, S, C>>,
+    pub(crate) heads: Items<WrittenField<'d, 'a, S, C>>,
+
+    /// The response keys.
+    pub(crate) keys: IndexSet<TextRef<'d>>,
+
+    /// The names of the object types among the parents.
+    pub(crate) parents: IndexSet<TextRef<'d>>,
 }
 
 /// Whether a field agrees with one that the schema has, whatever stands around them: names and
@@ -101,87 +107,144 @@ fn class_among<'d, 'a, S: PartialEq, C>(
     Ok(heads.len())
 }
 
-/// Finds the class of each field of a set. An error is want of memory.
-fn add_classes<'d, 'a, S: PartialEq, C>(
+/// The number of a field's parent, whose name is put among those of object types. An error is want of
+/// memory.
+fn number_parent<'d, S, C>(
+    parents: &mut IndexSet<TextRef<'d>>,
+    field: &WrittenField<'d, '_, S, C>,
+) -> Result<usize, AllocError> {
+    let Some(name) = object_name(field) else {
+        return Ok(0);
+    };
+    let (place, _) = parents.insert_full(name)?;
+    Ok(place.saturating_add(1))
+}
+
+/// Finds the numbers of each field of a set. `places` holds for each response key where the heads of
+/// its classes are. An error is want of memory.
+fn number_fields<'d, 'a, S: PartialEq, C>(
     alloc: Global,
     schema: &SchemaType<S, C>,
     fields: &[WrittenField<'d, 'a, S, C>],
-    keys: &mut IndexSet<TextRef<'d>>,
     places: &mut Items<Items<usize>>,
     draft: &mut Draft<'d, 'a, S, C>,
 ) -> Result<(), AllocError> {
     for field in fields {
         let key = TextRef::new(response_key(&field.selected.field.item));
-        let (place, added) = keys.insert_full(key)?;
+        let (place, added) = draft.keys.insert_full(key)?;
         if added {
             places.push(Items::new(alloc))?;
         }
+        let parent = number_parent(&mut draft.parents, field)?;
         if let Some(of_key) = places.get_mut(place) {
             let class = class_among(alloc, schema, &mut draft.heads, of_key, field)?;
-            if let Some(number) = draft.numbers.get_mut(field.own) {
-                *number = class;
+            if let Some(numbers) = draft.numbers.get_mut(field.own) {
+                *numbers = FieldNumbers {
+                    key: place.saturating_add(1),
+                    class,
+                    parent,
+                };
             }
         }
     }
     Ok(())
 }
 
-/// The classes of the fields of a table, as far as they are found: what holds of them is seen when
+/// The numbers of the fields of a table, as far as they are found: what holds of them is seen when
 /// they are gone through once more ([`are_right`]). An error is want of memory.
 fn draft_of<'d, 'a, S: PartialEq, C>(
     alloc: Global,
     schema: &SchemaType<S, C>,
     table: &SetTable<'d, 'a, S, C>,
 ) -> Result<Draft<'d, 'a, S, C>, AllocError> {
-    let mut keys = IndexSet::new(alloc);
+    let unnumbered = FieldNumbers {
+        key: 0,
+        class: 0,
+        parent: 0,
+    };
     let mut places = Items::new(alloc);
     let mut draft = Draft {
-        numbers: Vec::from_elem(alloc, 0, table.sets.len())?,
+        numbers: Vec::from_elem(alloc, unnumbered, table.sets.len())?,
         heads: Items::new(alloc),
+        keys: IndexSet::new(alloc),
+        parents: IndexSet::new(alloc),
     };
     for set in table.sets.as_slice() {
         let fields = set.fields.as_slice();
-        add_classes(alloc, schema, fields, &mut keys, &mut places, &mut draft)?;
+        number_fields(alloc, schema, fields, &mut places, &mut draft)?;
     }
     Ok(draft)
 }
 
-/// Whether the field has no class, or is like the head of its class. An error is want of memory.
-fn is_right<'d, 'a, S: PartialEq, C>(
+/// Whether a number is none, or one more than the place of a text among some.
+fn has_place<'d>(texts: &IndexSet<TextRef<'d>>, number: usize, text: Option<TextRef<'d>>) -> bool
+    ensures { IsTrue result → HasPlace texts.now.keys number text.entry }
+{
+    if number == 0 {
+        return true;
+    }
+    let Some(text) = text else {
+        return false;
+    };
+    match texts.get_index_of(&text) {
+        Some(place) => place == number - 1,
+        None => false,
+    }
+}
+
+/// Whether a field has no class, or is like the head of its class. An error is want of memory.
+fn has_class<'d, 'a, S: PartialEq, C>(
     alloc: Global,
     schema: &SchemaType<S, C>,
-    numbers: &[usize],
     heads: &[WrittenField<'d, 'a, S, C>],
+    class: usize,
     field: &WrittenField<'d, 'a, S, C>,
 ) -> Result<bool, AllocError>
     ensures { IfOk result (λ right. IsTrue right →
-        HasClass S.eq schema.now.types numbers.now heads.now field.now) }
+        HasClass S.eq schema.now.types class heads.now field.now) }
 {
-    let Some(number) = numbers.get(field.own).copied() else {
-        return Ok(true);
-    };
-    if number == 0 {
+    if class == 0 {
         return Ok(true);
     }
-    match heads.get(number - 1) {
+    match heads.get(class - 1) {
         Some(head) => is_like(alloc, schema, head, field),
         None => Ok(false),
     }
+}
+
+/// Whether the numbers of a field tell what is so. An error is want of memory.
+fn is_right<'d, 'a, S: PartialEq, C>(
+    alloc: Global,
+    schema: &SchemaType<S, C>,
+    draft: &Draft<'d, 'a, S, C>,
+    field: &WrittenField<'d, 'a, S, C>,
+) -> Result<bool, AllocError>
+    ensures { IfOk result (λ right. IsTrue right →
+        IsNumbered S.eq schema.now.types draft.now field.now) }
+{
+    let numbers = numbers_at(draft.numbers.as_slice(), field.own);
+    let key = TextRef::new(response_key(&field.selected.field.item));
+    if !has_place(&draft.keys, numbers.key, Some(key)) {
+        return Ok(false);
+    }
+    if !has_place(&draft.parents, numbers.parent, object_name(field)) {
+        return Ok(false);
+    }
+    has_class(alloc, schema, draft.heads.as_slice(), numbers.class, field)
 }
 
 /// Whether this holds of each field of a set. An error is want of memory.
 fn are_fields_right<'d, 'a, S: PartialEq, C>(
     alloc: Global,
     schema: &SchemaType<S, C>,
-    numbers: &[usize],
-    heads: &[WrittenField<'d, 'a, S, C>],
+    draft: &Draft<'d, 'a, S, C>,
     fields: &[WrittenField<'d, 'a, S, C>],
 ) -> Result<bool, AllocError>
     ensures { IfOk result (λ right. IsTrue right → (f : WrittenField S C) → Contains fields.now f
-        → HasClass S.eq schema.now.types numbers.now heads.now f) }
+        → IsNumbered S.eq schema.now.types draft.now f) }
 {
     for field in fields {
-        let right = is_right(alloc, schema, numbers, heads, field)?;
+        let right = is_right(alloc, schema, draft, field)?;
         if !right {
             return Ok(false);
         }
@@ -194,15 +257,14 @@ fn are_right<'d, 'a, S: PartialEq, C>(
     alloc: Global,
     schema: &SchemaType<S, C>,
     table: &SetTable<'d, 'a, S, C>,
-    numbers: &[usize],
-    heads: &[WrittenField<'d, 'a, S, C>],
+    draft: &Draft<'d, 'a, S, C>,
 ) -> Result<bool, AllocError>
     ensures { IfOk result (λ right. IsTrue right → (p : ℕ) (f : WrittenField S C)
         → Contains (groups.fields_in table.now p) f
-        → HasClass S.eq schema.now.types numbers.now heads.now f) }
+        → IsNumbered S.eq schema.now.types draft.now f) }
 {
     for set in table.sets.as_slice() {
-        let right = are_fields_right(alloc, schema, numbers, heads, set.fields.as_slice())?;
+        let right = are_fields_right(alloc, schema, draft, set.fields.as_slice())?;
         if !right {
             return Ok(false);
         }
@@ -210,17 +272,17 @@ fn are_right<'d, 'a, S: PartialEq, C>(
     Ok(true)
 }
 
-/// The classes of a table's fields, by the numbers of their own sets. An error is want of memory.
-pub(crate) fn classes_of<S: Eq, C>(
+/// The numbers of a table's fields, by those of their own sets. An error is want of memory.
+pub(crate) fn numbers_of<S: Eq, C>(
     alloc: Global,
     schema: &SchemaType<S, C>,
     table: &SetTable<'_, '_, S, C>,
-) -> Result<Vec<usize>, AllocError>
-    ensures { IfOk result (λ classes. AreClasses S.eq schema.now.types table.now classes.items) }
+) -> Result<Vec<FieldNumbers>, AllocError>
+    ensures { IfOk result (λ numbers.
+        AreAllNumbered S.eq schema.now.types table.now numbers.items) }
 {
     let draft = draft_of(alloc, schema, table)?;
-    let numbers = draft.numbers.as_slice();
-    let right = are_right(alloc, schema, table, numbers, draft.heads.as_slice())?;
+    let right = are_right(alloc, schema, table, &draft)?;
     if !right {
         return Ok(Vec::new(alloc));
     }

@@ -11,7 +11,7 @@ ghost use Rattle.graphql_rules_merging.specs.Finished.{IsFinished};
 
 use crate::agenda::Agenda;
 use crate::begin::begin_sets;
-use crate::classes::classes_of;
+use crate::classes::numbers_of;
 use crate::progress::Progress;
 use crate::sets::compare_sets;
 use graphql_merging::SetTable;
@@ -57,8 +57,8 @@ pub(crate) fn merge_errors<S: Eq, C>(
         agenda: Agenda::new(alloc),
         comparisons: *comparisons,
     };
-    let classes = classes_of(alloc, schema, table)?;
-    let numbers = classes.as_slice();
+    let numbers = numbers_of(alloc, schema, table)?;
+    let numbers = numbers.as_slice();
     begin_definitions(table, &mut progress.agenda, definitions)?;
     'pairs: while let Some(pair) = progress.agenda.next()? {
         compare_sets(alloc, schema, table, numbers, pair, &mut progress)?;

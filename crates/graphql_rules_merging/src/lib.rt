@@ -5,6 +5,7 @@
 mod agenda;
 mod begin;
 mod classes;
+mod field_numbers;
 mod fields;
 mod finish;
 pub mod laws;
@@ -16,5 +17,7 @@ mod queue;
 mod sets;
 pub mod visitor;
 
-pub use overlapping_fields::{overlapping_fields_can_be_merged, overlapping_fields_counted};
+pub use overlapping_fields::{
+    overlapping_fields_by_pairs, overlapping_fields_can_be_merged, overlapping_fields_counted,
+};
 pub use visitor::{OverlappingFieldsCanBeMerged, report_overlapping_fields};

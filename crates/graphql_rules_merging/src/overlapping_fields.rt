@@ -11,7 +11,7 @@ ghost use Rattle.graphql_schema.specs.Declarations.{declarations_of};
 ghost use Rattle.graphql_tree.specs.declared.document.Fragment.{Fragment};
 ghost use Rattle.graphql_merging.specs.FieldNodes.{document_nodes, fields_written};
 ghost use Rattle.graphql_merging.specs.Tables.{pieces_of};
-ghost use Rattle.graphql_rules_merging.specs.Finished.{AreFound};
+ghost use Rattle.graphql_rules_merging.specs.Finished.{AreFound, AreOfPairs};
 
 use crate::finish::merge_errors;
 use crate::order::put_in_order;
@@ -142,4 +142,43 @@ pub fn overlapping_fields_can_be_merged<S: Eq, C>(
 {
     let mut comparisons = 0;
     overlapping_fields_counted(alloc, schema, document, &mut comparisons)
+}
+
+/// The errors of the fields of these sets that do not merge, in the order in which they are found by
+/// comparing each two fields of one response key that stand together; and these sets are let go. An
+/// error of the call is want of memory.
+fn errors_by_pairs<'d, 'a, S: Eq, C>(
+    alloc: Global,
+    schema: &SchemaType<S, C>,
+    table: SetTable<'d, 'a, S, C>,
+    definitions: usize,
+) -> Result<Items<RuleError>, AllocError>
+    ensures { IfOk result (λ errors. (fragments : List (Fragment S)) →
+        AreOfPairs S.eq schema.now.types (pieces_of fragments table.entry) definitions
+        (places errors)) }
+{
+    let mut comparisons = 0;
+    let outcome = merge_errors(alloc, schema, &table, definitions, &mut comparisons);
+    let_go(table);
+    outcome
+}
+
+/// The same by comparing each two fields of one response key that stand together, without bundles:
+/// what decides where bundles are too many. In time that is quadratic in a document. On a document
+/// whose fields do not merge it may tell of other fields that do not.
+pub fn overlapping_fields_by_pairs<S: Eq, C>(
+    alloc: Global,
+    schema: &SchemaType<S, C>,
+    document: &[Definition<'_, S>],
+) -> Result<Items<RuleError>, AllocError>
+    ensures merging { let types = schema.now.types in
+        let sets = document_sets (declarations_of schema.now) document.now in
+        IfOk result (λ errors. Settled (fragments_listed document.now) → IsSound S.eq types sets (places errors)
+        × IsDirect S.eq types sets (places errors) × IsComplete S.eq types sets (places errors)) }
+    ensures sorted { IfOk result (IsSorted ⟦<RuleError as Ord>⟧.cmp) }
+    ensures once { IfOk result (IsStrictlySortedBy ⟦<RuleError as Ord>⟧.cmp) }
+{
+    let table = numbered_sets(alloc, schema, document)?;
+    let found = errors_by_pairs(alloc, schema, table, document.len())?;
+    Ok(put_in_order(found))
 }

@@ -5,12 +5,13 @@ ghost use Rattle.graphql_tree.specs.declared.document.Fragment.{Fragment};
 ghost use Rattle.graphql_merging.specs.Tables.{pieces_of, piece_field};
 ghost use Rattle.graphql_merging.specs.Told.{AddsErrors, Fits};
 ghost use Rattle.graphql_rules_merging.specs.Agenda.{Begins};
-ghost use Rattle.graphql_rules_merging.specs.Classes.{AreClassed, AreClasses};
+ghost use Rattle.graphql_rules_merging.specs.Classes.{AreNumbered, AreAllNumbered};
 ghost use Rattle.graphql_rules_merging.specs.Counted.{twice_compared};
 ghost use Rattle.graphql_rules_merging.specs.Comparing.{ComparesSets, DoAgree, OwnSets, later, members_in, stage_of};
 
 use crate::agenda::SetPair;
 use crate::begin::{begin_own_sets, begin_with};
+use crate::field_numbers::FieldNumbers;
 use crate::fields::{compare_between, compare_within};
 use crate::progress::Progress;
 use graphql_merging::{SetTable, WrittenField};
@@ -23,18 +24,18 @@ fn compare_itself<S: Eq, C>(
     alloc: Global,
     schema: &SchemaType<S, C>,
     table: &SetTable<'_, '_, S, C>,
-    classes: &[usize],
+    numbers: &[FieldNumbers],
     around: bool,
     fields: &[WrittenField<'_, '_, S, C>],
     progress: &mut Progress,
 ) -> Result<(), AllocError>
-    requires { AreClassed S.eq schema.now.types classes.now fields.now fields.now }
+    requires { AreNumbered S.eq schema.now.types numbers.now fields.now fields.now }
     ensures counted { let all = length fields.now in
         OnOk result (2 * progress.new.comparisons ≤ 2 * progress.old.comparisons + all * all) }
     ensures compared { OnOk result ((fragments : List (Fragment S)) → AddsErrors (Fits S.eq schema.now.types around) (map members_in (later (map (piece_field fragments) fields.now))) (stage_of progress.old).told (stage_of progress.new).told × Begins (pieces_of fragments table.now) (OwnSets around (DoAgree S.eq schema.now.types around) (map (piece_field fragments) fields.now) (map (piece_field fragments) fields.now)) (OwnSets around (λ p. Unit {0}) (map (piece_field fragments) fields.now) (map (piece_field fragments) fields.now)) (stage_of progress.old).listed (stage_of progress.new).listed) }
 {
     begin_own_sets(table, &mut progress.agenda, fields, around)?;
-    compare_within(alloc, schema, table, classes, around, fields, progress)
+    compare_within(alloc, schema, table, numbers, around, fields, progress)
 }
 
 /// Compares two sets: tells the errors of their fields, and begins the pairs of sets to which they
@@ -43,11 +44,11 @@ pub(crate) fn compare_sets<S: Eq, C>(
     alloc: Global,
     schema: &SchemaType<S, C>,
     table: &SetTable<'_, '_, S, C>,
-    classes: &[usize],
+    numbers: &[FieldNumbers],
     pair: SetPair,
     progress: &mut Progress,
 ) -> Result<(), AllocError>
-    requires { AreClasses S.eq schema.now.types table.now classes.now }
+    requires { AreAllNumbered S.eq schema.now.types table.now numbers.now }
     ensures counted { OnOk result (2 * progress.new.comparisons
         ≤ 2 * progress.old.comparisons + twice_compared table.now pair) }
     ensures compared { OnOk result ((fragments : List (Fragment S)) → ComparesSets S.eq schema.now.types (pieces_of fragments table.now) pair (stage_of progress.old) (stage_of progress.new)) }
@@ -75,13 +76,13 @@ pub(crate) fn compare_sets<S: Eq, C>(
     )?;
     let fields = one.fields.as_slice();
     if pair.left == pair.right {
-        compare_itself(alloc, schema, table, classes, around, fields, progress)
+        compare_itself(alloc, schema, table, numbers, around, fields, progress)
     } else {
         compare_between(
             alloc,
             schema,
             table,
-            classes,
+            numbers,
             around,
             fields,
             other.fields.as_slice(),

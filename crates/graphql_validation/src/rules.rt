@@ -4,7 +4,8 @@
 //! can hold all of them. Those over all operations and fragments of a document are functions too, of their
 //! modules' names, which add to a list of errors; what they ask is gathered once for all by
 //! `document_errors`. The rule that fields merge is the function `overlapping_fields_can_be_merged`, and as
-//! a visitor the module `overlapping_fields`.
+//! a visitor the module `overlapping_fields`; `overlapping_fields_by_pairs` decides the same by comparing
+//! each two fields.
 
 pub use graphql_rules_document::{
     DocumentRule, LoneAnonymousOperation, NoFragmentCycles, NoUndefinedVariables,
@@ -24,8 +25,8 @@ pub use graphql_rules_local::{
     unique_argument_names, unique_input_field_names, variables_are_input_types,
 };
 pub use graphql_rules_merging::{
-    OverlappingFieldsCanBeMerged, overlapping_fields_can_be_merged, report_overlapping_fields,
-    visitor as overlapping_fields,
+    OverlappingFieldsCanBeMerged, overlapping_fields_by_pairs, overlapping_fields_can_be_merged,
+    report_overlapping_fields, visitor as overlapping_fields,
 };
 pub use graphql_rules_values::{
     ArgumentsOfCorrectType, DefaultValuesOfCorrectType, arguments_of_correct_type,

@@ -2,7 +2,7 @@ use Rattle.std.proofs.Common.{◌∙◌, ◌<◌, ap, sym, subst, List, length, 
 use Rattle.std.specs.List.{Contains}
 use Rattle.graphql_merging.specs.declared.table.WrittenField.{WrittenField}
 use Rattle.graphql_merging.specs.declared.table.WrittenSet.{WrittenSet}
-use Rattle.graphql_rules_merging.specs.Classes.{HasClass}
+use Rattle.graphql_rules_merging.specs.Classes.{IsNumbered}
 use Rattle.graphql_rules_merging.proofs.Classing.{rows-more, rows-all}
 use Rattle.graphql_rules_merging.proofs.classes.are_right.Goals as goal
 
@@ -10,7 +10,7 @@ pub loop-set-preserved : goal.loop-set-preserved
 loop-set-preserved g c =
     let table = c.args.table.now in
     let sets = c.as_slice-set-items.ensures in
-    let P = HasClass g.S.PartialEq.eq c.args.schema.now.types c.args.numbers.now c.args.heads.now in
+    let P = IsNumbered g.S.PartialEq.eq c.args.schema.now.types c.args.draft.now in
     let i = c.loop-set.set-index in
     let set = c.set-item.result in
     let within = subst (λ (rows : List (WrittenSet g.row.S.Denot g.row.C.Denot)). i < length rows) sets c.loop-set-test.true in
@@ -21,5 +21,5 @@ loop-set-preserved g c =
 pub returns : goal.returns
 returns g c = λ _.
     let past = ap length c.as_slice-set-items.ensures in
-    rows-all c.args.table.now (HasClass g.S.PartialEq.eq c.args.schema.now.types c.args.numbers.now c.args.heads.now) c.loop-set.set-index
+    rows-all c.args.table.now (IsNumbered g.S.PartialEq.eq c.args.schema.now.types c.args.draft.now) c.loop-set.set-index
     (omega (arith, past, c.loop-set-test.false)) c.loop-set.invariant

@@ -4,7 +4,7 @@ use Rattle.graphql_merging.specs.Tables.{pieces_of, piece_field}
 use Rattle.graphql_rules_merging.specs.Comparing.{with_each, between, stage_of, Compares}
 use Rattle.graphql_rules_merging.proofs.Comparisons.{between_more, compares_none, compares_both}
 use Rattle.graphql_bundles.proofs.ListLemmas.{at-place}
-use Rattle.graphql_rules_merging.proofs.Classing.{classed-with}
+use Rattle.graphql_rules_merging.proofs.Classing.{numbered-with}
 use Rattle.graphql_rules_merging.proofs.fields.compare_between.Goals as goal
 
 pub returns-clause-compared : goal.returns-clause-compared
@@ -40,5 +40,5 @@ loop-left-preserved g c = record {
 
 pub compare_with-requires : goal.compare_with-requires
 compare_with-requires g c =
-    classed-with g.S.PartialEq.eq c.args.schema.now.types c.args.classes.now c.left-item.result c.args.lefts.now c.args.rights.now c.args.rights.now
+    numbered-with g.S.PartialEq.eq c.args.schema.now.types c.args.numbers.now c.left-item.result c.args.lefts.now c.args.rights.now c.args.rights.now
     (at-place c.args.lefts.now c.loop-left.left-index c.left-item.result c.loop-left-test.true c.left-item.is) (λ h i. i) c.requires

@@ -3,7 +3,7 @@ use Rattle.graphql_merging.specs.Tables.{pieces_of, piece_field}
 use Rattle.graphql_rules_merging.specs.Comparing.{with_each, stage_of, Compares}
 use Rattle.graphql_rules_merging.proofs.Comparisons.{with_each_more, compares_none, compares_both}
 use Rattle.graphql_bundles.proofs.ListLemmas.{at-place, here}
-use Rattle.graphql_rules_merging.proofs.Classing.{classed-one}
+use Rattle.graphql_rules_merging.proofs.Classing.{numbered-one}
 use Rattle.graphql_rules_merging.proofs.fields.compare_with.Goals as goal
 
 pub returns-clause-compared : goal.returns-clause-compared
@@ -33,5 +33,5 @@ loop-right-preserved g c = record {
 
 pub compare-requires : goal.compare-requires
 compare-requires g c =
-    classed-one g.S.PartialEq.eq c.args.schema.now.types c.args.classes.now c.args.left.now c.right-item.result (c.args.left.now ∷ []) c.args.others.now
+    numbered-one g.S.PartialEq.eq c.args.schema.now.types c.args.numbers.now c.args.left.now c.right-item.result (c.args.left.now ∷ []) c.args.others.now
     (here c.args.left.now []) (at-place c.args.others.now c.loop-right.right-index c.right-item.result c.loop-right-test.true c.right-item.is) c.requires

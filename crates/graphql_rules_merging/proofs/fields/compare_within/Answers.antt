@@ -8,7 +8,7 @@ use Rattle.std.specs.List.{Contains}
 use Rattle.std.proofs.lemmas.List.{take-append-drop}
 use Rattle.std.proofs.lemmas.List.Elements.{Contains-append_right}
 use Rattle.graphql_bundles.proofs.ListLemmas.{at-place}
-use Rattle.graphql_rules_merging.proofs.Classing.{classed-with}
+use Rattle.graphql_rules_merging.proofs.Classing.{numbered-with}
 use Rattle.graphql_rules_merging.proofs.fields.compare_within.Goals as goal
 
 pub returns-clause-compared : goal.returns-clause-compared
@@ -60,7 +60,7 @@ pub compare_with-requires : goal.compare_with-requires
 compare_with-requires g c =
     let fields = c.args.fields.now in
     let i = c.loop-index.index in
-    classed-with g.S.PartialEq.eq c.args.schema.now.types c.args.classes.now c.index-fields-index.result fields fields c.after.result.now
+    numbered-with g.S.PartialEq.eq c.args.schema.now.types c.args.numbers.now c.index-fields-index.result fields fields c.after.result.now
     (at-place fields i c.index-fields-index.result c.loop-index-test.true c.index-fields-index.is)
     (λ h k. subst (λ fs. Contains fs h) (take-append-drop (i + 1) fields)
     (Contains-append_right (take (i + 1) fields) (drop (i + 1) fields) h (subst (λ fs. Contains fs h) c.after.ensures k)))

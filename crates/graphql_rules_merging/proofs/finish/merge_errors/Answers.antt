@@ -1,7 +1,7 @@
 use Rattle.std.proofs.Common.{arith, rules, length, [], refl, ap, sym, subst}
 use Rattle.graphql_rule_errors.specs.Places.{places}
 use Rattle.graphql_merging.specs.Tables.{pieces_of}
-use Rattle.graphql_rules_merging.specs.Classes.{AreClasses}
+use Rattle.graphql_rules_merging.specs.Classes.{AreAllNumbered}
 use Rattle.graphql_rules_merging.specs.Agenda.{listed_of, Takes, NoneWaits}
 use Rattle.graphql_rules_merging.specs.Comparing.{stage_of}
 use Rattle.graphql_rules_merging.proofs.Underway.{IsUnderway, underway_first, underway_more, underway_last}
@@ -66,4 +66,4 @@ pairs-preserved g c = record {
 
 pub compare_sets-requires : goal.compare_sets-requires
 compare_sets-requires g c =
-    subst (AreClasses g.S.PartialEq.eq c.args.schema.now.types c.args.table.now) (sym c.as_slice-numbers.ensures.value) c.in_ok-classes.ensures
+    subst (AreAllNumbered g.S.PartialEq.eq c.args.schema.now.types c.args.table.now) (sym c.as_slice-numbers.ensures.value) c.in_ok-numbers.ensures

@@ -8,7 +8,7 @@ use Rattle.graphql_rules_merging.proofs.Weights.{weight-one, weight-two}
 use Rattle.graphql_rules_merging.proofs.WholeSets.{compares_empty, compares_itself, compares_other}
 use Rattle.graphql_rules_merging.specs.Agenda.{listed_of}
 use Rattle.graphql_bundles.specs.Groups.{fields_in}
-use Rattle.graphql_rules_merging.specs.Classes.{AreClassed}
+use Rattle.graphql_rules_merging.specs.Classes.{AreNumbered}
 use Rattle.graphql_rules_merging.proofs.sets.compare_sets.Goals as goal
 
 pub returns-in_default-clause-compared : goal.returns-in_default-clause-compared
@@ -81,7 +81,7 @@ pub compare_itself-requires : goal.compare_itself-requires
 compare_itself-requires g c =
     let left = c.args.pair.left in
     let are = c.as_slice-fields.ensures ∙ fields-of c.args.table.now left c.in-Some.one.now c.in-Some.ensures in
-    subst (λ fs. AreClassed g.S.PartialEq.eq c.args.schema.now.types c.args.classes.now fs fs) (sym are) (c.requires left left)
+    subst (λ fs. AreNumbered g.S.PartialEq.eq c.args.schema.now.types c.args.numbers.now fs fs) (sym are) (c.requires left left)
 
 pub compare_between-requires : goal.compare_between-requires
 compare_between-requires g c =
@@ -90,5 +90,5 @@ compare_between-requires g c =
     let right = c.args.pair.right in
     let one = c.as_slice-fields.ensures ∙ fields-of table left c.in-Some.one.now c.in-Some.ensures in
     let other = c.as_slice-else-pair.ensures ∙ fields-of table right c.in-Some-get.other.now c.in-Some-get.ensures in
-    subst (λ fs. AreClassed g.S.PartialEq.eq c.args.schema.now.types c.args.classes.now fs c.as_slice-else-pair.result.now) (sym one)
-    (subst (λ gs. AreClassed g.S.PartialEq.eq c.args.schema.now.types c.args.classes.now (fields_in table left) gs) (sym other) (c.requires left right))
+    subst (λ fs. AreNumbered g.S.PartialEq.eq c.args.schema.now.types c.args.numbers.now fs c.as_slice-else-pair.result.now) (sym one)
+    (subst (λ gs. AreNumbered g.S.PartialEq.eq c.args.schema.now.types c.args.numbers.now (fields_in table left) gs) (sym other) (c.requires left right))
