@@ -1,5 +1,6 @@
-use Rattle.std.proofs.Common.{rules, ◌≡◌, ℕ, subst, take, sym, ◌∙◌}
+use Rattle.std.proofs.Common.{rules, ◌≡◌, ℕ, ap, subst, take, sym, ◌∙◌}
 use Rattle.std.specs.Io.KnownBytes.{Consumes}
+use Rattle.graphql_streams.specs.Counts.{risen}
 use Rattle.graphql_streams.proofs.StreamLemmas.{end-stops_if, goes-end_if, goes-more, goes-stops}
 use Rattle.graphql_streams.proofs.serving.serve_over.Goals as goal
 
@@ -53,3 +54,9 @@ returns-in-Ok-eq0-clause-err g c =
     c.args.engine.now b.engine (r c.args.reader.now) (r b.reader) (w c.args.writer.now) (w b.writer) b.invariant.goes
     c.answer_rest.result c.answer_rest.new.engine (r c.read_some.new.self) (w c.answer_rest.new.writer)
     (subst P none c.in-Ok-eq0.ensures.bytes.0) c.answer_rest.ensures.err
+
+pub returns-in-Err-clause-ok : goal.returns-in-Err-clause-ok
+returns-in-Err-clause-ok g c = tt
+
+pub returns-in-Err-clause-reads : goal.returns-in-Err-clause-reads
+returns-in-Err-clause-reads g c = c.in-Err.ensures.faults ∙ ap risen c.reading.invariant.no_read_fault
