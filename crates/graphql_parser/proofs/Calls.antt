@@ -1,7 +1,7 @@
 -- The parts of a call of a parser make the call.
 use Rattle.std.proofs.Common.{◌≡◌, Option, Some, None, Result, Ok, Err, MatchOption, refl, sym, ap, subst, ◌∙◌}
 use Rattle.graphql_grammar.specs.Input.{Input, Fault, StandsFor, peek, refusal}
-use Rattle.graphql_parser.specs.Parser.{State, Rule, RefusesAgain, CallsFresh, Calls, ReadsBy, KeepsRefusal}
+use Rattle.graphql_parser.specs.Parser.{State, Rule, RefusesAgain, CallsFresh, Calls, ReadsBy, KeepsRefusal, first_of}
 
 -- a rule that refuses the next token
 pub reads_by_refused : {A : Type 0} (rule : Rule A) (i : Input) (f : Fault) → StandsFor (refusal i) f → (f ≡ refusal i → rule i (Err f) i) → ReadsBy rule i (Err f) i
@@ -30,7 +30,7 @@ fresh_kept {A} rule i j (Err f) (Ok y) mid new meets is (again, kept) = absurd a
 fresh_kept {A} rule i j (Err f) (Err g) mid new meets is (again, kept) =
     let at : new.input ≡ j = ap (λ (s : State). s.input) kept ∙ ap (λ (s : State). s.input) is in
     let P : Input → Type 0 = λ z. rule i (Err f) z in
-    record { fault = f; kept = ap (λ (s : State). s.refused) kept; told = again; refuses = λ told. subst P (sym at) (meets told).0; stands = λ told. ap (λ z. (peek z).span) at ∙ (meets told).1 }
+    record { fault = f; kept = ap (λ (s : State). s.refused) kept ∙ ap (λ (s : State). Some (first_of s.refused f)) is; told = again; refuses = λ told. subst P (sym at) (meets told).0; stands = λ told. ap (λ z. (peek z).span) at ∙ (meets told).1 }
 
 -- a parser that has not failed, and keeps what it answers: the state before is `old`, and after reading `j` is left
 pub calls_kept : {A : Type 0} (rule : Rule A) {old : State} (new : State) {i : Input} (j : Input) {o : Option Fault} (answer r : Result A Fault) → record { input = i; refused = o } ≡ old → old.refused ≡ None

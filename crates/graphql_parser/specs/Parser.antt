@@ -72,7 +72,13 @@ abbrev pub ReadsBy : {A : Type 0} → Rule A → Input → Result A Fault → In
 ReadsBy rule i (Ok x) j = rule i (Ok x) j
 ReadsBy rule i (Err e) j = UnlessMemory IsMemory e (rule i (Err e) j × ((peek j).span ≡ e.span))
 
--- the same answer; of a fault the parser keeps that it has failed by it
+-- the refusal that stays: the first
+abbrev pub first_of : Option Fault → Fault → Fault
+first_of None e = e
+first_of (Some first) e = first
+
+-- the same answer; of a fault the parser keeps that it has failed by it, unless it had failed before: the first refusal stays
 abbrev pub KeepsRefusal : {A : Type 0} → Result A Fault → State → Result A Fault → State → Type 0
 KeepsRefusal (Ok x) old result new = (result ≡ Ok x) × (new ≡ old)
-KeepsRefusal (Err e) old result new = RefusesAgain e result × (new ≡ record { input = old.input; refused = Some e })
+KeepsRefusal (Err e) old result new =
+    RefusesAgain e result × (new ≡ record { input = old.input; refused = Some (first_of old.refused e) })

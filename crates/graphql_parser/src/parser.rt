@@ -142,7 +142,7 @@ impl<'a> Parser<'a> {
         }
     }
 
-    /// The same answer. By a refusal the parser has failed.
+    /// The same answer. By a refusal the parser has failed, and where it had failed before, the first refusal stays.
     pub(crate) fn keep_refusal<T>(&mut self, answer: Result<T, Fault>) -> Result<T, Fault>
         ensures { KeepsRefusal answer self.old result self.new }
     {
@@ -150,8 +150,13 @@ impl<'a> Parser<'a> {
             Ok(item) => Ok(item),
             Err(fault) => {
                 let told = again(&fault);
-                self.refused = Some(fault);
-                Err(told)
+                match &self.refused {
+                    Some(_) => Err(told),
+                    None => {
+                        self.refused = Some(fault);
+                        Err(told)
+                    }
+                }
             }
         }
     }

@@ -2,7 +2,7 @@
 use Rattle.std.proofs.Common.{sym, ap, subst, inl, inr, List, [], ◌∷◌, Option, Result, Ok, Err}
 use Rattle.std.specs.Prelude.{IfErr, OnOk}
 use Rattle.graphql_streams.specs.Runs.{Answered, Broken, Bytes, Run, RunPartly}
-use Rattle.graphql_streams.specs.Served.{Ends, ServedAll, Serves, Stops}
+use Rattle.graphql_streams.specs.Served.{Ends, ServedAll, Serves, Stopped, Stops}
 use Rattle.graphql_streams.specs.declared.serve_error.ServeError.{ServeError}
 use Rattle.graphql_streams.specs.declared.serve_error.ServeError.TheVariants.{Read, Write, Memory}
 
@@ -43,7 +43,8 @@ module _ {S X : Type 0} (shown : S → X) (Stays : S → Type 0)
   all-shown_if (Err e) s t left rest old new stays h = tt
 
   module _ (breaks : S → Bytes → S → Type 0) (shown_breaks : X → Bytes → X → Type 0)
-      (by_break : (s : S) (line : Bytes) (t : S) → Stays s → breaks s line t → shown_breaks (shown s) line (shown t) × Stays t) where
+      (by_break : (s : S) (line : Bytes) (t : S) → Stays s → breaks s line t → shown_breaks (shown s) line (shown t) × Stays t)
+      (failed : Type 0) where
     broken-shown : (s t : S) (ls : List Bytes) → Stays s → Broken answers breaks s ls t
         → Broken shown_answers shown_breaks (shown s) ls (shown t) × Stays t
     broken-shown s t [] stays same = (ap shown same, subst Stays (sym same) stays)
@@ -58,36 +59,48 @@ module _ {S X : Type 0} (shown : S → X) (Stays : S → Type 0)
         (record { done = h.done; others = h.others; is = h.is; between = shown h.between; run = r.0; broken = b.0 }, b.1)
 
     stops-shown : (e : ServeError) (s t : S) (ls : List Bytes) (old new : Option Bytes) → Stays s
-        → Stops answers breaks e s ls old new t → Stops shown_answers shown_breaks e (shown s) ls old new (shown t) × Stays t
+        → Stops answers breaks failed e s ls old new t → Stops shown_answers shown_breaks failed e (shown s) ls old new (shown t) × Stays t
     stops-shown Read s t ls old new stays h = absurd h
     stops-shown Write s t ls old new stays h =
-        let r = partly-shown s t ls h.text stays h.run in
-        (record { text = h.text; run = r.0; more = h.more; sent = h.sent }, r.1)
+        let r = run-shown s t h.done h.text stays h.run in
+        (record { done = h.done; others = h.others; is = h.is; text = h.text; run = r.0; more = h.more; sent = h.sent }, r.1)
     stops-shown Memory s t ls old new stays h =
         let r = partly-shown s t ls h.text stays h.run in
-        (record { text = h.text; run = r.0; writes = h.writes }, r.1)
+        (record { text = h.text; run = r.0; more = h.more; sent = h.sent; whole = h.whole }, r.1)
+
+    stopped-shown : (e : ServeError) (s t : S) (left rest old new : Option Bytes) → Stays s
+        → Stopped answers breaks failed e s left rest old new t
+        → Stopped shown_answers shown_breaks failed e (shown s) left rest old new (shown t) × Stays t
+    stopped-shown e s t left rest old new stays h = elim h.stops [
+      | inl k ↦ (
+          let r = stops-shown e s t _ old new stays k in
+          (record { bytes = h.bytes; reads = h.reads; stops = inl r.0 }, r.1)
+          )
+      | inr k ↦ (
+          let r = stops-shown e s t _ old new stays k.1 in
+          (record { bytes = h.bytes; reads = h.reads; stops = inr ((k.0, r.0)) }, r.1)
+          )
+    ]
 
     ends-shown : (e : ServeError) (s t : S) (left rest old new : Option Bytes) → Stays s
-        → Ends answers breaks e s left rest old new t
-        → Ends shown_answers shown_breaks e (shown s) left rest old new (shown t) × Stays t
+        → Ends answers breaks failed e s left rest old new t
+        → Ends shown_answers shown_breaks failed e (shown s) left rest old new (shown t) × Stays t
     ends-shown Read s t left rest old new stays h =
         let r = serves-shown s t _ old new stays h.serves in
         (record { bytes = h.bytes; reads = h.reads; serves = r.0 }, r.1)
     ends-shown Write s t left rest old new stays h =
-        let r = stops-shown Write s t _ old new stays h.stops in
-        (record { bytes = h.bytes; reads = h.reads; stops = r.0 }, r.1)
+        stopped-shown Write s t left rest old new stays h
     ends-shown Memory s t left rest old new stays h =
-        let r = stops-shown Memory s t _ old new stays h.stops in
-        (record { bytes = h.bytes; reads = h.reads; stops = r.0 }, r.1)
+        stopped-shown Memory s t left rest old new stays h
 
     pub ends-shown_if : {A : Type 0} (result : Result A ServeError) (s t : S) (left rest old new : Option Bytes) → Stays s
-        → IfErr result (λ e. Ends answers breaks e s left rest old new t)
-        → IfErr result (λ e. Ends shown_answers shown_breaks e (shown s) left rest old new (shown t))
+        → IfErr result (λ e. Ends answers breaks failed e s left rest old new t)
+        → IfErr result (λ e. Ends shown_answers shown_breaks failed e (shown s) left rest old new (shown t))
     ends-shown_if (Ok x) s t left rest old new stays h = tt
     ends-shown_if (Err e) s t left rest old new stays h = (ends-shown e s t left rest old new stays h).0
 
     pub stays_if : {A : Type 0} (result : Result A ServeError) (s t : S) (left rest old new : Option Bytes) → Stays s
         → OnOk result (ServedAll answers s left rest old new t)
-        → IfErr result (λ e. Ends answers breaks e s left rest old new t) → Stays t
+        → IfErr result (λ e. Ends answers breaks failed e s left rest old new t) → Stays t
     stays_if (Ok x) s t left rest old new stays h k = (all-shown s t left rest old new stays h).1
     stays_if (Err e) s t left rest old new stays h k = (ends-shown e s t left rest old new stays k).1

@@ -1,16 +1,17 @@
 -- What is read and written, block after block.
-use Rattle.std.proofs.Common.{◌≡◌, refl, sym, ◌∙◌, ap, subst, ℕ, true, false, cond, ◌==◌, List, [], ◌∷◌, ◌++◌, append-nil, append_assoc, take, drop, Option, Some, None, Result, Ok, Err}
+use Rattle.std.proofs.Common.{◌≡◌, ◌⊎◌, inl, inr, refl, sym, ◌∙◌, ap, subst, ℕ, true, false, cond, ◌==◌, List, [], ◌∷◌, ◌++◌, append-nil, append_assoc, take, drop, Option, Some, None, Result, Ok, Err}
 use Rattle.std.proofs.lemmas.List.{take-append-drop}
 use Rattle.std.specs.Prelude.{IfErr, OnErr, OnOk}
 use Rattle.std.specs.declared.alloc.AllocError.{AllocError}
 use Rattle.std.specs.Io.KnownBytes.{Appends, Consumes, IsAtEnd}
+use Rattle.graphql_streams.specs.Counts.{HasRisen, risen}
 use Rattle.graphql_streams.specs.Lines.{kept_of, last_line, lines, whole_lines}
 use Rattle.graphql_streams.specs.Runs.{Bytes}
 use Rattle.graphql_streams.specs.Served.{Ends, Sent, ServedAll, Serves, Stops}
 use Rattle.graphql_streams.specs.Waiting.{Made, MadePartly, WroteSome}
 use Rattle.graphql_streams.specs.declared.serve_error.ServeError.{ServeError}
 use Rattle.graphql_streams.specs.declared.serve_error.ServeError.TheVariants.{Read, Write, Memory}
-use Rattle.graphql_streams.proofs.RunLemmas.{partly_all, partly_more, partly_within, run_more}
+use Rattle.graphql_streams.proofs.RunLemmas.{partly_more, run_more}
 
 pub appends_more : (o m n : Option Bytes) (xs ys : Bytes) → Appends o m xs → Appends m n ys → Appends o n (xs ++ ys)
 appends_more None m n xs ys a b = tt
@@ -49,6 +50,30 @@ sent_more o m n bytes rest k s a = record {
   writes = appends_more o m n s.taken (take k rest) s.writes a;
 }
 
+-- what was written of some bytes, behind others
+sent-behind : (o w n : Option Bytes) (xs ys rest : Bytes) → Appends o w xs → Sent w n ys rest → Sent o n (xs ++ ys) rest
+sent-behind o w n xs ys rest a s = record {
+  taken = xs ++ s.taken;
+  is = ap (λ z. xs ++ z) s.is ∙ sym (append_assoc xs s.taken rest);
+  writes = appends_more o w n xs s.taken a s.writes;
+}
+
+-- what is written where a write may have failed
+pub sent-if : {A E : Type 0} (r : Result A E) (o n : Option Bytes) (bytes : Bytes) (before after : ℕ)
+    → OnOk r (Appends o n bytes × (after ≡ before))
+    → OnErr r ((more : Bytes) × Sent o n bytes more × (after ≡ risen before))
+    → (more : Bytes) × Sent o n bytes more × ((more ≡ []) ⊎ HasRisen before after)
+sent-if (Ok x) o n bytes before after h k =
+    ([], record { taken = bytes; is = sym (append-nil bytes); writes = h.0 }, inl refl)
+sent-if (Err e) o n bytes before after h k = (k.0, k.1, inr k.2)
+
+pub faults-if : {A E : Type 0} (r : Result A E) (o n : Option Bytes) (bytes : Bytes) (before after : ℕ)
+    → OnOk r (Appends o n bytes × (after ≡ before))
+    → OnErr r ((more : Bytes) × Sent o n bytes more × (after ≡ risen before))
+    → (after ≡ before) ⊎ HasRisen before after
+faults-if (Ok x) o n bytes before after h k = inl h.1
+faults-if (Err e) o n bytes before after h k = inr k.2
+
 pub whole_more : (begun xs ys : Bytes) → whole_lines begun (xs ++ ys) ≡ whole_lines begun xs ++ whole_lines (last_line begun xs) ys
 whole_more begun [] ys = refl
 whole_more begun (b ∷ xs) ys =
@@ -60,9 +85,6 @@ last_more begun [] ys = refl
 last_more begun (b ∷ xs) ys =
     elim (b == 10) as (λ k. cond k (last_line [] (xs ++ ys)) (last_line (begun ++ b ∷ []) (xs ++ ys)) ≡ last_line (cond k (last_line [] xs) (last_line (begun ++ b ∷ []) xs)) ys)
     [ true ↦ last_more [] xs ys | false ↦ last_more (begun ++ b ∷ []) xs ys ]
-
-lines_more : (xs ys : Bytes) → (whole_lines [] xs ++ whole_lines (last_line [] xs) ys) ++ last_line [] (xs ++ ys) ∷ [] ≡ lines (xs ++ ys)
-lines_more xs ys = ap (λ z. z ++ last_line [] (xs ++ ys) ∷ []) (sym (whole_more [] xs ys))
 
 module _ {S : Type 0} (answers : S → Bytes → Bytes → S → Type 0) where
   serves_more : (s m t : S) (xs ys : List Bytes) (o w n : Option Bytes) → Serves answers s xs o w m → Serves answers m ys w n t → Serves answers s (xs ++ ys) o n t
@@ -126,42 +148,52 @@ module _ {S : Type 0} (answers : S → Bytes → Bytes → S → Type 0) where
     goes-end_if (Ok x) t rest n r end f = goes-end t rest n r end f
     goes-end_if (Err e) t rest n r end f = tt
 
-  module _ (breaks : S → Bytes → S → Type 0) where
-    stops_more : (e : ServeError) (s m t : S) (xs ys : List Bytes) (o w n : Option Bytes) → Serves answers s xs o w m → Stops answers breaks e m ys w n t → Stops answers breaks e s (xs ++ ys) o n t
+  module _ (breaks : S → Bytes → S → Type 0) (failed : Type 0) where
+    stops_more : (e : ServeError) (s m t : S) (xs ys : List Bytes) (o w n : Option Bytes) → Serves answers s xs o w m → Stops answers breaks failed e m ys w n t → Stops answers breaks failed e s (xs ++ ys) o n t
     stops_more Read s m t xs ys o w n a b = absurd b
     stops_more Write s m t xs ys o w n a b = record {
+      done = xs ++ b.done;
+      others = b.others;
+      is = ap (λ z. xs ++ z) b.is ∙ sym (append_assoc xs b.done b.others);
       text = a.text ++ b.text;
-      run = partly_more answers breaks s m t xs ys a.text b.text a.run b.run;
+      run = run_more answers s m t xs b.done a.text b.text a.run b.run;
       more = b.more;
-      sent = record {
-        taken = a.text ++ b.sent.taken;
-        is = ap (λ z. a.text ++ z) b.sent.is ∙ sym (append_assoc a.text b.sent.taken b.more);
-        writes = appends_more o w n a.text b.sent.taken a.writes b.sent.writes;
-      };
+      sent = sent-behind o w n a.text b.text b.more a.writes b.sent;
     }
     stops_more Memory s m t xs ys o w n a b = record {
       text = a.text ++ b.text;
       run = partly_more answers breaks s m t xs ys a.text b.text a.run b.run;
-      writes = appends_more o w n a.text b.text a.writes b.writes;
+      more = b.more;
+      sent = sent-behind o w n a.text b.text b.more a.writes b.sent;
+      whole = b.whole;
     }
-
-    stops_within : (e : ServeError) (s t : S) (xs ys : List Bytes) (o n : Option Bytes) → Stops answers breaks e s xs o n t → Stops answers breaks e s (xs ++ ys) o n t
-    stops_within Read s t xs ys o n b = absurd b
-    stops_within Write s t xs ys o n b = record { text = b.text; run = partly_within answers breaks s t xs ys b.text b.run; more = b.more; sent = b.sent }
-    stops_within Memory s t xs ys o n b = record { text = b.text; run = partly_within answers breaks s t xs ys b.text b.run; writes = b.writes }
 
     module _ (s t : S) (xs : List Bytes) (waiting bytes : Bytes) (o n : Option Bytes) (none : waiting ≡ []) where
       -- what was made where none waited, and written in part
       made-stops : (made : Result (Unit {0}) AllocError) (e : ServeError) → OnOk made (Made answers s xs waiting bytes t) → OnErr made (MadePartly answers breaks s xs waiting bytes t)
-          → WroteSome e made bytes o n → Stops answers breaks e s xs o n t
+          → WroteSome failed e made bytes o n → Stops answers breaks failed e s xs o n t
       made-stops made Read f h w = absurd w
-      made-stops (Ok x) Write f h w = record { text = f.text; run = partly_all answers breaks s t xs f.text f.run; more = w.0; sent = subst (λ z. Sent o n z w.0) (f.is ∙ ap (λ z. z ++ f.text) none) w.1 }
-      made-stops (Err x) Write f h w = record { text = h.text; run = h.run; more = w.0; sent = subst (λ z. Sent o n z w.0) (h.is ∙ ap (λ z. z ++ h.text) none) w.1 }
+      made-stops (Ok x) Write f h w = record {
+        done = xs;
+        others = [];
+        is = sym (append-nil xs);
+        text = f.text;
+        run = f.run;
+        more = w.0;
+        sent = subst (λ z. Sent o n z w.0) (f.is ∙ ap (λ z. z ++ f.text) none) w.1;
+      }
+      made-stops (Err x) Write f h w = absurd w
       made-stops (Ok x) Memory f h w = absurd w
-      made-stops (Err x) Memory f h w = record { text = h.text; run = h.run; writes = subst (Appends o n) (h.is ∙ ap (λ z. z ++ h.text) none) w }
+      made-stops (Err x) Memory f h w = record {
+        text = h.text;
+        run = h.run;
+        more = w.0;
+        sent = subst (λ z. Sent o n z w.0) (h.is ∙ ap (λ z. z ++ h.text) none) w.1;
+        whole = w.2;
+      }
 
       pub stops-if : (made : Result (Unit {0}) AllocError) (r : Result (Unit {0}) ServeError) → OnOk made (Made answers s xs waiting bytes t) → OnErr made (MadePartly answers breaks s xs waiting bytes t)
-          → IfErr r (λ e. WroteSome e made bytes o n) → IfErr r (λ e. Stops answers breaks e s xs o n t)
+          → IfErr r (λ e. WroteSome failed e made bytes o n) → IfErr r (λ e. Stops answers breaks failed e s xs o n t)
       stops-if made (Ok x) f h w = tt
       stops-if made (Err e) f h w = made-stops made e f h w
 
@@ -173,7 +205,7 @@ module _ {S : Type 0} (answers : S → Bytes → Bytes → S → Type 0) where
 
     module _ (limit : ℕ) (kept : Bytes) (s m : S) (left mid o w : Option Bytes) (g : Goes limit kept s left mid o w m) where
       pub goes-stops : (e : ServeError) (piece : Bytes) (t : S) (rest n : Option Bytes) → Consumes mid rest piece
-          → ((begun : Bytes) → kept ≡ kept_of limit begun → Stops answers breaks e m (whole_lines begun piece) w n t) → Ends answers breaks e s left rest o n t
+          → ((begun : Bytes) → kept ≡ kept_of limit begun → Stops answers breaks failed e m (whole_lines begun piece) w n t) → Ends answers breaks failed e s left rest o n t
       goes-stops Read piece t rest n r f = absurd (f (last_line [] g.bytes) g.kept)
       goes-stops Write piece t rest n r f =
           let xs = whole_lines [] g.bytes in
@@ -181,7 +213,9 @@ module _ {S : Type 0} (answers : S → Bytes → Bytes → S → Type 0) where
           record {
             bytes = g.bytes ++ piece;
             reads = consumes_more left mid rest g.bytes piece g.reads r;
-            stops = subst (λ ls. Stops answers breaks Write s ls o n t) (lines_more g.bytes piece) (stops_within Write s t (xs ++ ys) (last_line [] (g.bytes ++ piece) ∷ []) o n (stops_more Write s m t xs ys o w n g.serves (f (last_line [] g.bytes) g.kept)));
+            stops =
+                inl (subst (λ ls. Stops answers breaks failed Write s ls o n t) (sym (whole_more [] g.bytes piece))
+                (stops_more Write s m t xs ys o w n g.serves (f (last_line [] g.bytes) g.kept)));
           }
       goes-stops Memory piece t rest n r f =
           let xs = whole_lines [] g.bytes in
@@ -189,29 +223,37 @@ module _ {S : Type 0} (answers : S → Bytes → Bytes → S → Type 0) where
           record {
             bytes = g.bytes ++ piece;
             reads = consumes_more left mid rest g.bytes piece g.reads r;
-            stops = subst (λ ls. Stops answers breaks Memory s ls o n t) (lines_more g.bytes piece) (stops_within Memory s t (xs ++ ys) (last_line [] (g.bytes ++ piece) ∷ []) o n (stops_more Memory s m t xs ys o w n g.serves (f (last_line [] g.bytes) g.kept)));
+            stops =
+                inl (subst (λ ls. Stops answers breaks failed Memory s ls o n t) (sym (whole_more [] g.bytes piece))
+                (stops_more Memory s m t xs ys o w n g.serves (f (last_line [] g.bytes) g.kept)));
           }
 
-      end-stops : (e : ServeError) (t : S) (rest n : Option Bytes) → Consumes mid rest []
-          → ((begun : Bytes) → kept ≡ kept_of limit begun → Stops answers breaks e m (begun ∷ []) w n t) → Ends answers breaks e s left rest o n t
-      end-stops Read t rest n r f = absurd (f (last_line [] g.bytes) g.kept)
-      end-stops Write t rest n r f = record {
+      end-stops : (e : ServeError) (t : S) (rest n : Option Bytes) → Consumes mid rest [] → IsAtEnd rest
+          → ((begun : Bytes) → kept ≡ kept_of limit begun → Stops answers breaks failed e m (begun ∷ []) w n t) → Ends answers breaks failed e s left rest o n t
+      end-stops Read t rest n r end f = absurd (f (last_line [] g.bytes) g.kept)
+      end-stops Write t rest n r end f = record {
         bytes = g.bytes;
         reads = consumes_none left mid rest g.bytes g.reads r;
         stops =
-            stops_more Write s m t (whole_lines [] g.bytes) (last_line [] g.bytes ∷ []) o w n g.serves
-            (f (last_line [] g.bytes) g.kept);
+            inr ((
+              end,
+              stops_more Write s m t (whole_lines [] g.bytes) (last_line [] g.bytes ∷ []) o w n g.serves
+                  (f (last_line [] g.bytes) g.kept),
+            ));
       }
-      end-stops Memory t rest n r f = record {
+      end-stops Memory t rest n r end f = record {
         bytes = g.bytes;
         reads = consumes_none left mid rest g.bytes g.reads r;
         stops =
-            stops_more Memory s m t (whole_lines [] g.bytes) (last_line [] g.bytes ∷ []) o w n g.serves
-            (f (last_line [] g.bytes) g.kept);
+            inr ((
+              end,
+              stops_more Memory s m t (whole_lines [] g.bytes) (last_line [] g.bytes ∷ []) o w n g.serves
+                  (f (last_line [] g.bytes) g.kept),
+            ));
       }
 
-      pub end-stops_if : {A : Type 0} (result : Result A ServeError) (t : S) (rest n : Option Bytes) → Consumes mid rest []
-          → ((begun : Bytes) → kept ≡ kept_of limit begun → IfErr result (λ e. Stops answers breaks e m (begun ∷ []) w n t))
-          → IfErr result (λ e. Ends answers breaks e s left rest o n t)
-      end-stops_if (Ok x) t rest n r f = tt
-      end-stops_if (Err e) t rest n r f = end-stops e t rest n r f
+      pub end-stops_if : {A : Type 0} (result : Result A ServeError) (t : S) (rest n : Option Bytes) → Consumes mid rest [] → IsAtEnd rest
+          → ((begun : Bytes) → kept ≡ kept_of limit begun → IfErr result (λ e. Stops answers breaks failed e m (begun ∷ []) w n t))
+          → IfErr result (λ e. Ends answers breaks failed e s left rest o n t)
+      end-stops_if (Ok x) t rest n r end f = tt
+      end-stops_if (Err e) t rest n r end f = end-stops e t rest n r end f

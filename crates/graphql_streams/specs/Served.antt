@@ -1,7 +1,7 @@
 -- What is written of the answers to lines that are read, and why no more are answered.
-use Rattle.std.specs.Prelude.{◌≡◌, ℕ, List, [], ◌++◌, Option, Result, Ok, Err, codes}
+use Rattle.std.specs.Prelude.{◌≡◌, ◌⊎◌, ℕ, List, [], ◌++◌, Option, Result, Ok, Err, codes}
 use Rattle.std.specs.Io.KnownBytes.{Appends, Consumes, IsAtEnd}
-use Rattle.graphql_streams.specs.Counts.{risen}
+use Rattle.graphql_streams.specs.Counts.{HasRisen, risen}
 use Rattle.graphql_streams.specs.Lines.{lines, whole_lines}
 use Rattle.graphql_streams.specs.Runs.{Bytes, Run, RunPartly}
 use Rattle.graphql_streams.specs.declared.serve_error.ServeError.{ServeError}
@@ -20,12 +20,13 @@ reads_after (Err Write) n = n
 reads_after (Err Memory) n = n
 reads_after (Ok x) n = n
 
--- what the count of failed writes becomes: it rises exactly where a write is told
-abbrev pub writes_after : {A : Type 0} → Result A ServeError → ℕ → ℕ
-writes_after (Err Read) n = n
-writes_after (Err Write) n = risen n
-writes_after (Err Memory) n = n
-writes_after (Ok x) n = n
+-- what the count of failed writes becomes: it rises where a write is told, and may rise where want of memory is told,
+-- since the answers that were made before are written then
+abbrev pub WritesAfter : {A : Type 0} → Result A ServeError → ℕ → ℕ → Type 0
+WritesAfter (Err Read) old new = new ≡ old
+WritesAfter (Err Write) old new = HasRisen old new
+WritesAfter (Err Memory) old new = (new ≡ old) ⊎ HasRisen old new
+WritesAfter (Ok x) old new = new ≡ old
 
 -- a front of the bytes was written; this is the rest
 pub record Sent (old new : Option Bytes) (bytes rest : Bytes) : Type 0 where
@@ -54,31 +55,37 @@ module _ {S : Type 0} (answers : S → Bytes → Bytes → S → Type 0) where
     pub reads : Consumes left rest bytes
     pub serves : Serves s (whole_lines [] bytes) old new t
 
-  module _ (breaks : S → Bytes → S → Type 0) where
-    -- a write failed: a beginning of the answers to a front of the lines is written; memory may have run out
-    -- before that write
-    pub record StopsAtWrite (s : S) (ls : List Bytes) (old new : Option Bytes) (t : S) : Type 0 where
+  -- a write failed: a front of the lines was answered, and a beginning of their answers is written
+  pub record StopsAtWrite (s : S) (ls : List Bytes) (old new : Option Bytes) (t : S) : Type 0 where
+    pub done : List Bytes
+    pub others : List Bytes
+    pub is : ls ≡ done ++ others
+    pub text : Bytes
+    pub run : Run answers s done text t
+    pub more : Bytes
+    pub sent : Sent old new text more
+
+  -- `failed`: a write has failed
+  module _ (breaks : S → Bytes → S → Type 0) (failed : Type 0) where
+    -- memory ran out: the answers to a front of the lines are written, or a beginning of them where a write then failed
+    pub record StopsAtMemory (s : S) (ls : List Bytes) (old new : Option Bytes) (t : S) : Type 0 where
       pub text : Bytes
       pub run : RunPartly answers breaks s ls text t
       pub more : Bytes
       pub sent : Sent old new text more
-
-    -- memory ran out: the answers to a front of the lines are written
-    pub record StopsAtMemory (s : S) (ls : List Bytes) (old new : Option Bytes) (t : S) : Type 0 where
-      pub text : Bytes
-      pub run : RunPartly answers breaks s ls text t
-      pub writes : Appends old new text
+      pub whole : (more ≡ []) ⊎ failed
 
     abbrev pub Stops : ServeError → S → List Bytes → Option Bytes → Option Bytes → S → Type 0
     Stops Read s ls old new t = ⊥
     Stops Write s ls old new t = StopsAtWrite s ls old new t
     Stops Memory s ls old new t = StopsAtMemory s ls old new t
 
-    -- the same at the lines of the bytes that were read
+    -- the same at the whole lines of the bytes that were read; what stands behind the last line feed is a line too only
+    -- where the source has come to its end
     pub record Stopped (e : ServeError) (s : S) (left rest old new : Option Bytes) (t : S) : Type 0 where
       pub bytes : Bytes
       pub reads : Consumes left rest bytes
-      pub stops : Stops e s (lines bytes) old new t
+      pub stops : Stops e s (whole_lines [] bytes) old new t ⊎ (IsAtEnd rest × Stops e s (lines bytes) old new t)
 
     -- why no more lines are answered, and what was read, answered and written by then
     abbrev pub Ends : ServeError → S → Option Bytes → Option Bytes → Option Bytes → Option Bytes → S → Type 0

@@ -1,7 +1,6 @@
 -- Answers that wait to be written, and what comes of them.
-use Rattle.std.specs.Prelude.{◌≡◌, List, ◌++◌, Option, Result, Ok, Err}
+use Rattle.std.specs.Prelude.{◌≡◌, ◌⊎◌, List, [], ◌++◌, Option, Result, Ok, Err}
 use Rattle.std.specs.declared.alloc.AllocError.{AllocError}
-use Rattle.std.specs.Io.KnownBytes.{Appends}
 use Rattle.graphql_streams.specs.Runs.{Bytes, Run, RunPartly}
 use Rattle.graphql_streams.specs.Served.{Sent}
 use Rattle.graphql_streams.specs.declared.serve_error.ServeError.{ServeError}
@@ -21,10 +20,12 @@ module _ {S : Type 0} (answers : S → Bytes → Bytes → S → Type 0) where
       pub is : new ≡ old ++ text
       pub run : RunPartly answers breaks s ls text t
 
--- why not all answers were made and written: a write failed, or memory had run out and all that were made are written
-abbrev pub WroteSome : {A : Type 0} → ServeError → Result A AllocError → Bytes → Option Bytes → Option Bytes
+-- why not all answers were made and written: memory ran out, and all that were made are written, or a write failed then;
+-- or a write failed where all were made
+abbrev pub WroteSome : {A : Type 0} → Type 0 → ServeError → Result A AllocError → Bytes → Option Bytes → Option Bytes
     → Type 0
-WroteSome Read made bytes old new = ⊥
-WroteSome Write made bytes old new = (more : Bytes) × Sent old new bytes more
-WroteSome Memory (Ok x) bytes old new = ⊥
-WroteSome Memory (Err e) bytes old new = Appends old new bytes
+WroteSome failed Read made bytes old new = ⊥
+WroteSome failed Write (Ok x) bytes old new = (more : Bytes) × Sent old new bytes more
+WroteSome failed Write (Err e) bytes old new = ⊥
+WroteSome failed Memory (Ok x) bytes old new = ⊥
+WroteSome failed Memory (Err e) bytes old new = (more : Bytes) × Sent old new bytes more × ((more ≡ []) ⊎ failed)

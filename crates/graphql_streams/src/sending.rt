@@ -2,8 +2,8 @@
 
 ghost use Rattle.std.specs.Prelude.{◌≡◌, [], ℕ, List, IfErr, OnOk, OnErr, Ok};
 ghost use Rattle.std.specs.Io.KnownBytes.{Appends};
-ghost use Rattle.graphql_streams.specs.Counts.{risen};
-ghost use Rattle.graphql_streams.specs.Served.{Sent, writes_after};
+ghost use Rattle.graphql_streams.specs.Counts.{HasRisen, risen};
+ghost use Rattle.graphql_streams.specs.Served.{Sent, WritesAfter};
 ghost use Rattle.graphql_streams.specs.Waiting.{WroteSome};
 
 use crate::serve_error::ServeError;
@@ -34,7 +34,7 @@ fn send<O: ByteSink>(writer: &mut O, bytes: &[u8]) -> Result<(), WriteFailed>
 }
 
 /// Writes the answers that wait, and then tells whether they are all that were to be made, or
-/// memory ran out.
+/// memory ran out, also where a write failed after that.
 pub fn flush<O: ByteSink>(
     made: Result<(), AllocError>,
     answers: &mut Vec<u8>,
@@ -43,17 +43,18 @@ pub fn flush<O: ByteSink>(
     ensures ok { OnOk result ((made ≡ Ok tt)
         × Appends (O.written writer.old) (O.written writer.new) answers.old.items) }
     ensures err { IfErr result (λ e.
-        WroteSome e made answers.old.items (O.written writer.old) (O.written writer.new)) }
+        WroteSome (HasRisen (O.faults writer.old) (O.faults writer.new)) e made answers.old.items
+        (O.written writer.old) (O.written writer.new)) }
     ensures none { answers.new.items ≡ [] }
-    ensures faults { O.faults writer.new ≡ writes_after result (O.faults writer.old) }
+    ensures faults { WritesAfter result (O.faults writer.old) (O.faults writer.new) }
 {
     let sent = send(writer, answers.as_slice());
     answers.clear();
-    match sent {
-        Ok(()) => match made {
+    match made {
+        Ok(()) => match sent {
             Ok(()) => Ok(()),
-            Err(_) => Err(ServeError::Memory),
+            Err(_) => Err(ServeError::Write),
         },
-        Err(_) => Err(ServeError::Write),
+        Err(_) => Err(ServeError::Memory),
     }
 }

@@ -1,8 +1,9 @@
 //! Answers each line of what is read.
 
 ghost use Rattle.std.specs.Prelude.{◌≡◌, ◌<◌, ◌∷◌, [], ℕ, List, IfErr, OnOk, length};
+ghost use Rattle.graphql_streams.specs.Counts.{HasRisen};
 ghost use Rattle.graphql_streams.specs.Lines.{kept_of, last_line, whole_lines};
-ghost use Rattle.graphql_streams.specs.Served.{Ends, ServedAll, Serves, Stops, reads_after, writes_after};
+ghost use Rattle.graphql_streams.specs.Served.{Ends, ServedAll, Serves, Stops, WritesAfter, reads_after};
 
 use crate::line_engine::LineEngine;
 use crate::lines::{Buffers, end_line, feed};
@@ -31,11 +32,11 @@ fn answer_block<E: LineEngine, O: ByteSink>(
     ensures kept { (begun : List ℕ) → buffers.old.line.items ≡ kept_of limit begun
         → OnOk result (buffers.new.line.items ≡ kept_of limit (last_line begun block.now)) }
     ensures err { (begun : List ℕ) → buffers.old.line.items ≡ kept_of limit begun
-        → IfErr result (λ e. Stops E.answers E.breaks e engine.old (whole_lines begun block.now)
+        → IfErr result (λ e. Stops E.answers E.breaks (HasRisen (O.faults writer.old) (O.faults writer.new)) e engine.old (whole_lines begun block.now)
         (O.written writer.old) (O.written writer.new) engine.new) }
     ensures none { buffers.new.answers.items ≡ [] }
     ensures limit { E.limit engine.new ≡ E.limit engine.old }
-    ensures faults { O.faults writer.new ≡ writes_after result (O.faults writer.old) }
+    ensures faults { WritesAfter result (O.faults writer.old) (O.faults writer.new) }
 {
     let made = feed(alloc, engine, limit, buffers, block);
     flush(made, &mut buffers.answers, writer)
@@ -55,9 +56,9 @@ fn answer_rest<E: LineEngine, O: ByteSink>(
         → OnOk result (Serves E.answers engine.old (begun ∷ [])
         (O.written writer.old) (O.written writer.new) engine.new) }
     ensures err { (begun : List ℕ) → buffers.old.line.items ≡ kept_of limit begun
-        → IfErr result (λ e. Stops E.answers E.breaks e engine.old (begun ∷ [])
+        → IfErr result (λ e. Stops E.answers E.breaks (HasRisen (O.faults writer.old) (O.faults writer.new)) e engine.old (begun ∷ [])
         (O.written writer.old) (O.written writer.new) engine.new) }
-    ensures faults { O.faults writer.new ≡ writes_after result (O.faults writer.old) }
+    ensures faults { WritesAfter result (O.faults writer.old) (O.faults writer.new) }
 {
     let made = end_line(alloc, engine, limit, buffers, &[]);
     flush(made, &mut buffers.answers, writer)
@@ -75,10 +76,10 @@ fn serve_over<E: LineEngine, I: ByteSource, O: ByteSink>(
     requires { 0 < length block.old }
     ensures ok { OnOk result (ServedAll E.answers engine.old (I.left reader.old) (I.left reader.new)
         (O.written writer.old) (O.written writer.new) engine.new) }
-    ensures err { IfErr result (λ e. Ends E.answers E.breaks e engine.old (I.left reader.old)
-        (I.left reader.new) (O.written writer.old) (O.written writer.new) engine.new) }
+    ensures err { IfErr result (λ e. Ends E.answers E.breaks (HasRisen (O.faults writer.old) (O.faults writer.new)) e engine.old
+        (I.left reader.old) (I.left reader.new) (O.written writer.old) (O.written writer.new) engine.new) }
     ensures reads { I.faults reader.new ≡ reads_after result (I.faults reader.old) }
-    ensures writes { O.faults writer.new ≡ writes_after result (O.faults writer.old) }
+    ensures writes { WritesAfter result (O.faults writer.old) (O.faults writer.new) }
 {
     let limit = engine.line_limit();
     let mut buffers = Buffers::new(alloc);
@@ -109,9 +110,9 @@ fn serve_over<E: LineEngine, I: ByteSource, O: ByteSink>(
 /// Errors: a read that failed, a write that failed or took nothing, and want of memory, each at the
 /// first that comes. After a failed read the answers to the whole lines before it are written.
 /// After want of memory those to the lines before the one that met it are written, and the engine
-/// is as they left it, but for what that line may have changed. After a failed write a beginning of
-/// the answers' text is written, and the engine is as the lines left it whose answers were made;
-/// where memory had run out before that write, it is as after want of memory.
+/// is as they left it, but for what that line may have changed; where a write failed after that, a
+/// beginning of those answers is written. After a failed write a beginning of the answers' text is
+/// written, and the engine is as the lines left it whose answers were made.
 pub fn serve_lines<E: LineEngine, I: ByteSource, O: ByteSink>(
     alloc: Global,
     engine: &mut E,
@@ -120,10 +121,10 @@ pub fn serve_lines<E: LineEngine, I: ByteSource, O: ByteSink>(
 ) -> Result<(), ServeError>
     ensures ok { OnOk result (ServedAll E.answers engine.old (I.left reader.old) (I.left reader.new)
         (O.written writer.old) (O.written writer.new) engine.new) }
-    ensures err { IfErr result (λ e. Ends E.answers E.breaks e engine.old (I.left reader.old)
-        (I.left reader.new) (O.written writer.old) (O.written writer.new) engine.new) }
+    ensures err { IfErr result (λ e. Ends E.answers E.breaks (HasRisen (O.faults writer.old) (O.faults writer.new)) e engine.old
+        (I.left reader.old) (I.left reader.new) (O.written writer.old) (O.written writer.new) engine.new) }
     ensures reads { I.faults reader.new ≡ reads_after result (I.faults reader.old) }
-    ensures writes { O.faults writer.new ≡ writes_after result (O.faults writer.old) }
+    ensures writes { WritesAfter result (O.faults writer.old) (O.faults writer.new) }
 {
     let mut block = vec![in alloc; 0u8; BLOCK]?;
     serve_over(alloc, engine, reader, writer, block.as_mut_slice())

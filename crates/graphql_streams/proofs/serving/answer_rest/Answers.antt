@@ -1,5 +1,6 @@
 use Rattle.std.proofs.Common.{◌≡◌, ◌∷◌, [], ℕ, List, append-nil, sym, ◌∙◌, Result, Ok, Err}
 use Rattle.std.specs.Prelude.{OnErr}
+use Rattle.graphql_streams.specs.Counts.{HasRisen}
 use Rattle.graphql_streams.specs.Runs.{Broken}
 use Rattle.graphql_streams.specs.Waiting.{MadePartly}
 use Rattle.graphql_streams.proofs.RunLemmas.{partly_none}
@@ -19,7 +20,7 @@ returns-clause-err g c = λ begun is.
     let old = c.args.buffers.now.answers.items in
     let new = c.end_line-made.new.buffers.answers.items in
     let made = c.end_line-made.result in
-    stops-if E.answers E.breaks s t (begun ∷ []) old new (g.O.ByteSink.written c.args.writer.now) (g.O.ByteSink.written c.flush.new.writer) c.requires.none made c.flush.result
+    stops-if E.answers E.breaks (HasRisen (g.O.ByteSink.faults c.args.writer.now) (g.O.ByteSink.faults c.flush.new.writer)) s t (begun ∷ []) old new (g.O.ByteSink.written c.args.writer.now) (g.O.ByteSink.written c.flush.new.writer) c.requires.none made c.flush.result
     (rw (append-nil begun) at (c.end_line-made.ensures.ok begun is))
     (broken-partly E.answers E.breaks s t (begun ∷ []) old new made (rw (append-nil begun) at (c.end_line-made.ensures.err begun is)))
     c.flush.ensures.err
