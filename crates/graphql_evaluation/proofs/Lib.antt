@@ -6,10 +6,10 @@ mod RepeatHeights
 mod Walks
 pub mod Depths
 pub mod GroupKeys
-mod FittingData
+pub mod FittingData
 mod DistinctMembers
-mod Failures
-mod ExactFailures
+pub mod Failures
+pub mod ExactFailures
 pub mod ToldErrors
 pub mod RunRepeats
 pub mod TurnLaws

@@ -1,3 +1,4 @@
 mod OneAnswer
 mod Running
 mod SameAsking
+mod FittingAnswers

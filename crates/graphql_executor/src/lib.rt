@@ -19,12 +19,19 @@ pub use graphql_field_results::{
 pub use graphql_final_variables::FinalVariables;
 pub use graphql_input_types::{ID, Nullable};
 pub use graphql_introspection::{introspection_metadata, kind_name, location_name};
-pub use graphql_look_ahead::{Applies, LookAheadChildren, LookAheadSelection, Selected};
+pub use graphql_look_ahead::{
+    Applies, LookAheadArgument, LookAheadArguments, LookAheadChildren, LookAheadList,
+    LookAheadObject, LookAheadSelection, LookAheadValue, Names, Selected, look_ahead_list,
+    look_ahead_object,
+};
 pub use graphql_mutation::GraphQLMutationValue;
+pub use graphql_registry::{
+    AnswersByClones, EmptyMutation, EmptySubscription, GraphQLType, IntoResolvable, Registry,
+};
 pub use graphql_requests::{
     GraphQLError, Meaning, documents_without_a_fault_are_settled, get_operation, read_request,
 };
-pub use graphql_schema::IntrospectionChecks;
+pub use graphql_schema::{IntrospectionChecks, TypeKind};
 pub use graphql_values::{FromInputValueArrayError, FromInputValueVecError};
 pub use introspection_query::{IntrospectionFormat, introspect};
 pub use operation::Response;

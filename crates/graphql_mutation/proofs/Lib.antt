@@ -1,4 +1,5 @@
 mod DistinctRuns
+mod FittingRuns
 pub mod RunLemmas
 pub mod SerialSteps
 pub mod SerialRepeats

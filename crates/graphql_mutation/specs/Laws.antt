@@ -1,6 +1,6 @@
 -- What holds of mutations (GraphQL October 2021, 6.2.1 Query, 6.2.2 Mutation).
-use Rattle.std.specs.Prelude.{◌≡◌, ◌++◌, List, [], IfSome}
-use Rattle.std.specs.List.{All}
+use Rattle.std.specs.Prelude.{◌≡◌, ◌↔◌, ◌++◌, List, [], IfSome}
+use Rattle.std.specs.List.{All, Contains}
 use Rattle.graphql_names.specs.Names.{Bytes}
 use Rattle.graphql_arguments.specs.ArgumentValues.{Given}
 use Rattle.graphql_output_values.specs.DistinctKeys.{HasDistinctKeysThroughout}
@@ -14,7 +14,9 @@ use Rattle.graphql_evaluation.specs.Completion.{Members, object_members}
 use Rattle.graphql_evaluation.specs.Evaluation.{evaluate, found_in}
 use Rattle.graphql_evaluation.specs.Laws.{AnswersTellDistinctKeys, TellsDistinctKeys}
 use Rattle.graphql_evaluation.specs.Outcomes.{Outcome}
-use Rattle.graphql_mutation.specs.Serial.{Mutation, Run, mutate, serially, step_of}
+use Rattle.graphql_evaluation.specs.Failing.{IsAccounted}
+use Rattle.graphql_mutation.specs.Fitting.{RunFails, RunFits}
+use Rattle.graphql_mutation.specs.Serial.{Mutation, Run, mutate, root_groups, serially, step_of}
 
 -- fields that stand there before give nothing more, and change nothing more
 abbrev pub RepeatsChangeNothing : (S N X : Type 0) → Type 0
@@ -53,3 +55,18 @@ pub record HasDistinctRun {S X : Type 0} (run : Run S X (Members S)) : Type 0 wh
 abbrev pub RunsHaveDistinctKeys : (S N X : Type 0) → Type 0
 RunsHaveDistinctKeys S N X = (m : Mutation S N X) → StepsTellDistinctKeys m → (object : Bytes) (c : X) (sets : List (Tree S))
     → HasDistinctRun (mutate m object c sets)
+
+-- data fit the selection sets at the types that are declared, each group on the context that the one before it left
+abbrev pub RunsFit : (S N X : Type 0) → Type 0
+RunsFit S N X = (m : Mutation S N X) (object : Bytes) (c : X) (sets : List (Tree S))
+    → IfSome (mutate m object c sets).outcome.value (RunFits m object c (root_groups m object c sets))
+
+-- the failures are just what fails, up to the first group whose null reaches the root
+abbrev pub RunFailuresAreExact : (S N X : Type 0) → Type 0
+RunFailuresAreExact S N X = (m : Mutation S N X) (object : Bytes) (c : X) (sets : List (Tree S)) (f : ExecutionError S)
+    → Contains (mutate m object c sets).outcome.failures f ↔ RunFails m object c (root_groups m object c sets) f
+
+-- where there are no data, something failed
+abbrev pub RunsWithoutDataFail : (S N X : Type 0) → Type 0
+RunsWithoutDataFail S N X = (m : Mutation S N X) (object : Bytes) (c : X) (sets : List (Tree S))
+    → IsAccounted (mutate m object c sets).outcome

@@ -3,3 +3,4 @@ pub mod Runs
 pub mod Mutations
 pub mod Completing
 pub mod Laws
+pub mod Fitting

@@ -1,8 +1,11 @@
 //! Laws of mutations: each function's contract is a law, and its body asks for the laws below it.
 
-ghost use Rattle.graphql_mutation.specs.Laws.{AskingOnlyIsQuerying, RepeatsChangeNothing, RunsHaveDistinctKeys};
+ghost use Rattle.graphql_mutation.specs.Laws.{AskingOnlyIsQuerying, RepeatsChangeNothing, RunFailuresAreExact, RunsFit, RunsHaveDistinctKeys, RunsWithoutDataFail};
 
-use graphql_evaluation::laws::{data_have_distinct_keys, failures_tell_distinct_keys};
+use graphql_evaluation::laws::{
+    data_fit, data_have_distinct_keys, failures_are_exact, failures_tell_distinct_keys,
+    no_data_fails,
+};
 
 /// Selection sets give and change what the groups of their fields do, also where fields are left out that
 /// stand there before: so each fragment is entered once, however often it is spread.
@@ -25,4 +28,27 @@ pub fn runs_have_distinct_keys<S, N, X>()
 {
     data_have_distinct_keys::<S, N>();
     failures_tell_distinct_keys::<S, N>();
+}
+
+/// The data of a mutation fit its selection sets: they have a member for each group of the root, in order, and at
+/// each place a value of the type that is declared there, on the context that the group leaves. So no null stands
+/// at a place that is declared without null (GraphQL October 2021, 6.2.2 Mutation, 6.4.4 Handling Field Errors).
+pub fn runs_fit<S, N, X>()
+    ensures { RunsFit S N X }
+{
+    data_fit::<S, N>();
+}
+
+/// The failures of a mutation are just what fails of its groups, up to the first whose null reaches the root.
+pub fn run_failures_are_exact<S, N, X>()
+    ensures { RunFailuresAreExact S N X }
+{
+    failures_are_exact::<S, N>();
+}
+
+/// Where a mutation has no data, something failed.
+pub fn runs_without_data_fail<S, N, X>()
+    ensures { RunsWithoutDataFail S N X }
+{
+    no_data_fails::<S, N>();
 }
