@@ -60,9 +60,14 @@ module _ {S : Type 0} where
   of-found (Some x) e o h = cc
   of-found None e o h = absurd (cc)
 
-  -- the operation that is chosen is a definition of the document
+  -- the operation that is chosen is one of the document's
+  pub chosen-listed : (name : Option Bytes) (document : List (Definition S)) (o : Placed (Operation S))
+      → chosen name document ≡ Ok o → Contains (operations_of document) o
+  chosen-listed None document o e = only-in (operations_of document) o e
+  chosen-listed (Some name) document o e =
+      found-in (has_name name) (operations_of document) o (of-found _ _ o e)
+
+  -- so it is a definition of the document
   pub chosen-in : (name : Option Bytes) (document : List (Definition S)) (o : Placed (Operation S))
       → chosen name document ≡ Ok o → Contains document (definition.Operation o)
-  chosen-in None document o e = operation-in document o (only-in (operations_of document) o e)
-  chosen-in (Some name) document o e =
-      operation-in document o (found-in (has_name name) (operations_of document) o (of-found _ _ o e))
+  chosen-in name document o e = operation-in document o (chosen-listed name document o e)

@@ -50,15 +50,16 @@ module _ {S C : Type 0} (s : Scalars S C) (a : Asking S C) where
     pub unread : IsUnread s (declarations_of a.schema) a.introspection_disabled a.text refusal
     pub sorted : IsSorted cmp (errors_of refusal)
 
-  -- of the document that is read no operation is executed
-  pub record IsRefusedRead (refusal : GraphQLError) : Type 0 where
+  -- of the document that is read no operation is executed, and what stands against the values is told in order
+  pub record IsRefusedRead (cmp : RuleError → RuleError → Ordering) (refusal : GraphQLError) : Type 0 where
     pub document : List (Definition S)
     pub read : Reads document
     pub stopped : IsStopped s a.schema a.given (chosen a.operation_name document) refusal
+    pub sorted : IsSorted cmp (errors_of refusal)
 
   -- the first step that fails decides
   abbrev pub IsRefused : (RuleError → RuleError → Ordering) → GraphQLError → Type 0
-  IsRefused cmp refusal = IsRefusedUnread cmp refusal ⊎ IsRefusedRead refusal
+  IsRefused cmp refusal = IsRefusedUnread cmp refusal ⊎ IsRefusedRead cmp refusal
 
 -- ---- laws
 

@@ -99,7 +99,7 @@ fn valid_document<'a, S: SchemaScalar>(
 /// Coercing Variable Values), and is a query, or a mutation where the schema has a type for mutations.
 ///
 /// The first of these that fails decides: `get_operation` refuses; the operation does not accept the
-/// values, `GraphQLError::ValidationError` with the errors that `validate_input_values` gives; the
+/// values, `GraphQLError::ValidationError` with the errors that `validate_input_values` gives, in its order; the
 /// operation is a subscription, `GraphQLError::IsSubscription`, or a mutation and the schema has no type for
 /// mutations, `GraphQLError::NoMutationType`.
 /// `GraphQLError::Memory` comes only where memory ran out, and no other error comes.
@@ -116,6 +116,7 @@ pub fn chosen_operation<'d, 'a, S: SchemaScalar>(
     ensures refused { let choice = chosen (option_map (λ name. name.now) operation_name.entry) document.now in
         let given = get_by_text variables.now in
         IfErr result (IsStopped ⟦<S as Meaning>⟧.meaning root_node.now.schema given choice) }
+    ensures sorted { IfErr result (λ error. IsSorted ⟦<RuleError as Ord>⟧.cmp (errors_of error)) }
 {
     let operation = get_operation(document, operation_name)?;
     let errors = validate_input_values(alloc, variables, operation, root_node.schema())?;
