@@ -290,7 +290,7 @@ module _ {S C : Type 0} (schema : Declarations S C) where
   variables_unlocated (Some x) = refl
 
   -- 2.3 Operations
-  operation_unlocated : (o : Operation S)
+  pub operation_unlocated : (o : Operation S)
       → Unlocated (operation_parts schema (unlocated_operation o)) (operation_parts schema o)
   operation_unlocated o =
       let of_variable = variable_parts schema in
@@ -302,7 +302,7 @@ module _ {S C : Type 0} (schema : Declarations S C) where
       three _ _ _ (flat_map of_variable defined) _ _ variables directives set
 
   -- 2.8 Fragments
-  fragment_unlocated : (f : Fragment S)
+  pub fragment_unlocated : (f : Fragment S)
       → Unlocated (fragment_parts schema (unlocated_fragment f)) (fragment_parts schema f)
   fragment_unlocated f =
       let directives = directives_unlocated location.FragmentDefinition f.directives in

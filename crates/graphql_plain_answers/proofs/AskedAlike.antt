@@ -29,7 +29,7 @@ use Rattle.graphql_execution.specs.declared.asked.Asked.TheVariants as asked
 use Rattle.graphql_mutation.specs.Mutations.{Changes, told_first}
 use Rattle.graphql_plain_answers.specs.Lawful.{IsLawful}
 use Rattle.graphql_plain_answers.specs.WithoutPlaces.{unlocated_given}
-use Rattle.graphql_plain_answers.proofs.UnlocatedConditions.{by-image, layer-alike}
+use Rattle.graphql_plain_answers.proofs.OuterLayers.{by-image, layer-alike}
 
 first-of : {A : Type 0} (x y : A) (xs ys : List A) → x ∷ xs ≡ y ∷ ys → x ≡ y
 first-of x y xs ys same = cc

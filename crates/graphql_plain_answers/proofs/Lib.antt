@@ -2,7 +2,7 @@ pub mod AlikeFields
 pub mod AlikeOutcomes
 pub mod AlikeRuns
 pub mod FilledLiterals
-pub mod UnlocatedConditions
+pub mod OuterLayers
 pub mod UnlocatedArguments
 pub mod AskedAlike
 pub mod ServedAlike
@@ -11,3 +11,4 @@ pub mod PlainDocuments
 pub mod SerialAlike
 pub mod SerialPlain
 pub mod PlainAnswers
+pub mod SameDocuments

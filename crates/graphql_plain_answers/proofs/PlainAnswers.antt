@@ -15,6 +15,7 @@ use Rattle.graphql_execution.specs.Engines.{Resolves, engine_over}
 use Rattle.graphql_execution.specs.declared.asked.Asked.{Asked}
 use Rattle.graphql_mutation.specs.Mutations.{Changes, mutation_over}
 use Rattle.graphql_mutation.specs.Serial.{Mutation}
+use Rattle.graphql_moved.specs.UnlocatedTrees.{unlocated_tree}
 use Rattle.graphql_plain_tree.specs.Laws.{Fit, StandInLeavesOut}
 use Rattle.graphql_plain_tree.specs.PlainOperations.{plain_by, variables_used}
 use Rattle.graphql_plain_tree.specs.StandIns.{skip_true}
@@ -25,7 +26,7 @@ use Rattle.graphql_plain_answers.specs.AlikeMutations.{AreAlike, AskOverOneSchem
 use Rattle.graphql_plain_answers.specs.Answers.{GiveTheSame}
 use Rattle.graphql_plain_answers.specs.Lawful.{IsLawful}
 use Rattle.graphql_plain_answers.specs.Laws.{OutcomesSucceedAlike, PlainDocumentsAnswerAlike}
-use Rattle.graphql_plain_answers.specs.WithoutPlaces.{unlocated_failure, unlocated_tree}
+use Rattle.graphql_plain_answers.specs.WithoutPlaces.{unlocated_failure}
 use Rattle.graphql_plain_answers.proofs.AlikeOutcomes.{U}
 use Rattle.graphql_plain_answers.proofs.AlikeRuns.{alike-give-the-same}
 use Rattle.graphql_plain_answers.proofs.PlainDocuments.{plain-document-is-plain}

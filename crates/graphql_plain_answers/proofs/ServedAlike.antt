@@ -14,17 +14,18 @@ use Rattle.graphql_execution.specs.FieldDeclarations.{declared_arguments}
 use Rattle.graphql_execution.specs.declared.asked.Asked.{Asked}
 use Rattle.graphql_mutation.specs.Mutations.{Changes, mutation_over, told_first}
 use Rattle.graphql_mutation.specs.Serial.{Mutation}
+use Rattle.graphql_moved.specs.UnlocatedTrees.{unlocated_head, unlocated_marks, unlocated_tree}
+use Rattle.graphql_moved.proofs.UnlocatedWritten.{left-out-unlocated}
 use Rattle.graphql_plain_tree.specs.Laws.{Fit}
 use Rattle.graphql_plain_tree.specs.PlainOperations.{variables_given, variables_used}
 use Rattle.graphql_plain_tree.specs.PlainShape.{IsPlain, IsPlainSet}
 use Rattle.graphql_plain_answers.specs.AgreeingValues.{AgreeOn, Values}
 use Rattle.graphql_plain_answers.specs.AlikeMutations.{AreAlike, AreServedAlike, AskOverOneSchema}
 use Rattle.graphql_plain_answers.specs.Lawful.{IsLawful}
-use Rattle.graphql_plain_answers.specs.WithoutPlaces.{unlocated_head, unlocated_marks, unlocated_tree}
 use Rattle.graphql_plain_answers.proofs.AskedAlike.{asked-alike, step-alike}
 use Rattle.graphql_plain_answers.proofs.FilledLiterals.{agree-left, agree-right}
 use Rattle.graphql_plain_answers.proofs.UnlocatedArguments.{values-alike}
-use Rattle.graphql_plain_answers.proofs.UnlocatedConditions.{by-image, left-out-alike}
+use Rattle.graphql_plain_answers.proofs.OuterLayers.{by-image}
 
 field-parts : {S : Type 0} (h k : Head S) (ds es : Directives S) (b i r m : Tree S)
     → field h ds b r ≡ field k es i m
@@ -149,7 +150,7 @@ module _ {S C N X : Type 0} (of_text : Bytes → S) (of_bool : Bool → S) (answ
       → left_out answer given ds ≡ left_out answer other ds
       → left_out answer given ds ≡ left_out answer other es
   marks-alike ds es same left =
-      left ∙ by-image unlocated_marks (left_out answer other) (left-out-alike answer other) ds es
+      left ∙ by-image unlocated_marks (left_out answer other) (left-out-unlocated answer other) ds es
       same
 
   pub trees-alike : (t u : Tree S) → unlocated_tree t ≡ unlocated_tree u

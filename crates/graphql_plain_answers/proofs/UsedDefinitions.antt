@@ -1,16 +1,13 @@
 -- The definitions that are still used give the names that are used their final values.
-use Rattle.std.proofs.Common.{◌≡◌, refl, sym, ◌∙◌, ap, Bool, true, false, List, [], ◌∷◌, map, Option, Some, None, cond}
+use Rattle.std.proofs.Common.{◌≡◌, refl, ◌∙◌, ap, Bool, true, false, List, [], ◌∷◌, map, Option, Some, cond}
 use Rattle.std.specs.List.{Contains, filter, find}
-use Rattle.std.specs.Option.{option_and_then, option_map, option_or}
+use Rattle.std.specs.Option.{option_and_then, option_or}
 use Rattle.std.specs.Str.{bytes_eq}
 use Rattle.std.proofs.lemmas.Bool.{false≢true}
 use Rattle.std.proofs.lemmas.Cmp.{nat_list_eq_equiv}
 use Rattle.std.proofs.lemmas.Map.Views.{list_any-from_Contains}
 use Rattle.std.proofs.lemmas.Slice.Eq.{bytes_eq-Decides}
 use Rattle.graphql_names.specs.Names.{Bytes, is_named, is_one_of}
-use Rattle.graphql_values.specs.InputValues.{unlocated}
-use Rattle.graphql_values.specs.declared.input_value.InputValue.{InputValue}
-use Rattle.graphql_tree.specs.Unlocated.{without_place, unlocated_name, unlocated_variable}
 use Rattle.graphql_tree.specs.Variables.{Variable}
 use Rattle.graphql_final_variables.specs.FinalValues.{default_named, default_of, final_value, variable_name}
 use Rattle.graphql_plain_tree.specs.PlainOperations.{definitions_used, without_directives}
@@ -59,47 +56,3 @@ module _ {S : Type 0} where
     pub final-stays : (given : Values S) (vs : List (Variable S))
         → final_value given (definitions_used names vs) name ≡ final_value given vs name
     final-stays given vs = ap (option_or (given name)) (default-stays vs)
-
-  -- ---- definitions that are the same but for places
-
-  abbrev pub unlocated_definitions : List (Variable S) → List (Variable S)
-  unlocated_definitions = map (λ v. (unlocated_name v.0, unlocated_variable v.1))
-
-  default-unlocated : (v : Variable S)
-      → default_of (unlocated_name v.0, unlocated_variable v.1)
-      ≡ option_map unlocated (default_of v)
-  default-unlocated v =
-      elim v.1.default_value as
-      (λ o. option_map (λ d. d.item) (option_map (without_place unlocated) o)
-      ≡ option_map unlocated (option_map (λ d. d.item) o))
-      [ None ↦ refl | Some d ↦ refl ]
-
-  one-default : (b : Bool) (v : Variable S) (x y : Option (Variable S))
-      → option_and_then default_of x ≡ option_map unlocated (option_and_then default_of y)
-      → option_and_then default_of (cond b (Some (unlocated_name v.0, unlocated_variable v.1)) x)
-      ≡ option_map unlocated (option_and_then default_of (cond b (Some v) y))
-  one-default true v x y same = default-unlocated v
-  one-default false v x y same = same
-
-  named-unlocated : (name : Bytes) (vs : List (Variable S))
-      → default_named (unlocated_definitions vs) name ≡ option_map unlocated (default_named vs name)
-  named-unlocated name [] = refl
-  named-unlocated name (v ∷ vs) =
-      one-default (bytes_eq v.0.item name) v
-      (find (is_named variable_name name) (unlocated_definitions vs))
-      (find (is_named variable_name name) vs) (named-unlocated name vs)
-
-  or-alike : (o a b : Option (InputValue S)) → option_map unlocated a ≡ option_map unlocated b
-      → option_map unlocated (option_or o a) ≡ option_map unlocated (option_or o b)
-  or-alike None a b same = same
-  or-alike (Some v) a b same = refl
-
-  -- they give each name the same final value but for places
-  pub finals-alike : (given : Values S) (name : Bytes) (vs ws : List (Variable S))
-      → unlocated_definitions vs ≡ unlocated_definitions ws
-      → option_map unlocated (final_value given vs name)
-      ≡ option_map unlocated (final_value given ws name)
-  finals-alike given name vs ws same =
-      or-alike (given name) (default_named vs name) (default_named ws name)
-      (sym (named-unlocated name vs) ∙ ap (λ us. default_named us name) same
-      ∙ named-unlocated name ws)

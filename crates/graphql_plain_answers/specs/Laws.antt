@@ -6,7 +6,7 @@ use Rattle.graphql_scalars.specs.ScalarAnswers.{ScalarAnswer}
 use Rattle.graphql_values.specs.InputValues.{Placed}
 use Rattle.graphql_tree.specs.Definitions.{fragments_listed, operations_of}
 use Rattle.graphql_tree.specs.Documents.{variables_in}
-use Rattle.graphql_tree.specs.Unlocated.{unlocated_document}
+use Rattle.graphql_tree.specs.Unlocated.{unlocated_document, unlocated_operation}
 use Rattle.graphql_tree.specs.Variables.{Variable}
 use Rattle.graphql_tree.specs.declared.document.Definition.{Definition}
 use Rattle.graphql_tree.specs.declared.document.Operation.{Operation}
@@ -17,6 +17,7 @@ use Rattle.graphql_evaluation.specs.Engines.{Engine}
 use Rattle.graphql_evaluation.specs.Evaluation.{evaluate}
 use Rattle.graphql_evaluation.specs.Outcomes.{Outcome}
 use Rattle.graphql_mutation.specs.Serial.{Mutation, mutate}
+use Rattle.graphql_moved.specs.UnlocatedTrees.{unlocated_tree}
 use Rattle.graphql_plain_tree.specs.Laws.{Fit}
 use Rattle.graphql_plain_tree.specs.Plain.{plain}
 use Rattle.graphql_plain_tree.specs.PlainDocuments.{document_of}
@@ -28,7 +29,7 @@ use Rattle.graphql_plain_answers.specs.AlikeMutations.{AreAlike, AskOverOneSchem
 use Rattle.graphql_plain_answers.specs.AlikeSets.{AreOverOneSchema, SetsAlike}
 use Rattle.graphql_plain_answers.specs.Answers.{GiveTheSame, SucceedAlike}
 use Rattle.graphql_plain_answers.specs.Lawful.{ForEachLawful}
-use Rattle.graphql_plain_answers.specs.WithoutPlaces.{unlocated_outcome, unlocated_run, unlocated_tree}
+use Rattle.graphql_plain_answers.specs.WithoutPlaces.{unlocated_outcome, unlocated_run}
 
 -- ---- alike sets
 
@@ -130,3 +131,15 @@ module _ {S : Type 0} (of_text : Bytes → S) (of_bool : Bool → S) (answer : S
       (asked (final_value given (variables_in x.item.variable_definitions)))
       (written fragments o.selection_set ∷ [])
       (written (fragments_listed again) x.item.selection_set ∷ [])))
+
+  -- operations of documents that differ in places alone give the same
+  abbrev pub SameDocumentsAnswerAlike : Type 0
+  SameDocumentsAnswerAlike =
+      ForEachLawful of_text of_bool answer eq C N X (λ asked.
+      (given : Values S) (document again : List (Definition S)) (o x : Operation S)
+      → unlocated_document document ≡ unlocated_document again
+      → unlocated_operation o ≡ unlocated_operation x
+      → GiveTheSame (asked (final_value given (variables_in o.variable_definitions)))
+      (asked (final_value given (variables_in x.variable_definitions)))
+      (written (fragments_listed document) o.selection_set ∷ [])
+      (written (fragments_listed again) x.selection_set ∷ []))

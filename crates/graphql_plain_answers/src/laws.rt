@@ -5,10 +5,12 @@ ghost use Rattle.graphql_plain_answers.specs.Lawful.{IsLawful};
 ghost use Rattle.graphql_plain_answers.specs.Laws.{AlikeChangeTheSame, AlikeGiveTheSame};
 ghost use Rattle.graphql_plain_answers.specs.Laws.{OutcomesSucceedAlike, PlacesDoNotCount};
 ghost use Rattle.graphql_plain_answers.specs.Laws.{PlainChangeTheSame, PlainDocumentIsPlain};
-ghost use Rattle.graphql_plain_answers.specs.Laws.{PlainDocumentsAnswerAlike};
+ghost use Rattle.graphql_plain_answers.specs.Laws.{PlainDocumentsAnswerAlike, SameDocumentsAnswerAlike};
 ghost use Rattle.graphql_plain_answers.specs.Laws.{UnusedVariablesDoNotCount, UsedDefinitionsSuffice};
 
 use graphql_mutation::GraphQLMutationValue;
+pub use graphql_plain_laws::laws::plain_gives_the_same;
+pub use graphql_plain_tree::laws::fields_of_plain;
 use graphql_plain_tree::laws::stand_in_leaves_out;
 use graphql_schema::SchemaScalar;
 use graphql_values::ScalarValue;
@@ -84,3 +86,10 @@ pub fn plain_documents_answer_alike<S: ScalarValue, C, N, X>()
 {
     stand_in_leaves_out::<S>();
 }
+
+/// Operations of documents that differ in places alone give the same value, and the same failures
+/// but for their places, and leave the same context: as queries and as mutations, over each schema
+/// and each resolver that keeps its laws.
+pub fn same_documents_answer_alike<S: ScalarValue, C, N, X>()
+    ensures { SameDocumentsAnswerAlike S.of_text S.of_bool S.answer S.eq C N X }
+{}

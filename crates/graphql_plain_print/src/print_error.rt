@@ -1,6 +1,9 @@
 //! Why an operation has no plain text.
 
-use std::alloc::AllocError;
+ghost use Rattle.std.specs.Prelude.{◌≡◌};
+ghost use Rattle.graphql_plain_print.specs.declared.print_error.PrintError.TheVariants.{Memory};
+
+use std::alloc::{AllocError, AllocFailed};
 
 /// Why an operation is not printed.
 #[derive(Debug, Drop)]
@@ -13,12 +16,17 @@ pub enum PrintError {
 }
 
 impl From<AllocError> for PrintError {
-    ghost use Rattle.std.specs.Prelude.{◌≡◌};
-    ghost use Rattle.graphql_plain_print.specs.declared.print_error.PrintError.TheVariants.{Memory};
-
     ghost from_gives = { λ _ e. e ≡ Memory };
 
     fn from(_error: AllocError) -> PrintError {
+        PrintError::Memory
+    }
+}
+
+impl<T: Drop> From<AllocFailed<T>> for PrintError {
+    ghost from_gives = { λ _ e. e ≡ Memory };
+
+    fn from(_error: AllocFailed<T>) -> PrintError {
         PrintError::Memory
     }
 }

@@ -1,35 +1,24 @@
 -- The plain text of a request is executed in the request's place.
-use Rattle.std.proofs.Common.{◌≡◌, refl, sym, ◌∙◌, ap, subst, arith, not, ◌||◌, Bool, true, false, List, [], ◌∷◌, map, cond, reverse, Option, Some, None, Ok, Err}
+use Rattle.std.proofs.Common.{◌≡◌, refl, sym, ◌∙◌, ap, subst, arith, Bool, true, false, List, [], ◌∷◌, cond, reverse, Option, Some, None, Ok, Err}
 use Rattle.std.specs.List.{Contains, find}
-use Rattle.std.specs.Option.{is_some, option_map, option_map_or}
+use Rattle.std.specs.Option.{option_map, option_map_or}
 use Rattle.std.specs.Str.{bytes_eq, chars}
 use Rattle.graphql_names.specs.Names.{Bytes, passes}
-use Rattle.graphql_scalars.specs.ScalarAnswers.{ScalarAnswer}
-use Rattle.graphql_values.specs.InputValues.{Placed, unlocated, unplaced}
-use Rattle.graphql_values.specs.declared.input_value.InputValue.{InputValue}
+use Rattle.graphql_values.specs.InputValues.{Placed, unplaced}
 use Rattle.graphql_tree.specs.Definitions.{operations_of}
 use Rattle.graphql_tree.specs.Documents.{variables_in}
-use Rattle.graphql_tree.specs.Unlocated.{unlocated_name, unlocated_operation, unlocated_variable, unlocated_variables, without_place}
-use Rattle.graphql_tree.specs.Variables.{Variable}
+use Rattle.graphql_tree.specs.Unlocated.{unlocated_name, unlocated_operation}
 use Rattle.graphql_tree.specs.declared.document.Definition.{Definition}
 use Rattle.graphql_tree.specs.declared.document.Definition.TheVariants as definition
 use Rattle.graphql_tree.specs.declared.document.Operation.{Operation}
-use Rattle.graphql_tree.specs.declared.variable.VariableDefinitions.{VariableDefinitions}
-use Rattle.graphql_final_variables.specs.FinalValues.{variable_name}
-use Rattle.graphql_schema.specs.declared.meta.MetaType.{MetaType}
-use Rattle.graphql_literal_checks.specs.InputTypes.{refuses_null}
 use Rattle.graphql_schema.specs.Declarations.{declarations_of}
 use Rattle.graphql_schema.specs.declared.root_node.RootNode.{RootNode}
 use Rattle.graphql_rules_document.proofs.KnownFieldTypes.{field-types-are-known}
-use Rattle.graphql_rules_document.proofs.ListItems.{contains-map, image-of}
-use Rattle.graphql_variable_checks.specs.Accepted.{AreAccepted, FitsVariable, IsAccepted, variable_type}
-use Rattle.graphql_plain_tree.specs.PlainDocuments.{definitions_as, document_of, operation_as}
-use Rattle.graphql_plain_tree.specs.PlainOperations.{PlainOperation, definitions_used, without_directives, variables_used}
+use Rattle.graphql_plain_tree.specs.PlainDocuments.{document_of, operation_as}
+use Rattle.graphql_plain_tree.specs.PlainOperations.{PlainOperation, variables_used}
 use Rattle.graphql_plain_text.specs.Laws.{IsTextOf, PlainTextIsDocument}
 use Rattle.graphql_plain_validity.specs.PlainRequests.{IsPlainDocument}
 use Rattle.graphql_plain_validity.proofs.OneOperation.{the-one}
-use Rattle.graphql_plain_validity.proofs.PlainDocumentParts.{definitions-back}
-use Rattle.graphql_plain_validity.proofs.UsedDefinitions.{used-from}
 use Rattle.graphql_plain_validity.specs.Laws.{IsValidText, PlainTextsAreValid}
 use Rattle.graphql_plain_validity.proofs.ValidTexts.{full}
 use Rattle.graphql_requests.specs.Operations.{chosen, has_name, mutation_root}
@@ -40,6 +29,7 @@ use Rattle.graphql_requests.proofs.ChosenOperations.{chosen-in}
 use Rattle.graphql_plain_requests.specs.PlainRequests.{asked_at, plain_of, values_for}
 use Rattle.graphql_plain_requests.proofs.PlainDocuments.{root-known}
 use Rattle.graphql_plain_requests.specs.Laws.{PlainTextsAreAccepted}
+use Rattle.graphql_plain_requests.proofs.AcceptedValues.{accepted-again}
 
 -- ---- the name of an operation
 
@@ -56,10 +46,10 @@ found-passes test (y ∷ ys) x e h =
     ] in cases (test y) refl h
 
 -- a test of a name sees no places
-bare-passes : (test : Bytes → Bool) (o : Option (Placed Bytes))
+unlocated-passes : (test : Bytes → Bool) (o : Option (Placed Bytes))
     → passes (λ (n : Placed Bytes). test n.item) (option_map unlocated_name o) ≡ passes (λ (n : Placed Bytes). test n.item) o
-bare-passes test None = refl
-bare-passes test (Some n) = refl
+unlocated-passes test None = refl
+unlocated-passes test (Some n) = refl
 
 plain-passes : (test : Bytes → Bool) (o : Option (Placed Bytes))
     → passes (λ (n : Placed Bytes). test n.item) (option_map unplaced (option_map (λ (n : Placed Bytes). n.item) o))
@@ -86,70 +76,11 @@ module _ {S : Type 0} where
       found-passes (has_name name) (reverse (operations_of document)) o
       error.UnknownOperationName e in
       lone-chosen x name
-      (sym (bare-passes test x.item.name)
+      (sym (unlocated-passes test x.item.name)
       ∙ ap (λ (q : Operation S). passes (λ (n : Placed Bytes). test n.item) q.name) same
-      ∙ bare-passes test (option_map unplaced p.name)
+      ∙ unlocated-passes test (option_map unplaced p.name)
       ∙ ap (λ (n : Option Bytes). passes (λ (n : Placed Bytes). test n.item) (option_map unplaced n)) named
       ∙ plain-passes test o.item.name ∙ old)
-
-  -- ---- the values for variables
-
-  abbrev bare : Variable S → Variable S
-  bare v = (unlocated_name v.0, unlocated_variable v.1)
-
-  variables-listed : (o : Option (Placed (VariableDefinitions S)))
-      → variables_in (option_map (without_place unlocated_variables) o) ≡ map bare (variables_in o)
-  variables-listed None = refl
-  variables-listed (Some v) = refl
-
-  variables-alike : (p : PlainOperation S) (x : Operation S)
-      → unlocated_operation x ≡ unlocated_operation (operation_as p)
-      → map bare (variables_in x.variable_definitions) ≡ map bare p.variables
-  variables-alike p x same =
-      sym (variables-listed x.variable_definitions)
-      ∙ ap (λ (o : Operation S). variables_in o.variable_definitions) same
-      ∙ variables-listed (definitions_as p.variables)
-      ∙ ap (map bare) (definitions-back p.variables)
-
-is-some-alike : {A B : Type 0} (f : A → B) (o : Option A) → is_some (option_map f o) ≡ is_some o
-is-some-alike f None = refl
-is-some-alike f (Some x) = refl
-
-module _ {S C : Type 0} (answer : S → ScalarAnswer) (accepts : C → InputValue S → Type 0)
-    (types : List (MetaType S C)) where
-  absent-alike : (v : Variable S)
-      → (not (refuses_null (variable_type v)) || is_some (bare v).1.default_value)
-      ≡ (not (refuses_null (variable_type v)) || is_some v.1.default_value)
-  absent-alike v =
-      ap (λ (b : Bool). not (refuses_null (variable_type v)) || b)
-      (is-some-alike (without_place unlocated) v.1.default_value)
-
-  fits-bare : (v : Variable S) (o : Option (InputValue S)) → FitsVariable answer accepts types v o
-      → FitsVariable answer accepts types (bare (without_directives v)) o
-  fits-bare v (Some value) h = h
-  fits-bare v None h = absent-alike v ∙ h
-
-  fits-placed : (v : Variable S) (o : Option (InputValue S))
-      → FitsVariable answer accepts types (bare v) o → FitsVariable answer accepts types v o
-  fits-placed v (Some value) h = h
-  fits-placed v None h = sym (absent-alike v) ∙ h
-
-  module _ (given : Bytes → Option (InputValue S)) where
-    -- definitions that are those of used names, places and directives aside, accept what all accept
-    accepted-again : (names : List Bytes) (vs ws : List (Variable S))
-        → map bare ws ≡ map bare (definitions_used names vs)
-        → AreAccepted answer accepts types given vs → AreAccepted answer accepts types given ws
-    accepted-again names vs ws same accepted w i known =
-        let among : Contains (map bare (definitions_used names vs)) (bare w) =
-        subst (λ (us : List (Variable S)). Contains us (bare w)) same (contains-map bare ws w i) in
-        let used = image-of bare (definitions_used names vs) (bare w) among in
-        let v = used-from names vs used.0 used.1 in
-        let alike : bare (without_directives v.0) ≡ bare w = ap bare v.2 ∙ used.2 in
-        let before : IsAccepted answer accepts types given (bare (without_directives v.0)) =
-        λ k. fits-bare v.0 (given (variable_name v.0)) (accepted v.0 v.1 k) in
-        let moved : IsAccepted answer accepts types given (bare w) =
-        subst (λ (u : Variable S). IsAccepted answer accepts types given u) alike before in
-        fits-placed w (given (variable_name w)) (moved known)
 
 -- ---- the text
 
@@ -208,10 +139,8 @@ module _ {S C : Type 0} (s : Scalars S C) (root : RootNode S C)
                 ap (λ (d : List (Definition S)). chosen name d) x.1
                 ∙ chosen-again p document o x.0 refl x.2 name ready.chosen;
             takes_values =
-                accepted-again s.answer s.accepts root.schema.types given (variables_used p.set)
-                (variables_in o.item.variable_definitions)
-                (variables_in x.0.item.variable_definitions) (variables-alike p x.0.item x.2)
-                ready.takes_values;
+                accepted-again s.answer s.accepts root.schema.types given p (variables_used p.set)
+                (variables_in o.item.variable_definitions) x.0.item refl x.2 ready.takes_values;
             root = ready.root;
             served =
                 ap (λ (q : Operation S). mutation_root root.schema.mutation q.operation_type) x.2

@@ -1,4 +1,5 @@
+pub mod AcceptedValues
 mod AcceptedTexts
 mod OnePlain
-mod PlainDocuments
+pub mod PlainDocuments
 mod Refused

@@ -98,4 +98,5 @@ module _ {S C : Type 0} (s : Scalars S C) (root : RootNode S C) (whole : Spelled
         is =
             subst (λ b. IsTextOf S s.reads s.of_bool b (document_of (plain_of s a document o.item))) (sym p.is)
             (printed source p.tokens p.finish document o (values_for s a o.item) utf8 p.cut read.spelled among full.0 full.1);
+        filled = full.1;
       }

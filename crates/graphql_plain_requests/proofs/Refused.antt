@@ -19,7 +19,7 @@ use Rattle.graphql_plain_print.specs.declared.print_error.PrintError.{PrintError
 use Rattle.graphql_plain_print.specs.declared.print_error.PrintError.TheVariants as print
 use Rattle.graphql_requests.specs.Asked.{Asking, IsExecutable, IsRefused, Reads}
 use Rattle.graphql_requests.specs.Operations.{chosen}
-use Rattle.graphql_requests.specs.Refusals.{IsReady, IsStopped}
+use Rattle.graphql_requests.specs.Refusals.{IsReady, IsStopped, errors_of}
 use Rattle.graphql_requests.specs.Faults.{refusal_of}
 use Rattle.graphql_requests.specs.Scalars.{Scalars}
 use Rattle.graphql_requests.specs.declared.graphql_error.GraphQLError.{GraphQLError}
@@ -70,9 +70,15 @@ module _ {S C : Type 0} (s : Scalars S C) (a : Asking S C) (limit : ℕ) where
       record { read = subst (λ (d : List (Definition S)). Reads s a d) (sym same) read; ready = ready }
 
   pub stopped-at : (cmp : RuleError → RuleError → Ordering) (document lent : List (Definition S)) → lent ≡ document → Reads s a document
-      → (why : GraphQLError) → IsStopped s a.schema a.given (chosen a.operation_name lent) why → IsRefused s a cmp why
-  stopped-at cmp document lent same read why stopped =
-      inr (record { document = lent; read = subst (λ (d : List (Definition S)). Reads s a d) (sym same) read; stopped = stopped })
+      → (why : GraphQLError) → IsStopped s a.schema a.given (chosen a.operation_name lent) why → IsSorted cmp (errors_of why)
+      → IsRefused s a cmp why
+  stopped-at cmp document lent same read why stopped sorted =
+      inr (record {
+        document = lent;
+        read = subst (λ (d : List (Definition S)). Reads s a d) (sym same) read;
+        stopped = stopped;
+        sorted = sorted;
+      })
 
   -- of an operation that is executed
   module _ (document : List (Definition S)) (operation : Placed (Operation S)) (executable : IsExecutable s a document operation) where

@@ -1,3 +1,4 @@
+pub mod ErrorTexts
 pub mod Faults
 pub mod PlainRequests
 pub mod StandIns

@@ -14,6 +14,8 @@ use Rattle.graphql_tree.specs.declared.document.Definition.{Definition}
 use Rattle.graphql_tree.specs.declared.document.Operation.{Operation}
 use Rattle.graphql_language.specs.Texts.{IsCut}
 use Rattle.graphql_final_variables.specs.FinalValues.{final_value}
+use Rattle.graphql_written_out.specs.Trees.{IsFilled}
+use Rattle.graphql_written_out.specs.Written.{written}
 use Rattle.graphql_lines.specs.declared.request.GraphQLRequest.{GraphQLRequest}
 use Rattle.graphql_schema.specs.declared.root_node.RootNode.{RootNode}
 use Rattle.graphql_rule_errors.specs.declared.rule_error.RuleError.{RuleError}
@@ -65,12 +67,13 @@ module _ {S C : Type 0} (s : Scalars S C) (a : Asking S C) where
     pub is : bytes ≡ plain_text tokens (plain_of document operation.item)
 
   -- an operation is executed, and these bytes are a document of the grammar and no other: places aside, that of
-  -- its plain operation
+  -- its plain operation; and no set of the operation, fragments written out, is empty where one was written
   pub record IsDocumentAgain (bytes : Bytes) : Type 0 where
     pub document : List (Definition S)
     pub operation : Placed (Operation S)
     pub executable : IsExecutable s a document operation
     pub is : IsTextOf S s.reads s.of_bool bytes (document_of (plain_of document operation.item))
+    pub filled : IsFilled (written (fragments_listed document) operation.item.selection_set)
 
   -- these bytes are its plain text, with no more fields and inline fragments than the limit
   pub record IsPlainTextWithin (limit : ℕ) (bytes : Bytes) : Type 0 where

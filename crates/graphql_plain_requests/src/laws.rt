@@ -7,6 +7,18 @@ use graphql_filled_sets::laws::{spelled_sets_are_whole, written_sets_are_filled}
 use graphql_lexer::laws::one_list;
 use graphql_plain_text::laws::plain_text_is_document;
 use graphql_plain_validity::laws::plain_texts_are_valid;
+pub use graphql_plain_validity::merging::fields_stay_merging;
+pub use graphql_plain_validity::rules::{
+    arguments_stay_conforming, arguments_stay_declared, arguments_stay_distinct,
+    arguments_stay_provided, conditions_stay_composite, defaults_stay_conforming,
+    directives_are_placed, fields_stay_declared, input_fields_stay_distinct,
+    leaves_stay_without_sets, named_types_stay_known, no_spread_is_left,
+    nothing_is_introspected_still, one_operation_is_left, spreads_stay_possible,
+    variables_stay_of_input_types,
+};
+pub use graphql_plain_validity::variables::{
+    uses_stay_allowed, uses_stay_defined, variable_names_stay_distinct, variables_stay_used,
+};
 use graphql_requests::Meaning;
 use graphql_requests::laws::{executable_requests_are_not_refused, one_operation_is_executed};
 use graphql_schema::{RootNode, SchemaScalar};

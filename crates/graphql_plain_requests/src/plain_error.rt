@@ -2,12 +2,15 @@
 
 ghost use Rattle.std.specs.Prelude.{◌≡◌, Some};
 ghost use Rattle.graphql_plain_print.specs.declared.print_error.PrintError.TheVariants as print;
+ghost use Rattle.graphql_plain_requests.specs.ErrorTexts.{plain_error_text};
 ghost use Rattle.graphql_plain_requests.specs.Faults.{of_print, of_refusal};
 ghost use Rattle.graphql_plain_requests.specs.declared.plain_error.PlainError.TheVariants.{Memory};
 
 use graphql_plain_print::PrintError;
 use graphql_requests::GraphQLError;
-use std::alloc::AllocError;
+use std::alloc::{AllocError, AllocFailed};
+use std::error::Error;
+use std::fmt;
 
 /// Why a request has no plain text, or want of memory.
 #[derive(Debug, Drop)]
@@ -54,3 +57,27 @@ impl From<AllocError> for PlainError {
         PlainError::Memory
     }
 }
+
+/// Want of memory.
+impl<T: Drop> From<AllocFailed<T>> for PlainError {
+    ghost from_gives = { λ _ error. error ≡ Memory };
+
+    fn from(_error: AllocFailed<T>) -> PlainError {
+        PlainError::Memory
+    }
+}
+
+/// The text that a user is shown: of a request that is not executed that of its refusal.
+impl fmt::Display for PlainError {
+    ghost output = { λ error. Some (plain_error_text error) };
+
+    fn fmt<W: fmt::Write>(&self, f: &mut fmt::Formatter<W>) -> fmt::Result {
+        match self {
+            PlainError::Refused(refusal) => fmt::Display::fmt(refusal, f),
+            PlainError::TooLarge => f.write_str("Plain text has too many selections"),
+            PlainError::Memory => f.write_str("Out of memory"),
+        }
+    }
+}
+
+impl Error for PlainError {}

@@ -185,7 +185,7 @@ module _ {S : Type 0} (reads : ScalarToken → Result S ParseError) (of_bool : B
 module _ {S : Type 0} (reads : ScalarToken → Result S ParseError) (of_bool : Bool → S) where
   -- a document of a text is spelled by the tokens into which the text is cut, since it is cut into
   -- no others
-  spells-own : (text : List ℕ) (tokens : List Located) (finish : Span)
+  pub spells-own : (text : List ℕ) (tokens : List Located) (finish : Span)
       (document : List (Definition S))
       → IsCut text tokens finish
       → IsDocument S reads of_bool text document → DocumentOf S reads of_bool tokens document

@@ -43,7 +43,7 @@ module _ {S : Type 0} where
       (λ xs each. ap is_value (unlocated_list xs))
       (λ ps each. ap is_value (unlocated_object ps))
 
-  same-default : (o : Option (Placed (InputValue S)))
+  pub same-default : (o : Option (Placed (InputValue S)))
       → has_value (option_map (without_place unlocated) o) ≡ has_value o
   same-default None = refl
   same-default (Some v) = same-value v.item

@@ -23,8 +23,7 @@ pub mod SpelledDefaults
 pub mod DefinedUses
 pub mod UsesThere
 pub mod UsedVariables
-pub mod BareWritten
-pub mod BareMerging
+pub mod MergingWithoutPlaces
 pub mod MergingStays
 pub mod PlainValidity
 pub mod ValidTexts

@@ -53,7 +53,7 @@ module _ {S C : Type 0} (eq : S → S → Bool) (laws : IsEquivalence eq) (answe
         (subst (F t) same
         ((conforms_without_places eq laws answer accepts respects types Literal t v).0 h))
 
-    arguments-respect : Respects unplaced_given (ArgumentsFit answer accepts types)
+    pub arguments-respect : Respects unplaced_given (ArgumentsFit answer accepts types)
     arguments-respect g h same fit declared is a there d found =
         let b = also-given g h same a there in
         let declares : g.declared ≡ Some declared =
@@ -64,7 +64,7 @@ module _ {S C : Type 0} (eq : S → S → Bool) (laws : IsEquivalence eq) (answe
         (fit declared declares b.0 b.1 d named)
 
   module _ (schema : Declarations S C) (of_bool : Bool → S) where
-    defaults-respect : Respects unlocated_variable_part (DefaultFits answer accepts schema)
+    pub defaults-respect : Respects unlocated_variable_part (DefaultFits answer accepts schema)
     defaults-respect v w same fit is_known default is =
         let type : w.type_of.item ≡ v.type_of.item =
         ap (λ (x : VariablePart S). x.type_of.item) same in

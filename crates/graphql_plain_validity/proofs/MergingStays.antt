@@ -19,6 +19,8 @@ use Rattle.graphql_merging.specs.Merging.{Merging}
 use Rattle.graphql_merging.specs.Sets.{Set, definition_sets, document_sets, members_of, set_of, sets_of}
 use Rattle.graphql_merging.proofs.Nested.{nested-sets-follow}
 use Rattle.graphql_rules_document.proofs.ListItems.{all-of, contains-map}
+use Rattle.graphql_moved.specs.UnlocatedTrees.{unlocated_tree}
+use Rattle.graphql_moved.proofs.UnlocatedWritten.{same-written, unplaced-unlocated}
 use Rattle.graphql_plain_tree.specs.PlainDocuments.{selections_of}
 use Rattle.graphql_plain_tree.specs.PlainOperations.{PlainOperation}
 use Rattle.graphql_plain_tree.specs.StandIns.{skip_true}
@@ -27,10 +29,8 @@ use Rattle.graphql_plain_laws.proofs.PlainMembers.{merging-plain}
 use Rattle.graphql_plain_validity.specs.PlainRequests.{plain_of}
 use Rattle.graphql_plain_validity.proofs.EachItem.{flat-in}
 use Rattle.graphql_plain_validity.proofs.OneOperation.{of-one}
-use Rattle.graphql_plain_validity.specs.BareTrees.{bare}
 use Rattle.graphql_plain_validity.specs.MergingLaws.{FieldsMerge, FieldsStayMerging}
-use Rattle.graphql_plain_validity.proofs.BareMerging.{merging-without-places}
-use Rattle.graphql_plain_validity.proofs.BareWritten.{bare-unplaced, same-written}
+use Rattle.graphql_plain_validity.proofs.MergingWithoutPlaces.{merging-without-places}
 
 module _ {S C : Type 0} (eq : S → S → Bool) (laws : IsEquivalence eq) (answer : S → ScalarAnswer)
     (of_bool : Bool → S) (schema : Declarations S C) where
@@ -72,9 +72,9 @@ module _ {S C : Type 0} (eq : S → S → Bool) (laws : IsEquivalence eq) (answe
       (operation-merges document is.operation is.among h) in
       let type : o.operation_type ≡ x.item.operation_type =
       sym (ap (λ (q : Operation S). q.operation_type) same) in
-      let set : bare p.set ≡ bare (written [] x.item.selection_set) =
-      sym (bare-unplaced p.set) ∙ sym
-      (ap bare (document-is-its-tree answer of_bool is.given fragments o is.filled))
+      let set : unlocated_tree p.set ≡ unlocated_tree (written [] x.item.selection_set) =
+      sym (unplaced-unlocated p.set) ∙ sym
+      (ap unlocated_tree (document-is-its-tree answer of_bool is.given fragments o is.filled))
       ∙ same-written (selections_of p.set) x.item.selection_set
       (sym (ap (λ (q : Operation S). q.selection_set) same)) in
       one-merges x

@@ -9,13 +9,13 @@ use Rattle.graphql_written_out.specs.Trees.{Tree}
 use Rattle.graphql_merging.specs.Members.{Scope, members}
 use Rattle.graphql_merging.specs.Merging.{Merging}
 use Rattle.graphql_merging.specs.Sets.{document_sets, members_of}
+use Rattle.graphql_moved.specs.UnlocatedTrees.{unlocated_tree}
 use Rattle.graphql_plain_validity.specs.PlainRequests.{IsPlainDocument}
-use Rattle.graphql_plain_validity.specs.BareTrees.{bare}
 
 -- of sets that are the same without their places the one merges where the other does
 abbrev pub MergesWithoutPlaces : (S C : Type 0) → (S → S → Bool) → Type 0
 MergesWithoutPlaces S C eq = (types : List (MetaType S C)) (scope : Scope S C) (set other : Tree S)
-    → bare set ≡ bare other → Merging eq types (members types scope set)
+    → unlocated_tree set ≡ unlocated_tree other → Merging eq types (members types scope set)
     → Merging eq types (members types scope other)
 
 module _ {S C : Type 0} (eq : S → S → Bool) (schema : Declarations S C) where

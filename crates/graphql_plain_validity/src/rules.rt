@@ -100,9 +100,9 @@ pub fn defaults_stay_conforming<S: SchemaScalar>()
     ensures { (schema : Declarations S S.Check) → DefaultsStayConforming S.answer S.of_bool schema S.Check.accepts }
 {}
 
-/// A plain document is one operation without fragments: the rules on the names of operations and of
-/// fragments find no fault in it, nor do those on unused fragments and on cycles (5.2 Operations, 5.5
-/// Fragments).
+/// A plain document is one operation without fragments. So five rules find no fault in it, whatever the
+/// request's document: `LoneAnonymousOperation`, `UniqueOperationNames` (5.2 Operations),
+/// `UniqueFragmentNames`, `NoUnusedFragments` and `NoFragmentCycles` (5.5 Fragments).
 pub fn one_operation_is_left<S: ScalarValue, C>()
     ensures { (schema : Declarations S C) → OneOperationIsLeft S.answer S.of_bool schema }
 {}

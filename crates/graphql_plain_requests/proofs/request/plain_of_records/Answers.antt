@@ -41,7 +41,7 @@ returns-in_err-operation-clause-refused g c = λ text recorded.
     handed-on s a c.args.limit _ c.from_residual-in_err-operation.result c.in_err-operation.field-0.0
     c.from_residual-in_err-operation.ensures.1
     (stopped-at s a c.args.limit _ c.in_ok-document.document c.as_slice-definitions.result.now c.as_slice-definitions.ensures
-    (c.in_ok-document.ensures.read text recorded) c.in_err-operation.field-0.0 c.in_err-operation.ensures.refused)
+    (c.in_ok-document.ensures.read text recorded) c.in_err-operation.field-0.0 c.in_err-operation.ensures.refused c.in_err-operation.ensures.sorted)
 
 pub print_chosen-requires : goal.print_chosen-requires
 print_chosen-requires g c =

@@ -1,4 +1,4 @@
-use Rattle.graphql_plain_validity.proofs.BareMerging.{merging-without-places}
+use Rattle.graphql_plain_validity.proofs.MergingWithoutPlaces.{merging-without-places}
 use Rattle.graphql_plain_validity.proofs.merging.merging_without_places.Goals as goal
 
 pub returns : goal.returns

@@ -15,7 +15,7 @@ use Rattle.graphql_written_out.specs.Trees.{Head, Tree, none, field, inline}
 use Rattle.graphql_merging.specs.Members.{Member, Scope, inside, member, members, scope_of}
 use Rattle.graphql_merging.specs.Merging.{Agree, IsAmong, Merges, Merging, SameArguments, apart}
 use Rattle.graphql_rules_document.proofs.ListItems.{all-from, all-of, contains-map, image-of}
-use Rattle.graphql_plain_validity.specs.BareTrees.{bare, bare_head}
+use Rattle.graphql_moved.specs.UnlocatedTrees.{unlocated_head, unlocated_tree}
 use Rattle.graphql_plain_validity.specs.MergingLaws.{MergesWithoutPlaces}
 
 module _ {S : Type 0} (eq : S → S → Bool) (laws : IsEquivalence eq) where
@@ -23,23 +23,23 @@ module _ {S : Type 0} (eq : S → S → Bool) (laws : IsEquivalence eq) where
   u = unlocated_argument
 
   -- of values that are the same without their places the one is the same as a third where the other is
-  to-bare : (v x : InputValue S) → SameValue S eq v x → SameValue S eq (unlocated v) (unlocated x)
-  to-bare v x h =
+  to-unlocated : (v x : InputValue S) → SameValue S eq v x → SameValue S eq (unlocated v) (unlocated x)
+  to-unlocated v x h =
       by_a_third eq laws (unlocated v) v (unlocated x)
       (either_way eq laws v (unlocated v) (same_unlocated eq laws v))
       (by_a_third eq laws v x (unlocated x) h (same_unlocated eq laws x))
 
-  from-bare : (v x : InputValue S) → SameValue S eq (unlocated v) (unlocated x) → SameValue S eq v x
-  from-bare v x h =
+  from-unlocated : (v x : InputValue S) → SameValue S eq (unlocated v) (unlocated x) → SameValue S eq v x
+  from-unlocated v x h =
       by_a_third eq laws v (unlocated v) x (same_unlocated eq laws v)
       (by_a_third eq laws (unlocated v) (unlocated x) x h
       (either_way eq laws x (unlocated x) (same_unlocated eq laws x)))
 
-  among-bare : (others : List (Argument S)) (a : Argument S) → IsAmong eq others a
+  among-unlocated : (others : List (Argument S)) (a : Argument S) → IsAmong eq others a
       → IsAmong eq (map u others) (u a)
-  among-bare others a h =
+  among-unlocated others a h =
       let there = contains-map u others h.1 (h.0, h.2, h.3) in
-      (there.0, u h.1, there.1, there.2, (h.4.0, to-bare a.1.item h.1.1.item h.4.1))
+      (there.0, u h.1, there.1, there.2, (h.4.0, to-unlocated a.1.item h.1.1.item h.4.1))
 
   from-among : (others : List (Argument S)) (a : Argument S) → IsAmong eq (map u others) (u a)
       → IsAmong eq others a
@@ -48,13 +48,13 @@ module _ {S : Type 0} (eq : S → S → Bool) (laws : IsEquivalence eq) where
       let same : (u a).0.item ≡ b.0.0.item = h.4.0 ∙ sym (ap (λ (x : Argument S). x.0.item) b.2) in
       let value : SameValue S eq (unlocated a.1.item) (unlocated b.0.1.item) =
       subst (λ (x : Argument S). SameValue S eq (unlocated a.1.item) x.1.item) (sym b.2) h.4.1 in
-      (b.1.0, b.0, b.1.1, b.1.2, (same, from-bare a.1.item b.0.1.item value))
+      (b.1.0, b.0, b.1.1, b.1.2, (same, from-unlocated a.1.item b.0.1.item value))
 
   each-among : (xs ys : List (Argument S)) → All (IsAmong eq ys) xs
       → All (IsAmong eq (map u ys)) (map u xs)
   each-among xs ys h = all-from (IsAmong eq (map u ys)) (map u xs) (λ z i.
       let x = image-of u xs z i in
-      subst (IsAmong eq (map u ys)) x.2 (among-bare ys x.0 (all-of (IsAmong eq ys) xs h x.0 x.1)))
+      subst (IsAmong eq (map u ys)) x.2 (among-unlocated ys x.0 (all-of (IsAmong eq ys) xs h x.0 x.1)))
 
   from-each : (xs ys : List (Argument S)) → All (IsAmong eq (map u ys)) (map u xs)
       → All (IsAmong eq ys) xs
@@ -73,35 +73,35 @@ module _ {S : Type 0} (eq : S → S → Bool) (laws : IsEquivalence eq) where
 
   module _ {C : Type 0} (types : List (MetaType S C)) where
     abbrev b : Member S C → Member S C
-    b m = record { parent = m.parent; head = bare_head m.head; below = bare m.below }
+    b m = record { parent = m.parent; head = unlocated_head m.head; below = unlocated_tree m.below }
 
-    member-bare : (scope : Scope S C) (head : Head S) (below : Tree S)
-        → member scope (bare_head head) (bare below) ≡ map b (member scope head below)
-    member-bare None head below = refl
-    member-bare (Some parent) head below = refl
+    member-unlocated : (scope : Scope S C) (head : Head S) (below : Tree S)
+        → member scope (unlocated_head head) (unlocated_tree below) ≡ map b (member scope head below)
+    member-unlocated None head below = refl
+    member-unlocated (Some parent) head below = refl
 
-    members-bare : (scope : Scope S C) (t : Tree S)
-        → members types scope (bare t) ≡ map b (members types scope t)
-    members-bare scope none = refl
-    members-bare scope (field head directives below rest) =
-        (λ i. member-bare scope head below i ++ members-bare scope rest i)
+    members-unlocated : (scope : Scope S C) (t : Tree S)
+        → members types scope (unlocated_tree t) ≡ map b (members types scope t)
+    members-unlocated scope none = refl
+    members-unlocated scope (field head directives below rest) =
+        (λ i. member-unlocated scope head below i ++ members-unlocated scope rest i)
         ∙ sym (map-append b (member scope head below) (members types scope rest))
-    members-bare scope (inline on directives below rest) =
-        (λ i. members-bare (inside types scope on) below i ++ members-bare scope rest i)
+    members-unlocated scope (inline on directives below rest) =
+        (λ i. members-unlocated (inside types scope on) below i ++ members-unlocated scope rest i)
         ∙ sym
         (map-append b (members types (inside types scope on) below) (members types scope rest))
 
-    in-bare : (scope : Scope S C) (t : Tree S) (m : Member S C) → Contains (members types scope t) m
-        → Contains (members types scope (bare t)) (b m)
-    in-bare scope t m i =
-        subst (λ ms. Contains ms (b m)) (sym (members-bare scope t))
+    in-unlocated : (scope : Scope S C) (t : Tree S) (m : Member S C) → Contains (members types scope t) m
+        → Contains (members types scope (unlocated_tree t)) (b m)
+    in-unlocated scope t m i =
+        subst (λ ms. Contains ms (b m)) (sym (members-unlocated scope t))
         (contains-map b (members types scope t) m i)
 
-    of-bare : (scope : Scope S C) (t : Tree S) (c : Member S C)
-        → Contains (members types scope (bare t)) c
+    of-unlocated : (scope : Scope S C) (t : Tree S) (c : Member S C)
+        → Contains (members types scope (unlocated_tree t)) c
         → (m : Member S C) × Contains (members types scope t) m × (b m ≡ c)
-    of-bare scope t c i =
-        image-of b (members types scope t) c (subst (λ ms. Contains ms c) (members-bare scope t) i)
+    of-unlocated scope t c i =
+        image-of b (members types scope t) c (subst (λ ms. Contains ms c) (members-unlocated scope t) i)
 
     agree-alike : (x : Bool) (m n : Member S C)
         → Agree eq types x m n ↔ Agree eq types x (b m) (b n)
@@ -122,8 +122,8 @@ module _ {S : Type 0} (eq : S → S → Bool) (laws : IsEquivalence eq) where
           (λ h. (
             agree.0 h.0,
             λ c d i j e.
-                let o = of-bare at m.below c i in
-                let p = of-bare there n.below d j in
+                let o = of-unlocated at m.below c i in
+                let p = of-unlocated there n.below d j in
                 let key : o.0.head.key ≡ p.0.head.key =
                 ap (λ (z : Member S C). z.head.key) o.2 ∙ e
                 ∙ sym (ap (λ (z : Member S C). z.head.key) p.2) in
@@ -134,16 +134,16 @@ module _ {S : Type 0} (eq : S → S → Bool) (laws : IsEquivalence eq) where
           (λ h. (
             agree.1 h.0,
             λ c d i j e. (merges-alike k (x || apart m n) c d).1
-                (h.1 (b c) (b d) (in-bare at m.below c i) (in-bare there n.below d j) e),
+                (h.1 (b c) (b d) (in-unlocated at m.below c i) (in-unlocated there n.below d j) e),
           )),
         )
 
-    merges-without-places : (scope : Scope S C) (t v : Tree S) → bare t ≡ bare v
+    merges-without-places : (scope : Scope S C) (t v : Tree S) → unlocated_tree t ≡ unlocated_tree v
         → Merging eq types (members types scope t) → Merging eq types (members types scope v)
     merges-without-places scope t v same h m n i j e k =
         let at =
-        λ (o : Member S C) (l : Contains (members types scope v) o). of-bare scope t (b o)
-        (subst (λ z. Contains (members types scope z) (b o)) (sym same) (in-bare scope v o l)) in
+        λ (o : Member S C) (l : Contains (members types scope v) o). of-unlocated scope t (b o)
+        (subst (λ z. Contains (members types scope z) (b o)) (sym same) (in-unlocated scope v o l)) in
         let p = at m i in
         let q = at n j in
         let key : p.0.head.key ≡ q.0.head.key =

@@ -1,0 +1,15 @@
+pub mod Follows
+pub mod MovedEquations
+pub mod Productions
+pub mod Selections
+pub mod KeptDocuments
+pub mod TokenKinds
+pub mod ValueTokens
+pub mod TypeTokens
+pub mod Unlocated
+pub mod MovedWritten
+pub mod MovedConditions
+pub mod MovedPlain
+pub mod MovedOperations
+pub mod UnlocatedWritten
+pub mod UnlocatedDefinitions

@@ -1,0 +1,5 @@
+pub mod Moved
+pub mod MovedTrees
+pub mod UnlocatedTrees
+pub mod Kept
+pub mod Laws
