@@ -1,0 +1,4 @@
+pub mod Joins
+pub mod Typed
+pub mod Laws
+pub mod RequestLaws
