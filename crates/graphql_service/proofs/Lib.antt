@@ -1,7 +1,11 @@
+mod AlikeYields
 mod PlainRuns
+mod SameTokens
 mod SameMeaning
+mod AnsweredToo
+mod JoinedData
 mod DistinctAnswers
-mod Answering
+pub mod Answering
 mod ServedContexts
 mod PlainAnswering
 mod ServedPlain

@@ -75,21 +75,21 @@ module _ {S C N X R : Type 0} (scalars : Scalars S C) (by_rules : RuleError → 
         (ServiceAnswers scalars by_rules by_fields resolving) (AnswersLine (its_answerer old)) (context-answers old) result
         old new left rest had has (own-parts old)
 
-    pub ends-contexts : IfErr result (λ e. Ends (ServiceAnswers scalars by_rules by_fields resolving) (ServiceBreaks scalars by_rules by_fields resolving) e old left rest had has new)
-        → IfErr result (λ e. Ends (AnswersLine (its_answerer old)) (BreaksAtLine (its_answerer old)) e old.context left rest had has new.context)
-    ends-contexts =
+    pub ends-contexts : (failed : Type 0) → IfErr result (λ e. Ends (ServiceAnswers scalars by_rules by_fields resolving) (ServiceBreaks scalars by_rules by_fields resolving) failed e old left rest had has new)
+        → IfErr result (λ e. Ends (AnswersLine (its_answerer old)) (BreaksAtLine (its_answerer old)) failed e old.context left rest had has new.context)
+    ends-contexts failed =
         ends-shown_if (λ (service : Service S R X C). service.context) (HasPartsOf old)
         (ServiceAnswers scalars by_rules by_fields resolving) (AnswersLine (its_answerer old)) (context-answers old)
-        (ServiceBreaks scalars by_rules by_fields resolving) (BreaksAtLine (its_answerer old)) (context-breaks old) result
+        (ServiceBreaks scalars by_rules by_fields resolving) (BreaksAtLine (its_answerer old)) (context-breaks old) failed result
         old new left rest had has (own-parts old)
 
-    pub parts-stay : OnOk result (ServedAll (ServiceAnswers scalars by_rules by_fields resolving) old left rest had has new)
-        → IfErr result (λ e. Ends (ServiceAnswers scalars by_rules by_fields resolving) (ServiceBreaks scalars by_rules by_fields resolving) e old left rest had has new)
+    pub parts-stay : (failed : Type 0) → OnOk result (ServedAll (ServiceAnswers scalars by_rules by_fields resolving) old left rest had has new)
+        → IfErr result (λ e. Ends (ServiceAnswers scalars by_rules by_fields resolving) (ServiceBreaks scalars by_rules by_fields resolving) failed e old left rest had has new)
         → HasPartsOf old new
-    parts-stay =
+    parts-stay failed =
         stays_if (λ (service : Service S R X C). service.context) (HasPartsOf old)
         (ServiceAnswers scalars by_rules by_fields resolving) (AnswersLine (its_answerer old)) (context-answers old)
-        (ServiceBreaks scalars by_rules by_fields resolving) (BreaksAtLine (its_answerer old)) (context-breaks old) result
+        (ServiceBreaks scalars by_rules by_fields resolving) (BreaksAtLine (its_answerer old)) (context-breaks old) failed result
         old new left rest had has (own-parts old)
 
 -- what is appended, or is not, with a fact that holds in either case

@@ -47,9 +47,9 @@ module _ {S C N X R : Type 0} (scalars : Scalars S C) (by_rules : RuleError → 
         all-shown_if (λ (lines : PlainLines S R X C). tt) Lends Gives (PlainGives (its_answerer service) service.selection_limit)
         given result old new left rest had has lends
 
-    pub ends-plain : IfErr result (λ e. Ends Gives Breaks e old left rest had has new)
+    pub ends-plain : (failed : Type 0) → IfErr result (λ e. Ends Gives Breaks failed e old left rest had has new)
         → IfErr result (λ e. Ends (PlainGives (its_answerer service) service.selection_limit)
-        (PlainBreaks (its_answerer service) service.selection_limit) e tt left rest had has tt)
-    ends-plain =
+        (PlainBreaks (its_answerer service) service.selection_limit) failed e tt left rest had has tt)
+    ends-plain failed =
         ends-shown_if (λ (lines : PlainLines S R X C). tt) Lends Gives (PlainGives (its_answerer service) service.selection_limit)
-        given Breaks (PlainBreaks (its_answerer service) service.selection_limit) broken result old new left rest had has lends
+        given Breaks (PlainBreaks (its_answerer service) service.selection_limit) broken failed result old new left rest had has lends

@@ -1,9 +1,12 @@
 pub mod Yields
 pub mod MeaningLaws
+pub mod TokenLaws
+pub mod JoinLaws
 pub mod PlainRequests
 pub mod Texts
 pub mod Answers
 pub mod Made
+pub mod FittingLines
 pub mod Laws
 pub mod Serving
 pub mod PlainAnswers

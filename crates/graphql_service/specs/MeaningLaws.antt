@@ -21,8 +21,7 @@ module _ {S C : Type 0} (s : Scalars S C) (root : RootNode S C) where
   -- neither, and the same context is left
   abbrev pub PlainMeansTheSame : {N X : Type 0} → Resolver S N X → Type 0
   PlainMeansTheSame {N} {X} r =
-      TakesStandIn s root.schema
-      → (source : Bytes) (name : Option Bytes) (given : Bytes → Option (InputValue S))
+      (source : Bytes) (name : Option Bytes) (given : Bytes → Option (InputValue S))
       (bytes : Bytes) → IsUtf8 source
       → IsPlainText s (asked_at root (chars source) name given) bytes
       → (cmp : ExecutionError S → ExecutionError S → Ordering) (old new after : X)
@@ -30,3 +29,16 @@ module _ {S C : Type 0} (s : Scalars S C) (root : RootNode S C) where
       → IsAnswered s (asked_at root (chars source) name given) r cmp old answered errors new
       → IsAnswered s (asked_at root (chars bytes) name given) r cmp old told others after
       → (answered ≡ told) × ((errors ≡ []) ↔ (others ≡ [])) × (new ≡ after)
+
+  -- what is answered without errors to a request is answered to its plain text, with the same operation
+  -- name and the same values for variables, and the other way round: the same data, and the same context
+  -- after
+  abbrev pub PlainIsAnsweredToo : {N X : Type 0} → Resolver S N X → Type 0
+  PlainIsAnsweredToo {N} {X} r =
+      TakesStandIn s root.schema
+      → (source : Bytes) (name : Option Bytes) (given : Bytes → Option (InputValue S))
+      (bytes : Bytes) → IsUtf8 source
+      → IsPlainText s (asked_at root (chars source) name given) bytes
+      → (cmp : ExecutionError S → ExecutionError S → Ordering) (old new : X) (answered : Value S)
+      → IsAnswered s (asked_at root (chars source) name given) r cmp old answered [] new
+      ↔ IsAnswered s (asked_at root (chars bytes) name given) r cmp old answered [] new

@@ -12,9 +12,11 @@ mod service;
 mod serving;
 
 pub use graphql_executor::{
-    Applies, Arguments, Executor, FieldError, FieldFault, FieldResult, GraphQLMutationValue,
-    GraphQLValue, IntrospectionChecks, IntrospectionFormat, LookAheadChildren, LookAheadSelection,
-    Meaning, Resolved, Resolving, execute_sync, introspect, introspection_metadata,
+    Applies, Arguments, Context, ExecutionError, Executor, FieldError, FieldFault, FieldPath,
+    FieldResult, GraphQLError, GraphQLMutationValue, GraphQLValue, ID, IntoFieldError,
+    IntrospectionChecks, IntrospectionFormat, LookAheadChildren, LookAheadSelection, Meaning,
+    Nullable, Resolved, Resolving, execute_sync, execute_validated_query, get_operation,
+    introspect, introspection_metadata,
 };
 pub use graphql_lines::{
     GraphQLRequest, LineRefusal, json_of_line, request_from_line, request_in, text_to_json,

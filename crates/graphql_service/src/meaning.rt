@@ -1,15 +1,18 @@
-//! Laws of what plain texts of requests mean: each function's contract is a law, and its body asks
+//! Laws of what plain texts of requests mean, and texts of the same tokens: each function's contract is a law, and its body asks
 //! for the laws below it.
 
-ghost use Rattle.graphql_service.specs.MeaningLaws.{PlainMeansTheSame};
+ghost use Rattle.graphql_service.specs.MeaningLaws.{PlainIsAnsweredToo, PlainMeansTheSame};
+ghost use Rattle.graphql_service.specs.TokenLaws.{SameTokensSameAnswer};
 ghost use Rattle.graphql_service.specs.Yields.{PlainOperationsYieldAlike, PlainRunsAreAlike};
 
 use graphql_executor::Resolving;
 use graphql_mutation::GraphQLMutationValue;
+use graphql_normal_form::laws::{same_tokens_are_asked_alike, valid_alike};
 use graphql_plain_answers::laws::{
     plain_document_is_plain, plain_documents_answer_alike, resolvers_are_lawful,
+    same_documents_answer_alike,
 };
-use graphql_plain_requests::laws::plain_texts_are_accepted;
+use graphql_plain_requests::laws::{plain_texts_are_accepted, plain_texts_are_documents};
 use graphql_requests::Meaning;
 use graphql_requests::laws::one_operation_is_executed;
 use graphql_schema::{RootNode, SchemaScalar};
@@ -36,8 +39,8 @@ pub fn plain_operations_yield_alike<S: SchemaScalar, N, X>()
 
 /// Where a request is answered, and its plain text is answered on the same context, with the same
 /// operation name and the same values for variables, the data are the same, there are errors in
-/// both answers or in neither, and the same context is left. That it can be answered is
-/// [`plain_texts_are_accepted`].
+/// both answers or in neither, and the same context is left. That it can be answered is the law
+/// `plain_texts_are_accepted` of `graphql_plain_requests`.
 pub fn plain_means_the_same<S: SchemaScalar, R: GraphQLMutationValue<S>>(
     root_node: &RootNode<S>,
     resolver: &R,
@@ -45,8 +48,44 @@ pub fn plain_means_the_same<S: SchemaScalar, R: GraphQLMutationValue<S>>(
     ensures { PlainMeansTheSame ⟦<S as Meaning>⟧.meaning root_node.now
         (⟦<R as Resolving<S>>⟧.resolving resolver.now) }
 {
-    plain_texts_are_accepted(root_node);
+    plain_texts_are_documents(root_node);
     one_operation_is_executed::<S>();
     resolvers_are_lawful::<S, R>(resolver);
     plain_operations_yield_alike::<S, R::Node, R::Context>();
+}
+
+/// What is answered without errors to a request is answered to its plain text too, asked on the same
+/// context with the same operation name and the same values for variables, and the other way round:
+/// evaluation is a function, so an answer is there.
+pub fn plain_is_answered_too<S: SchemaScalar, R: GraphQLMutationValue<S>>(
+    root_node: &RootNode<S>,
+    resolver: &R,
+)
+    ensures { PlainIsAnsweredToo ⟦<S as Meaning>⟧.meaning root_node.now
+        (⟦<R as Resolving<S>>⟧.resolving resolver.now) }
+{
+    plain_texts_are_accepted(root_node);
+    one_operation_is_executed::<S>();
+    resolvers_are_lawful::<S, R>(resolver);
+    plain_runs_are_alike::<S, R::Node, R::Context>();
+    plain_document_is_plain::<S>();
+}
+
+/// Requests with one operation name and the same values for variables, whose texts have the same
+/// tokens, are refused at the same step; or else both are executed: answered on one context they
+/// have the same data, errors in both or in neither, and leave the same context, and they have the
+/// same plain text within each limit (GraphQL October 2021, 2.1.7 Ignored Tokens, 7.1 Response
+/// Format).
+pub fn same_tokens_same_answer<S: SchemaScalar, R: GraphQLMutationValue<S>>(
+    root_node: &RootNode<S>,
+    resolver: &R,
+)
+    ensures { SameTokensSameAnswer ⟦<S as Meaning>⟧.meaning root_node.now
+        (⟦<R as Resolving<S>>⟧.resolving resolver.now) }
+{
+    valid_alike::<S>();
+    same_tokens_are_asked_alike(root_node);
+    one_operation_is_executed::<S>();
+    resolvers_are_lawful::<S, R>(resolver);
+    same_documents_answer_alike::<S, S::Check, R::Node, R::Context>();
 }

@@ -1,7 +1,8 @@
 //! Gives the plain text of each line of what is read.
 
 ghost use Rattle.std.specs.Prelude.{◌≡◌, IfErr, OnOk};
-ghost use Rattle.graphql_streams.specs.Served.{Ends, ServedAll, reads_after, writes_after};
+ghost use Rattle.graphql_streams.specs.Counts.{HasRisen};
+ghost use Rattle.graphql_streams.specs.Served.{Ends, ServedAll, WritesAfter, reads_after};
 ghost use Rattle.graphql_service.specs.Answers.{answerer_of};
 ghost use Rattle.graphql_service.specs.PlainAnswers.{PlainBreaks, PlainGives, PlainOfLines};
 ghost use Rattle.graphql_service.specs.PlainServing.{plain-kept};
@@ -22,8 +23,8 @@ impl<S: SchemaScalar + Drop, R: GraphQLMutationValue<S>> Service<S, R, R::Contex
     ///
     /// Errors: a read that failed, a write that failed or took nothing, and want of memory, each at the
     /// first that comes. After a failed read the answers to the whole lines before it are written; after
-    /// want of memory those to the lines before the one that met it; after a failed write a beginning
-    /// of the answers' text.
+    /// want of memory those to the lines before the one that met it, or a beginning of them where a
+    /// write failed then; after a failed write a beginning of the answers' text.
     pub fn serve_plain<I: ByteSource, O: ByteSink>(
         &self,
         alloc: Global,
@@ -38,11 +39,12 @@ impl<S: SchemaScalar + Drop, R: GraphQLMutationValue<S>> Service<S, R, R::Contex
         ensures ended { let a = answerer_of ⟦<S as Meaning>⟧.meaning ⟦<RuleError as Ord>⟧.cmp
             ⟦<ExecutionError<S> as Ord>⟧.cmp ⟦<R as Resolving<S>>⟧.resolving self.now in
             IfErr result (λ error. Ends (PlainGives a self.now.selection_limit)
-            (PlainBreaks a self.now.selection_limit) error tt
+            (PlainBreaks a self.now.selection_limit)
+            (HasRisen (O.faults writer.old) (O.faults writer.new)) error tt
             (I.left reader.old) (I.left reader.new)
             (O.written writer.old) (O.written writer.new) tt) }
         ensures reads { I.faults reader.new ≡ reads_after result (I.faults reader.old) }
-        ensures writes { O.faults writer.new ≡ writes_after result (O.faults writer.old) }
+        ensures writes { WritesAfter result (O.faults writer.old) (O.faults writer.new) }
     {
         let mut lines = PlainLines { service: self };
         serve_lines(alloc, &mut lines, reader, writer)

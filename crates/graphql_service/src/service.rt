@@ -15,7 +15,7 @@ use graphql_field_results::ExecutionError;
 use graphql_lines::{GraphQLRequest, LineRefusal, request_from_line};
 use graphql_rule_errors::RuleError;
 use graphql_schema::{RootNode, SchemaScalar};
-use std::alloc::{AllocError, Global};
+use std::alloc::{AllocError, AllocFailed, Global};
 use std::error::Error;
 use std::fmt;
 
@@ -41,6 +41,16 @@ impl From<AllocError> for ServiceFault {
     ghost from_gives = { λ _ fault. fault ≡ Memory };
 
     fn from(_error: AllocError) -> ServiceFault {
+        ServiceFault::Memory
+    }
+}
+
+impl<T: Drop> From<AllocFailed<T>> for ServiceFault {
+    ghost use Rattle.graphql_service.specs.declared.service.ServiceFault.TheVariants.{Memory};
+
+    ghost from_gives = { λ _ fault. fault ≡ Memory };
+
+    fn from(_error: AllocFailed<T>) -> ServiceFault {
         ServiceFault::Memory
     }
 }
@@ -133,6 +143,13 @@ impl<S: SchemaScalar + Drop, R: GraphQLMutationValue<S>> Service<S, R, R::Contex
         ensures { result.now ≡ self.now.root_node }
     {
         &self.root_node
+    }
+
+    /// What fields are asked of.
+    pub fn resolver(&self) -> &R
+        ensures { result.now ≡ self.now.resolver }
+    {
+        &self.resolver
     }
 
     /// What the resolver answers from.

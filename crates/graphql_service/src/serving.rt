@@ -1,7 +1,8 @@
 //! Answers each line of what is read.
 
 ghost use Rattle.std.specs.Prelude.{◌≡◌, IfErr, OnOk};
-ghost use Rattle.graphql_streams.specs.Served.{Ends, ServedAll, reads_after, writes_after};
+ghost use Rattle.graphql_streams.specs.Counts.{HasRisen};
+ghost use Rattle.graphql_streams.specs.Served.{Ends, ServedAll, WritesAfter, reads_after};
 ghost use Rattle.graphql_service.specs.Answers.{answerer_of};
 ghost use Rattle.graphql_service.specs.Made.{IsOf};
 ghost use Rattle.graphql_service.specs.Serving.{AnswersLine, BreaksAtLine, ServiceAnswers, ServiceBreaks, answers-kept, breaks-kept};
@@ -28,10 +29,10 @@ impl<S: SchemaScalar + Drop, R: GraphQLMutationValue<S>> Service<S, R, R::Contex
     /// - After a failed read the answers to the whole lines before it are written.
     /// - After want of memory the answers to the lines before the one that met it are written, and
     ///   none to that one. Where it asks for a mutation, the context may be what a beginning of its
-    ///   response keys leaves.
+    ///   response keys leaves. Where a write failed after that, a beginning of those answers is
+    ///   written, and want of memory is told.
     /// - After a failed write a beginning of the answers' text is written, and the context is what
-    ///   the lines leave whose answers were made. Where memory had run out before that write, the
-    ///   context may be what a beginning of a mutation leaves, as above.
+    ///   the lines leave whose answers were made.
     pub fn serve<I: ByteSource, O: ByteSink>(
         &mut self,
         alloc: Global,
@@ -45,13 +46,14 @@ impl<S: SchemaScalar + Drop, R: GraphQLMutationValue<S>> Service<S, R, R::Contex
             (O.written writer.old) (O.written writer.new) self.new.context) }
         ensures ended { let a = answerer_of ⟦<S as Meaning>⟧.meaning ⟦<RuleError as Ord>⟧.cmp
             ⟦<ExecutionError<S> as Ord>⟧.cmp ⟦<R as Resolving<S>>⟧.resolving self.old in
-            IfErr result (λ error. Ends (AnswersLine a) (BreaksAtLine a) error self.old.context
+            IfErr result (λ error. Ends (AnswersLine a) (BreaksAtLine a)
+            (HasRisen (O.faults writer.old) (O.faults writer.new)) error self.old.context
             (I.left reader.old) (I.left reader.new)
             (O.written writer.old) (O.written writer.new) self.new.context) }
         ensures parts { IsOf self.old.root_node self.old.resolver self.new.context
             self.old.line_limit self.old.selection_limit self.new }
         ensures reads { I.faults reader.new ≡ reads_after result (I.faults reader.old) }
-        ensures writes { O.faults writer.new ≡ writes_after result (O.faults writer.old) }
+        ensures writes { WritesAfter result (O.faults writer.old) (O.faults writer.new) }
     {
         serve_lines(alloc, self, reader, writer)
     }

@@ -22,6 +22,6 @@ returns g c =
       answer = q.answer resolver;
       changes = g.R.GraphQLMutationValue.changes resolver;
     } in
-    plain-means-the-same s c.args.root_node.now r c.plain_texts_are_accepted.ensures
+    plain-means-the-same s c.args.root_node.now r c.plain_texts_are_documents.ensures
     c.one_operation_is_executed.ensures c.resolvers_are_lawful.ensures
     c.plain_operations_yield_alike.ensures

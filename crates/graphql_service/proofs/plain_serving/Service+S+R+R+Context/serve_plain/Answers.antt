@@ -1,4 +1,5 @@
 use Rattle.std.proofs.Common.{refl}
+use Rattle.graphql_streams.specs.Counts.{HasRisen}
 use Rattle.graphql_service.proofs.ServedPlain.{ends-plain, serves-plain}
 use Rattle.graphql_service.proofs.plain_serving.Service+S+R+R+Context.serve_plain.Goals as goal
 
@@ -8,4 +9,6 @@ returns-clause-served g c =
 
 pub returns-clause-ended : goal.returns-clause-ended
 returns-clause-ended g c =
-    ends-plain _ _ _ _ c.args.self.now c.serve_lines.result _ c.serve_lines.new.engine refl _ _ _ _ c.serve_lines.ensures.err
+    let f = g.O.ByteSink.faults in
+    ends-plain _ _ _ _ c.args.self.now c.serve_lines.result _ c.serve_lines.new.engine refl _ _ _ _
+    (HasRisen (f c.args.writer.now) (f c.serve_lines.new.writer)) c.serve_lines.ensures.err

@@ -1,3 +1,4 @@
+use Rattle.graphql_streams.specs.Counts.{HasRisen}
 use Rattle.graphql_service.proofs.ServedContexts.{ends-contexts, parts-stay, serves-contexts}
 use Rattle.graphql_service.proofs.serving.Service+S+R+R+Context.serve.Goals as goal
 
@@ -7,9 +8,12 @@ returns-clause-served g c =
 
 pub returns-clause-ended : goal.returns-clause-ended
 returns-clause-ended g c =
-    ends-contexts _ _ _ _ c.serve_lines.result c.args.self.now c.serve_lines.new.engine _ _ _ _ c.serve_lines.ensures.err
+    let f = g.O.ByteSink.faults in
+    ends-contexts _ _ _ _ c.serve_lines.result c.args.self.now c.serve_lines.new.engine _ _ _ _
+    (HasRisen (f c.args.writer.now) (f c.serve_lines.new.writer)) c.serve_lines.ensures.err
 
 pub returns-clause-parts : goal.returns-clause-parts
 returns-clause-parts g c =
-    parts-stay _ _ _ _ c.serve_lines.result c.args.self.now c.serve_lines.new.engine _ _ _ _ c.serve_lines.ensures.ok
-    c.serve_lines.ensures.err
+    let f = g.O.ByteSink.faults in
+    parts-stay _ _ _ _ c.serve_lines.result c.args.self.now c.serve_lines.new.engine _ _ _ _
+    (HasRisen (f c.args.writer.now) (f c.serve_lines.new.writer)) c.serve_lines.ensures.ok c.serve_lines.ensures.err
