@@ -35,9 +35,11 @@ module _ {C : Type 0} (accepts : C → InputValue DefaultScalarValue → Type 0)
       → IsDue accepts builtin schema_file records_file (fault.Data e)
   no_records lent same e met = (root, described, subst (λ s. Meets (λ e. e ≡ error.Memory) (Err e) (records_in s records_file)) same met)
 
-  -- `Boolean` does not take `true`
-  pub no_truth : (HasTrue accepts root → ⊥) → IsDue accepts builtin schema_file records_file fault.OtherBoolean
-  no_truth refuses = (root, described, refuses)
+  -- both files describe something, and `Boolean` does not take `true`
+  pub no_truth : (again : SchemaType DefaultScalarValue C) → again ≡ root.schema → (table : Table) → records_in again records_file ≡ Ok table
+      → (HasTrue accepts root → ⊥) → IsDue accepts builtin schema_file records_file fault.OtherBoolean
+  no_truth again same table read refuses =
+      (root, table, described, subst (λ s. records_in s records_file ≡ Ok table) same read, refuses)
 
   -- the service is made of what both describe
   pub service_made : (lent : SchemaType DefaultScalarValue C) → lent ≡ root.schema → (resolver : TableResolver) → IsResolverOf lent resolver
@@ -58,15 +60,15 @@ module _ {C : Type 0} (accepts : C → InputValue DefaultScalarValue → Type 0)
 
   -- where there is no service nothing was read and nothing written
   pub unmade : (answerer : TableService C → Answerer DefaultScalarValue C TableNode Table) (bytes : Streams) (plain : Bool)
-      (resolver : TableResolver) (table : Table) (e : RunFault) → IsMadeOf accepts root resolver table (Err e)
-      → (bytes.rest ≡ bytes.left) × (bytes.new ≡ bytes.old)
+      (resolver : TableResolver) (again : SchemaType DefaultScalarValue C) → again ≡ root.schema → (table : Table) → records_in again records_file ≡ Ok table
+      → (e : RunFault) → IsMadeOf accepts root resolver table (Err e) → (bytes.rest ≡ bytes.left) × (bytes.new ≡ bytes.old)
       → Ran answerer (IsDescribed accepts builtin schema_file records_file) (IsDue accepts builtin schema_file records_file) bytes plain (Err e)
-  unmade answerer bytes plain resolver table fault.OtherBoolean refuses same = (no_truth refuses, same)
-  unmade answerer bytes plain resolver table fault.Memory made same = same
-  unmade answerer bytes plain resolver table (fault.Schema e) made same = absurd made
-  unmade answerer bytes plain resolver table fault.NotExecutable made same = absurd made
-  unmade answerer bytes plain resolver table (fault.Data e) made same = absurd made
-  unmade answerer bytes plain resolver table (fault.Serve e) made same = absurd made
+  unmade answerer bytes plain resolver again equal table read fault.OtherBoolean refuses same = (no_truth again equal table read refuses, same)
+  unmade answerer bytes plain resolver again equal table read fault.Memory made same = same
+  unmade answerer bytes plain resolver again equal table read (fault.Schema e) made same = absurd made
+  unmade answerer bytes plain resolver again equal table read fault.NotExecutable made same = absurd made
+  unmade answerer bytes plain resolver again equal table read (fault.Data e) made same = absurd made
+  unmade answerer bytes plain resolver again equal table read (fault.Serve e) made same = absurd made
 
 -- and no line was answered
 pub unserved : {C : Type 0} (accepts : C → InputValue DefaultScalarValue → Type 0) (root : RootNode DefaultScalarValue C)

@@ -1,5 +1,5 @@
 -- What is read, answered and written by the service over two files.
-use Rattle.std.specs.Prelude.{◌≡◌, Bool, true, false, Option, Result, Ok, Err}
+use Rattle.std.specs.Prelude.{◌≡◌, ℕ, Bool, true, false, Option, Result, Ok, Err}
 use Rattle.graphql_names.specs.Names.{Bytes}
 use Rattle.graphql_scalars.specs.declared.default_scalar.DefaultScalarValue.{DefaultScalarValue}
 use Rattle.graphql_records.specs.Tables.{Table}
@@ -7,21 +7,25 @@ use Rattle.graphql_records.specs.declared.table_node.TableNode.{TableNode}
 use Rattle.graphql_service.specs.Answers.{Answerer}
 use Rattle.graphql_service.specs.PlainAnswers.{PlainBreaks, PlainGives}
 use Rattle.graphql_service.specs.Serving.{AnswersLine, BreaksAtLine}
+use Rattle.graphql_streams.specs.Counts.{HasRisen}
 use Rattle.graphql_streams.specs.Served.{Ends, ServedAll}
 use Rattle.graphql_streams.specs.declared.serve_error.ServeError.{ServeError}
 use Rattle.graphql_file_service.specs.TableServices.{TableService}
 use Rattle.graphql_file_service.specs.declared.run_fault.RunFault.{RunFault}
 use Rattle.graphql_file_service.specs.declared.run_fault.RunFault.TheVariants as fault
 
--- what a source has before and after, and a sink, where they are known
+-- what a source has before and after, and a sink, where they are known, and how many writes had failed before and after
 pub record Streams : Type 0 where
   pub left : Option Bytes
   pub rest : Option Bytes
   pub old : Option Bytes
   pub new : Option Bytes
+  pub faults : ℕ
+  pub faults_after : ℕ
 
-abbrev pub streams : Option Bytes → Option Bytes → Option Bytes → Option Bytes → Streams
-streams left rest old new = record { left = left; rest = rest; old = old; new = new }
+abbrev pub streams : Option Bytes → Option Bytes → Option Bytes → Option Bytes → ℕ → ℕ → Streams
+streams left rest old new faults faults_after =
+    record { left = left; rest = rest; old = old; new = new; faults = faults; faults_after = faults_after }
 
 -- how the run ended, as far as lines were answered
 abbrev pub served : Result (Unit {0}) RunFault → Result (Unit {0}) ServeError
@@ -40,17 +44,21 @@ Ended all ends (Err e) = ends e
 
 -- by what a service answers
 module _ {C : Type 0} (answerer : TableService C → Answerer DefaultScalarValue C TableNode Table) (bytes : Streams) where
+  -- a write has failed
+  abbrev failed : Type 0
+  failed = HasRisen bytes.faults bytes.faults_after
+
   -- each line was answered, or why no more lines were; the records that the lines left
   abbrev pub Answered : TableService C → Table → Result (Unit {0}) ServeError → Type 0
   Answered service after =
       Ended (ServedAll (AnswersLine (answerer service)) service.context bytes.left bytes.rest bytes.old bytes.new after)
-      (λ e. Ends (AnswersLine (answerer service)) (BreaksAtLine (answerer service)) e service.context bytes.left bytes.rest bytes.old bytes.new after)
+      (λ e. Ends (AnswersLine (answerer service)) (BreaksAtLine (answerer service)) failed e service.context bytes.left bytes.rest bytes.old bytes.new after)
 
   -- each line was told its plain text, or why no more lines were
   abbrev pub ToldPlain : TableService C → Result (Unit {0}) ServeError → Type 0
   ToldPlain service =
       Ended (ServedAll (PlainGives (answerer service) service.selection_limit) tt bytes.left bytes.rest bytes.old bytes.new tt)
-      (λ e. Ends (PlainGives (answerer service) service.selection_limit) (PlainBreaks (answerer service) service.selection_limit) e tt
+      (λ e. Ends (PlainGives (answerer service) service.selection_limit) (PlainBreaks (answerer service) service.selection_limit) failed e tt
       bytes.left bytes.rest bytes.old bytes.new tt)
 
   -- the lines were asked for plain texts, which change nothing, or for answers

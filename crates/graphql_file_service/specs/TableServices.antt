@@ -74,6 +74,8 @@ module _ {C : Type 0} (accepts : C → InputValue DefaultScalarValue → Type 0)
   IsDue fault.NotExecutable = (root : RootNode DefaultScalarValue C) × Describes false root
   IsDue (fault.Data e) =
       (root : RootNode DefaultScalarValue C) × Describes true root × Meets (λ e. e ≡ error.Memory) (Err e) (records_in root.schema records_file)
-  IsDue fault.OtherBoolean = (root : RootNode DefaultScalarValue C) × Describes true root × (HasTrue accepts root → ⊥)
+  IsDue fault.OtherBoolean =
+      (root : RootNode DefaultScalarValue C) × (table : Table) × Describes true root × (records_in root.schema records_file ≡ Ok table)
+      × (HasTrue accepts root → ⊥)
   IsDue (fault.Serve e) = ⊥
   IsDue fault.Memory = ⊥

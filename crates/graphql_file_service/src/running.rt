@@ -3,7 +3,7 @@
 ghost use Rattle.std.specs.Prelude.{◌≡◌};
 ghost use Rattle.graphql_schema_files.specs.Builtin.{builtin_types};
 ghost use Rattle.graphql_service.specs.Answers.{answerer_of};
-ghost use Rattle.graphql_streams.specs.Served.{reads_after, writes_after};
+ghost use Rattle.graphql_streams.specs.Served.{WritesAfter, reads_after};
 ghost use Rattle.graphql_file_service.specs.Runs as spec;
 ghost use Rattle.graphql_file_service.specs.TableServices.{IsDescribed, IsDue, IsMadeOf, IsReady};
 
@@ -59,10 +59,11 @@ fn serve_by<I: ByteSource, O: ByteSink>(
         ⟦<ExecutionError<DefaultScalarValue> as Ord>⟧.cmp
         ⟦<TableResolver as Resolving<DefaultScalarValue>>⟧.resolving in
         let streams = spec.streams (I.left reader.old) (I.left reader.new)
-        (O.written writer.old) (O.written writer.new) in
+        (O.written writer.old) (O.written writer.new)
+        (O.faults writer.old) (O.faults writer.new) in
         spec.Served answerer streams plain service.old service.new.context result }
     ensures reads { I.faults reader.new ≡ reads_after result (I.faults reader.old) }
-    ensures writes { O.faults writer.new ≡ writes_after result (O.faults writer.old) }
+    ensures writes { WritesAfter result (O.faults writer.old) (O.faults writer.new) }
 {
     if plain {
         service.serve_plain(alloc, reader, writer)
@@ -100,11 +101,12 @@ pub fn run_files<I: ByteSource, O: ByteSink>(
         ⟦<ExecutionError<DefaultScalarValue> as Ord>⟧.cmp
         ⟦<TableResolver as Resolving<DefaultScalarValue>>⟧.resolving in
         let streams = spec.streams (I.left reader.old) (I.left reader.new)
-        (O.written writer.old) (O.written writer.new) in
+        (O.written writer.old) (O.written writer.new)
+        (O.faults writer.old) (O.faults writer.new) in
         spec.Ran answerer (IsDescribed accepts types schema.now records.now)
         (IsDue accepts types schema.now records.now) streams plain result }
     ensures reads { I.faults reader.new ≡ reads_after (spec.served result) (I.faults reader.old) }
-    ensures writes { O.faults writer.new ≡ writes_after (spec.served result) (O.faults writer.old) }
+    ensures writes { WritesAfter (spec.served result) (O.faults writer.old) (O.faults writer.new) }
 {
     let root_node = SchemaFile::read(alloc, schema, checks)?;
     if !root_node.schema().schema_is_executable() {

@@ -5,7 +5,7 @@ ghost use Rattle.graphql_schema_files.specs.Refusals.{refusal_of};
 ghost use Rattle.graphql_schema_files.specs.declared.schema_file_error.SchemaFileError.TheVariants.{Memory};
 
 use graphql_schema::SchemaError;
-use std::alloc::AllocError;
+use std::alloc::{AllocError, AllocFailed};
 
 /// Why a file has no schema. The first that stands is told, in this order.
 #[derive(Debug, Drop)]
@@ -38,6 +38,14 @@ impl From<AllocError> for SchemaFileError {
     ghost from_gives = { λ _ e. e ≡ Memory };
 
     fn from(_error: AllocError) -> SchemaFileError {
+        SchemaFileError::Memory
+    }
+}
+
+impl<T: Drop> From<AllocFailed<T>> for SchemaFileError {
+    ghost from_gives = { λ _ e. e ≡ Memory };
+
+    fn from(_error: AllocFailed<T>) -> SchemaFileError {
         SchemaFileError::Memory
     }
 }

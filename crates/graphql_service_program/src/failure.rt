@@ -6,7 +6,7 @@ ghost use Rattle.graphql_service_program.specs.Status.{status_of, status_of_faul
 use graphql_file_service::{DataFileError, RunFault, SchemaFileError, ServeError};
 use std::alloc::AllocError;
 use std::error::Error;
-use std::fmt;
+use std::{fmt, io};
 
 /// Why the program ended before the end of its input.
 #[derive(Debug, Drop)]
@@ -19,6 +19,15 @@ pub enum Failure {
     Run(RunFault),
     /// Memory ran out.
     Memory,
+}
+
+/// Why the program ends that met this error, if it is not for want of memory.
+pub(crate) fn unless_memory(error: io::Error, otherwise: Failure) -> Failure {
+    if error.kind() == io::ErrorKind::OutOfMemory {
+        Failure::Memory
+    } else {
+        otherwise
+    }
 }
 
 /// The exit status of a run that ended so.

@@ -32,7 +32,7 @@ returns-in_err-service-clause-ran g c =
     let made = c.in_err-service.ensures (can, c.in_ok-root_node.ensures.conditions) in
     rw (error.1, error.2)
     (unmade _ _ c.args.schema.now c.args.records.now root (c.in_ok-root_node.ensures.read, can) _ _ c.args.plain
-    c.in_ok-resolver.resolver c.in_ok-table.table _ made (refl, refl))
+    c.in_ok-resolver.resolver c.schema-3.result.now c.schema-3.ensures c.in_ok-table.table c.in_ok-table.ensures _ made (refl, refl))
 
 pub returns-in_err-serve_by-clause-ran : goal.returns-in_err-serve_by-clause-ran
 returns-in_err-serve_by-clause-ran g c =
