@@ -1,2 +1,3 @@
 pub mod EachTurns
+pub mod Runs
 pub mod Told

@@ -1,7 +1,7 @@
 //! What a program names that serves a schema and a resolver of its own: the schema in rows of text
 //! ([`SchemaRows`]), a resolver that owes no law ([`Resolver`], [`MutationResolver`]), its answers
 //! in short ([`text`], [`node`], [`each`] and their kin), and the service over both
-//! ([`serve_rows`]).
+//! ([`serve_rows`], [`serve_checked_rows`]).
 #![tactic(auto)]
 
 mod answer;
@@ -20,10 +20,15 @@ pub use answers::{
 };
 pub use fault::ServeRowsFault;
 pub use given::Given;
-pub use graphql_schema_rows::{RowFault, TypeRow};
-pub use graphql_service::{ByteSink, ByteSource, Piped, Service};
+pub use graphql_schema::TypeCheck;
+pub use graphql_schema_rows::{CheckedRow, RowFault, TypeRow};
+pub use graphql_service::{
+    ByteSink, ByteSource, IntrospectionChecks, Piped, Service, StandardChecks, scalar_checks,
+};
 pub use mutation_resolver::MutationResolver;
 pub use queries_only::QueriesOnly;
 pub use resolver::Resolver;
-pub use serving::{LINE_LIMIT, SELECTION_LIMIT, SchemaRows, serve_rows};
+pub use serving::{
+    CheckedRows, LINE_LIMIT, SELECTION_LIMIT, SchemaRows, serve_checked_rows, serve_rows,
+};
 pub use simple_resolver::SimpleResolver;

@@ -1,22 +1,28 @@
 //! Lines that are answered over a schema in rows.
 
-ghost use Rattle.std.specs.Prelude.{◌≡◌, Ok};
+ghost use Rattle.std.specs.Prelude.{◌≡◌, None, Ok, option_map};
 ghost use Rattle.graphql_text.specs.Memory.{Told};
 ghost use Rattle.graphql_scalars.specs.declared.check_error.CheckError.TheVariants.{Memory};
 ghost use Rattle.graphql_schema.specs.ScalarChecks.{IsBoolean, IsId, IsInt, IsString};
-ghost use Rattle.graphql_streams.specs.Served.{reads_after, writes_after};
+ghost use Rattle.graphql_schema.specs.Schemas.{roots_named};
+ghost use Rattle.graphql_schema_rows.specs.BuiltIns as built_in;
+ghost use Rattle.graphql_service.specs.Answers.{answerer_of};
+ghost use Rattle.graphql_streams.specs.Counts.{HasRisen};
+ghost use Rattle.graphql_streams.specs.Served.{WritesAfter, reads_after};
 ghost use Rattle.graphql_embedding.specs.Services as spec;
 
 use crate::fault::ServeRowsFault;
 use crate::mutation_resolver::MutationResolver;
 use crate::simple_resolver::SimpleResolver;
+use graphql_field_results::ExecutionError;
+use graphql_rule_errors::RuleError;
 use graphql_scalars::DefaultScalarValue;
 use graphql_schema::scalar_checks::{
     StandardChecks, boolean_check, id_check, int_check, string_check,
 };
 use graphql_schema::{InputValue, IntrospectionChecks, MetaType, RootNode, SchemaType, TypeCheck};
-use graphql_schema_rows::{TypeRow, built_ins, type_of_row};
-use graphql_service::{ByteSink, ByteSource, Service};
+use graphql_schema_rows::{CheckedRow, TypeRow, built_ins, types_of_rows};
+use graphql_service::{ByteSink, ByteSource, Meaning, Resolving, Service};
 use graphql_text::Items;
 use std::alloc::Global;
 
@@ -42,11 +48,34 @@ pub struct SchemaRows<'a> {
     pub types: &'a [TypeRow<'a>],
 }
 
+/// A schema in rows of text, whose types have checks of the caller's.
+#[derive(Drop)]
+pub struct CheckedRows<'a> {
+    /// The name of the query root.
+    pub query: &'a str,
+
+    /// The name of the mutation root, where there is one.
+    pub mutation: Option<&'a str>,
+
+    /// The types, but for those that each schema has, each with its check.
+    pub types: Vec<CheckedRow<'a, TypeCheck>>,
+
+    /// The checks of the types that each schema has.
+    pub checks: StandardChecks,
+}
+
+/// The names of a schema's roots.
+#[derive(Clone, Copy)]
+struct RootNames<'a> {
+    query: &'a str,
+    mutation: Option<&'a str>,
+}
+
 /// Answers each line that is not empty of what is read, until it ends, over the schema of these
-/// types and of the roots that the rows name.
+/// types and roots.
 fn serve_types<R, I: ByteSource, O: ByteSink>(
     alloc: Global,
-    rows: &SchemaRows<'_>,
+    roots: RootNames<'_>,
     types: Items<MetaType<DefaultScalarValue>>,
     resolver: R,
     context: R::Context,
@@ -56,10 +85,17 @@ fn serve_types<R, I: ByteSource, O: ByteSink>(
 where
     R: MutationResolver + Drop,
     R::Context: Drop,
+    ensures ran { let s = ⟦<DefaultScalarValue as Meaning>⟧.meaning in
+        let answerer = answerer_of s ⟦<RuleError as Ord>⟧.cmp ⟦<ExecutionError<DefaultScalarValue> as Ord>⟧.cmp
+        ⟦<SimpleResolver<R> as Resolving<DefaultScalarValue>>⟧.resolving in
+        let named = roots_named roots.entry.query.now (option_map (λ name. name.now) roots.entry.mutation) None in
+        let by = spec.in_service resolver in
+        spec.Ran answerer (spec.IsServiceOf s named by context types) (spec.TypesDue s named by context types)
+        (HasRisen (O.faults writer.old) (O.faults writer.new)) (I.left reader.old) (I.left reader.new) (O.written writer.old) (O.written writer.new) result }
     ensures reads { I.faults reader.new ≡ reads_after (spec.served result) (I.faults reader.old) }
-    ensures writes { O.faults writer.new ≡ writes_after (spec.served result) (O.faults writer.old) }
+    ensures writes { WritesAfter (spec.served result) (O.faults writer.old) (O.faults writer.new) }
 {
-    let schema = SchemaType::new(alloc, types, rows.query, rows.mutation, None)?;
+    let schema = SchemaType::new(alloc, types, roots.query, roots.mutation, None)?;
     let root_node = RootNode::new(schema);
     let resolver = SimpleResolver { resolver };
     let mut service = Service::new(root_node, resolver, context, LINE_LIMIT, SELECTION_LIMIT)?;
@@ -68,15 +104,54 @@ where
 }
 
 /// Answers each line that is not empty of what is read, until it ends, over the schema that rows
-/// describe (GraphQL October 2021, 3.3 Schema), with introspection. Its `Int`, `String`, `Boolean`
-/// and `ID` accept what the standard says; an enum accepts each value that it declares, and an
-/// input object what its fields accept. The schema is judged before the first line is read. Lines
-/// have at most [`LINE_LIMIT`] bytes. What is read and written is as `Service::serve` of
-/// `graphql_service` says. The context that the lines leave is let go at the end.
+/// describe (GraphQL October 2021, 3.3 Schema), with introspection. Each type has the check that is
+/// given for it. The schema is judged before the first line is read. Lines have at most
+/// [`LINE_LIMIT`] bytes. What is read and written is as `Service::serve` of `graphql_service` says.
+/// The context that the lines leave is let go at the end.
 ///
 /// Errors: the first that stands, in the order of [`ServeRowsFault`]. `Serve` has the error of that
 /// call. Of any other fault nothing is read and nothing written. Want of memory tells nothing of the
 /// rows, whichever fault has it.
+pub fn serve_checked_rows<R, I: ByteSource, O: ByteSink>(
+    alloc: Global,
+    rows: CheckedRows<'_>,
+    resolver: R,
+    context: R::Context,
+    reader: &mut I,
+    writer: &mut O,
+) -> Result<(), ServeRowsFault>
+where
+    R: MutationResolver + Drop,
+    R::Context: Drop,
+    ensures ran { let s = ⟦<DefaultScalarValue as Meaning>⟧.meaning in
+        let answerer = answerer_of s ⟦<RuleError as Ord>⟧.cmp ⟦<ExecutionError<DefaultScalarValue> as Ord>⟧.cmp
+        ⟦<SimpleResolver<R> as Resolving<DefaultScalarValue>>⟧.resolving in
+        let roots = roots_named rows.entry.query.now (option_map (λ name. name.now) rows.entry.mutation) None in
+        let by = spec.in_service resolver in
+        let checks = rows.entry.checks in
+        let each = built_in.built_ins checks.int checks.string checks.boolean checks.id checks.introspection in
+        spec.Ran answerer (spec.IsServiceOfRows s roots by context each rows.entry.types.items)
+        (spec.RowsDue s roots by context each rows.entry.types.items)
+        (HasRisen (O.faults writer.old) (O.faults writer.new)) (I.left reader.old) (I.left reader.new) (O.written writer.old) (O.written writer.new) result }
+    ensures reads { I.faults reader.new ≡ reads_after (spec.served result) (I.faults reader.old) }
+    ensures writes { WritesAfter (spec.served result) (O.faults writer.old) (O.faults writer.new) }
+{
+    let mut types = built_ins(alloc, rows.checks)?;
+    let mut declared = types_of_rows(alloc, rows.types)?;
+    types.append(&mut declared)?;
+    let roots = RootNames {
+        query: rows.query,
+        mutation: rows.mutation,
+    };
+    serve_types(alloc, roots, types, resolver, context, reader, writer)
+}
+
+/// Answers each line that is not empty of what is read, until it ends, over the schema that rows
+/// describe, as [`serve_checked_rows`] does, whose contract says what is read, answered and written,
+/// and whose errors are those of this call. `Int`, `String`, `Boolean` and `ID` accept what the
+/// standard says (GraphQL October 2021, 3.5 Scalars), an enum accepts each value that it declares,
+/// and an input object what its fields accept. A contract can't name checks that the call makes
+/// itself.
 pub fn serve_rows<R, I: ByteSource, O: ByteSink>(
     alloc: Global,
     rows: &SchemaRows<'_>,
@@ -89,7 +164,7 @@ where
     R: MutationResolver + Drop,
     R::Context: Drop,
     ensures reads { I.faults reader.new ≡ reads_after (spec.served result) (I.faults reader.old) }
-    ensures writes { O.faults writer.new ≡ writes_after (spec.served result) (O.faults writer.old) }
+    ensures writes { WritesAfter (spec.served result) (O.faults writer.old) (O.faults writer.new) }
 {
     let int = TypeCheck::new(Box::new(
         alloc,
@@ -138,15 +213,21 @@ where
         id,
         introspection,
     };
-    let mut types = built_ins(alloc, checks)?;
+    let mut types = Vec::with_capacity(alloc, rows.types.len())?;
     'rows: for row in rows.types {
-        let any = TypeCheck::new(Box::new(
+        let check = TypeCheck::new(Box::new(
             alloc,
             |_value: &Value|
                 ensures { result ≡ Ok tt }
             { Ok(()) },
         )?);
-        types.push(type_of_row(alloc, *row, any)?)?;
+        types.push(CheckedRow { row: *row, check })?;
     }
-    serve_types(alloc, rows, types, resolver, context, reader, writer)
+    let rows = CheckedRows {
+        query: rows.query,
+        mutation: rows.mutation,
+        types,
+        checks,
+    };
+    serve_checked_rows(alloc, rows, resolver, context, reader, writer)
 }

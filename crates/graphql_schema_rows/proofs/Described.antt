@@ -1,5 +1,5 @@
 -- One turn of a loop in which each row means something, and the refusals that a call hands on.
-use Rattle.std.proofs.Common.{◌≡◌, ◌<◌, ◌≤◌, ◌+◌, ℕ, List, [], ◌∷◌, ◌++◌, Result, Ok, Err, take, length, get_or, sym, subst, refl}
+use Rattle.std.proofs.Common.{◌≡◌, ◌<◌, ◌≤◌, ◌+◌, ◌∙◌, ℕ, List, [], ◌∷◌, ◌++◌, append-nil, append_assoc, Result, Ok, Err, ap, take, length, get_or, sym, subst, refl}
 use Rattle.std.specs.Borrow.{Bor}
 use Rattle.std.specs.List.{AllZip, Contains}
 use Rattle.std.specs.Result.{IsErrAnd}
@@ -10,7 +10,7 @@ use Rattle.graphql_schema_rows.specs.Rows.{IsMemory, RefusedAt}
 use Rattle.graphql_schema_rows.specs.declared.row_fault.RowFault.{RowFault}
 
 module _ {A B : Type 0} (Means : A → B → Type 0) where
-  zip_push : (xs : List A) (ys : List B) (x : A) (y : B) → AllZip Means xs ys → Means x y → AllZip Means (xs ++ x ∷ []) (ys ++ y ∷ [])
+  pub zip_push : (xs : List A) (ys : List B) (x : A) (y : B) → AllZip Means xs ys → Means x y → AllZip Means (xs ++ x ∷ []) (ys ++ y ∷ [])
   zip_push [] [] x y all means = (means, tt)
   zip_push [] (b ∷ ys) x y all means = absurd all
   zip_push (a ∷ xs) [] x y all means = absurd all
@@ -44,3 +44,17 @@ row_at rows i = get_or rows i nowhere
 pub refused_at : (Refuses : Bor Bytes → RowFault → Type 0) (rows : List (Bor Bytes)) (i : ℕ) → i < length rows
     → (e : RowFault) → Refuses (row_at rows i) e → RefusedAt Refuses rows e
 refused_at Refuses rows i inside e refused = (row_at rows i, (i, inside, get_or_default rows i (row_at rows i) nowhere inside), refused)
+
+-- ---- where a loop stands in a list that it takes apart
+
+module _ {A : Type 0} (xs before left rest : List A) (this : A) (is : xs ≡ before ++ left) where
+  -- the next item stands behind those that it passed, and is passed itself
+  pub stands_behind : left ≡ this ∷ rest → xs ≡ before ++ this ∷ rest
+  stands_behind next = is ∙ ap (λ ys. before ++ ys) next
+
+  pub is_passed : left ≡ this ∷ rest → xs ≡ (before ++ this ∷ []) ++ rest
+  is_passed next = stands_behind next ∙ sym (append_assoc before (this ∷ []) rest)
+
+-- it passed all
+pub all_passed : {A : Type 0} (xs before left : List A) → xs ≡ before ++ left → left ≡ [] → before ≡ xs
+all_passed xs before left is none = sym (is ∙ ap (λ ys. before ++ ys) none ∙ append-nil before)

@@ -1,5 +1,5 @@
 -- The types that rows of text make, and why there is none (GraphQL October 2021, 3.4 Types).
-use Rattle.std.specs.Prelude.{◌≡◌, ◌⊎◌, Bool, List, None}
+use Rattle.std.specs.Prelude.{◌≡◌, ◌⊎◌, Bool, List, ◌∷◌, ◌++◌, None}
 use Rattle.std.specs.Borrow.{Bor}
 use Rattle.std.specs.List.{AllZip}
 use Rattle.graphql_names.specs.Names.{Bytes}
@@ -11,6 +11,7 @@ use Rattle.graphql_schema.specs.declared.meta.MetaType.{MetaType}
 use Rattle.graphql_schema.specs.declared.meta.MetaType.TheVariants as meta
 use Rattle.graphql_schema_rows.specs.Rows.{ArgumentMeans, FieldMeans, NameMeans, RefusedAt, RefusesArgument, RefusesField, RefusesName, RefusesValue, ValueMeans}
 use Rattle.graphql_schema_rows.specs.declared.row_fault.RowFault.{RowFault}
+use Rattle.graphql_schema_rows.specs.declared.type_row.CheckedRow.{CheckedRow}
 use Rattle.graphql_schema_rows.specs.declared.type_row.TypeRow.{TypeRow}
 use Rattle.graphql_schema_rows.specs.declared.type_row.TypeRow.TheVariants as row
 
@@ -70,9 +71,22 @@ module _ {S : Type 0} (reads : Reading S) (of_bool : Bool → S) where
     IsType (row.Enum name values) check m = IsMade ValueMeans (enumeration check) name values.now m
     IsType (row.InputObject name rows) check m = IsMade (ArgumentMeans reads of_bool) (input_object check) name rows.now m
 
+    abbrev pub IsTypeOf : CheckedRow C → MetaType S C → Type 0
+    IsTypeOf it m = IsType it.row it.check m
+
   abbrev pub IsRefused : TypeRow → RowFault → Type 0
   IsRefused (row.Object name interfaces rows) e = RefusesListing (RefusesField reads of_bool name.now) name interfaces.now rows.now e
   IsRefused (row.Interface name interfaces rows) e = RefusesListing (RefusesField reads of_bool name.now) name interfaces.now rows.now e
   IsRefused (row.Union name members) e = Refuses RefusesName name members.now e
   IsRefused (row.Enum name values) e = Refuses RefusesValue name values.now e
   IsRefused (row.InputObject name rows) e = Refuses (RefusesArgument reads of_bool name.now) name rows.now e
+
+  -- the rows before this one are types, and it is refused
+  pub record IsFirstRefused {C : Type 0} (rows : List (CheckedRow C)) (e : RowFault) : Type 0 where
+    pub before : List (CheckedRow C)
+    pub this : CheckedRow C
+    pub after : List (CheckedRow C)
+    pub is : rows ≡ before ++ this ∷ after
+    pub types : List (MetaType S C)
+    pub made : AllZip IsTypeOf before types
+    pub refused : IsRefused this.row e

@@ -1,13 +1,15 @@
 //! Types as rows that a constant may hold.
 
+ghost use Rattle.std.specs.List.{AllZip};
 ghost use Rattle.graphql_text.specs.Memory.{Answers};
-ghost use Rattle.graphql_schema_rows.specs.Rows as rows;
+ghost use Rattle.graphql_schema_rows.specs.Rows as row_specs;
 ghost use Rattle.graphql_schema_rows.specs.Types as spec;
 
 use crate::row_fault::RowFault;
 use crate::types::{enumeration, input_object, interface, object, union_type};
 use graphql_scalars::ScalarValue;
 use graphql_schema::MetaType;
+use graphql_text::Items;
 use std::alloc::Global;
 
 /// A type in rows of text (GraphQL October 2021, 3.4 Types).
@@ -30,6 +32,17 @@ pub enum TypeRow<'a> {
     InputObject(&'a str, &'a [&'a str]),
 }
 
+/// A type in rows of text, and its check.
+#[derive(Drop)]
+pub struct CheckedRow<'a, C> {
+    /// The type.
+    pub row: TypeRow<'a>,
+
+    /// Which of the values that the schema finds right for an enum or an input object it accepts. Of
+    /// another type it is let go.
+    pub check: C,
+}
+
 /// The type that a row is. The check is that of an enum or an input object: which of the values
 /// that the schema finds right for them they accept; of other types it is let go.
 ///
@@ -41,7 +54,7 @@ pub fn type_of_row<S: ScalarValue + Drop, C: Drop>(
     check: C,
 ) -> Result<MetaType<S, C>, RowFault>
     ensures { Answers (spec.IsType S.reads S.of_bool row.entry check)
-        (spec.IsRefused S.reads S.of_bool row.entry) rows.IsMemory result }
+        (spec.IsRefused S.reads S.of_bool row.entry) row_specs.IsMemory result }
 {
     match row {
         TypeRow::Object(name, interfaces, fields) => object(alloc, name, interfaces, fields),
@@ -50,4 +63,22 @@ pub fn type_of_row<S: ScalarValue + Drop, C: Drop>(
         TypeRow::Enum(name, values) => enumeration(alloc, name, values, check),
         TypeRow::InputObject(name, fields) => input_object(alloc, name, fields, check),
     }
+}
+
+/// The types that rows are, each of its check, in order.
+///
+/// An error is the refusal of the first row that is none, as [`type_of_row`] says.
+/// `RowFault::Memory` is want of memory.
+pub fn types_of_rows<S: ScalarValue + Drop, C: Drop>(
+    alloc: Global,
+    rows: Vec<CheckedRow<'_, C>>,
+) -> Result<Items<MetaType<S, C>>, RowFault>
+    ensures { Answers (AllZip (spec.IsTypeOf S.reads S.of_bool) rows.entry.items)
+        (spec.IsFirstRefused S.reads S.of_bool rows.entry.items) row_specs.IsMemory result }
+{
+    let mut types = Items::with_capacity(alloc, rows.len())?;
+    'rows: for checked in rows {
+        types.push(type_of_row(alloc, checked.row, checked.check)?)?;
+    }
+    Ok(types)
 }
