@@ -1,1 +1,5 @@
+mod AskedAgain
+mod InParts
+mod NullsKeptOut
 mod OneAnswer
+mod Spelled

@@ -1,6 +1,7 @@
 pub mod AnyScalars
 pub mod Beings
 pub mod Counters
+pub mod KeptOut
 pub mod Kinds
 pub mod OnlyResponses
 pub mod PersonKeys
@@ -9,3 +10,4 @@ pub mod SameKinds
 pub mod Samples
 pub mod ToldKeys
 pub mod WideScalars
+pub mod Responses

@@ -1,7 +1,7 @@
 //! Tests of execution: what requests are answered over a resolver of the tests' own.
 
 #[cfg(test)]
-mod answered;
+pub mod answered;
 pub mod answered_alone;
 pub mod beings;
 mod completed;
@@ -13,5 +13,5 @@ pub mod look_ahead;
 #[cfg(test)]
 mod rows;
 #[cfg(test)]
-mod schemas;
+pub mod schemas;
 mod told;

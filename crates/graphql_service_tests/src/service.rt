@@ -5,10 +5,15 @@
 
 #[cfg(test)]
 mod alike;
+pub mod asked_again;
 #[cfg(test)]
 mod files;
+pub mod in_parts;
 #[cfg(test)]
 mod introspected;
+#[cfg(test)]
+pub mod joined;
+pub mod kept_out;
 #[cfg(test)]
 mod lines;
 #[cfg(test)]
@@ -21,6 +26,7 @@ mod schemas;
 mod served;
 #[cfg(test)]
 mod serving;
+pub mod spellings;
 #[cfg(test)]
 mod wide_numbers;
 pub mod wide_scalar;

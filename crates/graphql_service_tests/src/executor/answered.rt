@@ -4,10 +4,13 @@ use crate::executor::beings::Household;
 use crate::executor::costly::{nested, spread_twice};
 use crate::executor::counter::Counter;
 use crate::executor::told::errors_told;
+use crate::service::in_parts::parts_of_query;
+use crate::service::joined::{self, is_joined};
 use graphql_executor::{
     GraphQLError, Response, documents_without_a_fault_are_settled, execute_sync,
     execute_validated_query, get_operation, read_request,
 };
+use graphql_file_service::service::Service;
 use graphql_mutation::WithoutMutations;
 use graphql_schema::RootNode;
 use graphql_values::{DefaultScalarValue, Variables};
@@ -42,6 +45,9 @@ pub enum Asked<'a> {
 
     /// What mutations are answered over the counter, and the count that each leaves of zero.
     Mutations(&'a [CountedRow<'a>]),
+
+    /// What is answered of queries' parts, and of the whole.
+    InParts(&'a [joined::Row<'a>]),
 }
 
 /// The data, and behind them the errors, a line each.
@@ -131,39 +137,53 @@ fn is_counted(rt: &impl Abort, alloc: Global, root: &Root, row: &CountedRow<'_>)
     assert_eq!(rt; count, row.2);
 }
 
+/// Asserts of queries over a service with this root node what is answered of their parts.
+fn in_parts(rt: &impl Abort, alloc: Global, root: Root, rows: &[joined::Row<'_>]) {
+    let resolver = WithoutMutations {
+        resolver: Household,
+    };
+    let service = Service::new(root, resolver, (), 65_536, 10_000).expect(rt, "a service");
+    let variables = Variables::new(alloc);
+    for row in rows {
+        let parts = parts_of_query(alloc, row.0, &service, &variables, &mut ());
+        is_joined(rt, alloc, parts, row);
+    }
+}
+
 /// Asserts of requests over a root node what they are answered.
-pub fn ask(rt: &impl Abort, alloc: Global, root: &Root, asked: Asked<'_>) {
+pub fn ask(rt: &impl Abort, alloc: Global, root: Root, asked: Asked<'_>) {
     match asked {
         Asked::Texts(rows) => {
             for row in rows {
-                is_answered(rt, alloc, root, row.0, None, row.1);
+                is_answered(rt, alloc, &root, row.0, None, row.1);
             }
         }
         Asked::Nested(levels, wanted) => {
             let text = nested(alloc, levels).expect(rt, "memory");
-            let told = answer_told(alloc, root, text.as_str(), None).expect(rt, "memory");
+            let told = answer_told(alloc, &root, text.as_str(), None).expect(rt, "memory");
             assert_eq!(rt; told.len(), wanted);
         }
         Asked::SpreadTwice(fragments, wanted) => {
             let text = spread_twice(alloc, fragments).expect(rt, "memory");
-            is_answered(rt, alloc, root, text.as_str(), None, wanted);
+            is_answered(rt, alloc, &root, text.as_str(), None, wanted);
         }
         Asked::Operations(text, rows) => {
             for row in rows {
-                is_answered(rt, alloc, root, text, row.0, row.1);
+                is_answered(rt, alloc, &root, text, row.0, row.1);
             }
         }
         Asked::Validated(text, rows) => {
             for row in rows {
-                let answer = validated_answer(alloc, root, text, row.0);
+                let answer = validated_answer(alloc, &root, text, row.0);
                 let told = told(alloc, answer).expect(rt, "memory");
                 assert_eq!(rt; told.as_str(), row.1);
             }
         }
         Asked::Mutations(rows) => {
             for row in rows {
-                is_counted(rt, alloc, root, row);
+                is_counted(rt, alloc, &root, row);
             }
         }
+        Asked::InParts(rows) => in_parts(rt, alloc, root, rows),
     }
 }

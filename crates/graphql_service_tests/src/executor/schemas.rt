@@ -284,5 +284,5 @@ pub fn over(rt: &impl Abort, alloc: Global, asked: Asked<'_>) {
     let types = with_introspection(rt, alloc, types, checks);
     let mutation = mutation_root(asked);
     let schema = SchemaType::new(alloc, types, "Query", mutation, None).expect(rt, "a schema");
-    ask(rt, alloc, &RootNode::new(schema), asked);
+    ask(rt, alloc, RootNode::new(schema), asked);
 }

@@ -1,5 +1,6 @@
-//! Requests, and what their plain texts are answered in their place.
+//! Requests, what their plain texts are answered in their place, and texts spelled otherwise.
 
+use crate::service::asked_again::{answered_both_ways, plain_again, plain_twice};
 use crate::service::schemas::with_tag;
 use crate::service::served::{Asked, nameless, over};
 use graphql_file_service::service::{
@@ -83,6 +84,21 @@ const ROWS: &[Row<'_>] = &[
     ),
 ];
 
+/// Two lines of one request, whose texts have the same tokens: blanks, commas, comments and a byte order
+/// mark stand otherwise.
+type Spellings<'a> = (&'a str, &'a str);
+
+const SPELLED: &[Spellings<'_>] = &[
+    (
+        r#"{"query":"query Q($x: Boolean = false) { hero { friend { id } name @skip(if: $x) } }"}"#,
+        r#"{"query":"\ufeffquery,Q($x:Boolean=false)# of a hero\n{hero{friend{,,id},name@skip(if:$x)}},"}"#,
+    ),
+    (
+        r#"{"query":"mutation { rename(id: \"h2\", name: \"Zoe\") { ...F } } fragment F on Human { name }"}"#,
+        r#"{"query":"mutation{rename(id:\"h2\"name:\"Zoe\"){...F}}\r\nfragment,F\ton Human{#\nname}"}"#,
+    ),
+];
+
 /// What shows the records after a request.
 const AFTER: &str = "{ hero { id name friend { id name } } }";
 
@@ -136,6 +152,49 @@ fn is_alike(rt: &impl Abort, alloc: Global, root: &Root, row: &Row<'_>) {
     assert_eq!(rt; answer.as_str(), again.expect(rt, "memory").as_str());
 }
 
+/// Asserts that a request is answered both ways, has one plain text each time, and that this text is its
+/// own: what both are answered, and that the texts are the same, the calls promise.
+fn is_asked_again(rt: &impl Abort, alloc: Global, root: &Root, row: &Row<'_>) {
+    let request = request_from_line(alloc, row.0.as_bytes()).expect(rt, "a request");
+    let mut records = nameless(alloc, row.1).expect(rt, "memory");
+    let mut others = nameless(alloc, row.1).expect(rt, "memory");
+    let resolver = SampleResolver;
+    let both = answered_both_ways(
+        alloc,
+        &request,
+        root,
+        &resolver,
+        11,
+        &mut records,
+        &mut others,
+    );
+    assert!(rt; both.is_some());
+    let twice = plain_twice(alloc, &request, root, 11).expect(rt, "a plain text");
+    let GraphQLRequest {
+        query,
+        operation_name,
+        variables,
+    } = request;
+    let texts = plain_again(alloc, query.as_str(), operation_name, variables, root, 11);
+    let (text, again) = texts.expect(rt, "a plain text");
+    assert_eq!(rt; twice.1.expect(rt, "a text").as_str(), row.2);
+    assert_eq!(rt; text.as_str(), row.2);
+    assert_eq!(rt; again.expect(rt, "a text").as_str(), row.2);
+}
+
+/// Asserts that two lines of one request have one plain text, and are answered the same.
+fn is_spelled_alike(rt: &impl Abort, alloc: Global, root: &Root, lines: &Spellings<'_>) {
+    let request = request_from_line(alloc, lines.0.as_bytes()).expect(rt, "a request");
+    let other = request_from_line(alloc, lines.1.as_bytes()).expect(rt, "a request");
+    let plain = plain_request(alloc, &request, root, 11).expect(rt, "a plain text");
+    let again = plain_request(alloc, &other, root, 11).expect(rt, "a plain text");
+    assert_eq!(rt; plain.as_str(), again.as_str());
+    let answer = told(rt, alloc, root, request.query.as_str(), &request, "h2");
+    let second = told(rt, alloc, root, other.query.as_str(), &other, "h2");
+    let answer = answer.expect(rt, "memory");
+    assert_eq!(rt; answer.as_str(), second.expect(rt, "memory").as_str());
+}
+
 /// Asserts that requests and their plain texts are alike, over a schema with a directive `tag` of
 /// its own.
 pub fn are_alike(
@@ -147,6 +206,10 @@ pub fn are_alike(
     let root = RootNode::new(with_tag(rt, alloc, schema));
     for row in rows {
         is_alike(rt, alloc, &root, row);
+        is_asked_again(rt, alloc, &root, row);
+    }
+    for lines in SPELLED {
+        is_spelled_alike(rt, alloc, &root, lines);
     }
 }
 

@@ -8,6 +8,7 @@ ghost use Rattle.graphql_schema.specs.ScalarChecks.{IsBoolean, IsId, IsInt, IsSt
 use crate::service::alike::{self, are_alike};
 use crate::service::files::{is_told, served};
 use crate::service::introspected::tells_of_itself;
+use crate::service::joined::{self, are_joined};
 use crate::service::plain::{self, tells};
 use crate::service::schemas::{is_refused, unkept, with_other_skip};
 use crate::service::serving::{Run, are_served};
@@ -54,6 +55,9 @@ pub enum Asked<'a> {
 
     /// That requests and their plain texts are answered alike, and leave the same records.
     Alike(&'a [alike::Row<'a>]),
+
+    /// What is answered of queries' parts, and of the whole, where the human of this `id` has no name.
+    InParts(&'a str, &'a [joined::Row<'a>]),
 
     /// That a schema whose types do not keep what they promise makes no service.
     Unkept,
@@ -141,6 +145,11 @@ fn with_schema(
         Asked::Introspected => tells_of_itself(rt, alloc, schema),
         Asked::Plain(row) => tells(rt, alloc, schema, row),
         Asked::Alike(rows) => are_alike(rt, alloc, schema, rows),
+        Asked::InParts(id, rows) => {
+            let service = service(rt, schema, records, 65_536);
+            let mut records = nameless(alloc, id).expect(rt, "memory");
+            are_joined(rt, alloc, &service, &mut records, rows);
+        }
         Asked::Runs(runs) => are_served(rt, alloc, &mut service(rt, schema, records, 80), runs),
         _ => {
             let schema = with_other_skip(rt, alloc, schema);
