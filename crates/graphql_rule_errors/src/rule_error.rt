@@ -37,7 +37,7 @@ impl RuleError {
         ensures message { IfOk result (λ error. error.message ≡ message) }
         ensures locations { IfOk result (λ error. error.locations ≡ places.now) }
     {
-        let mut locations = Items::new(alloc);
+        let mut locations = Items::with_capacity(alloc, places.len())?;
         locations.extend_from_slice(places)?;
         Ok(RuleError::new(message, locations))
     }
