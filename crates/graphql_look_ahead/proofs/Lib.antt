@@ -1,4 +1,5 @@
 pub mod OpenLemmas
+pub mod ChildrenLemmas
 pub mod SearchLemmas
 pub mod ValueLemmas
 pub mod SelectionLemmas

@@ -1,5 +1,5 @@
 -- How open lists are gone through.
-use Rattle.std.proofs.Common.{◌≡◌, refl, subst, sym, ◌∙◌, ap, ℕ, ◌+◌, ◌<◌, ◌≤◌, arith, Bool, true, false, List, [], ◌∷◌, ◌++◌, map, reverse, drop, take, get_or, length, append-nil, append_assoc, Option, Some, None, ◌⊎◌, inl, inr, Result, Ok, Err}
+use Rattle.std.proofs.Common.{◌≡◌, refl, subst, sym, ◌∙◌, ap, ℕ, ◌+◌, ◌<◌, ◌≤◌, arith, Bool, true, false, List, [], ◌∷◌, ◌++◌, map, reverse, drop, take, get_or, length, append-nil, append_assoc, Option, Some, None, ◌⊎◌, inl, inr, ⊎_elim, true≢false, Result, Ok, Err}
 use Rattle.std.specs.Result.{OnOk}
 use Rattle.std.proofs.lemmas.List.{drop_all, drop_more, map_push, take_all, take_more, reverse-append, map-append}
 use Rattle.std.proofs.lemmas.List.Concat.{flat_map-append}
@@ -81,6 +81,13 @@ pub ok-so : {A E P Q : Type 0} → (r : Result A E) → (P → Q) → OnOk r P �
 ok-so (Ok a) f p = f p
 ok-so (Err e) f p = tt
 
+abbrev in-some : {A : Type 0} → A → Option A → A
+in-some d (Some a) = a
+in-some d None = d
+
+pub some-same : {A : Type 0} {a b : A} → Some a ≡ Some b → a ≡ b
+some-same {a = a} e = ap (in-some a) e
+
 -- nothing is there
 abbrev IsNone : {A : Type 0} → Option A → Type 0
 IsNone None = Unit {0}
@@ -132,12 +139,55 @@ module _ {S : Type 0} (drops : Directives S → Bool) (fragments : List (Fragmen
   pub none-some : (f : Fragment S) → None ≡ Some f → ⊥
   none-some f e = subst (λ (o : Option (Fragment S)). IsNone o) e tt
 
+  -- a field, by whether it is left out
+  pub kind-Field : (x : Placed (Field S)) (xs : List (Selection S)) (only : Option Bytes) (cs : List (Ahead S)) → Has only (selection.Field x ∷ xs) cs
+      → ((drops (listed x.item.directives) ≡ true) × Has only xs cs) ⊎ PartsIn only (Selection-F.Field x) xs cs
+  kind-Field x xs only cs h = ⊎_elim
+      (λ p. inl (sym (ap (λ o. drops (opened_directives o)) (selection.outs-Field x)) ∙ p.0, p.1))
+      (λ p. inr (subst (λ o. PartsIn only o xs cs) (selection.outs-Field x) p))
+      (parts only (selection.Field x ∷ xs) cs h)
+
+  pub kind-Spread : (x : Placed (FragmentSpread S)) (xs : List (Selection S)) (only : Option Bytes) (cs : List (Ahead S)) → Has only (selection.FragmentSpread x ∷ xs) cs
+      → ((drops (listed x.item.directives) ≡ true) × Has only xs cs) ⊎ PartsIn only (Selection-F.FragmentSpread x) xs cs
+  kind-Spread x xs only cs h = ⊎_elim
+      (λ p. inl (sym (ap (λ o. drops (opened_directives o)) (selection.outs-FragmentSpread x)) ∙ p.0, p.1))
+      (λ p. inr (subst (λ o. PartsIn only o xs cs) (selection.outs-FragmentSpread x) p))
+      (parts only (selection.FragmentSpread x ∷ xs) cs h)
+
+  pub kind-Inline : (x : Placed (InlineFragment S)) (xs : List (Selection S)) (only : Option Bytes) (cs : List (Ahead S)) → Has only (selection.InlineFragment x ∷ xs) cs
+      → ((drops (listed x.item.directives) ≡ true) × Has only xs cs) ⊎ PartsIn only (Selection-F.InlineFragment x) xs cs
+  kind-Inline x xs only cs h = ⊎_elim
+      (λ p. inl (sym (ap (λ o. drops (opened_directives o)) (selection.outs-InlineFragment x)) ∙ p.0, p.1))
+      (λ p. inr (subst (λ o. PartsIn only o xs cs) (selection.outs-InlineFragment x) p))
+      (parts only (selection.InlineFragment x ∷ xs) cs h)
+
+  -- a selection that is kept: a field is the first child, what stands in a fragment comes before the rest
+  pub in-field : (x : Placed (Field S)) (xs : List (Selection S)) → drops (listed x.item.directives) ≡ false → (only : Option Bytes) (cs : List (Ahead S)) → Has only (selection.Field x ∷ xs) cs
+      → (more : List (Ahead S)) × Has only xs more × (cs ≡ a_field x only ∷ more)
+  in-field x xs kept only cs h = ⊎_elim (λ p. absurd (true≢false (sym p.0 ∙ kept))) (λ p. p.1) (kind-Field x xs only cs h)
+
+  pub in-spread : (x : Placed (FragmentSpread S)) (xs : List (Selection S)) (f : Fragment S) → fragment_meant fragments x.item.name.item ≡ Some f → drops (listed x.item.directives) ≡ false
+      → (only : Option Bytes) (cs : List (Ahead S)) → Has only (selection.FragmentSpread x ∷ xs) cs
+      → (inner : List (Ahead S)) × (more : List (Ahead S)) × Has only f.selection_set inner × Has only xs more × (cs ≡ inner ++ more)
+  in-spread x xs f m kept only cs h = ⊎_elim
+      (λ p. absurd (true≢false (sym p.0 ∙ kept)))
+      (⊎_elim (λ p. absurd (none-some f (sym p.0 ∙ m)))
+      (λ p. let i = p.1.2 in
+      let same : p.1.0 ≡ f = some-same (sym p.1.1 ∙ m) in
+      (i.0, i.1, subst (λ (g : Fragment S). Has only g.selection_set i.0) same i.2, i.3, i.4)))
+      (kind-Spread x xs only cs h)
+
+  pub in-inline : (x : Placed (InlineFragment S)) (xs : List (Selection S)) → drops (listed x.item.directives) ≡ false
+      → (only : Option Bytes) (cs : List (Ahead S)) → Has only (selection.InlineFragment x ∷ xs) cs
+      → (inner : List (Ahead S)) × (more : List (Ahead S)) × Has (bound only (condition_of x.item)) x.item.selection_set inner × Has only xs more × (cs ≡ inner ++ more)
+  in-inline x xs kept only cs h = ⊎_elim (λ p. absurd (true≢false (sym p.0 ∙ kept))) (λ p. p.1) (kind-Inline x xs only cs h)
+
   passes-in : (x : Placed (FragmentSpread S)) (xs : List (Selection S)) → fragment_meant fragments x.item.name.item ≡ None
       → (only : Option Bytes) (cs : List (Ahead S)) → PartsIn only (Selection-F.FragmentSpread x) xs cs → Has only xs cs
   passes-in x xs e only cs (inl h) = h.1
   passes-in x xs e only cs (inr h) = absurd (none-some h.1.0 (sym e ∙ h.1.1))
 
-  passes-unknown : (x : Placed (FragmentSpread S)) (xs : List (Selection S)) → fragment_meant fragments x.item.name.item ≡ None
+  pub passes-unknown : (x : Placed (FragmentSpread S)) (xs : List (Selection S)) → fragment_meant fragments x.item.name.item ≡ None
       → (only : Option Bytes) (cs : List (Ahead S)) → Parts only (selection.FragmentSpread x ∷ xs) cs → Has only xs cs
   passes-unknown x xs e only cs (inl h) = h.1
   passes-unknown x xs e only cs (inr h) = passes-in x xs e only cs (subst (λ o. PartsIn only o xs cs) (selection.outs-FragmentSpread x) h)

@@ -1,5 +1,5 @@
 -- How one child of a list is found.
-use Rattle.std.proofs.Common.{◌≡◌, refl, subst, sym, ◌∙◌, ap, ℕ, ◌+◌, ◌<◌, ◌≤◌, arith, Bool, true, false, ◌||◌, List, [], ◌∷◌, ◌++◌, map, reverse, drop, take, get_or, length, append-nil, append_assoc, Option, Some, None, ◌⊎◌, inl, inr, ⊎_elim, cond}
+use Rattle.std.proofs.Common.{◌≡◌, refl, subst, sym, ◌∙◌, ap, ℕ, ◌+◌, ◌<◌, ◌≤◌, arith, Bool, true, false, true≢false, ◌||◌, List, [], ◌∷◌, ◌++◌, map, reverse, drop, take, get_or, length, append-nil, append_assoc, Option, Some, None, ⊎_elim, cond}
 use Rattle.std.proofs.lemmas.List.{drop_more, reverse-append, take-append-drop, take_all, take_more}
 use Rattle.std.proofs.lemmas.List.Concat.{flat_map-append}
 use Rattle.std.specs.Borrow.{Bor}
@@ -14,14 +14,13 @@ use Rattle.graphql_tree.specs.declared.document.Fragment.{Fragment}
 use Rattle.graphql_tree.specs.declared.selection.Field.{Field}
 use Rattle.graphql_tree.specs.declared.selection.FragmentSpread.{FragmentSpread}
 use Rattle.graphql_tree.specs.declared.selection.InlineFragment.{InlineFragment}
-use Rattle.graphql_tree.specs.declared.selection.Selection.{Selection, out-Selection}
-use Rattle.graphql_tree.specs.declared.selection.Selection.TheOpen.{Selection-F}
+use Rattle.graphql_tree.specs.declared.selection.Selection.{Selection}
 use Rattle.graphql_tree.specs.declared.selection.Selection.TheVariants as selection
 use Rattle.graphql_written_out.specs.Trees.{Directives}
 use Rattle.graphql_written_out.specs.Written.{Settled, condition_of, fragment_meant, listed, response_key}
 use Rattle.graphql_collect.proofs.WalkLaws.{last-cases}
 use Rattle.graphql_look_ahead.specs.Applies.{bound, only_of}
-use Rattle.graphql_look_ahead.specs.Children.{Ahead, Children, a_field, left_out, no_more, of_field, of_inline, of_spread, of_unknown, opened_directives}
+use Rattle.graphql_look_ahead.specs.Children.{Ahead, Children, a_field, left_out, no_more, of_field, of_inline, of_spread, of_unknown}
 use Rattle.graphql_look_ahead.specs.FirstChild.{AllLack, FragmentLacks, Finds, GoesOn, IsFirst, IsSearch, Turns, IsSound, Lacks, Leads, first_child, lists_left, turns_left}
 use Rattle.graphql_look_ahead.specs.Open.{AllHave, IsMet, IsNext, OpenSet, Skips, open_set, rest_of, turns_of}
 use Rattle.graphql_look_ahead.specs.Told.{key_of, looked_at, told, within}
@@ -34,11 +33,7 @@ use Rattle.graphql_look_ahead.specs.declared.open.Met.TheVariants as met
 use Rattle.graphql_look_ahead.specs.declared.open.Open.{Open}
 use Rattle.graphql_look_ahead.specs.declared.searching.Task.{Task}
 use Rattle.graphql_look_ahead.specs.declared.searching.Task.TheVariants as task
-use Rattle.graphql_look_ahead.proofs.OpenLemmas.{PartsIn, none-some, parts, turns-Field, turns-Inline, turns-Spread, turns-some}
-
-abbrev Holds : Bool → Type 0
-Holds true = Unit {0}
-Holds false = ⊥
+use Rattle.graphql_look_ahead.proofs.OpenLemmas.{in-field, in-inline, in-spread, kind-Field, kind-Inline, kind-Spread, parts, some-same, turns-Field, turns-Inline, turns-Spread, turns-some}
 
 abbrev IsNothing : {A : Type 0} → Option A → Type 0
 IsNothing None = Unit {0}
@@ -50,16 +45,6 @@ IsNil (x ∷ xs) = ⊥
 
 nil-cons : {A : Type 0} (x : A) (xs : List A) → [] ≡ x ∷ xs → ⊥
 nil-cons x xs e = subst IsNil e tt
-
-true-false : true ≡ false → ⊥
-true-false e = subst Holds e tt
-
-abbrev in-some : {A : Type 0} → A → Option A → A
-in-some d (Some a) = a
-in-some d None = d
-
-some-same : {A : Type 0} {a b : A} → Some a ≡ Some b → a ≡ b
-some-same {a = a} e = ap (in-some a) e
 
 module _ {S : Type 0} (key : Bytes) where
   first-join : (o : Bool) (x : Ahead S) (f g : Option (Ahead S)) → cond o (Some x) (option_or f g) ≡ option_or (cond o (Some x) f) g
@@ -140,87 +125,55 @@ module _ {S : Type 0} (drops : Directives S → Bool) (fragments : List (Fragmen
         ap (first_child key) h.4 ∙ first-same key h.0 (p.0 ++ p.1) h.1 p.4 ∙ ap (first_child key) (append_assoc p.0 p.1 h.1),
       )
 
-  -- a field, by whether it is left out
-  kind-Field : (x : Placed (Field S)) (xs : List (Selection S)) (only : Option Bytes) (cs : List (Ahead S)) → Has only (selection.Field x ∷ xs) cs
-      → ((drops (listed x.item.directives) ≡ true) × Has only xs cs) ⊎ PartsIn drops fragments only (Selection-F.Field x) xs cs
-  kind-Field x xs only cs h = ⊎_elim
-      (λ p. inl (sym (ap (λ o. drops (opened_directives o)) (selection.outs-Field x)) ∙ p.0, p.1))
-      (λ p. inr (subst (λ o. PartsIn drops fragments only o xs cs) (selection.outs-Field x) p))
-      (parts drops fragments only (selection.Field x ∷ xs) cs h)
-
-  kind-Spread : (x : Placed (FragmentSpread S)) (xs : List (Selection S)) (only : Option Bytes) (cs : List (Ahead S)) → Has only (selection.FragmentSpread x ∷ xs) cs
-      → ((drops (listed x.item.directives) ≡ true) × Has only xs cs) ⊎ PartsIn drops fragments only (Selection-F.FragmentSpread x) xs cs
-  kind-Spread x xs only cs h = ⊎_elim
-      (λ p. inl (sym (ap (λ o. drops (opened_directives o)) (selection.outs-FragmentSpread x)) ∙ p.0, p.1))
-      (λ p. inr (subst (λ o. PartsIn drops fragments only o xs cs) (selection.outs-FragmentSpread x) p))
-      (parts drops fragments only (selection.FragmentSpread x ∷ xs) cs h)
-
-  kind-Inline : (x : Placed (InlineFragment S)) (xs : List (Selection S)) (only : Option Bytes) (cs : List (Ahead S)) → Has only (selection.InlineFragment x ∷ xs) cs
-      → ((drops (listed x.item.directives) ≡ true) × Has only xs cs) ⊎ PartsIn drops fragments only (Selection-F.InlineFragment x) xs cs
-  kind-Inline x xs only cs h = ⊎_elim
-      (λ p. inl (sym (ap (λ o. drops (opened_directives o)) (selection.outs-InlineFragment x)) ∙ p.0, p.1))
-      (λ p. inr (subst (λ o. PartsIn drops fragments only o xs cs) (selection.outs-InlineFragment x) p))
-      (parts drops fragments only (selection.InlineFragment x ∷ xs) cs h)
-
   -- a field that is left out, or of another key
   pub passes-field-out : (x : Placed (Field S)) (xs : List (Selection S)) → drops (listed x.item.directives) ≡ true → (only : Option Bytes) → Passes only (selection.Field x ∷ xs) xs
   passes-field-out x xs d only = λ cs h. ⊎_elim
       (λ p. (cs, p.1, refl))
-      (λ p. absurd (true-false (sym d ∙ p.0)))
-      (kind-Field x xs only cs h)
+      (λ p. absurd (true≢false (sym d ∙ p.0)))
+      (kind-Field drops fragments x xs only cs h)
 
   pub passes-field : (x : Placed (Field S)) (xs : List (Selection S)) → bytes_eq (response_key x.item.alias x.item.name) key ≡ false → (only : Option Bytes) → Passes only (selection.Field x ∷ xs) xs
   passes-field x xs other only = λ cs h. ⊎_elim
       (λ p. (cs, p.1, refl))
       (λ p. (p.1.0, p.1.1, ap (first_child key) p.1.2 ∙ first-other key (a_field x only) p.1.0 other))
-      (kind-Field x xs only cs h)
+      (kind-Field drops fragments x xs only cs h)
 
   -- a field of the key
   pub finds-field : (x : Placed (Field S)) (xs : List (Selection S)) (only : Option Bytes) (os : List (OpenSet S)) → drops (listed x.item.directives) ≡ false
       → bytes_eq (response_key x.item.alias x.item.name) key ≡ true → Finds drops fragments key ((only, selection.Field x ∷ xs) ∷ os) (a_field x only)
-  finds-field x xs only os d same = λ ds h. ⊎_elim
-      (λ p. absurd (true-false (sym p.0 ∙ d)))
-      (λ p. ap (first_child key) (h.4 ∙ ap (λ zs. zs ++ h.1) p.1.2) ∙ first-is key (a_field x only) (p.1.0 ++ h.1) same)
-      (kind-Field x xs only h.0 h.2)
+  finds-field x xs only os d same = λ ds h.
+      let p = in-field drops fragments x xs d only h.0 h.2 in
+      ap (first_child key) (h.4 ∙ ap (λ zs. zs ++ h.1) p.2) ∙ first-is key (a_field x only) (p.0 ++ h.1) same
 
   -- an inline fragment
   pub passes-inline-out : (x : Placed (InlineFragment S)) (xs : List (Selection S)) → drops (listed x.item.directives) ≡ true → (only : Option Bytes) → Passes only (selection.InlineFragment x ∷ xs) xs
   passes-inline-out x xs d only = λ cs h. ⊎_elim
       (λ p. (cs, p.1, refl))
-      (λ p. absurd (true-false (sym d ∙ p.0)))
-      (kind-Inline x xs only cs h)
+      (λ p. absurd (true≢false (sym d ∙ p.0)))
+      (kind-Inline drops fragments x xs only cs h)
 
   pub opens-inline : (x : Placed (InlineFragment S)) (xs : List (Selection S)) → drops (listed x.item.directives) ≡ false
       → (only : Option Bytes) → Opens only (bound only (condition_of x.item)) (selection.InlineFragment x ∷ xs) x.item.selection_set xs
-  opens-inline x xs d only = λ cs h. ⊎_elim
-      (λ p. absurd (true-false (sym p.0 ∙ d)))
-      (λ p. (p.1.0, p.1.1, p.1.2, p.1.3, ap (first_child key) p.1.4))
-      (kind-Inline x xs only cs h)
+  opens-inline x xs d only = λ cs h. let p = in-inline drops fragments x xs d only cs h in (p.0, p.1, p.2, p.3, ap (first_child key) p.4)
 
   -- a spread
   pub passes-spread-out : (x : Placed (FragmentSpread S)) (xs : List (Selection S)) (f : Fragment S) → fragment_meant fragments x.item.name.item ≡ Some f
       → drops (listed x.item.directives) ≡ true → (only : Option Bytes) → Passes only (selection.FragmentSpread x ∷ xs) xs
   passes-spread-out x xs f m d only = λ cs h. ⊎_elim
       (λ p. (cs, p.1, refl))
-      (⊎_elim (λ p. (cs, p.1, refl)) (λ p. absurd (true-false (sym d ∙ p.0))))
-      (kind-Spread x xs only cs h)
+      (⊎_elim (λ p. (cs, p.1, refl)) (λ p. absurd (true≢false (sym d ∙ p.0))))
+      (kind-Spread drops fragments x xs only cs h)
 
   pub passes-searched : (x : Placed (FragmentSpread S)) (xs : List (Selection S)) → FragmentLacks drops fragments key x.item.name.item → (only : Option Bytes) → Passes only (selection.FragmentSpread x ∷ xs) xs
   passes-searched x xs lacks only = λ cs h. ⊎_elim
       (λ p. (cs, p.1, refl))
       (⊎_elim (λ p. (cs, p.1, refl))
       (λ p. let i = p.1.2 in (i.1, i.3, ap (first_child key) i.4 ∙ first-behind key i.0 i.1 (lacks p.1.0 p.1.1 only i.0 i.2))))
-      (kind-Spread x xs only cs h)
+      (kind-Spread drops fragments x xs only cs h)
 
   pub opens-spread : (x : Placed (FragmentSpread S)) (xs : List (Selection S)) (f : Fragment S) → fragment_meant fragments x.item.name.item ≡ Some f
       → drops (listed x.item.directives) ≡ false → (only : Option Bytes) → Opens only only (selection.FragmentSpread x ∷ xs) f.selection_set xs
-  opens-spread x xs f m d only = λ cs h. ⊎_elim
-      (λ p. absurd (true-false (sym p.0 ∙ d)))
-      (⊎_elim (λ p. absurd (none-some drops fragments f (sym p.0 ∙ m)))
-      (λ p. let i = p.1.2 in
-      let same : p.1.0 ≡ f = some-same (sym p.1.1 ∙ m) in
-      (i.0, i.1, subst (λ (g : Fragment S). Has only g.selection_set i.0) same i.2, i.3, ap (first_child key) i.4)))
-      (kind-Spread x xs only cs h)
+  opens-spread x xs f m d only = λ cs h. let p = in-spread drops fragments x xs f m d only cs h in (p.0, p.1, p.2, p.3, ap (first_child key) p.4)
 
   -- behind what has no children
   pub passes-behind : (set mid rest : List (Selection S)) → Skips drops fragments set mid → ((only : Option Bytes) → Passes only mid rest) → (only : Option Bytes) → Passes only set rest
@@ -387,7 +340,7 @@ module _ {S : Type 0} (drops : Directives S → Bool) (fragments : List (Fragmen
 
 module _ {S : Type 0} (drops : Directives S → Bool) (fragments : List (Fragment S)) (key : Bytes) where
   pub lack-none : (searched : List Bytes) → searched ≡ [] → AllLack drops fragments key searched
-  lack-none searched e = λ n t. absurd (true-false (sym t ∙ ap (list_any (bytes_eq n)) e))
+  lack-none searched e = λ n t. absurd (true≢false (sym t ∙ ap (list_any (bytes_eq n)) e))
 
   -- one fragment more was searched
   pub lack-more : (searched more : List Bytes) (name : Bytes) → more ≡ insert_key bytes_eq searched name → AllLack drops fragments key searched → FragmentLacks drops fragments key name

@@ -51,3 +51,7 @@ module _ {S : Type 0} (drops : Directives S → Bool) (fragments : List (Fragmen
     -- an inline fragment binds to its condition, if it has one
     of_inline : (only : Option Bytes) (x : Placed (InlineFragment S)) (xs : List (Selection S)) (inner cs : List (Ahead S)) → drops (listed x.item.directives) ≡ false
         → Children (bound only (condition_of x.item)) x.item.selection_set inner → Children only xs cs → Children only (selection.InlineFragment x ∷ xs) (inner ++ cs)
+
+  -- there is a list of its children, be it empty
+  abbrev pub HasChildren : Option Bytes → List (Selection S) → Type 0
+  HasChildren only set = (children : List (Ahead S)) × Children only set children

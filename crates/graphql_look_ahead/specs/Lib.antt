@@ -1,5 +1,6 @@
 pub mod Applies
 pub mod Children
+pub mod Laws
 pub mod Told
 pub mod Selections
 pub mod Open

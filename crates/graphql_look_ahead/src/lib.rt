@@ -7,6 +7,7 @@ mod argument;
 mod children;
 mod equality;
 mod gathering;
+pub mod laws;
 mod list;
 pub mod look_ahead_list;
 pub mod look_ahead_object;

@@ -7,7 +7,7 @@ ghost use Rattle.graphql_collect.specs.Requests.{drops_in, fragments_in};
 ghost use Rattle.graphql_tree.specs.Documents.{arguments_in as written_in};
 ghost use Rattle.graphql_written_out.specs.Written.{Settled, listed};
 ghost use Rattle.graphql_look_ahead.specs.Applies.{applies_to};
-ghost use Rattle.graphql_look_ahead.specs.Children.{Ahead, Children};
+ghost use Rattle.graphql_look_ahead.specs.Children.{Ahead, Children, HasChildren};
 ghost use Rattle.graphql_look_ahead.specs.FirstChild.{IsFirst};
 ghost use Rattle.graphql_look_ahead.specs.Selections.{field_or_key, first_of_key, none_or, selections_of};
 ghost use Rattle.graphql_look_ahead.specs.Told.{IsOf, looked_at, told, within};
@@ -283,14 +283,19 @@ impl<'d, 'a, S: SchemaScalar + Drop> LookAheadSelection<'d, 'a, S> {
         Ok(LookAheadChildren { children })
     }
 
-    /// The first child of this response key. Each fragment is searched once, so it takes time in proportion to what is
-    /// selected below the field and in fragments. An error is want of memory.
+    /// The first child of this response key (GraphQL October 2021, 2.4 Selection Sets, 2.8 Fragments), or `None` where no
+    /// child has it: that of the list that `children` gives, which there is whatever is selected. Each fragment is
+    /// searched once, so it takes time in proportion to what is selected below the field and in fragments. An error is
+    /// want of memory.
     pub fn child(
         &self,
         alloc: Global,
         key: &str,
     ) -> Result<Option<LookAheadSelection<'d, 'a, S>>, AllocError>
         requires { Settled (fragments_in self.now.request.now) }
+        ensures children { let request = self.now.request.now in
+            HasChildren (drops_in S.answer request) (fragments_in request) None
+            (spec.selected (told self.now)) }
         ensures first { IfOk result (IsFirst S.answer self.now.request.now key.now
             (spec.selected (told self.now))) }
         ensures request { IfOk result (λ found. IfSome found (IsOf self.now.request.now)) }
