@@ -5,14 +5,17 @@
 
 #[cfg(test)]
 mod alike;
+#[cfg(test)]
 pub mod asked_again;
 #[cfg(test)]
 mod files;
+#[cfg(test)]
 pub mod in_parts;
 #[cfg(test)]
 mod introspected;
 #[cfg(test)]
 pub mod joined;
+#[cfg(test)]
 pub mod kept_out;
 #[cfg(test)]
 mod lines;
@@ -26,6 +29,7 @@ mod schemas;
 mod served;
 #[cfg(test)]
 mod serving;
+#[cfg(test)]
 pub mod spellings;
 #[cfg(test)]
 mod wide_numbers;

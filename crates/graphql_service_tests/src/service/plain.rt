@@ -120,18 +120,47 @@ const REFUSED: &[Row<'_>] = &[
     ),
 ];
 
-/// A line of a request that spreads a chain of 40 fragments, each of which spreads the next twice.
-fn chain(alloc: Global) -> Result<String, AllocError> {
+/// A chain of fragments: how many of them spread the next one twice, the greatest size of a plain text in fields
+/// and inline fragments, and whether the plain text of the chain is within it.
+pub type Chain = (u8, usize, bool);
+
+/// A plain text has three selections for two to the power of the number of spreading fragments.
+const CHAINS: &[Chain] = &[
+    (11, 6_144, true),
+    (11, 6_143, false),
+    (12, 10_000, false),
+    (40, 10_000, false),
+];
+
+/// A line of a request that spreads a chain of fragments, of which so many spread the next one twice.
+fn chain(alloc: Global, length: u8) -> Result<String, AllocError> {
     let mut text = String::from_str(alloc, r#"{"query":"{ hero { ...F0 } }"#)?;
-    for place in 0..40u8 {
+    for place in 0..length {
         let next = place + 1;
         let fragment = format!(in alloc;
             " fragment F{place} on Human {{ ...F{next} ...F{next} }}"
         )?;
         text.push_str(fragment.as_str())?;
     }
-    text.push_str(r#" fragment F40 on Human { id }"}"#)?;
+    let last = format!(in alloc; " fragment F{length} on Human {{ id }}\"}}")?;
+    text.push_str(last.as_str())?;
     Ok(text)
+}
+
+/// What such a line is told where its plain text is within the limit.
+fn plain_chain(alloc: Global, length: u8) -> Result<String, AllocError> {
+    let mut text = String::from_str(alloc, "... on Human { id }")?;
+    for _ in 0..length {
+        text = format!(in alloc; "... on Human {{ {text} {text} }}")?;
+    }
+    format!(in alloc; "{{\"plain\":\"query {{ hero {{ {text} }} }}\"}}")
+}
+
+/// What a line is told whose plain text is larger than this.
+fn too_large(alloc: Global, limit: usize) -> Result<String, AllocError> {
+    format!(in alloc;
+        "{{\"errors\":[{{\"message\":\"Plain text has more than {limit} selections\"}}]}}"
+    )
 }
 
 /// Asserts what a line is told of its plain text.
@@ -165,16 +194,30 @@ fn service(
     .expect(rt, "a service")
 }
 
-/// Asserts what a line is told of its plain text, over a schema with a directive `tag` of its own. The empty
-/// text stands for the line of the chain.
+/// Asserts what a line is told of its plain text, over a schema with a directive `tag` of its own.
 pub fn tells(rt: &impl Abort, alloc: Global, schema: SchemaType<DefaultScalarValue>, row: Row<'_>) {
     let schema = with_tag(rt, alloc, schema);
     let service = service(rt, alloc, schema, row.1);
-    if row.0.is_empty() {
-        let line = chain(alloc).expect(rt, "memory");
-        return is_told(rt, alloc, &service, line.as_str(), row.2);
-    }
     is_told(rt, alloc, &service, row.0, row.2);
+}
+
+/// Asserts what a line with a chain of fragments is told of its plain text.
+pub fn tells_chain(
+    rt: &impl Abort,
+    alloc: Global,
+    schema: SchemaType<DefaultScalarValue>,
+    row: Chain,
+) {
+    let (length, limit, is_within) = row;
+    let service = service(rt, alloc, schema, limit);
+    let line = chain(alloc, length).expect(rt, "memory");
+    let wanted = if is_within {
+        plain_chain(alloc, length)
+    } else {
+        too_large(alloc, limit)
+    };
+    let wanted = wanted.expect(rt, "memory");
+    is_told(rt, alloc, &service, line.as_str(), wanted.as_str());
 }
 
 #[test]
@@ -184,10 +227,11 @@ fn requests_have_plain_texts(rt: HostRuntime) {
             over(&rt, rt.alloc(), Asked::Plain(*row));
         }
     }
-    let row = (
-        "",
-        10_000,
-        r#"{"errors":[{"message":"Plain text has more than 10000 selections"}]}"#,
-    );
-    over(&rt, rt.alloc(), Asked::Plain(row));
+}
+
+#[test]
+fn chains_of_fragments_have_plain_texts(rt: HostRuntime) {
+    for row in CHAINS {
+        over(&rt, rt.alloc(), Asked::Chain(*row));
+    }
 }

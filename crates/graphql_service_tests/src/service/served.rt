@@ -9,7 +9,7 @@ use crate::service::alike::{self, are_alike};
 use crate::service::files::{is_told, served};
 use crate::service::introspected::tells_of_itself;
 use crate::service::joined::{self, are_joined};
-use crate::service::plain::{self, tells};
+use crate::service::plain::{self, tells, tells_chain};
 use crate::service::schemas::{is_refused, unkept, with_other_skip};
 use crate::service::serving::{Run, are_served};
 use graphql_file_service::sample;
@@ -52,6 +52,9 @@ pub enum Asked<'a> {
 
     /// What a line is told of its plain text.
     Plain(plain::Row<'a>),
+
+    /// What a line with a chain of fragments is told of its plain text.
+    Chain(plain::Chain),
 
     /// That requests and their plain texts are answered alike, and leave the same records.
     Alike(&'a [alike::Row<'a>]),
@@ -144,6 +147,7 @@ fn with_schema(
         }
         Asked::Introspected => tells_of_itself(rt, alloc, schema),
         Asked::Plain(row) => tells(rt, alloc, schema, row),
+        Asked::Chain(row) => tells_chain(rt, alloc, schema, row),
         Asked::Alike(rows) => are_alike(rt, alloc, schema, rows),
         Asked::InParts(id, rows) => {
             let service = service(rt, schema, records, 65_536);
