@@ -1,15 +1,17 @@
 -- The service over a schema in rows, and what became of a run over it (GraphQL October 2021, 3.3 Schema, 6.1 Executing Requests).
 use Rattle.std.specs.Prelude.{◌≡◌, ◌++◌, false, List, Option, Result, Ok, Err}
-use Rattle.std.specs.List.{AllZip}
+use Rattle.std.specs.List.{All, AllZip}
 use Rattle.graphql_text.specs.Memory.{UnlessMemory}
 use Rattle.graphql_names.specs.Names.{Bytes}
+use Rattle.graphql_defaults.specs.Conforming.{NamedConforms}
 use Rattle.graphql_schema.specs.Faults.{Roots}
+use Rattle.graphql_schema.specs.Promises.{IsFirstWithout}
 use Rattle.graphql_schema.specs.Schemas as schemas
 use Rattle.graphql_schema.specs.declared.meta.MetaType.{MetaType}
 use Rattle.graphql_schema.specs.declared.root_node.RootNode.{RootNode}
 use Rattle.graphql_schema.specs.declared.schema.SchemaType.{SchemaType}
 use Rattle.graphql_schema_rows.specs.Rows.{IsMemory}
-use Rattle.graphql_schema_rows.specs.Types.{IsFirstRefused, IsTypeOf}
+use Rattle.graphql_schema_rows.specs.Types.{IsFirstRefused, IsTypeOf, row_names}
 use Rattle.graphql_schema_rows.specs.declared.type_row.CheckedRow.{CheckedRow}
 use Rattle.graphql_service.specs.Answers.{Answerer}
 use Rattle.graphql_service.specs.Made as services
@@ -28,6 +30,7 @@ served (Ok x) = Ok x
 served (Err (fault.Serve e)) = Err e
 served (Err (fault.Row e)) = Ok tt
 served (Err (fault.Schema e)) = Ok tt
+served (Err (fault.BadDefault name)) = Ok tt
 served (Err (fault.Service e)) = Ok tt
 served (Err fault.Memory) = Ok tt
 
@@ -41,24 +44,38 @@ in_service resolver = record { resolver = resolver }
 abbrev pub root_over : {S C : Type 0} → SchemaType S C → RootNode S C
 root_over schema = record { schema = schema; introspection_disabled = false }
 
--- by what scalars mean, of the roots that are named, a resolver, and a context
-module _ {S C R X : Type 0} (s : Scalars S C) (roots : Roots) (by : R) (over : X) where
+-- each default that the type of a name declares conforms, as a schema has it
+abbrev pub HasFitDefaults : {S C : Type 0} → Scalars S C → SchemaType S C → Bytes → Type 0
+HasFitDefaults s schema name = NamedConforms s.answer s.accepts schema.types name
+
+-- by what scalars mean, of the roots that are named, the names of the types whose defaults are judged, a resolver, and a context
+module _ {S C R X : Type 0} (s : Scalars S C) (roots : Roots) (names : List Bytes) (by : R) (over : X) where
   -- the service over the schema of these types, with introspection
   pub record IsServiceOf (types : List (MetaType S C)) (service : Service S R X C) : Type 0 where
     pub schema : SchemaType S C
     pub made : schemas.Makes s.of_text types roots (Ok schema)
+    pub fit : All (HasFitDefaults s schema) names
     pub parts : IsOf (root_over schema) by over 65536 10000 service
     pub truth : TakesStandIn s schema
 
-  -- why there is none: the first fault of the types, or that of their schema
+  -- why there is none: the first fault of the types, the first whose defaults do not conform, or that of their schema
   abbrev pub TypesDue : List (MetaType S C) → ServeRowsFault → Type 0
   TypesDue types (fault.Schema e) = schemas.Makes s.of_text types roots (Err e)
+  TypesDue types (fault.BadDefault name) =
+      (schema : SchemaType S C) × schemas.Makes s.of_text types roots (Ok schema) × IsFirstWithout (HasFitDefaults s schema) names name
   TypesDue types (fault.Service e) =
       (node : RootNode S C) × (schema : SchemaType S C) × (node ≡ root_over schema) × schemas.Makes s.of_text types roots (Ok schema)
-      × services.Makes node by over 65536 10000 s (Err e)
+      × All (HasFitDefaults s schema) names × services.Makes node by over 65536 10000 s (Err e)
   TypesDue types (fault.Row e) = ⊥
   TypesDue types (fault.Serve e) = ⊥
   TypesDue types fault.Memory = ⊥
+
+-- what is told of the defaults of the types of these names
+abbrev pub Judged : {S C : Type 0} → Scalars S C → SchemaType S C → List Bytes → Result (Unit {0}) ServeRowsFault → Type 0
+Judged s schema names (Ok x) = All (HasFitDefaults s schema) names
+Judged s schema names (Err (fault.BadDefault name)) = IsFirstWithout (HasFitDefaults s schema) names name
+Judged s schema names (Err fault.Memory) = Unit {0}
+Judged s schema names (Err _) = ⊥
 
 -- ---- of rows
 
@@ -71,17 +88,18 @@ module _ {S C R X : Type 0} (s : Scalars S C) (roots : Roots) (by : R) (over : X
   pub record IsServiceOfRows (service : Service S R X C) : Type 0 where
     pub declared : List (MetaType S C)
     pub declare : Declare s rows declared
-    pub made : IsServiceOf s roots by over (each ++ declared) service
+    pub made : IsServiceOf s roots (row_names rows) by over (each ++ declared) service
 
   -- all rows are types, and this is due of them
   abbrev pub DeclaredDue : ServeRowsFault → Type 0
-  DeclaredDue e = (declared : List (MetaType S C)) × Declare s rows declared × TypesDue s roots by over (each ++ declared) e
+  DeclaredDue e = (declared : List (MetaType S C)) × Declare s rows declared × TypesDue s roots (row_names rows) by over (each ++ declared) e
 
-  -- why there is none: the first row that is refused, else the first fault of the types, else that of their schema;
-  -- want of memory tells nothing of the rows
+  -- why there is none: the first row that is refused, else the first fault of the types, else the first of which a default
+  -- does not conform, else that of their schema; want of memory tells nothing of the rows
   abbrev pub RowsDue : ServeRowsFault → Type 0
   RowsDue (fault.Row e) = UnlessMemory IsMemory e (IsFirstRefused s.reads s.of_bool rows e)
   RowsDue (fault.Schema e) = DeclaredDue (fault.Schema e)
+  RowsDue (fault.BadDefault name) = DeclaredDue (fault.BadDefault name)
   RowsDue (fault.Service e) = DeclaredDue (fault.Service e)
   RowsDue (fault.Serve e) = ⊥
   RowsDue fault.Memory = ⊥
@@ -119,6 +137,7 @@ module _ {S C N X R : Type 0} (answerer : Service S R X C → Answerer S C N X) 
   Ran (Ok x) = Serves (Ok x)
   Ran (Err (fault.Row e)) = IsDue (fault.Row e)
   Ran (Err (fault.Schema e)) = IsDue (fault.Schema e)
+  Ran (Err (fault.BadDefault name)) = IsDue (fault.BadDefault name)
   Ran (Err (fault.Service e)) = IsDue (fault.Service e)
   Ran (Err (fault.Serve e)) = Serves (Err e)
   Ran (Err fault.Memory) = IsUntouched

@@ -6,6 +6,7 @@ ghost use Rattle.graphql_embedding.specs.declared.fault.ServeRowsFault.TheVarian
 use graphql_schema::SchemaError;
 use graphql_schema_rows::RowFault;
 use graphql_service::{ServeError, ServiceFault};
+use graphql_text::Text;
 use std::alloc::{AllocError, AllocFailed};
 use thiserror::Error;
 
@@ -20,6 +21,10 @@ pub enum ServeRowsFault {
     #[error("{0}")]
     Schema(SchemaError),
 
+    /// In the type of this name a default does not conform to the type of its argument or input field.
+    #[error("Type \"{0}\": a default does not conform to its type")]
+    BadDefault(Text),
+
     /// The schema makes no service; or memory ran out while its `Boolean` was asked.
     #[error("{0}")]
     Service(ServiceFault),
@@ -28,7 +33,7 @@ pub enum ServeRowsFault {
     #[error("{0}")]
     Serve(ServeError),
 
-    /// Memory ran out before the rows were read.
+    /// Memory ran out before a line was read.
     #[error("out of memory")]
     Memory,
 }

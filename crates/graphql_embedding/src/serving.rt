@@ -1,6 +1,6 @@
 //! Lines that are answered over a schema in rows.
 
-ghost use Rattle.std.specs.Prelude.{◌≡◌, None, Ok, option_map};
+ghost use Rattle.std.specs.Prelude.{◌≡◌, None, Ok, map, option_map};
 ghost use Rattle.graphql_text.specs.Memory.{Told};
 ghost use Rattle.graphql_scalars.specs.declared.check_error.CheckError.TheVariants.{Memory};
 ghost use Rattle.graphql_schema.specs.ScalarChecks.{IsBoolean, IsId, IsInt, IsString};
@@ -14,6 +14,7 @@ ghost use Rattle.graphql_embedding.specs.Services as spec;
 use crate::fault::ServeRowsFault;
 use crate::mutation_resolver::MutationResolver;
 use crate::simple_resolver::SimpleResolver;
+use graphql_defaults::first_with_bad_default;
 use graphql_field_results::ExecutionError;
 use graphql_rule_errors::RuleError;
 use graphql_scalars::DefaultScalarValue;
@@ -21,9 +22,9 @@ use graphql_schema::scalar_checks::{
     StandardChecks, boolean_check, id_check, int_check, string_check,
 };
 use graphql_schema::{InputValue, IntrospectionChecks, MetaType, RootNode, SchemaType, TypeCheck};
-use graphql_schema_rows::{CheckedRow, TypeRow, built_ins, types_of_rows};
+use graphql_schema_rows::{CheckedRow, TypeRow, built_ins, names_of_rows, types_of_rows};
 use graphql_service::{ByteSink, ByteSource, Meaning, Resolving, Service};
-use graphql_text::Items;
+use graphql_text::{Items, Text};
 use std::alloc::Global;
 
 /// The greatest length of a line, in bytes.
@@ -64,18 +65,33 @@ pub struct CheckedRows<'a> {
     pub checks: StandardChecks,
 }
 
-/// The names of a schema's roots.
+/// The names of a schema's roots, and of the types whose defaults are judged.
 #[derive(Clone, Copy)]
-struct RootNames<'a> {
+struct Names<'a> {
     query: &'a str,
     mutation: Option<&'a str>,
+    declared: &'a [&'a str],
+}
+
+/// Judges the defaults that the types of these names declare.
+fn judge_defaults(
+    alloc: Global,
+    schema: &SchemaType<DefaultScalarValue>,
+    names: &[&str],
+) -> Result<(), ServeRowsFault>
+    ensures { spec.Judged ⟦<DefaultScalarValue as Meaning>⟧.meaning schema.now (map (λ name. name.now) names.now) result }
+{
+    match first_with_bad_default(alloc, schema, names)? {
+        Some(name) => Err(ServeRowsFault::BadDefault(Text::from_str(alloc, name)?)),
+        None => Ok(()),
+    }
 }
 
 /// Answers each line that is not empty of what is read, until it ends, over the schema of these
 /// types and roots.
 fn serve_types<R, I: ByteSource, O: ByteSink>(
     alloc: Global,
-    roots: RootNames<'_>,
+    names: Names<'_>,
     types: Items<MetaType<DefaultScalarValue>>,
     resolver: R,
     context: R::Context,
@@ -88,14 +104,16 @@ where
     ensures ran { let s = ⟦<DefaultScalarValue as Meaning>⟧.meaning in
         let answerer = answerer_of s ⟦<RuleError as Ord>⟧.cmp ⟦<ExecutionError<DefaultScalarValue> as Ord>⟧.cmp
         ⟦<SimpleResolver<R> as Resolving<DefaultScalarValue>>⟧.resolving in
-        let named = roots_named roots.entry.query.now (option_map (λ name. name.now) roots.entry.mutation) None in
+        let named = roots_named names.entry.query.now (option_map (λ name. name.now) names.entry.mutation) None in
+        let declared = map (λ name. name.now) names.entry.declared.now in
         let by = spec.in_service resolver in
-        spec.Ran answerer (spec.IsServiceOf s named by context types) (spec.TypesDue s named by context types)
+        spec.Ran answerer (spec.IsServiceOf s named declared by context types) (spec.TypesDue s named declared by context types)
         (HasRisen (O.faults writer.old) (O.faults writer.new)) (I.left reader.old) (I.left reader.new) (O.written writer.old) (O.written writer.new) result }
     ensures reads { I.faults reader.new ≡ reads_after (spec.served result) (I.faults reader.old) }
     ensures writes { WritesAfter (spec.served result) (O.faults writer.old) (O.faults writer.new) }
 {
-    let schema = SchemaType::new(alloc, types, roots.query, roots.mutation, None)?;
+    let schema = SchemaType::new(alloc, types, names.query, names.mutation, None)?;
+    judge_defaults(alloc, &schema, names.declared)?;
     let root_node = RootNode::new(schema);
     let resolver = SimpleResolver { resolver };
     let mut service = Service::new(root_node, resolver, context, LINE_LIMIT, SELECTION_LIMIT)?;
@@ -105,7 +123,8 @@ where
 
 /// Answers each line that is not empty of what is read, until it ends, over the schema that rows
 /// describe (GraphQL October 2021, 3.3 Schema), with introspection. Each type has the check that is
-/// given for it. The schema is judged before the first line is read. Lines have at most
+/// given for it. The schema is judged before the first line is read, its defaults among it (GraphQL
+/// October 2021, 5.6.1 Values of Correct Type). Lines have at most
 /// [`LINE_LIMIT`] bytes. What is read and written is as `Service::serve` of `graphql_service` says.
 /// The context that the lines leave is let go at the end.
 ///
@@ -136,14 +155,16 @@ where
     ensures reads { I.faults reader.new ≡ reads_after (spec.served result) (I.faults reader.old) }
     ensures writes { WritesAfter (spec.served result) (O.faults writer.old) (O.faults writer.new) }
 {
+    let row_names = names_of_rows(alloc, rows.types.as_slice())?;
     let mut types = built_ins(alloc, rows.checks)?;
     let mut declared = types_of_rows(alloc, rows.types)?;
     types.append(&mut declared)?;
-    let roots = RootNames {
+    let names = Names {
         query: rows.query,
         mutation: rows.mutation,
+        declared: row_names.as_slice(),
     };
-    serve_types(alloc, roots, types, resolver, context, reader, writer)
+    serve_types(alloc, names, types, resolver, context, reader, writer)
 }
 
 /// Answers each line that is not empty of what is read, until it ends, over the schema that rows

@@ -1,5 +1,5 @@
 -- The types that rows of text make, and why there is none (GraphQL October 2021, 3.4 Types).
-use Rattle.std.specs.Prelude.{◌≡◌, ◌⊎◌, Bool, List, ◌∷◌, ◌++◌, None}
+use Rattle.std.specs.Prelude.{◌≡◌, ◌⊎◌, Bool, List, ◌∷◌, ◌++◌, None, map}
 use Rattle.std.specs.Borrow.{Bor}
 use Rattle.std.specs.List.{AllZip}
 use Rattle.graphql_names.specs.Names.{Bytes}
@@ -14,6 +14,17 @@ use Rattle.graphql_schema_rows.specs.declared.row_fault.RowFault.{RowFault}
 use Rattle.graphql_schema_rows.specs.declared.type_row.CheckedRow.{CheckedRow}
 use Rattle.graphql_schema_rows.specs.declared.type_row.TypeRow.{TypeRow}
 use Rattle.graphql_schema_rows.specs.declared.type_row.TypeRow.TheVariants as row
+
+-- the name that a row has for its type
+abbrev pub row_name : TypeRow → Bytes
+row_name (row.Object name interfaces rows) = name.now
+row_name (row.Interface name interfaces rows) = name.now
+row_name (row.Union name members) = name.now
+row_name (row.Enum name values) = name.now
+row_name (row.InputObject name rows) = name.now
+
+abbrev pub row_names : {C : Type 0} → List (CheckedRow C) → List Bytes
+row_names rows = map (λ it. row_name it.row) rows
 
 module _ {S C : Type 0} where
   abbrev pub object : Bytes → List (Field S) → List Bytes → MetaType S C

@@ -11,5 +11,5 @@ mod types;
 
 pub use row_fault::RowFault;
 pub use standard_types::built_ins;
-pub use type_row::{CheckedRow, TypeRow, type_of_row, types_of_rows};
+pub use type_row::{CheckedRow, TypeRow, names_of_rows, type_of_row, types_of_rows};
 pub use types::{enumeration, input_object, interface, object, union_type};

@@ -1,5 +1,6 @@
 //! Types as rows that a constant may hold.
 
+ghost use Rattle.std.specs.Prelude.{◌≡◌, IfOk, map};
 ghost use Rattle.std.specs.List.{AllZip};
 ghost use Rattle.graphql_text.specs.Memory.{Answers};
 ghost use Rattle.graphql_schema_rows.specs.Rows as row_specs;
@@ -10,7 +11,7 @@ use crate::types::{enumeration, input_object, interface, object, union_type};
 use graphql_scalars::ScalarValue;
 use graphql_schema::MetaType;
 use graphql_text::Items;
-use std::alloc::Global;
+use std::alloc::{AllocError, Global};
 
 /// A type in rows of text (GraphQL October 2021, 3.4 Types).
 #[derive(Clone, Copy)]
@@ -30,6 +31,19 @@ pub enum TypeRow<'a> {
 
     /// An input object: its name, and a row for each field, as `first: Int = 10`.
     InputObject(&'a str, &'a [&'a str]),
+}
+
+impl<'a> TypeRow<'a> {
+    /// The type's name, as the row has it, whether it is a name or not.
+    pub fn name(&self) -> &'a str
+        ensures { result.now ≡ spec.row_name self.now }
+    {
+        match self {
+            TypeRow::Object(name, _, _) | TypeRow::Interface(name, _, _) => *name,
+            TypeRow::Union(name, _) | TypeRow::Enum(name, _) => *name,
+            TypeRow::InputObject(name, _) => *name,
+        }
+    }
 }
 
 /// A type in rows of text, and its check.
@@ -81,4 +95,18 @@ pub fn types_of_rows<S: ScalarValue + Drop, C: Drop>(
         types.push(type_of_row(alloc, checked.row, checked.check)?)?;
     }
     Ok(types)
+}
+
+/// The names of the types that rows are, in order, as the rows have them. An error is want of memory.
+pub fn names_of_rows<'a, C>(
+    alloc: Global,
+    rows: &[CheckedRow<'a, C>],
+) -> Result<Items<&'a str>, AllocError>
+    ensures { IfOk result (λ names. map (λ name. name.now) names ≡ spec.row_names rows.now) }
+{
+    let mut names = Items::with_capacity(alloc, rows.len())?;
+    'rows: for checked in rows {
+        names.push(checked.row.name())?;
+    }
+    Ok(names)
 }

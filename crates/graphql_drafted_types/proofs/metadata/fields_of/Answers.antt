@@ -1,7 +1,7 @@
 use Rattle.std.proofs.Common.{◌≡◌, ◌++◌, ◌∷◌, [], rules, subst}
 use Rattle.graphql_drafted_types.specs.DraftedTypes.{FieldMeans, FieldIsSound}
 use Rattle.graphql_drafted_types.specs.SpelledTexts.{Finds}
-use Rattle.graphql_drafted_types.proofs.Decided.{all_refuted}
+use Rattle.graphql_defaults.proofs.Decided.{all_refuted}
 use Rattle.graphql_drafted_types.proofs.Described.{described_turn}
 use Rattle.graphql_drafted_types.proofs.metadata.fields_of.Goals as goal
 

@@ -1,7 +1,7 @@
 use Rattle.std.proofs.Common.{◌≡◌, ◌++◌, ◌∷◌, [], rules, subst}
 use Rattle.graphql_drafted_types.specs.DraftedTypes.{TypeMeans, TypeIsSound}
 use Rattle.graphql_drafted_types.specs.SpelledTexts.{Finds}
-use Rattle.graphql_drafted_types.proofs.Decided.{all_refuted}
+use Rattle.graphql_defaults.proofs.Decided.{all_refuted}
 use Rattle.graphql_drafted_types.proofs.Described.{described_turn, described_whole}
 use Rattle.graphql_drafted_types.proofs.metadata.types_of.Goals as goal
 

@@ -2,7 +2,7 @@ use Rattle.std.proofs.Common.{◌↔◌, IfOk, IsTrue, subst}
 use Rattle.std.specs.List.{All}
 use Rattle.graphql_drafted_types.specs.DraftedTypes.{ArgumentHasType}
 use Rattle.graphql_drafted_types.specs.SpelledTexts.{HasType}
-use Rattle.graphql_drafted_types.proofs.Decided.{both_told}
+use Rattle.graphql_defaults.proofs.Decided.{both_told}
 use Rattle.graphql_drafted_types.proofs.typed.field_has_types.Goals as goal
 
 pub returns : goal.returns

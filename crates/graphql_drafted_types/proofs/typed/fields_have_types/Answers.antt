@@ -1,5 +1,5 @@
 use Rattle.graphql_drafted_types.specs.DraftedTypes.{FieldHasTypes}
-use Rattle.graphql_drafted_types.proofs.Decided.{all_held, all_refuted, all_turn, fails, holds, refuted}
+use Rattle.graphql_defaults.proofs.Decided.{all_held, all_refuted, all_turn, fails, holds, refuted}
 use Rattle.graphql_drafted_types.proofs.typed.fields_have_types.Goals as goal
 
 pub returns-then-not-branch : goal.returns-then-not-branch

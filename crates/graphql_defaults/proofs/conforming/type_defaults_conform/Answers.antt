@@ -1,8 +1,8 @@
 use Rattle.std.proofs.Common.{◌≡◌, Some, None, rules}
 use Rattle.graphql_schema.specs.Lookups.{type_named}
-use Rattle.graphql_schema_files.specs.Conforming.{TypeConforms}
-use Rattle.graphql_schema_files.proofs.Conformed.{if_absent, if_there}
-use Rattle.graphql_schema_files.proofs.conforming.named_conforms.Goals as goal
+use Rattle.graphql_defaults.specs.Conforming.{TypeConforms}
+use Rattle.graphql_defaults.proofs.Conformed.{if_absent, if_there}
+use Rattle.graphql_defaults.proofs.conforming.type_defaults_conform.Goals as goal
 
 pub returns-in-Some : goal.returns-in-Some
 returns-in-Some g c =

@@ -2,9 +2,9 @@ use Rattle.std.proofs.Common.{◌↔◌, IfOk, IsTrue, subst, sym}
 use Rattle.std.proofs.lemmas.Option.{MatchOption-at_none, MatchOption-at_some}
 use Rattle.graphql_literal_checks.specs.Conforms.{Conforms}
 use Rattle.graphql_literal_checks.specs.declared.source.Source.TheVariants.{Literal}
-use Rattle.graphql_drafted_types.proofs.Decided.{fails, holds}
-use Rattle.graphql_schema_files.proofs.conforming.value_conforms.Goals as goal
-use Rattle.graphql_schema_files.proofs.conforming.value_conforms.Goals.{in-None, in-Some}
+use Rattle.graphql_defaults.proofs.Decided.{fails, holds}
+use Rattle.graphql_defaults.proofs.conforming.value_conforms.Goals as goal
+use Rattle.graphql_defaults.proofs.conforming.value_conforms.Goals.{in-None, in-Some}
 
 pub returns : goal.returns
 returns g c =

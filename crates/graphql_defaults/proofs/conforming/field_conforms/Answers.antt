@@ -1,7 +1,7 @@
 use Rattle.std.proofs.Common.{◌↔◌, IfOk, IsTrue, subst}
 use Rattle.std.specs.List.{All}
-use Rattle.graphql_schema_files.specs.Conforming.{ArgumentConforms}
-use Rattle.graphql_schema_files.proofs.conforming.field_conforms.Goals as goal
+use Rattle.graphql_defaults.specs.Conforming.{ArgumentConforms}
+use Rattle.graphql_defaults.proofs.conforming.field_conforms.Goals as goal
 
 pub returns : goal.returns
 returns g c =

@@ -1,7 +1,7 @@
 use Rattle.std.proofs.Common.{take}
 use Rattle.std.specs.List.{All}
-use Rattle.graphql_schema_files.specs.Conforming.{FieldConforms}
-use Rattle.graphql_schema_files.proofs.conforming.fields_conform.Given as goal
+use Rattle.graphql_defaults.specs.Conforming.{FieldConforms}
+use Rattle.graphql_defaults.proofs.conforming.fields_conform.Given as goal
 
 -- those passed so far conform
 abbrev pub invariant-fields : goal.invariant-fields

@@ -1,7 +1,7 @@
 -- What a test tells of what may be there.
 use Rattle.std.proofs.Common.{◌≡◌, ◌↔◌, Bool, true, IsTrue, IfOk, Option, Some, None, IfSome, Result, sym, subst}
 use Rattle.std.specs.declared.alloc.AllocError.{AllocError}
-use Rattle.graphql_drafted_types.proofs.Decided.{holds}
+use Rattle.graphql_defaults.proofs.Decided.{holds}
 
 module _ {A : Type 0} (P : A → Type 0) (o : Option A) where
   pub if_there : (x : A) (r : Result Bool AllocError) → o ≡ Some x → IfOk r (λ told. IsTrue told ↔ P x) → IfOk r (λ told. IsTrue told ↔ IfSome o P)

@@ -1,7 +1,7 @@
 use Rattle.std.proofs.Common.{take}
 use Rattle.std.specs.List.{All}
-use Rattle.graphql_schema_files.specs.Conforming.{ArgumentConforms}
-use Rattle.graphql_schema_files.proofs.conforming.arguments_conform.Given as goal
+use Rattle.graphql_defaults.specs.Conforming.{ArgumentConforms}
+use Rattle.graphql_defaults.proofs.conforming.arguments_conform.Given as goal
 
 -- those passed so far conform
 abbrev pub invariant-arguments : goal.invariant-arguments

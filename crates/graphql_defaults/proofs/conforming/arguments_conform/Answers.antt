@@ -1,6 +1,6 @@
-use Rattle.graphql_schema_files.specs.Conforming.{ArgumentConforms}
-use Rattle.graphql_drafted_types.proofs.Decided.{all_held, all_refuted, all_turn, fails, holds, refuted}
-use Rattle.graphql_schema_files.proofs.conforming.arguments_conform.Goals as goal
+use Rattle.graphql_defaults.specs.Conforming.{ArgumentConforms}
+use Rattle.graphql_defaults.proofs.Decided.{all_held, all_refuted, all_turn, fails, holds, refuted}
+use Rattle.graphql_defaults.proofs.conforming.arguments_conform.Goals as goal
 
 pub returns-then-not-branch : goal.returns-then-not-branch
 returns-then-not-branch g c =

@@ -1,8 +1,8 @@
 use Rattle.std.proofs.Common.{◌≡◌, Some, rules}
 use Rattle.graphql_literal_checks.specs.Conforms.{Conforms}
 use Rattle.graphql_literal_checks.specs.declared.source.Source.TheVariants.{Literal}
-use Rattle.graphql_schema_files.proofs.Conformed.{if_there}
-use Rattle.graphql_schema_files.proofs.conforming.argument_conforms.Goals as goal
+use Rattle.graphql_defaults.proofs.Conformed.{if_there}
+use Rattle.graphql_defaults.proofs.conforming.argument_conforms.Goals as goal
 
 pub returns-in-Some : goal.returns-in-Some
 returns-in-Some g c =
