@@ -3,7 +3,8 @@ use Rattle.std.specs.Prelude.{◌≡◌, ℕ, ◌<◌, Bool, true, false, List, 
 use Rattle.std.specs.List.{Contains}
 use Rattle.graphql_text.specs.declared.position.SourcePosition.{SourcePosition}
 use Rattle.graphql_schema.specs.declared.meta.MetaType.{MetaType}
-use Rattle.graphql_rule_errors.specs.Places.{Places, places}
+use Rattle.graphql_rule_errors.specs.Places.{Places}
+use Rattle.graphql_bundles.specs.Conflicts.{places}
 use Rattle.graphql_merging.specs.Merging.{Agree}
 use Rattle.graphql_merging.specs.Pieces.{Pieces, PieceField, StandsIn}
 use Rattle.graphql_merging.specs.Told.{Names}

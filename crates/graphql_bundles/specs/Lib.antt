@@ -1,6 +1,7 @@
 pub mod Bundles
 pub mod BundleLaws
 pub mod Closed
+pub mod Conflicts
 pub mod Direct
 pub mod Ends
 pub mod Going

@@ -4,7 +4,7 @@ ghost use Rattle.std.specs.Prelude.{◌≡◌, OnOk, ◌⊎◌, []};
 ghost use Rattle.std.specs.List.{Contains};
 ghost use Rattle.graphql_bundles.specs.Going.{Grows, stage_of};
 
-use graphql_rule_errors::RuleError;
+use crate::conflict::Conflict;
 use graphql_text::Items;
 use indexmap::IndexSet;
 use std::alloc::{AllocError, Global};
@@ -24,8 +24,8 @@ pub(crate) struct Bundle {
 /// below a number are gone through.
 #[derive(Drop)]
 pub(crate) struct Progress {
-    /// The errors.
-    pub told: Items<RuleError>,
+    /// The conflicts.
+    pub told: Items<Conflict>,
 
     /// The bundles.
     pub bundles: IndexSet<Bundle>,

@@ -1,13 +1,13 @@
 //! The fields that stand directly in one set are compared by classes.
 
 ghost use Rattle.std.specs.Prelude.{◌≡◌, ◌+◌, ◌*◌, ◌≤◌, [], ◌∷◌, List, IfOk, OnOk, length};
-ghost use Rattle.graphql_rule_errors.specs.Places.{places};
+ghost use Rattle.graphql_bundles.specs.Conflicts.{places};
 ghost use Rattle.graphql_tree.specs.declared.document.Fragment.{Fragment};
 ghost use Rattle.graphql_bundles.specs.Direct.{ComparesBefore, DirectParts, SortsOut};
 
+use crate::conflict::Conflict;
 use crate::telling::{compare, count_comparison};
 use graphql_merging::{WrittenField, first_difference};
-use graphql_rule_errors::RuleError;
 use graphql_schema::{SchemaScalar, SchemaType};
 use graphql_text::Items;
 use std::alloc::{AllocError, Global};
@@ -28,7 +28,7 @@ fn compare_before<S: PartialEq, C>(
     schema: &SchemaType<S, C>,
     earlier: &[WrittenField<'_, '_, S, C>],
     field: &WrittenField<'_, '_, S, C>,
-    told: &mut Items<RuleError>,
+    told: &mut Items<Conflict>,
     comparisons: &mut u128,
 ) -> Result<(), AllocError>
     ensures counted { OnOk result (comparisons.new ≤ comparisons.old + length earlier.now) }
@@ -50,7 +50,7 @@ fn sort_out<'d, 'a, S: PartialEq, C>(
     head: &WrittenField<'d, 'a, S, C>,
     field: &WrittenField<'d, 'a, S, C>,
     split: &mut Split<'d, 'a, S, C>,
-    told: &mut Items<RuleError>,
+    told: &mut Items<Conflict>,
     comparisons: &mut u128,
 ) -> Result<(), AllocError>
     ensures counted { OnOk result (comparisons.new + length split.old.alike * length split.old.others
@@ -86,7 +86,7 @@ fn sort_all<'d, 'a, S: PartialEq, C>(
     schema: &SchemaType<S, C>,
     head: &WrittenField<'d, 'a, S, C>,
     fields: &[WrittenField<'d, 'a, S, C>],
-    told: &mut Items<RuleError>,
+    told: &mut Items<Conflict>,
     comparisons: &mut u128,
 ) -> Result<Items<WrittenField<'d, 'a, S, C>>, AllocError>
     ensures counted { let all = 1 + length fields.now in
@@ -114,7 +114,7 @@ pub(crate) fn direct_group<'d, 'a, S: PartialEq, C>(
     alloc: Global,
     schema: &SchemaType<S, C>,
     fields: &[WrittenField<'d, 'a, S, C>],
-    told: &mut Items<RuleError>,
+    told: &mut Items<Conflict>,
     comparisons: &mut u128,
 ) -> Result<(), AllocError>
     ensures counted { let all = length fields.now in

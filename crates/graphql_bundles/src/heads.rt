@@ -4,7 +4,7 @@ ghost use Rattle.std.specs.Prelude.{◌≡◌, ℕ, ◌+◌, ◌-◌, ◌≤◌,
 ghost use Rattle.std.specs.List.{Contains};
 ghost use Rattle.std.specs.Option.{option_map};
 ghost use Rattle.graphql_schema.specs.Lookups.{is_object};
-ghost use Rattle.graphql_rule_errors.specs.Places.{places};
+ghost use Rattle.graphql_bundles.specs.Conflicts.{places};
 ghost use Rattle.graphql_tree.specs.declared.document.Fragment.{Fragment};
 ghost use Rattle.graphql_merging.specs.Tables.{piece_field};
 ghost use Rattle.graphql_bundles.specs.Bundles as bundles;
@@ -12,10 +12,10 @@ ghost use Rattle.graphql_bundles.specs.Counted.{repeats_in_parts};
 ghost use Rattle.graphql_bundles.specs.Steps.{ArePartNamed, AreShaped, Compares, IsFoundOf};
 ghost use Rattle.graphql_bundles.specs.Groups as groups;
 
+use crate::conflict::Conflict;
 use crate::telling::compare_with;
 use graphql_declarations::field_of;
 use graphql_merging::WrittenField;
-use graphql_rule_errors::RuleError;
 use graphql_schema::{MetaType, SchemaType};
 use graphql_text::{Items, TextRef};
 use indexmap::IndexSet;
@@ -131,7 +131,7 @@ pub(crate) fn compare_shapes<S: Eq, C>(
     schema: &SchemaType<S, C>,
     around: bool,
     group: &[WrittenField<'_, '_, S, C>],
-    told: &mut Items<RuleError>,
+    told: &mut Items<Conflict>,
     comparisons: &mut u128,
 ) -> Result<(), AllocError>
     ensures counted { OnOk result (comparisons.new ≤ comparisons.old + (length group.now - 1)) }
@@ -155,7 +155,7 @@ fn compare_part<S: Eq, C>(
     schema: &SchemaType<S, C>,
     group: &[WrittenField<'_, '_, S, C>],
     name: &str,
-    told: &mut Items<RuleError>,
+    told: &mut Items<Conflict>,
     comparisons: &mut u128,
 ) -> Result<(), AllocError>
     ensures counted { OnOk result (comparisons.new
@@ -181,7 +181,7 @@ fn compare_parts<S: Eq, C>(
     schema: &SchemaType<S, C>,
     group: &[WrittenField<'_, '_, S, C>],
     names: &[TextRef<'_>],
-    told: &mut Items<RuleError>,
+    told: &mut Items<Conflict>,
     comparisons: &mut u128,
 ) -> Result<(), AllocError>
     ensures counted { OnOk result (comparisons.new
@@ -207,7 +207,7 @@ pub(crate) fn compare_names<S: Eq, C>(
     schema: &SchemaType<S, C>,
     group: &[WrittenField<'_, '_, S, C>],
     names: &[TextRef<'_>],
-    told: &mut Items<RuleError>,
+    told: &mut Items<Conflict>,
     comparisons: &mut u128,
 ) -> Result<(), AllocError>
     requires { names.now ≡ groups.names_in group.now }

@@ -7,6 +7,7 @@
 
 mod bundle;
 mod closed;
+mod conflict;
 mod definitions;
 mod direct;
 mod groups;
@@ -20,6 +21,7 @@ mod stop;
 mod telling;
 mod visits;
 
+pub use conflict::Conflict;
 pub use heads::{is_declared, object_name};
 pub use outcome::{Outcome, told_by_bundles};
 pub use telling::{count_comparison, tell};

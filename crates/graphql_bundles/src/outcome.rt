@@ -1,7 +1,7 @@
 //! How going through bundles ends.
 
 ghost use Rattle.std.specs.Prelude.{List, ◌+◌, ◌*◌, ◌≤◌, max, IfOk, OnOk};
-ghost use Rattle.graphql_rule_errors.specs.Places.{places};
+ghost use Rattle.graphql_bundles.specs.Conflicts.{places};
 ghost use Rattle.graphql_tree.specs.declared.document.Fragment.{Fragment};
 ghost use Rattle.graphql_merging.specs.FieldNodes.{fields_written};
 ghost use Rattle.graphql_merging.specs.Tables.{pieces_of};
@@ -9,10 +9,10 @@ ghost use Rattle.graphql_bundles.specs.Counted.{direct_of};
 ghost use Rattle.graphql_bundles.specs.Ends.{Ends, TellsVisited};
 
 use crate::bundle::Progress;
+use crate::conflict::Conflict;
 use crate::pass::pass_all;
 use crate::visits::{direct_sets, visited_sets};
 use graphql_merging::SetTable;
-use graphql_rule_errors::RuleError;
 use graphql_schema::SchemaType;
 use graphql_text::Items;
 use indexmap::IndexSet;
@@ -21,8 +21,9 @@ use std::alloc::{AllocError, Global};
 /// How going through bundles ends.
 #[derive(Drop)]
 pub enum Outcome {
-    /// These are the errors; none, where all bundles were gone through and nothing was told.
-    Told(Items<RuleError>),
+    /// These are the conflicts, in the order in which they are found; none, where all bundles were
+    /// gone through and nothing was told.
+    Told(Items<Conflict>),
 
     /// There were more than the bound allows, and nothing was told until then.
     Undecided,
@@ -36,7 +37,7 @@ fn tell_direct<S: PartialEq, C>(
     schema: &SchemaType<S, C>,
     table: &SetTable<'_, '_, S, C>,
     definitions: usize,
-    told: &mut Items<RuleError>,
+    told: &mut Items<Conflict>,
     comparisons: &mut u128,
 ) -> Result<(), AllocError>
     ensures counted { let all = fields_written table.now.sets in

@@ -1,7 +1,7 @@
 //! Two fields of one response key are compared.
 
 ghost use Rattle.std.specs.Prelude.{◌≡◌, ◌+◌, ◌-◌, ◌<◌, ◌≤◌, [], ◌∷◌, List, Some, length, map, slice_get, OnOk};
-ghost use Rattle.graphql_rule_errors.specs.Places.{Reports, places};
+ghost use Rattle.graphql_bundles.specs.Conflicts.{AddsConflict, places};
 ghost use Rattle.graphql_tree.specs.declared.document.Fragment.{Fragment};
 ghost use Rattle.graphql_merging.specs.Merging.{Agree};
 ghost use Rattle.graphql_merging.specs.Selected.{seen};
@@ -9,11 +9,11 @@ ghost use Rattle.graphql_merging.specs.Told.{AddsErrors, in_order};
 ghost use Rattle.graphql_merging.specs.declared.table.WrittenField.{WrittenField};
 ghost use Rattle.graphql_bundles.specs.Counted.{one_more};
 
+use crate::conflict::Conflict;
 use crate::messages::message_of;
 use graphql_merging::{Difference, SelectedField, WrittenField, first_difference};
-use graphql_rule_errors::{RuleError, report};
 use graphql_schema::SchemaType;
-use graphql_text::Items;
+use graphql_text::{Items, Text};
 use std::alloc::{AllocError, Global};
 
 /// Tells that two fields of one response key, the first of them first in the text, do not agree. An
@@ -23,29 +23,33 @@ fn tell_in_order<S, C>(
     difference: Difference,
     first: &SelectedField<'_, '_, S, C>,
     second: &SelectedField<'_, '_, S, C>,
-    told: &mut Items<RuleError>,
+    told: &mut Items<Conflict>,
 ) -> Result<(), AllocError>
     ensures { let one = first.now.field.now.span.start in
         let other = second.now.field.now.span.start in
-        OnOk result (Reports ((one ∷ other ∷ []) ∷ []) told.old told.new) }
+        OnOk result (AddsConflict (one ∷ other ∷ []) (λ reason. reason ≡ difference)
+        told.old told.new) }
 {
     let message = message_of(alloc, difference, first, second)?;
     let places = [first.field.span.start, second.field.span.start];
-    report(alloc, told, message, &places)
+    let conflict = Conflict::at(alloc, difference, Text::from_string(message), &places)?;
+    told.push(conflict)?;
+    Ok(())
 }
 
-/// Tells that two fields of one response key do not agree: their places and what the text says of
-/// them come in the order of the text. An error of the call is want of memory.
+/// Tells that two fields of one response key do not agree, for this reason: their places and what
+/// the text says of them come in the order of the text. An error of the call is want of memory.
 pub fn tell<S, C>(
     alloc: Global,
     difference: Difference,
     left: &SelectedField<'_, '_, S, C>,
     right: &SelectedField<'_, '_, S, C>,
-    told: &mut Items<RuleError>,
+    told: &mut Items<Conflict>,
 ) -> Result<(), AllocError>
     ensures { let one = left.now.field.now.span.start in
         let other = right.now.field.now.span.start in
-        OnOk result (Reports (in_order one other ∷ []) told.old told.new) }
+        OnOk result (AddsConflict (in_order one other) (λ reason. reason ≡ difference)
+        told.old told.new) }
 {
     if right.field.span.start.index() < left.field.span.start.index() {
         return tell_in_order(alloc, difference, right, left, told);
@@ -62,11 +66,11 @@ fn tell_as<S: PartialEq, C>(
     difference: Difference,
     left: &SelectedField<'_, '_, S, C>,
     right: &SelectedField<'_, '_, S, C>,
-    told: &mut Items<RuleError>,
+    told: &mut Items<Conflict>,
 ) -> Result<(), AllocError>
     ensures { let one = left.now.field.now.span.start in
         let other = right.now.field.now.span.start in
-        OnOk result (Reports (in_order one other ∷ []) told.old told.new) }
+        OnOk result (AddsConflict (in_order one other) (λ reason. Unit {0}) told.old told.new) }
 {
     let first = first_difference(alloc, schema, around, left, right)?;
     tell(alloc, first.unwrap_or(difference), left, right, told)
@@ -90,7 +94,7 @@ pub(crate) fn compare<S: PartialEq, C>(
     said: bool,
     left: &WrittenField<'_, '_, S, C>,
     right: &WrittenField<'_, '_, S, C>,
-    told: &mut Items<RuleError>,
+    told: &mut Items<Conflict>,
     comparisons: &mut u128,
 ) -> Result<(), AllocError>
     ensures counted { comparisons.new ≡ one_more comparisons.old }
@@ -119,7 +123,7 @@ fn compare_another<S: Eq, C>(
     group: &[WrittenField<'_, '_, S, C>],
     place: usize,
     other: usize,
-    told: &mut Items<RuleError>,
+    told: &mut Items<Conflict>,
     comparisons: &mut u128,
 ) -> Result<(), AllocError>
     requires place { place < length group.now }
@@ -157,7 +161,7 @@ pub(crate) fn compare_with<S: Eq, C>(
     said: bool,
     group: &[WrittenField<'_, '_, S, C>],
     place: usize,
-    told: &mut Items<RuleError>,
+    told: &mut Items<Conflict>,
     comparisons: &mut u128,
 ) -> Result<(), AllocError>
     requires { place < length group.now }

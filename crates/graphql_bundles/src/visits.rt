@@ -3,7 +3,7 @@
 
 ghost use Rattle.std.specs.Prelude.{◌↔◌, ◌+◌, ◌*◌, ◌<◌, ◌≤◌, ◌++◌, ℕ, List, length, IfOk, OnOk, map};
 ghost use Rattle.std.specs.List.{Contains};
-ghost use Rattle.graphql_rule_errors.specs.Places.{places};
+ghost use Rattle.graphql_bundles.specs.Conflicts.{places};
 ghost use Rattle.graphql_tree.specs.declared.document.Fragment.{Fragment};
 ghost use Rattle.graphql_merging.specs.Tables.{pieces_of};
 ghost use Rattle.graphql_bundles.specs.Closed.{AddsNumbers};
@@ -12,11 +12,11 @@ ghost use Rattle.graphql_bundles.specs.Direct.{IsWalked, TellsDirect, TellsDirec
 ghost use Rattle.graphql_bundles.specs.Groups.{IsGrouped};
 
 use crate::closed::add_numbers;
+use crate::conflict::Conflict;
 use crate::direct::direct_group;
 use crate::groups::{KeyGroup, grouped};
 use crate::parts::own_numbers;
 use graphql_merging::{SetTable, WrittenField};
-use graphql_rule_errors::RuleError;
 use graphql_schema::SchemaType;
 use graphql_text::Items;
 use indexmap::IndexSet;
@@ -83,7 +83,7 @@ fn direct_groups<S: PartialEq, C>(
     schema: &SchemaType<S, C>,
     fields: &[WrittenField<'_, '_, S, C>],
     groups: &[KeyGroup<'_, '_, S, C>],
-    told: &mut Items<RuleError>,
+    told: &mut Items<Conflict>,
     comparisons: &mut u128,
 ) -> Result<(), AllocError>
     requires { IsGrouped fields.now groups.now }
@@ -104,7 +104,7 @@ fn direct_set<S: PartialEq, C>(
     alloc: Global,
     schema: &SchemaType<S, C>,
     fields: &[WrittenField<'_, '_, S, C>],
-    told: &mut Items<RuleError>,
+    told: &mut Items<Conflict>,
     comparisons: &mut u128,
 ) -> Result<(), AllocError>
     ensures counted { let all = length fields.now in
@@ -124,7 +124,7 @@ pub(crate) fn direct_sets<S: PartialEq, C>(
     schema: &SchemaType<S, C>,
     table: &SetTable<'_, '_, S, C>,
     sets: &[usize],
-    told: &mut Items<RuleError>,
+    told: &mut Items<Conflict>,
     comparisons: &mut u128,
 ) -> Result<(), AllocError>
     ensures counted { let all = fields_of_sets table.now sets.now in

@@ -18,8 +18,9 @@ use graphql_schema::{MetaType, SchemaType};
 use graphql_tree::{Field, arguments_in};
 use std::alloc::{AllocError, Global};
 
-/// What two fields do not have alike.
-#[derive(Clone, Copy, Debug, PartialEq, Eq)]
+/// What two fields do not have alike, in the order in which it is asked: names come before arguments,
+/// and these before types.
+#[derive(Clone, Copy, Debug, PartialEq, Eq, PartialOrd, Ord)]
 pub enum Difference {
     /// The names of the fields.
     Names,

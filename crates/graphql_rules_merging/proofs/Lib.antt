@@ -16,6 +16,7 @@ pub mod Meeting
 pub mod Settled
 pub mod Merged
 pub mod Reordered
+pub mod Lowest
 pub mod InOrder
 pub mod Joined
 pub mod Visits

@@ -2,11 +2,12 @@
 use Rattle.std.specs.Prelude.{◌≡◌, eqb, Bool, ◌||◌, List, [], ◌∷◌, ◌++◌, map, ◌⊎◌, if◌then◌else◌}
 use Rattle.std.specs.List.{Contains, flat_map}
 use Rattle.graphql_schema.specs.declared.meta.MetaType.{MetaType}
-use Rattle.graphql_rule_errors.specs.Places.{Places, places}
+use Rattle.graphql_rule_errors.specs.Places.{Places}
 use Rattle.graphql_merging.specs.Members.{Member}
 use Rattle.graphql_merging.specs.Merging.{Agree, apart}
 use Rattle.graphql_merging.specs.Pieces.{Pieces, PieceField}
 use Rattle.graphql_merging.specs.Told.{AddsErrors, Fits}
+use Rattle.graphql_bundles.specs.Conflicts.{places}
 use Rattle.graphql_rules_merging.specs.declared.agenda.SetPair.{SetPair}
 use Rattle.graphql_rules_merging.specs.declared.progress.Progress.{Progress}
 use Rattle.graphql_rules_merging.specs.Agenda.{pair_of, Listed, listed_of, PairOf, Begins}

@@ -1,10 +1,10 @@
 //! All pairs of selection sets are compared.
 
 ghost use Rattle.std.specs.Prelude.{◌≡◌, ℕ, ◌+◌, ◌*◌, ◌<◌, ◌≤◌, List, IfOk, OnOk, false};
-ghost use Rattle.graphql_rule_errors.specs.Places.{places};
 ghost use Rattle.graphql_tree.specs.declared.document.Fragment.{Fragment};
 ghost use Rattle.graphql_merging.specs.FieldNodes.{fields_written};
 ghost use Rattle.graphql_merging.specs.Tables.{pieces_of};
+ghost use Rattle.graphql_bundles.specs.Conflicts.{places};
 ghost use Rattle.graphql_rules_merging.specs.Agenda.{listed_of, pair_of, Begins};
 ghost use Rattle.graphql_rules_merging.specs.Comparing.{Stage};
 ghost use Rattle.graphql_rules_merging.specs.Finished.{IsFinished};
@@ -14,8 +14,8 @@ use crate::begin::begin_sets;
 use crate::classes::numbers_of;
 use crate::progress::Progress;
 use crate::sets::compare_sets;
+use graphql_bundles::Conflict;
 use graphql_merging::SetTable;
-use graphql_rule_errors::RuleError;
 use graphql_schema::SchemaType;
 use graphql_text::Items;
 use std::alloc::{AllocError, Global};
@@ -37,19 +37,20 @@ fn begin_definitions<S, C>(
     Ok(())
 }
 
-/// The errors of the fields that do not merge, in the order in which they are found. The sets below
-/// `definitions` are those of the document's definitions. An error of the call is want of memory.
+/// The conflicts of the fields that do not merge, in the order in which they are found. The sets
+/// below `definitions` are those of the document's definitions. An error of the call is want of
+/// memory.
 pub(crate) fn merge_errors<S: Eq, C>(
     alloc: Global,
     schema: &SchemaType<S, C>,
     table: &SetTable<'_, '_, S, C>,
     definitions: usize,
     comparisons: &mut u128,
-) -> Result<Items<RuleError>, AllocError>
+) -> Result<Items<Conflict>, AllocError>
     ensures counted { let all = fields_written table.now.sets in
         OnOk result (comparisons.new ≤ comparisons.old + all * all) }
-    ensures finished { IfOk result (λ errors. (fragments : List (Fragment S)) → (stage : Stage)
-        × (stage.told ≡ places errors)
+    ensures finished { IfOk result (λ found. (fragments : List (Fragment S)) → (stage : Stage)
+        × (stage.told ≡ places found)
         × IsFinished S.eq schema.now.types (pieces_of fragments table.now) definitions stage) }
 {
     let mut progress = Progress {

@@ -11,16 +11,17 @@ ghost use Rattle.graphql_schema.specs.Declarations.{declarations_of};
 ghost use Rattle.graphql_tree.specs.declared.document.Fragment.{Fragment};
 ghost use Rattle.graphql_merging.specs.FieldNodes.{document_nodes, fields_written};
 ghost use Rattle.graphql_merging.specs.Tables.{pieces_of};
+ghost use Rattle.graphql_bundles.specs.Conflicts as conflicts;
 ghost use Rattle.graphql_rules_merging.specs.Finished.{AreFound, AreOfPairs};
 
 use crate::finish::merge_errors;
 use crate::order::put_in_order;
-use graphql_bundles::{Outcome, told_by_bundles};
+use graphql_bundles::{Conflict, Outcome, told_by_bundles};
 use graphql_merging::SetTable;
 use graphql_rule_errors::RuleError;
 use graphql_schema::SchemaType;
 use graphql_set_table::{let_go, numbered_sets};
-use graphql_text::Items;
+use graphql_text::{Items, SourcePosition};
 use graphql_tree::Definition;
 use std::alloc::{AllocError, Global};
 
@@ -54,27 +55,28 @@ fn most_of<S, C>(table: &SetTable<'_, '_, S, C>, comparisons: u128) -> u128
     comparisons.saturating_add(fields.saturating_mul(fields))
 }
 
-/// The errors of the fields of these sets that do not merge, in the order in which they are found:
-/// those that going through bundles tells. Where it met its bound and told nothing, each two fields
-/// of one response key that stand together are compared. The sets below `definitions` are those of
-/// the document's definitions. An error of the call is want of memory.
+/// The conflicts of the fields of these sets that do not merge, in the order in which they are
+/// found: those that going through bundles tells. Where it met its bound and told nothing, each two
+/// fields of one response key that stand together are compared. The sets below `definitions` are
+/// those of the document's definitions. An error of the call is want of memory.
 fn found_errors<S: Eq, C>(
     alloc: Global,
     schema: &SchemaType<S, C>,
     table: &SetTable<'_, '_, S, C>,
     definitions: usize,
     comparisons: &mut u128,
-) -> Result<Items<RuleError>, AllocError>
+) -> Result<Items<Conflict>, AllocError>
     ensures counted { let all = fields_written table.now.sets in
         OnOk result (comparisons.new ≤ comparisons.old + 2 * (all * all)) }
-    ensures found { IfOk result (λ errors. (fragments : List (Fragment S)) →
-        AreFound S.eq schema.now.types (pieces_of fragments table.now) definitions (places errors)) }
+    ensures found { IfOk result (λ found. (fragments : List (Fragment S)) →
+        AreFound S.eq schema.now.types (pieces_of fragments table.now) definitions
+        (conflicts.places found)) }
 {
     let limit = bound_of(table);
     let most = most_of(table, *comparisons);
     let told = told_by_bundles(alloc, schema, table, definitions, limit, most, comparisons)?;
     match told {
-        Outcome::Told(errors) => Ok(errors),
+        Outcome::Told(found) => Ok(found),
         Outcome::Undecided => merge_errors(alloc, schema, table, definitions, comparisons),
     }
 }
@@ -86,12 +88,12 @@ fn errors_of_table<'d, 'a, S: Eq, C>(
     table: SetTable<'d, 'a, S, C>,
     definitions: usize,
     comparisons: &mut u128,
-) -> Result<Items<RuleError>, AllocError>
+) -> Result<Items<Conflict>, AllocError>
     ensures counted { let all = fields_written table.entry.sets in
         OnOk result (comparisons.new ≤ comparisons.old + 2 * (all * all)) }
-    ensures found { IfOk result (λ errors. (fragments : List (Fragment S)) →
+    ensures found { IfOk result (λ found. (fragments : List (Fragment S)) →
         AreFound S.eq schema.now.types (pieces_of fragments table.entry) definitions
-        (places errors)) }
+        (conflicts.places found)) }
 {
     let outcome = found_errors(alloc, schema, &table, definitions, comparisons);
     let_go(table);
@@ -115,19 +117,21 @@ pub fn overlapping_fields_counted<S: Eq, C>(
         IfOk result (λ errors. Settled (fragments_listed document.now) → IsSound S.eq types sets (places errors)
         × IsDirect S.eq types sets (places errors) × IsComplete S.eq types sets (places errors)) }
     ensures sorted { IfOk result (IsSorted ⟦<RuleError as Ord>⟧.cmp) }
-    ensures once { IfOk result (IsStrictlySortedBy ⟦<RuleError as Ord>⟧.cmp) }
+    ensures once { IfOk result (λ errors.
+        IsStrictlySortedBy ⟦<Items<SourcePosition> as Ord>⟧.cmp (places errors)) }
 {
     let table = numbered_sets(alloc, schema, document)?;
     let found = errors_of_table(alloc, schema, table, document.len(), comparisons)?;
-    Ok(put_in_order(found))
+    put_in_order(alloc, found)
 }
 
-/// The errors of the fields of a document that do not merge, in order: by their places, and those of
-/// the same places by their messages. Where no fragment leads to itself (5.5.2.2 Fragment Spreads Must
-/// Not Form Cycles) each names where two fields begin that stand together in a selection set and do not
-/// merge there, each two that stand directly in one set and differ in name or arguments are named, and
-/// without errors each set merges. On other documents it ends too, and of the errors nothing is promised
-/// but their order. An error of the call is want of memory.
+/// The errors of the fields of a document that do not merge, in the order of their places, no two
+/// of the same places: each two fields are told once, with the first reason that is found of names,
+/// arguments and types. Where no fragment leads to itself (5.5.2.2 Fragment Spreads Must Not Form
+/// Cycles) each names where two fields begin that stand together in a selection set and do not merge
+/// there, each two that stand directly in one set and differ in name or arguments are named, and
+/// without errors each set merges. On other documents it ends too, and of the errors nothing is
+/// promised but their order. An error of the call is want of memory.
 pub fn overlapping_fields_can_be_merged<S: Eq, C>(
     alloc: Global,
     schema: &SchemaType<S, C>,
@@ -138,24 +142,25 @@ pub fn overlapping_fields_can_be_merged<S: Eq, C>(
         IfOk result (λ errors. Settled (fragments_listed document.now) → IsSound S.eq types sets (places errors)
         × IsDirect S.eq types sets (places errors) × IsComplete S.eq types sets (places errors)) }
     ensures sorted { IfOk result (IsSorted ⟦<RuleError as Ord>⟧.cmp) }
-    ensures once { IfOk result (IsStrictlySortedBy ⟦<RuleError as Ord>⟧.cmp) }
+    ensures once { IfOk result (λ errors.
+        IsStrictlySortedBy ⟦<Items<SourcePosition> as Ord>⟧.cmp (places errors)) }
 {
     let mut comparisons = 0;
     overlapping_fields_counted(alloc, schema, document, &mut comparisons)
 }
 
-/// The errors of the fields of these sets that do not merge, in the order in which they are found by
-/// comparing each two fields of one response key that stand together; and these sets are let go. An
-/// error of the call is want of memory.
+/// The conflicts of the fields of these sets that do not merge, in the order in which they are found
+/// by comparing each two fields of one response key that stand together; and these sets are let go.
+/// An error of the call is want of memory.
 fn errors_by_pairs<'d, 'a, S: Eq, C>(
     alloc: Global,
     schema: &SchemaType<S, C>,
     table: SetTable<'d, 'a, S, C>,
     definitions: usize,
-) -> Result<Items<RuleError>, AllocError>
-    ensures { IfOk result (λ errors. (fragments : List (Fragment S)) →
+) -> Result<Items<Conflict>, AllocError>
+    ensures { IfOk result (λ found. (fragments : List (Fragment S)) →
         AreOfPairs S.eq schema.now.types (pieces_of fragments table.entry) definitions
-        (places errors)) }
+        (conflicts.places found)) }
 {
     let mut comparisons = 0;
     let outcome = merge_errors(alloc, schema, &table, definitions, &mut comparisons);
@@ -176,9 +181,10 @@ pub fn overlapping_fields_by_pairs<S: Eq, C>(
         IfOk result (λ errors. Settled (fragments_listed document.now) → IsSound S.eq types sets (places errors)
         × IsDirect S.eq types sets (places errors) × IsComplete S.eq types sets (places errors)) }
     ensures sorted { IfOk result (IsSorted ⟦<RuleError as Ord>⟧.cmp) }
-    ensures once { IfOk result (IsStrictlySortedBy ⟦<RuleError as Ord>⟧.cmp) }
+    ensures once { IfOk result (λ errors.
+        IsStrictlySortedBy ⟦<Items<SourcePosition> as Ord>⟧.cmp (places errors)) }
 {
     let table = numbered_sets(alloc, schema, document)?;
     let found = errors_by_pairs(alloc, schema, table, document.len())?;
-    Ok(put_in_order(found))
+    put_in_order(alloc, found)
 }

@@ -1,5 +1,5 @@
 use Rattle.std.proofs.Common.{arith, subst, take_all}
-use Rattle.graphql_rule_errors.specs.Places.{places}
+use Rattle.graphql_bundles.specs.Conflicts.{places}
 use Rattle.graphql_bundles.specs.Direct.{ComparesBefore}
 use Rattle.graphql_bundles.proofs.DirectLemmas.{before-none, before-more}
 use Rattle.graphql_bundles.proofs.direct.compare_before.Goals as goal

@@ -1,5 +1,5 @@
 use Rattle.std.proofs.Common.{◌≡◌, ◌∙◌, ap, sym, subst, ℕ, ◌+◌, ◌*◌, ◌-◌, ◌<◌, ◌≤◌, List, ◌∷◌, ◌++◌, take, take_all, drop, length-drop, slice_get, Some, length, arith}
-use Rattle.graphql_rule_errors.specs.Places.{places}
+use Rattle.graphql_bundles.specs.Conflicts.{places}
 use Rattle.graphql_bundles.specs.Direct.{DirectParts}
 use Rattle.graphql_bundles.proofs.DirectLemmas.{parts-first, parts-more, first-rest}
 use Rattle.graphql_bundles.proofs.ListLemmas.{none-first}

@@ -1,5 +1,5 @@
 use Rattle.std.proofs.Common.{◌∙◌, ap, sym, subst, ◌≤◌, ◌∷◌, ◌++◌, [], List, take, take_all, length, arith}
-use Rattle.graphql_rule_errors.specs.Places.{places}
+use Rattle.graphql_bundles.specs.Conflicts.{places}
 use Rattle.graphql_merging.specs.declared.table.WrittenField.{WrittenField}
 use Rattle.graphql_bundles.specs.declared.direct.Split.{Split}
 use Rattle.graphql_bundles.proofs.DirectLemmas.{Sorted, sorted-first, sorted-more, sorted-few, sorted-all}

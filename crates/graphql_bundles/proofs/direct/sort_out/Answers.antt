@@ -1,5 +1,5 @@
 use Rattle.std.proofs.Common.{refl, subst, false, inl, inr}
-use Rattle.graphql_rule_errors.specs.Places.{places}
+use Rattle.graphql_bundles.specs.Conflicts.{places}
 use Rattle.graphql_merging.specs.Selected.{seen}
 use Rattle.graphql_merging.specs.Told.{Differs}
 use Rattle.graphql_bundles.specs.Direct.{ComparesBefore}

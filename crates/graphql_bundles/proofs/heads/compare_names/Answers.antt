@@ -1,7 +1,7 @@
 use Rattle.std.proofs.Common.{arith}
 use Rattle.std.proofs.lemmas.Option.{slice_get_within}
 use Rattle.std.proofs.lemmas.Result.{on_ok_weaker}
-use Rattle.graphql_rule_errors.specs.Places.{places}
+use Rattle.graphql_bundles.specs.Conflicts.{places}
 use Rattle.graphql_bundles.proofs.CompareLemmas.{names-none, names-some}
 use Rattle.graphql_bundles.proofs.Counts.{repeats-within}
 use Rattle.graphql_bundles.proofs.ListLemmas.{found-at}

@@ -1,6 +1,6 @@
 use Rattle.std.proofs.Common.{◌∙◌, ◌+◌, ◌-◌, ◌≤◌, ap, arith, List, ℕ, Some, length, filter, map, false, subst, take_all}
 use Rattle.std.proofs.lemmas.List.Sums.{sum_by_more}
-use Rattle.graphql_rule_errors.specs.Places.{places}
+use Rattle.graphql_bundles.specs.Conflicts.{places}
 use Rattle.graphql_merging.specs.Tables.{piece_field}
 use Rattle.graphql_bundles.specs.Counted.{repeats_in_parts}
 use Rattle.graphql_bundles.specs.Groups.{is_of}

@@ -1,6 +1,6 @@
 use Rattle.std.proofs.lemmas.Option.{slice_get_within}
 use Rattle.std.proofs.lemmas.Result.{on_ok_weaker}
-use Rattle.graphql_rule_errors.specs.Places.{places}
+use Rattle.graphql_bundles.specs.Conflicts.{places}
 use Rattle.graphql_bundles.proofs.CompareLemmas.{shapes-none, shapes-some}
 use Rattle.graphql_bundles.proofs.ListLemmas.{found-at}
 use Rattle.graphql_bundles.proofs.heads.compare_shapes.Goals as goal

@@ -1,6 +1,6 @@
 use Rattle.std.proofs.Common.{◌+◌, ◌*◌, ◌≤◌, subst}
 use Rattle.std.proofs.lemmas.Result.{on_ok_weaker}
-use Rattle.graphql_rule_errors.specs.Places.{places}
+use Rattle.graphql_bundles.specs.Conflicts.{places}
 use Rattle.graphql_merging.specs.Tables.{pieces_of}
 use Rattle.graphql_bundles.specs.Counted.{fields_of_sets}
 use Rattle.graphql_bundles.specs.Direct.{TellsDirects}

@@ -1,8 +1,8 @@
 use Rattle.std.proofs.Common.{◌≡◌, refl, ap, sym, subst, ◌∙◌, map, true, List, [], ◌∷◌, inl, inr}
 use Rattle.std.specs.List.{Contains}
 use Rattle.std.proofs.lemmas.Bool.{false≢true}
-use Rattle.graphql_rule_errors.specs.Places.{places}
-use Rattle.graphql_rule_errors.specs.declared.rule_error.RuleError.{RuleError}
+use Rattle.graphql_bundles.specs.Conflicts.{places}
+use Rattle.graphql_bundles.specs.declared.conflict.Conflict.{Conflict}
 use Rattle.graphql_merging.specs.Tables.{pieces_of}
 use Rattle.graphql_merging.proofs.Nested.{in-nothing}
 use Rattle.graphql_bundles.specs.Bundles.{Bundle}
@@ -32,8 +32,8 @@ returns-in-true-clause-ends g c = λ fragments.
       inl refl,
     )
 
--- without places there are no errors
-unnamed : (errors : List RuleError) → places errors ≡ [] → errors ≡ []
+-- without places there are no conflicts
+unnamed : (found : List Conflict) → places found ≡ [] → found ≡ []
 unnamed [] e = refl
 unnamed (x ∷ xs) e = cc
 

@@ -1,7 +1,7 @@
 use Rattle.std.proofs.Common.{◌≡◌, ◌∙◌, sym, subst, Bool, false}
 use Rattle.std.specs.List.{Contains}
 use Rattle.std.proofs.lemmas.Result.{on_ok_weaker}
-use Rattle.graphql_rule_errors.specs.Places.{places}
+use Rattle.graphql_bundles.specs.Conflicts.{places}
 use Rattle.graphql_merging.specs.Tables.{pieces_of}
 use Rattle.graphql_bundles.specs.Bundles.{Part, parts, IsGroupPassed}
 use Rattle.graphql_bundles.specs.Going.{GroupLeadsTo, stage_of}

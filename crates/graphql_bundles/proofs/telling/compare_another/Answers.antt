@@ -2,7 +2,7 @@ use Rattle.std.proofs.Common.{◌≡◌, ◌∙◌, ap, sym, subst, [], ◌∷�
 use Rattle.std.proofs.lemmas.Option.{get_or_from_slice_get}
 use Rattle.std.proofs.lemmas.Result.{on_ok_weaker}
 use Rattle.graphql_values.proofs.SameValueLaws.{same_as_itself}
-use Rattle.graphql_rule_errors.specs.Places.{places}
+use Rattle.graphql_bundles.specs.Conflicts.{places}
 use Rattle.graphql_merging.specs.Merging.{Agree}
 use Rattle.graphql_merging.specs.Selected.{seen}
 use Rattle.graphql_merging.specs.Told.{AddsErrors}

@@ -2,7 +2,7 @@ use Rattle.std.proofs.Common.{arith, get_or, map, take_all, subst, inl, inr}
 use Rattle.std.proofs.lemmas.Bool.{cases_lt}
 use Rattle.std.proofs.lemmas.Option.{slice_get-get_or}
 use Rattle.graphql_values.proofs.SameValueLemmas.{get_or_any}
-use Rattle.graphql_rule_errors.specs.Places.{places}
+use Rattle.graphql_bundles.specs.Conflicts.{places}
 use Rattle.graphql_merging.specs.Members.{Member}
 use Rattle.graphql_merging.specs.Merging.{Agree}
 use Rattle.graphql_merging.specs.Selected.{seen}

@@ -1,7 +1,7 @@
 use Rattle.std.proofs.Common.{[], ap, arith, subst, length, take_all, ◌+◌, ◌*◌, ◌≤◌}
 use Rattle.graphql_bundles.specs.Counted.{fields_of_groups}
 use Rattle.graphql_bundles.proofs.Sums.{more-squares}
-use Rattle.graphql_rule_errors.specs.Places.{places}
+use Rattle.graphql_bundles.specs.Conflicts.{places}
 use Rattle.graphql_bundles.specs.Direct.{DirectParts}
 use Rattle.graphql_bundles.specs.Groups.{KeyGroup}
 use Rattle.graphql_bundles.proofs.VisitLemmas.{GroupsTold, groups-told-none, groups-told-more, groups-told-all}

@@ -1,7 +1,7 @@
 use Rattle.std.proofs.Common.{◌∙◌, ap, arith, sym, subst, ℕ, ◌+◌, ◌*◌, ◌≤◌, [], length, map, get_or, take_all, Some}
 use Rattle.std.specs.Option.{option_map_or}
 use Rattle.graphql_values.proofs.SameValueLemmas.{get_or_any}
-use Rattle.graphql_rule_errors.specs.Places.{places}
+use Rattle.graphql_bundles.specs.Conflicts.{places}
 use Rattle.graphql_merging.specs.Pieces.{PieceField}
 use Rattle.graphql_merging.specs.Tables.{pieces_of}
 use Rattle.graphql_merging.specs.declared.table.WrittenSet.{WrittenSet}

@@ -1,5 +1,5 @@
 use Rattle.std.proofs.Common.{arith, rules, length, [], refl, ap, sym, subst}
-use Rattle.graphql_rule_errors.specs.Places.{places}
+use Rattle.graphql_bundles.specs.Conflicts.{places}
 use Rattle.graphql_merging.specs.Tables.{pieces_of}
 use Rattle.graphql_rules_merging.specs.Classes.{AreAllNumbered}
 use Rattle.graphql_rules_merging.specs.Agenda.{listed_of, Takes, NoneWaits}

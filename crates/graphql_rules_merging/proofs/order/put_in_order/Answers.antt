@@ -1,22 +1,42 @@
-use Rattle.std.proofs.Common.{sym, subst, ◌↔◌}
-use Rattle.std.specs.List.{Contains}
-use Rattle.std.specs.List.Sorted.{IsPermutation, IsStrictlySortedBy}
-use Rattle.graphql_rule_errors.specs.Places.{places}
-use Rattle.graphql_rule_errors.specs.contracts.rule_error.RuleErrorOrd.TheImpl.{ghosts}
+use Rattle.std.proofs.Common.{◌∙◌, ap, map, rules, subst}
+use Rattle.std.specs.List.Sorted.{IsPermutation}
+use Rattle.std.proofs.lemmas.Fn.{dedup_same}
+use Rattle.std.proofs.lemmas.Result.{IfOk-weaker}
 use Rattle.graphql_rule_errors.specs.contracts.rule_error.RuleErrorOrd.TheImpl.Laws.{lawful}
-use Rattle.graphql_rules_merging.proofs.InOrder.{in-order, once-each, same-named}
+use Rattle.graphql_bundles.specs.Conflicts.{error_of}
+use Rattle.graphql_rules_merging.proofs.InOrder.{in-order, rise-whole, same_places, told-kept}
 use Rattle.graphql_rules_merging.proofs.order.put_in_order.Goals as goal
 
 pub returns-clause-once : goal.returns-clause-once
 returns-clause-once c =
-    subst (IsStrictlySortedBy ghosts.cmp) (sym c.from_vec.ensures)
-    (once-each c.sort_unstable.new.self.items c.dedup.new.self.items c.dedup.ensures.filtered c.sort_unstable.ensures.sorted)
-
-pub returns-clause-sorted : goal.returns-clause-sorted
-returns-clause-sorted c = in-order lawful.total c.from_vec.result (returns-clause-once c)
+    let moved = c.sort_unstable.new.self.items in
+    let kept = dedup_same _ same_places _ (λ x y b f' x' y' k. search rules) moved c.dedup_by.new.self.items c.dedup_by.ensures.filtered in
+    IfOk-weaker c.errors_of.result _ _
+    (λ errors is.
+    (told-kept c.args.found moved (subst (λ old. IsPermutation old moved) c.into_vec-conflicts.ensures c.sort_unstable.ensures.permutation)
+    c.sort_unstable.ensures.sorted errors (is ∙ ap (map error_of) kept)).once)
+    c.errors_of.ensures
 
 pub returns-clause-same : goal.returns-clause-same
-returns-clause-same c = λ e.
-    subst (λ kept. Contains (places c.args.found) e ↔ Contains (places kept) e) (sym c.from_vec.ensures)
-    (same-named c.sort_unstable.new.self.items c.dedup.new.self.items c.dedup.ensures.filtered c.args.found
-    (subst (λ old. IsPermutation old c.sort_unstable.new.self.items) c.into_vec-errors.ensures c.sort_unstable.ensures.permutation) e)
+returns-clause-same c =
+    let moved = c.sort_unstable.new.self.items in
+    let kept = dedup_same _ same_places _ (λ x y b f' x' y' k. search rules) moved c.dedup_by.new.self.items c.dedup_by.ensures.filtered in
+    IfOk-weaker c.errors_of.result _ _
+    (λ errors is.
+    (told-kept c.args.found moved (subst (λ old. IsPermutation old moved) c.into_vec-conflicts.ensures c.sort_unstable.ensures.permutation)
+    c.sort_unstable.ensures.sorted errors (is ∙ ap (map error_of) kept)).same)
+    c.errors_of.ensures
+
+pub returns-clause-first : goal.returns-clause-first
+returns-clause-first c =
+    let moved = c.sort_unstable.new.self.items in
+    let kept = dedup_same _ same_places _ (λ x y b f' x' y' k. search rules) moved c.dedup_by.new.self.items c.dedup_by.ensures.filtered in
+    IfOk-weaker c.errors_of.result _ _
+    (λ errors is.
+    (told-kept c.args.found moved (subst (λ old. IsPermutation old moved) c.into_vec-conflicts.ensures c.sort_unstable.ensures.permutation)
+    c.sort_unstable.ensures.sorted errors (is ∙ ap (map error_of) kept)).first)
+    c.errors_of.ensures
+
+pub returns-clause-sorted : goal.returns-clause-sorted
+returns-clause-sorted c =
+    IfOk-weaker c.errors_of.result _ _ (λ errors once. in-order lawful.total errors (rise-whole errors once)) (returns-clause-once c)

@@ -1,7 +1,7 @@
 use Rattle.std.proofs.Common.{◌&&◌, inr}
 use Rattle.std.specs.Str.{bytes_eq}
 use mathlib.Core.Bool.{beq}
-use Rattle.graphql_rule_errors.specs.Places.{places}
+use Rattle.graphql_bundles.specs.Conflicts.{places}
 use Rattle.graphql_bundles.specs.declared.bundle.Bundle.{Bundle as Begun}
 use Rattle.graphql_bundles.specs.Going.{stage_of}
 use Rattle.graphql_bundles.proofs.BundleLemmas.{grows-none, grows-key, there-key, same-bundle}
