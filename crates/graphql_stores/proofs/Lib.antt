@@ -1,0 +1,12 @@
+mod AskedLines
+mod RefusedFirst
+mod AllowedLines
+mod AllowingRuns
+mod StoredTexts
+mod ToldApart
+mod LineOfPlain
+mod Endings
+mod Shared
+mod LeftContexts
+mod CachedAnswers
+mod CachedRuns

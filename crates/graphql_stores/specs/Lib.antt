@@ -1,0 +1,11 @@
+pub mod Stored
+pub mod Allowed
+pub mod Allowing
+pub mod AllowingLines
+pub mod AllowedLaws
+pub mod PlainLines
+pub mod AnswerEnds
+pub mod StoredAnswers
+pub mod Laws
+pub mod Caching
+pub mod CachedLines
