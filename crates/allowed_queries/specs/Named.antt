@@ -1,0 +1,18 @@
+-- What the words behind the program's name name.
+use Rattle.std.specs.Prelude.{Option, Some, None, Result, Ok, Err, String}
+use Rattle.std.specs.declared.alloc.Global.{Global}
+use Rattle.allowed_queries.specs.declared.arguments.Arguments.{Arguments}
+use Rattle.allowed_queries.specs.declared.failure.Failure.{Failure}
+use Rattle.allowed_queries.specs.declared.failure.Failure.TheVariants.{Usage}
+
+abbrev pub Word : Type 0
+Word = String Global
+
+-- three files, and no word behind them
+abbrev pub arguments_of : Option Word → Option Word → Option Word → Option Word → Result Arguments Failure
+arguments_of (Some schema) (Some records) (Some allowed) None =
+    Ok (record { schema = schema; records = records; allowed = allowed })
+arguments_of (Some schema) (Some records) (Some allowed) (Some more) = Err Usage
+arguments_of (Some schema) (Some records) None more = Err Usage
+arguments_of (Some schema) None allowed more = Err Usage
+arguments_of None records allowed more = Err Usage

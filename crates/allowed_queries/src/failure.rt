@@ -1,0 +1,116 @@
+//! Why the program ended before the end of its input.
+
+ghost use Rattle.std.specs.Prelude.{◌≡◌};
+ghost use Rattle.allowed_queries.specs.Status.{status_of, status_of_fault};
+
+use graphql_file_service::{DataFileError, RunFault, SchemaFileError, ServeError};
+use graphql_stores::AllowedFault;
+use std::alloc::AllocError;
+use std::error::Error;
+use std::{fmt, io};
+
+/// Why the program ended before the end of its input.
+#[derive(Debug, Drop)]
+pub enum Failure {
+    /// The arguments are not those of the program.
+    Usage,
+    /// The file at this path can't be read.
+    CannotRead(String),
+    /// The file of allowed queries has none.
+    Allowed(AllowedFault),
+    /// The files are not served, or not to the end of the input.
+    Run(RunFault),
+    /// Memory ran out.
+    Memory,
+}
+
+/// Why the program ends that met this error, if it is not for want of memory.
+pub(crate) fn unless_memory(error: io::Error, otherwise: Failure) -> Failure {
+    if error.kind() == io::ErrorKind::OutOfMemory {
+        Failure::Memory
+    } else {
+        otherwise
+    }
+}
+
+/// The exit status of a run that ended so.
+fn fault_status(fault: &RunFault) -> u8
+    ensures { result ≡ status_of_fault fault.now }
+{
+    match fault {
+        RunFault::Schema(SchemaFileError::Memory)
+        | RunFault::Data(DataFileError::Memory)
+        | RunFault::Serve(ServeError::Memory)
+        | RunFault::Memory => 4,
+        RunFault::Schema(_)
+        | RunFault::NotExecutable
+        | RunFault::Data(_)
+        | RunFault::OtherBoolean => 1,
+        RunFault::Serve(_) => 3,
+    }
+}
+
+impl Failure {
+    /// The exit status.
+    pub fn status(&self) -> u8
+        ensures { result ≡ status_of self.now }
+    {
+        match self {
+            Failure::CannotRead(_) => 1,
+            Failure::Usage => 2,
+            Failure::Allowed(AllowedFault::Line(_)) => 1,
+            Failure::Allowed(AllowedFault::Memory) => 4,
+            Failure::Run(fault) => fault_status(fault),
+            Failure::Memory => 4,
+        }
+    }
+}
+
+/// Writes why, in one line.
+impl fmt::Display for Failure {
+    fn fmt<W: fmt::Write>(&self, f: &mut fmt::Formatter<W>) -> fmt::Result {
+        match self {
+            Failure::Usage => f.write_str("usage: allowed_queries SCHEMA DATA ALLOWED"),
+            Failure::CannotRead(path) => write!(f, "cannot read {path}"),
+            Failure::Allowed(AllowedFault::Line(number)) => {
+                write!(f, "allowed: line {number} tells no plain text")
+            }
+            Failure::Run(fault) => write!(f, "{fault}"),
+            Failure::Allowed(AllowedFault::Memory) | Failure::Memory => f.write_str(
+                "out of memory",
+            ),
+        }
+    }
+}
+
+impl Error for Failure {}
+
+impl From<RunFault> for Failure {
+    ghost use Rattle.allowed_queries.specs.declared.failure.Failure.TheVariants.{Run};
+
+    ghost from_gives = { λ fault failure. failure ≡ Run fault };
+
+    fn from(fault: RunFault) -> Failure {
+        Failure::Run(fault)
+    }
+}
+
+impl From<AllowedFault> for Failure {
+    ghost use Rattle.allowed_queries.specs.declared.failure.Failure.TheVariants.{Allowed};
+
+    ghost from_gives = { λ fault failure. failure ≡ Allowed fault };
+
+    fn from(fault: AllowedFault) -> Failure {
+        Failure::Allowed(fault)
+    }
+}
+
+impl From<AllocError> for Failure {
+    ghost use Rattle.allowed_queries.specs.declared.failure.Failure.TheVariants.{Memory};
+
+    ghost from_gives = { λ _ failure. failure ≡ Memory };
+
+    fn from(_error: AllocError) -> Failure {
+        Failure::Memory
+    }
+}

@@ -1,0 +1,15 @@
+-- What the words behind the program's name are.
+use Rattle.std.specs.Prelude.{Option, Some, None, Result, Ok, Err, String}
+use Rattle.std.specs.declared.alloc.Global.{Global}
+use Rattle.cached_answers.specs.declared.arguments.Arguments.{Arguments}
+use Rattle.cached_answers.specs.declared.failure.Failure.{Failure}
+use Rattle.cached_answers.specs.declared.failure.Failure.TheVariants.{Usage}
+
+abbrev pub Word : Type 0
+Word = String Global
+
+-- two files and a number of bytes, and no more
+abbrev pub arguments_of : Option Word → Option Word → Option Word → Option Word → Result Arguments Failure
+arguments_of (Some schema) (Some records) (Some bytes) None =
+    Ok (record { schema = schema; records = records; bytes = bytes })
+arguments_of _ _ _ _ = Err Usage
