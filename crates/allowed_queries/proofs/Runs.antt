@@ -1,7 +1,7 @@
 -- How a run ended before a line was read.
 use Rattle.std.proofs.Common.{◌≡◌, true, List, Ok, Err}
 use Rattle.graphql_names.specs.Names.{Bytes}
-use Rattle.graphql_allowed_queries.specs.declared.allowed_queries.AllowedQueries.{AllowedQueries}
+use Rattle.graphql_stores.specs.declared.allowed_queries.AllowedQueries.{AllowedQueries}
 use Rattle.graphql_scalars.specs.declared.default_scalar.DefaultScalarValue.{DefaultScalarValue}
 use Rattle.graphql_values.specs.declared.input_value.InputValue.{InputValue}
 use Rattle.graphql_schema.specs.declared.meta.MetaType.{MetaType}

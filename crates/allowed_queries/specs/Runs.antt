@@ -1,6 +1,6 @@
 -- What is read, answered and written over two files, where a store decides what is allowed.
 use Rattle.std.specs.Prelude.{◌≡◌, Result, Ok, Err}
-use Rattle.graphql_allowed_queries.specs.declared.allowed_queries.AllowedQueries.{AllowedQueries}
+use Rattle.graphql_stores.specs.declared.allowed_queries.AllowedQueries.{AllowedQueries}
 use Rattle.graphql_scalars.specs.declared.default_scalar.DefaultScalarValue.{DefaultScalarValue}
 use Rattle.graphql_records.specs.Tables.{Table}
 use Rattle.graphql_records.specs.declared.table_node.TableNode.{TableNode}

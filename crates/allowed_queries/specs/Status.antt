@@ -6,8 +6,8 @@ use Rattle.graphql_data_files.specs.declared.data_file_error.DataFileError.{Data
 use Rattle.graphql_data_files.specs.declared.data_file_error.DataFileError.TheVariants as data_fault
 use Rattle.graphql_streams.specs.declared.serve_error.ServeError.{ServeError}
 use Rattle.graphql_streams.specs.declared.serve_error.ServeError.TheVariants as serve_error
-use Rattle.graphql_allowed_queries.specs.declared.allowed_fault.AllowedFault.{AllowedFault}
-use Rattle.graphql_allowed_queries.specs.declared.allowed_fault.AllowedFault.TheVariants as allowed
+use Rattle.graphql_stores.specs.declared.allowed_fault.AllowedFault.{AllowedFault}
+use Rattle.graphql_stores.specs.declared.allowed_fault.AllowedFault.TheVariants as allowed
 use Rattle.graphql_file_service.specs.declared.run_fault.RunFault.{RunFault}
 use Rattle.graphql_file_service.specs.declared.run_fault.RunFault.TheVariants as run_fault
 use Rattle.allowed_queries.specs.declared.failure.Failure.{Failure}

@@ -12,8 +12,8 @@ use Rattle.graphql_output_values.specs.Objects.{Pair}
 use Rattle.graphql_output_values.specs.ValueEquations.{fold_null, fold_scalar, fold_list, fold_object}
 use Rattle.graphql_output_values.specs.ValueInduction.{value_ind}
 use Rattle.graphql_output_values.specs.declared.value.Value.{Value}
-use Rattle.graphql_lines.specs.Json.{hex_digit, escaped, json_text, joined, member_json, int_or, bool_or, text_or_null, json, json_layer, fields_layer}
-use Rattle.graphql_lines.proofs.JsonSteps.{object_is}
+use Rattle.graphql_json.specs.Json.{hex_digit, escaped, json_text, joined, member_json, int_or, bool_or, text_or_null, json, json_layer, fields_layer}
+use Rattle.graphql_json.proofs.JsonSteps.{object_is}
 
 abbrev has_feed : Bytes → Bool
 has_feed = list_any (λ b. b == 10)

@@ -2,9 +2,9 @@
 use Rattle.std.proofs.Common.{◌≡◌, ℕ, ◌+◌, ◌<◌, List, ◌∷◌, ◌++◌, map, length, drop, get_or, codes, Result, OnOk, ap, sym, subst, ◌∙◌, append_assoc}
 use Rattle.std.proofs.lemmas.List.{drop_more}
 use Rattle.graphql_names.specs.Names.{Bytes}
-use Rattle.graphql_lines.specs.Json.{joined}
-use Rattle.graphql_lines.specs.Writing.{KeepsFront}
-use Rattle.graphql_lines.proofs.Fronts.{front_then}
+use Rattle.graphql_json.specs.Json.{joined}
+use Rattle.graphql_json.specs.Writing.{KeepsFront}
+use Rattle.graphql_json.proofs.Fronts.{front_then}
 
 -- what is yet to be written of parts, from an index on, behind what parts it from what was
 abbrev pub left_of : {A : Type 0} → (A → Bytes) → Bytes → ℕ → List A → Bytes

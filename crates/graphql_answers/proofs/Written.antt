@@ -18,8 +18,8 @@ use Rattle.graphql_output_values.specs.declared.value.Value.TheVariants as value
 use Rattle.graphql_output_values.proofs.MapLemmas.{map_scalars-null, map_scalars-scalar, map_scalars-list, map_scalars-object}
 use Rattle.graphql_field_results.specs.declared.execution_error.ExecutionError.{ExecutionError}
 use Rattle.graphql_rule_errors.specs.declared.rule_error.RuleError.{RuleError}
-use Rattle.graphql_lines.specs.Json.{joined, json_text, member_json, int_or, bool_or, text_or_null, json, json_layer, fields_layer}
-use Rattle.graphql_lines.proofs.JsonSteps.{object_is}
+use Rattle.graphql_json.specs.Json.{joined, json_text, member_json, int_or, bool_or, text_or_null, json, json_layer, fields_layer}
+use Rattle.graphql_json.proofs.JsonSteps.{object_is}
 use Rattle.graphql_answers.specs.Lines.{answer_json}
 use Rattle.graphql_answers.specs.Responses.{plain_answer_of, object_of, text_of, number_of, location_of, locations_of, extensions_layer, extensions_by, extensions_of, field_error_of, request_error_of, errors_of, response_of, refusal_of}
 use Rattle.graphql_answers.specs.Texts.{plain_answer_text, location_text, locations_text, extensions_text_layer, extensions_text, field_error_text, errors_text, response_text, request_error_text, refusal_text}

@@ -7,7 +7,7 @@ use Rattle.graphql_output_values.specs.DistinctKeys.{HasDistinctKeysThroughout}
 use Rattle.graphql_output_values.specs.declared.value.Value.{Value}
 use Rattle.graphql_field_results.specs.declared.execution_error.ExecutionError.{ExecutionError}
 use Rattle.graphql_rule_errors.specs.declared.rule_error.RuleError.{RuleError}
-use Rattle.graphql_lines.specs.Json.{json}
+use Rattle.graphql_json.specs.Json.{json}
 use Rattle.graphql_answers.specs.Responses.{plain_answer_of, refusal_of, response_of}
 
 -- one line: it ends with a line feed, and holds no other

@@ -8,7 +8,7 @@ use Rattle.graphql_output_values.specs.declared.value.Value.{Value, fold-Value}
 use Rattle.graphql_output_values.specs.declared.value.Value.TheOpen.{Value-F}
 use Rattle.graphql_field_results.specs.declared.execution_error.ExecutionError.{ExecutionError}
 use Rattle.graphql_rule_errors.specs.declared.rule_error.RuleError.{RuleError}
-use Rattle.graphql_lines.specs.Json.{json, json_text, joined}
+use Rattle.graphql_json.specs.Json.{json, json_text, joined}
 
 abbrev pub location_text : SourcePosition → Bytes
 location_text place = codes "{\"line\":" ++ (decimal (place.line + 1) ++ (codes ",\"column\":" ++ (decimal (place.column + 1) ++ codes "}")))

@@ -1,11 +1,11 @@
 //! Where errors point.
-#![tactic(auto, using(graphql_lines::proofs::Fronts::fronts))]
+#![tactic(auto, using(graphql_json::proofs::Fronts::fronts))]
 
 ghost use Rattle.std.specs.Prelude.{◌≡◌, [], ◌++◌, map, OnOk};
 ghost use Rattle.std.specs.Fmt.{decimal};
 ghost use Rattle.graphql_answers.specs.Texts as spec;
-ghost use Rattle.graphql_lines.specs.Json.{joined};
-ghost use Rattle.graphql_lines.specs.Writing.{KeepsFront};
+ghost use Rattle.graphql_json.specs.Json.{joined};
+ghost use Rattle.graphql_json.specs.Writing.{KeepsFront};
 
 use graphql_text::SourcePosition;
 use itoa::Buffer;

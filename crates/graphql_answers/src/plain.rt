@@ -1,12 +1,12 @@
 //! Answers that tell a plain text.
-#![tactic(auto, using(graphql_lines::proofs::Fronts::fronts))]
+#![tactic(auto, using(graphql_json::proofs::Fronts::fronts))]
 
 ghost use Rattle.std.specs.Prelude.{◌≡◌, ◌++◌, OnOk};
 ghost use Rattle.graphql_answers.specs.Lines.{answer_json};
 ghost use Rattle.graphql_answers.specs.Responses.{plain_answer_of};
-ghost use Rattle.graphql_lines.specs.Writing.{KeepsFront};
+ghost use Rattle.graphql_json.specs.Writing.{KeepsFront};
 
-use graphql_lines::text_to_json;
+use graphql_json::text_to_json;
 use std::alloc::AllocError;
 
 /// Writes the answer that tells a plain text, at the end of `out`, as JSON without spaces: an object

@@ -1,15 +1,15 @@
 //! Answers to requests that are not executed.
-#![tactic(auto, using(graphql_lines::proofs::Fronts::fronts))]
+#![tactic(auto, using(graphql_json::proofs::Fronts::fronts))]
 
 ghost use Rattle.std.specs.Prelude.{◌≡◌, ◌∷◌, [], ◌++◌, map, OnOk};
 ghost use Rattle.graphql_answers.specs.Lines.{answer_json};
 ghost use Rattle.graphql_answers.specs.Responses.{refusal_of};
 ghost use Rattle.graphql_answers.specs.Texts as spec;
-ghost use Rattle.graphql_lines.specs.Json.{joined};
-ghost use Rattle.graphql_lines.specs.Writing.{KeepsFront};
+ghost use Rattle.graphql_json.specs.Json.{joined};
+ghost use Rattle.graphql_json.specs.Writing.{KeepsFront};
 
 use crate::places::push_locations;
-use graphql_lines::text_to_json;
+use graphql_json::text_to_json;
 use graphql_rule_errors::RuleError;
 use graphql_text::SourcePosition;
 use std::alloc::AllocError;

@@ -1,16 +1,16 @@
 //! Answers to requests that are executed.
-#![tactic(auto, using(graphql_lines::proofs::Fronts::fronts))]
+#![tactic(auto, using(graphql_json::proofs::Fronts::fronts))]
 
 ghost use Rattle.std.specs.Prelude.{◌≡◌, [], ◌++◌, map, OnOk};
 ghost use Rattle.graphql_answers.specs.Lines.{answer_json};
 ghost use Rattle.graphql_answers.specs.Responses.{response_of};
 ghost use Rattle.graphql_answers.specs.Texts as spec;
-ghost use Rattle.graphql_lines.specs.Json.{joined, json_text};
-ghost use Rattle.graphql_lines.specs.Writing.{KeepsFront};
+ghost use Rattle.graphql_json.specs.Json.{joined, json_text};
+ghost use Rattle.graphql_json.specs.Writing.{KeepsFront};
 
 use crate::places::push_location;
 use graphql_field_results::ExecutionError;
-use graphql_lines::{text_to_json, value_to_json};
+use graphql_json::{text_to_json, value_to_json};
 use graphql_output_values::Value;
 use graphql_scalars::ScalarValue;
 use graphql_text::Text;

@@ -3,12 +3,12 @@ use Rattle.std.proofs.Common.{◌≡◌, ℕ, ◌+◌, ◌<◌, List, [], ◌∷
 use Rattle.std.specs.List.{filter_map}
 use Rattle.std.specs.Option.{option_map, unwrap_or}
 use Rattle.std.proofs.lemmas.List.{take_more, map-append}
-use Rattle.graphql_text.specs.Memory.{Text}
+use Rattle.graphql_text.specs.declared.text.Text.{Text}
 use Rattle.graphql_values.specs.InputValues.{Placed, Pair}
 use Rattle.graphql_values.specs.declared.input_value.InputValue.{InputValue}
 use Rattle.graphql_values.specs.declared.input_value.InputValue.TheVariants as value
-use Rattle.graphql_final_variables.specs.Filled.{filled, filled_item, filled_pair, value_or_null}
-use Rattle.graphql_final_variables.proofs.FilledEquations.{filled_list, filled_object}
+use Rattle.graphql_written_out.specs.Filled.{filled, filled_item, filled_pair, value_or_null}
+use Rattle.graphql_written_out.proofs.FilledEquations.{filled_list, filled_object}
 
 -- one item more
 pub mapped_more : {A B : Type 0} (f : A → B) (xs : List A) (i : ℕ) (x : A) (y : B) (before after : List B) → before ≡ map f (take i xs) → i < length xs → x ≡ get_or xs i x → y ≡ f x → after ≡ before ++ y ∷ [] → after ≡ map f (take (i + 1) xs)

@@ -8,7 +8,7 @@ use Rattle.graphql_values.specs.InputValues.{Placed, unplaced}
 use Rattle.graphql_values.specs.declared.input_value.InputValue.{InputValue}
 use Rattle.graphql_schema.specs.declared.meta.argument.Argument.{Argument}
 use Rattle.graphql_tree.specs.Arguments.{Argument as Written}
-use Rattle.graphql_final_variables.specs.Filled.{filled}
+use Rattle.graphql_written_out.specs.Filled.{filled}
 
 -- a name with a value, at its place
 abbrev pub Value : Type 0 → Type 0

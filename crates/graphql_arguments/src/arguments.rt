@@ -3,17 +3,17 @@
 ghost use Rattle.std.specs.Prelude.{◌≡◌, ◌↔◌, [], length, slice_get, IsTrue};
 ghost use Rattle.std.specs.Option.{option_copied, option_map};
 ghost use Rattle.graphql_text.specs.Memory.{GivesBy};
-ghost use Rattle.graphql_final_variables.specs.FinalVariables.{value_in};
+ghost use Rattle.graphql_written_out.specs.FinalVariables.{value_in};
 ghost use Rattle.graphql_arguments.specs.ArgumentValues.{argument_values, value_named};
 ghost use Rattle.graphql_arguments.specs.GivenValues.{arguments_told, named_lent, named_value};
 ghost use Rattle.graphql_arguments.specs.Reading.{ReadsGiven};
 
 use crate::filling::{absent_defaults, written_values};
 use crate::given::GivenValue;
-use graphql_final_variables::FinalVariables;
 use graphql_schema::Argument;
 use graphql_text::{Items, Spanning, TextRef};
 use graphql_values::{FromInputValue, InputValue, ScalarValue};
+use graphql_written_out::FinalVariables;
 use std::alloc::{AllocError, Global};
 
 /// The argument values of a field (GraphQL October 2021, 6.4.1 Coercing Field Arguments): names with

@@ -3,15 +3,15 @@
 ghost use Rattle.std.specs.Prelude.{◌≡◌};
 ghost use Rattle.std.specs.Option.{option_map};
 ghost use Rattle.graphql_text.specs.Memory.{GivesBy};
-ghost use Rattle.graphql_final_variables.specs.FinalVariables.{value_in};
+ghost use Rattle.graphql_written_out.specs.FinalVariables.{value_in};
 ghost use Rattle.graphql_arguments.specs.ArgumentValues.{absent_defaults, default_of, filled_argument, has_value, written_values};
 ghost use Rattle.graphql_arguments.specs.GivenValues.{pair_told, values_told};
 
 use crate::given::{GivenValue, given_value};
-use graphql_final_variables::FinalVariables;
 use graphql_schema::Argument;
 use graphql_text::{Items, Spanning, TextRef};
 use graphql_values::{InputValue, ScalarValue};
+use graphql_written_out::FinalVariables;
 use std::alloc::{AllocError, Global};
 
 /// A name with a value, at its place.

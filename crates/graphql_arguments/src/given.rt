@@ -3,13 +3,13 @@
 ghost use Rattle.std.specs.Prelude.{◌≡◌};
 ghost use Rattle.std.specs.Option.{option_map};
 ghost use Rattle.graphql_text.specs.Memory.{GivesBy};
-ghost use Rattle.graphql_final_variables.specs.Filled.{filled};
-ghost use Rattle.graphql_final_variables.specs.FinalVariables.{value_in};
+ghost use Rattle.graphql_written_out.specs.Filled.{filled};
+ghost use Rattle.graphql_written_out.specs.FinalVariables.{value_in};
 ghost use Rattle.graphql_arguments.specs.GivenValues.{value_told};
 
 use crate::made_value::made_value;
-use graphql_final_variables::FinalVariables;
 use graphql_values::{InputValue, ScalarValue};
+use graphql_written_out::FinalVariables;
 use std::alloc::{AllocError, Global};
 
 /// The value of an argument, in which each variable of the literal has its value (GraphQL October 2021,

@@ -3,12 +3,12 @@
 ghost use Rattle.std.specs.Prelude.{map};
 ghost use Rattle.std.specs.List.{filter_map};
 ghost use Rattle.graphql_text.specs.Memory.{Gives};
-ghost use Rattle.graphql_final_variables.specs.Filled.{filled, filled_item, filled_pair};
-ghost use Rattle.graphql_final_variables.specs.FinalVariables.{value_in};
+ghost use Rattle.graphql_written_out.specs.Filled.{filled, filled_item, filled_pair};
+ghost use Rattle.graphql_written_out.specs.FinalVariables.{value_in};
 
-use graphql_final_variables::FinalVariables;
 use graphql_text::{Items, Spanning, Text};
 use graphql_values::{InputValue, ScalarValue};
+use graphql_written_out::FinalVariables;
 use std::alloc::{AllocError, Global};
 
 /// A copy of a literal with the final values of variables in their stead; `None` where it is a variable

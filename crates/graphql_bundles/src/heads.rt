@@ -14,8 +14,8 @@ ghost use Rattle.graphql_bundles.specs.Groups as groups;
 
 use crate::conflict::Conflict;
 use crate::telling::compare_with;
-use graphql_declarations::field_of;
 use graphql_merging::WrittenField;
+use graphql_occurrences::field_of;
 use graphql_schema::{MetaType, SchemaType};
 use graphql_text::{Items, TextRef};
 use indexmap::IndexSet;

@@ -1,9 +1,9 @@
 //! What is told of two fields that do not merge.
 
-use graphql_declarations::{TypeLiteral, field_of, type_of_field};
 use graphql_merging::{Difference, SelectedField};
+use graphql_names::Type;
+use graphql_occurrences::{TypeLiteral, field_of, type_of_field};
 use graphql_text::TextRef;
-use graphql_type_references::Type;
 use graphql_written_out::response_key;
 use std::alloc::{AllocError, Global};
 

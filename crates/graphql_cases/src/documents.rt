@@ -8,10 +8,10 @@ use crate::repeated::written_out;
 use graphql_language::parse_document_source;
 use graphql_text::Items;
 use graphql_tree::Definition;
-use graphql_validation::rules::{
-    no_fragment_cycles, no_unused_fragments, overlapping_fields, overlapping_fields_by_pairs,
-    overlapping_fields_can_be_merged,
+use graphql_validation::rules::overlapping_fields_can_be_merged::{
+    self as merging, overlapping_fields_by_pairs, overlapping_fields_can_be_merged,
 };
+use graphql_validation::rules::{no_fragment_cycles, no_unused_fragments};
 use graphql_validation::{
     MultiVisitorNil, RuleError, ValidatorContext, first_stage_errors, root_node_errors,
     validation_errors, visit, visit_all_rules,
@@ -37,7 +37,7 @@ fn merge_errors(
     document: &[Definition<'_>],
 ) -> Result<Items<RuleError>, AllocError> {
     let mut context = ValidatorContext::new(alloc, root.schema(), document)?;
-    let mut rule = overlapping_fields::factory();
+    let mut rule = merging::factory();
     visit(&mut rule, &mut context);
     context.into_errors()
 }
@@ -126,7 +126,7 @@ fn count_comparisons(
     told: &mut String,
 ) -> Result<(), AllocError> {
     let mut context = ValidatorContext::new(alloc, root.schema(), document)?;
-    let mut rules = MultiVisitorNil.with(overlapping_fields::factory());
+    let mut rules = MultiVisitorNil.with(merging::factory());
     visit(&mut rules, &mut context);
     let _errors = context.into_errors()?;
     write!(told, "=> comparisons: {}\n", rules.first().comparisons())

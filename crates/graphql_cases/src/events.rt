@@ -1,9 +1,9 @@
 //! The events of documents.
 
 use crate::groups::Root;
+use graphql_names::{BorrowedType, Type};
 use graphql_text::TextRef;
 use graphql_tree::{Definition, InlineFragment, Operation};
-use graphql_type_references::{BorrowedType, Type};
 use graphql_validation::{Around, Event, InputPlace, Node, Owner, Seen, TypeLiteral, Walk};
 use graphql_values::{DefaultScalarValue, InputValue};
 use std::alloc::{AllocError, Global};
@@ -102,6 +102,9 @@ fn push_asked(told: &mut String, place: Option<InputPlace<'_>>) -> Result<(), Al
     push_type(told, Some(place.asked))?;
     if place.has_default {
         told.push_str(", with a default")?;
+    }
+    if place.is_only_field {
+        told.push_str(", of one field")?;
     }
     Ok(())
 }

@@ -6,13 +6,12 @@
 use crate::checked::Checked;
 use crate::faults::Fault;
 use graphql_language::{Parser, parse_type, parse_value_literal};
-use graphql_names::{Named, NamedItems};
+use graphql_names::{Named, NamedItems, Type};
 use graphql_schema::{
     Argument, DeprecationStatus, EnumMeta, EnumValue, Field, InputObjectMeta, InterfaceMeta,
     MetaType, ObjectMeta, ScalarMeta, TypeCheck, UnionMeta,
 };
 use graphql_text::{Items, Text, Token};
-use graphql_type_references::Type;
 use graphql_values::{DefaultScalarValue, InputValue};
 use std::alloc::{AllocError, Global};
 
@@ -34,6 +33,7 @@ enum Kind {
     Scalar,
     Enum,
     InputObject,
+    OneOf,
     Object,
     Interface,
     Union,
@@ -197,6 +197,7 @@ fn kind_of(word: &str) -> Kind {
         "scalar" => Kind::Scalar,
         "enum" => Kind::Enum,
         "input" => Kind::InputObject,
+        "oneOf" => Kind::OneOf,
         "interface" => Kind::Interface,
         "union" => Kind::Union,
         _ => Kind::Object,
@@ -280,10 +281,10 @@ fn read_input_object(
     parser: &mut Parser<'_>,
     name: Text,
     check: TypeCheck,
-) -> Result<Meta, Fault> {
+) -> Result<InputObjectMeta<DefaultScalarValue>, Fault> {
     parser.expect(&Token::CurlyOpen)?;
     let fields = named_parts(alloc, parser, &Token::CurlyClose)?;
-    Ok(InputObjectMeta::new(name, fields, check).into_meta())
+    Ok(InputObjectMeta::new(name, fields, check))
 }
 
 /// The type that begins so.
@@ -297,7 +298,12 @@ pub fn read_type_from(
     match head.kind {
         Kind::Scalar => Ok(ScalarMeta::new(name, check).into_meta()),
         Kind::Enum => read_enum(alloc, parser, name, check),
-        Kind::InputObject => read_input_object(alloc, parser, name, check),
+        Kind::InputObject => Ok(read_input_object(alloc, parser, name, check)?.into_meta()),
+        Kind::OneOf => Ok(
+            read_input_object(alloc, parser, name, check)?
+                .one_of()
+                .into_meta(),
+        ),
         Kind::Object => read_object(alloc, parser, name),
         Kind::Interface => read_interface(alloc, parser, name),
         Kind::Union => read_union(alloc, parser, name),

@@ -7,12 +7,12 @@ use Rattle.graphql_values.specs.InputValues.{Placed}
 use Rattle.graphql_tree.specs.declared.document.Fragment.{Fragment}
 use Rattle.graphql_tree.specs.declared.selection.FragmentSpread.{FragmentSpread}
 use Rattle.graphql_tree.specs.declared.selection.Selection.TheVariants as selection
-use Rattle.graphql_collect.specs.declared.request.Request.{Request}
+use Rattle.graphql_collected.specs.declared.request.Request.{Request}
 use Rattle.graphql_written_out.specs.Trees.{Tree, height}
 use Rattle.graphql_names.specs.Names.{Bytes}
 use Rattle.graphql_written_out.specs.Written.{fragment_meant}
 use Rattle.graphql_written_out.specs.Written.{listed, one, written, Settled}
-use Rattle.graphql_collect.specs.Requests.{drops_in, is_below_in, fragments_in, fields_in}
+use Rattle.graphql_collected.specs.Requests.{drops_in, is_below_in, fragments_in, fields_in}
 use Rattle.graphql_written_out.proofs.Layers.{out-Spread, unknown-Spread, other-Spread, in-Spread, height-of-Spread}
 use Rattle.graphql_collect.specs.Collecting.{meaning_of, means_in, Entered, Stands, Enters}
 

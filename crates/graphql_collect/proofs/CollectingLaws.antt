@@ -6,8 +6,8 @@ use Rattle.std.proofs.lemmas.List.{take_more, map-append}
 use Rattle.graphql_values.specs.InputValues.{Placed}
 use Rattle.graphql_tree.specs.declared.selection.Field.{Field}
 use Rattle.graphql_tree.specs.declared.selection.Selection.{Selection}
-use Rattle.graphql_collect.specs.declared.request.Request.{Request}
-use Rattle.graphql_collect.specs.declared.collected_field.CollectedField.{CollectedField}
+use Rattle.graphql_collected.specs.declared.request.Request.{Request}
+use Rattle.graphql_collected.specs.declared.collected_field.CollectedField.{CollectedField}
 use Rattle.graphql_written_out.specs.Trees.{Directives, Tree, height}
 use Rattle.graphql_names.specs.Names.{Bytes}
 use Rattle.graphql_written_out.specs.Written.{one, written, write, spread_as, listed, fragment_meant}
@@ -15,14 +15,14 @@ use Rattle.graphql_written_out.proofs.Layers.{deep, deep-Field, deep-Spread, dee
 use Rattle.graphql_tree.specs.declared.document.Fragment.{Fragment}
 use Rattle.graphql_tree.proofs.SelectionInduction.{selection_ind}
 use Rattle.graphql_written_out.specs.Fields.{Found}
-use Rattle.graphql_collect.specs.Requests.{drops_in, is_below_in, fragments_in, fields_in, found_at, written_in}
+use Rattle.graphql_collected.specs.Requests.{drops_in, is_below_in, fragments_in, fields_in, found_at, written_in}
 use Rattle.graphql_collect.specs.Grouped.{Lent, all_found}
 use Rattle.graphql_collect.specs.Walks.{Walk, with_field}
 use Rattle.graphql_collect.specs.declared.open_set.OpenSet.{OpenSet}
 use Rattle.graphql_collect.specs.OpenSets.{Open, rest_of}
 use Rattle.graphql_collect.specs.Walked.{Ready, Walked, Leads}
 use Rattle.graphql_collect.specs.Collecting.{means_in, state, trees_in, ReadyIn, CompleteIn, WalkedIn, LeadsIn, Steps, Entered, Stands, Enters, below_in}
-use Rattle.graphql_evaluation.proofs.RepeatLemmas.{flat-last}
+use Rattle.graphql_semantics.proofs.RepeatLemmas.{flat-last}
 use Rattle.graphql_collect.proofs.WalkLaws.{walked-none, walked-then, walked-field, walked-visited, complete-ready, complete-after}
 use Rattle.graphql_collect.proofs.LeadLaws.{leads-first, leads-walked, leads-end, leads-apart, leads-set, leads-fragment}
 use Rattle.graphql_collect.proofs.SizeLaws.{rests-push}

@@ -11,14 +11,14 @@ use Rattle.std.proofs.lemmas.List.Elements.{filter-append}
 use Rattle.std.proofs.lemmas.Map.Keys.{IsDistinct-head, IsDistinct-tail, IsDistinct-push}
 use Rattle.std.proofs.lemmas.Slice.Eq.{bytes_eq-Decides}
 use Rattle.indexmap.specs.IndexSet.{insert_key}
-use Rattle.graphql_collect.specs.declared.collected_field.CollectedField.{CollectedField}
+use Rattle.graphql_collected.specs.declared.collected_field.CollectedField.{CollectedField}
 use Rattle.graphql_tree.specs.declared.document.Fragment.{Fragment}
 use Rattle.graphql_names.specs.Names.{Bytes}
 use Rattle.graphql_written_out.specs.Fields.{Found}
 use Rattle.graphql_written_out.specs.Groups.{keys_after, keys, under, groups}
-use Rattle.graphql_collect.specs.Occurrences.{found}
+use Rattle.graphql_collected.specs.Occurrences.{found}
 use Rattle.graphql_collect.specs.Grouped.{Lent, Group, all_found, group_found, key_at, begun, takes, put}
-use Rattle.graphql_evaluation.proofs.GroupRepeats.{any-more, any-last}
+use Rattle.graphql_semantics.proofs.GroupRepeats.{any-more, any-last}
 
 not-there : (k other : Bytes) (seen more : List Bytes) → list_any (bytes_eq other) seen ≡ true → list_any (bytes_eq k) (seen ++ more) ≡ false → bytes_eq k other ≡ false
 not-there k other seen more t h = cases (bytes_eq k other) refl

@@ -4,4 +4,3 @@ pub mod LeadLaws
 pub mod CollectingLaws
 pub mod Bringing
 pub mod SizeLaws
-mod FragmentLemmas

@@ -24,9 +24,9 @@ use Rattle.indexmap.specs.IndexSet.{insert_key}
 use Rattle.graphql_collect.specs.declared.open_set.OpenSet.{OpenSet}
 use Rattle.graphql_collect.specs.OpenSets.{Open, rest_of, rests}
 use Rattle.graphql_collect.specs.Sizes.{tree_size, bare, size, left_by, size_below, turns, selection_turns}
-use Rattle.graphql_collect.specs.declared.collected_field.CollectedField.{CollectedField}
+use Rattle.graphql_collected.specs.declared.collected_field.CollectedField.{CollectedField}
 use Rattle.graphql_collect.specs.Grouped.{Lent}
-use Rattle.graphql_evaluation.proofs.GroupRepeats.{any-more, any-last}
+use Rattle.graphql_semantics.proofs.GroupRepeats.{any-more, any-last}
 
 less-one : (k name : Bytes) (visited : List Bytes) (n : ℕ) → cond (list_any (bytes_eq k) (visited ++ name ∷ [])) 0 n ≤ cond (list_any (bytes_eq k) visited) 0 n
 less-one k name visited n = cases (list_any (bytes_eq k) visited) refl

@@ -9,21 +9,8 @@ use Rattle.graphql_written_out.specs.Fields.{Found, fields}
 use Rattle.graphql_written_out.specs.Repeats.{nothing, kept}
 use Rattle.graphql_collect.specs.Walks.{Walk, Meanings, is_visited, marked, with_field}
 use Rattle.graphql_collect.specs.Walked.{Ready, Complete, Walked}
-use Rattle.graphql_evaluation.proofs.RepeatLemmas.{adds-old, adds-new, adds-append, adds-none}
-
--- a name that was put behind names
-pub last-cases : (n name : Bytes) (vs : List Bytes) → list_any (bytes_eq n) (vs ++ name ∷ []) ≡ true → (list_any (bytes_eq n) vs ≡ true) ⊎ (n ≡ name)
-last-cases n name [] h = inr ((bytes_eq-Decides n name).0 (alone (bytes_eq n name) h))
-  where
-    alone : (q : Bool) → (q || false) ≡ true → q ≡ true
-    alone true t = refl
-    alone false t = t
-last-cases n name (v ∷ vs) h = either (bytes_eq n v) (last-cases n name vs) h
-  where
-    either : (q : Bool) → (list_any (bytes_eq n) (vs ++ name ∷ []) ≡ true → (list_any (bytes_eq n) vs ≡ true) ⊎ (n ≡ name))
-        → (q || list_any (bytes_eq n) (vs ++ name ∷ [])) ≡ true → ((q || list_any (bytes_eq n) vs) ≡ true) ⊎ (n ≡ name)
-    either true ih t = inl refl
-    either false ih t = ih t
+use Rattle.graphql_semantics.proofs.RepeatLemmas.{adds-old, adds-new, adds-append, adds-none}
+use Rattle.graphql_collected.proofs.NamesBehind.{last-cases}
 
 module _ {S : Type 0} (drops : Directives S → Bool) (b : Bytes → Bool) (means : Meanings S) where
   pub walked-none : (s : Walk S) → Walked drops b means [] s s

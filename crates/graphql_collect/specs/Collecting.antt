@@ -6,13 +6,13 @@ use Rattle.std.specs.Str.{bytes_eq}
 use Rattle.graphql_tree.specs.declared.document.Fragment.{Fragment}
 use Rattle.graphql_tree.specs.declared.selection.Selection.{Selection}
 use Rattle.graphql_tree.specs.declared.selection.Selection.TheVariants as selection
-use Rattle.graphql_collect.specs.declared.request.Request.{Request}
-use Rattle.graphql_collect.specs.declared.collected_field.CollectedField.{CollectedField}
+use Rattle.graphql_collected.specs.declared.request.Request.{Request}
+use Rattle.graphql_collected.specs.declared.collected_field.CollectedField.{CollectedField}
 use Rattle.graphql_written_out.specs.Trees.{Tree, none, height}
 use Rattle.graphql_names.specs.Names.{Bytes}
 use Rattle.graphql_written_out.specs.Written.{fragment_meant}
 use Rattle.graphql_written_out.specs.Fields.{Found}
-use Rattle.graphql_collect.specs.Requests.{drops_in, is_below_in, fragments_in, fields_in, written_in, found_at}
+use Rattle.graphql_collected.specs.Requests.{drops_in, is_below_in, fragments_in, fields_in, written_in, found_at}
 use Rattle.graphql_collect.specs.Grouped.{Lent, all_found}
 use Rattle.graphql_collect.specs.declared.collecting.Brought.{Brought}
 use Rattle.graphql_collect.specs.declared.collecting.Brought.TheVariants as brought

@@ -3,11 +3,11 @@ use Rattle.std.specs.Prelude.{◌≡◌, List, [], ◌∷◌, ◌++◌, map, if�
 use Rattle.std.specs.List.{list_any}
 use Rattle.std.specs.Str.{bytes_eq}
 use Rattle.graphql_tree.specs.declared.document.Fragment.{Fragment}
-use Rattle.graphql_collect.specs.declared.collected_field.CollectedField.{CollectedField}
+use Rattle.graphql_collected.specs.declared.collected_field.CollectedField.{CollectedField}
 use Rattle.graphql_names.specs.Names.{Bytes}
 use Rattle.graphql_written_out.specs.Written.{response_key}
 use Rattle.graphql_written_out.specs.Fields.{Found}
-use Rattle.graphql_collect.specs.Occurrences.{found}
+use Rattle.graphql_collected.specs.Occurrences.{found}
 use Rattle.graphql_written_out.specs.Groups.{groups}
 
 -- fields of a document, lent

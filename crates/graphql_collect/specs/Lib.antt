@@ -1,7 +1,4 @@
-pub mod FragmentLists
-pub mod Occurrences
 pub mod Grouped
-pub mod Requests
 pub mod Walks
 pub mod Walked
 pub mod OpenSets

@@ -7,7 +7,7 @@ ghost use Rattle.std.specs.Str.{bytes_eq};
 ghost use Rattle.graphql_tree.specs.declared.selection.Selection.TheVariants as selection;
 ghost use Rattle.graphql_written_out.specs.Written.{listed, one, Settled};
 ghost use Rattle.graphql_written_out.specs.Trees.{height};
-ghost use Rattle.graphql_collect.specs.Requests.{drops_in, is_below_in, fields_in, written_in, fragments_in};
+ghost use Rattle.graphql_collected.specs.Requests.{is_below_in, fields_in, written_in, fragments_in};
 ghost use Rattle.graphql_collect.specs.Grouped.{all_found};
 ghost use Rattle.graphql_written_out.specs.Fields.{applies};
 ghost use Rattle.graphql_written_out.specs.Repeats.{Repeats};
@@ -15,13 +15,11 @@ ghost use Rattle.graphql_collect.specs.Sizes.{IsSized, left_in, selection_turns,
 ghost use Rattle.graphql_collect.specs.OpenSets.{rest_of};
 ghost use Rattle.graphql_collect.specs.Collecting.{Brings, CompleteIn, IsItself, ReadyIn, Steps, WalkedIn, below_in, trees_in};
 
-use crate::collected_field::CollectedField;
 use crate::open_set::OpenSet;
-use crate::request::Request;
+use graphql_collected::{CollectedField, Request, drops};
 use graphql_schema::SchemaScalar;
 use graphql_text::{Items, Spanning, TextRef};
-use graphql_tree::{Directive, Field, FragmentSpread, InlineFragment, Selection};
-use graphql_written_out::left_out;
+use graphql_tree::{Field, FragmentSpread, InlineFragment, Selection};
 use indexmap::IndexSet;
 use std::alloc::{AllocError, Global};
 
@@ -38,16 +36,6 @@ pub enum Brought<'d, 'a, S> {
 
     /// The fields of the fragment that is spread.
     Fragment(&'d Spanning<FragmentSpread<'a, S>>, &'d [Selection<'a, S>]),
-}
-
-/// Whether the directives leave out what they stand at (GraphQL October 2021, 3.13.1 @skip, 3.13.2 @include).
-pub fn drops<S: SchemaScalar>(
-    request: &Request<'_, '_, S>,
-    directives: &Option<Items<Spanning<Directive<'_, S>>>>,
-) -> bool
-    ensures { result ≡ drops_in S.answer request.now (listed directives.now) }
-{
-    left_out(directives, &request.variables)
 }
 
 /// Whether the object type is a subtype of the other type.

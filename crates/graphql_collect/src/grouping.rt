@@ -5,7 +5,7 @@ ghost use Rattle.std.specs.List.{IsDistinct, position_or_len};
 ghost use Rattle.std.specs.Str.{bytes_eq};
 ghost use Rattle.graphql_collect.specs.Grouped.{IsGrouped, begun, key_at, put};
 
-use crate::collected_field::CollectedField;
+use graphql_collected::CollectedField;
 use graphql_text::{Items, TextRef};
 use graphql_written_out::response_key;
 use indexmap::IndexSet;

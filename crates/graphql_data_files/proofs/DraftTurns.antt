@@ -3,8 +3,8 @@ use Rattle.std.proofs.Common.{◌≡◌, ℕ, ◌+◌, ◌<◌, List, [], ◌∷
 use Rattle.std.proofs.lemmas.List.{at_drop_more, map-append}
 use Rattle.serde_json.specs.View.{view, items_view}
 use Rattle.serde_json.specs.declared.value.Value.{Value}
-use Rattle.graphql_json_parts.specs.Parts.{◌>>=◌, each}
-use Rattle.graphql_json_parts.proofs.EachTurns.{each_turn, from}
+use Rattle.graphql_json.specs.Parts.{◌>>=◌, each}
+use Rattle.graphql_json.proofs.EachTurns.{each_turn, from}
 use Rattle.graphql_names.specs.Names.{Bytes}
 use Rattle.graphql_records.specs.Tables.{Entries}
 use Rattle.graphql_records.specs.declared.record.Record.{Record}

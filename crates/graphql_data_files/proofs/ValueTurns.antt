@@ -5,8 +5,8 @@ use Rattle.serde_json.specs.View.{view, items_view, members_view}
 use Rattle.serde_json.specs.declared.value.Value.{Value}
 use Rattle.serde_json.specs.Data.{Data, Items, item, Members, member}
 use Rattle.serde_json.proofs.Views.{Entry}
-use Rattle.graphql_json_parts.specs.Parts.{◌>>=◌}
-use Rattle.graphql_json_parts.proofs.EachTurns.{from}
+use Rattle.graphql_json.specs.Parts.{◌>>=◌}
+use Rattle.graphql_json.proofs.EachTurns.{from}
 use Rattle.graphql_names.specs.Names.{Bytes}
 use Rattle.graphql_records.specs.Settings.{Fields}
 use Rattle.graphql_records.specs.declared.field_value.FieldValue.{FieldValue}

@@ -2,7 +2,7 @@
 use Rattle.std.specs.Prelude.{List, [], ◌∷◌, Option, Some, None, codes, if◌then◌else◌}
 use Rattle.serde_json.specs.Data.{Data, Members}
 use Rattle.serde_json.specs.Find.{get, as_object}
-use Rattle.graphql_json_parts.specs.Parts.{◌>>=◌, list_at, text_at}
+use Rattle.graphql_json.specs.Parts.{◌>>=◌, list_at, text_at}
 use Rattle.graphql_names.specs.Names.{Bytes}
 use Rattle.graphql_records.specs.Tables.{Entries}
 use Rattle.graphql_records.specs.declared.record.Record.{Record}

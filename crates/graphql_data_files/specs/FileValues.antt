@@ -1,7 +1,7 @@
 -- The values of records' fields, as a file has them.
 use Rattle.std.specs.Prelude.{Bool, true, false, ◌&&◌, List, [], ◌∷◌, Option, Some, None, option_map}
 use Rattle.serde_json.specs.Data.{Data, null, boolean, number, string, array, object, Items, no_items, item, Members, no_members, member}
-use Rattle.graphql_json_parts.specs.Parts.{◌>>=◌}
+use Rattle.graphql_json.specs.Parts.{◌>>=◌}
 use Rattle.graphql_lines.specs.Variables.{whole_of}
 use Rattle.graphql_scalars.specs.declared.default_scalar.DefaultScalarValue.TheVariants as scalar
 use Rattle.graphql_records.specs.Settings.{Fields}

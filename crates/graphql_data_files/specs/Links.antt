@@ -3,7 +3,7 @@ use Rattle.std.specs.Prelude.{ℕ, Bool, true, ◌||◌, List, Option, Some, Non
 use Rattle.std.specs.List.{list_all}
 use Rattle.std.specs.Option.{option_map_or}
 use Rattle.std.specs.Str.{bytes_eq}
-use Rattle.graphql_json_parts.specs.Parts.{◌>>=◌}
+use Rattle.graphql_json.specs.Parts.{◌>>=◌}
 use Rattle.graphql_names.specs.Names.{Bytes, passes}
 use Rattle.graphql_scalars.specs.declared.default_scalar.DefaultScalarValue.{DefaultScalarValue}
 use Rattle.graphql_scalars.specs.declared.default_scalar.DefaultScalarValue.TheVariants as scalar

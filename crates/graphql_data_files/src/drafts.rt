@@ -3,12 +3,12 @@
 ghost use Rattle.std.specs.Prelude.{◌≡◌, map, option_map};
 ghost use Rattle.graphql_text.specs.Memory.{Gives, GivesBy};
 ghost use Rattle.serde_json.specs.View.{items_view, members_view, view};
-ghost use Rattle.graphql_json_parts.specs.Parts.{each};
+ghost use Rattle.graphql_json.specs.Parts.{each};
 ghost use Rattle.graphql_data_files.specs.Drafts as spec;
 ghost use Rattle.graphql_data_files.specs.LentDrafts.{draft_told, file_told};
 
 use crate::values::{fields_have_shape, fields_of};
-use graphql_json_parts::{list_at, text_at};
+use graphql_json::{list_at, text_at};
 use graphql_records::Record;
 use graphql_text::{Items, Text, TextRef};
 use serde_json::{Map, Value};

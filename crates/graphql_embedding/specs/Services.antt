@@ -3,7 +3,7 @@ use Rattle.std.specs.Prelude.{◌≡◌, ◌++◌, false, List, Option, Result, 
 use Rattle.std.specs.List.{All, AllZip}
 use Rattle.graphql_text.specs.Memory.{UnlessMemory}
 use Rattle.graphql_names.specs.Names.{Bytes}
-use Rattle.graphql_defaults.specs.Conforming.{NamedConforms}
+use Rattle.graphql_literal_checks.specs.Defaults.{NamedConforms}
 use Rattle.graphql_schema.specs.Faults.{Roots}
 use Rattle.graphql_schema.specs.Promises.{IsFirstWithout}
 use Rattle.graphql_schema.specs.Schemas as schemas

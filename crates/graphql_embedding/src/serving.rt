@@ -12,10 +12,10 @@ ghost use Rattle.graphql_streams.specs.Served.{WritesAfter, reads_after};
 ghost use Rattle.graphql_embedding.specs.Services as spec;
 
 use crate::fault::ServeRowsFault;
-use crate::mutation_resolver::MutationResolver;
 use crate::simple_resolver::SimpleResolver;
-use graphql_defaults::first_with_bad_default;
 use graphql_field_results::ExecutionError;
+use graphql_literal_checks::first_with_bad_default;
+use graphql_resolvers::MutationResolver;
 use graphql_rule_errors::RuleError;
 use graphql_scalars::DefaultScalarValue;
 use graphql_schema::scalar_checks::{

@@ -2,14 +2,11 @@
 
 ghost use Rattle.std.specs.Prelude.{◌≡◌};
 
-use crate::answer::into_field_result;
-use crate::given::Given;
-use crate::mutation_resolver::MutationResolver;
-use crate::resolver::Resolver;
 use graphql_arguments::Arguments;
-use graphql_execution::{Executor, GraphQLValue};
+use graphql_execution_walk::{Executor, GraphQLValue};
 use graphql_field_results::{FieldResult, Resolved};
 use graphql_mutation::GraphQLMutationValue;
+use graphql_resolvers::{Given, MutationResolver, Resolver, into_field_result};
 use graphql_scalars::DefaultScalarValue;
 use std::alloc::Global;
 
@@ -26,22 +23,23 @@ impl<R: Resolver> GraphQLValue<DefaultScalarValue> for SimpleResolver<R> {
     type Node = R::Node;
 
     ghost use Rattle.std.proofs.Common.{ap};
-    ghost use Rattle.graphql_embedding.specs.Answers.{tells_reason, with_reason};
-    ghost use Rattle.graphql_embedding.specs.Given.{leaves_of};
-    ghost use Rattle.graphql_given.proofs.SameGiven.{same-leaves};
+    ghost use Rattle.graphql_resolvers.specs.Answers.{with_reason};
+    ghost use Rattle.graphql_resolvers.specs.Given.{inputs_of};
+    ghost use Rattle.graphql_resolvers.proofs.ToldAnswers.{tells_reason};
+    ghost use Rattle.graphql_resolvers.proofs.SameGiven.{same-inputs};
 
     ghost root_node = { λ r. R.root_node r.resolver };
 
     ghost type_of = { λ r. R.type_of r.resolver };
 
     ghost answer = { λ r context node field given.
-        with_reason (R.answer r.resolver context node field (leaves_of given)) };
+        with_reason (R.answer r.resolver context node field (inputs_of given)) };
 
     ghost respects = { λ r context node field a b same.
-        ap (λ given. with_reason (R.answer r.resolver context node field given)) (same-leaves a b same) };
+        ap (λ given. with_reason (R.answer r.resolver context node field given)) (same-inputs a b same) };
 
     ghost tells_distinct_keys = { λ r context node field given.
-        tells_reason (R.answer r.resolver context node field (leaves_of given)) };
+        tells_reason (R.answer r.resolver context node field (inputs_of given)) };
 
     fn root(&self) -> R::Node
         ensures { result ≡ R.root_node self.now.resolver }
@@ -55,7 +53,6 @@ impl<R: Resolver> GraphQLValue<DefaultScalarValue> for SimpleResolver<R> {
         self.resolver.type_name(context, node)
     }
 
-    #[tactic(auto, using(crate::proofs::Told::told_answer))]
     fn resolve_field(
         &self,
         node: &R::Node,
@@ -63,7 +60,7 @@ impl<R: Resolver> GraphQLValue<DefaultScalarValue> for SimpleResolver<R> {
         arguments: &Arguments<'_, DefaultScalarValue>,
         executor: &Executor<'_, '_, '_, R::Context, DefaultScalarValue>,
     ) -> FieldResult<Resolved<DefaultScalarValue, R::Node>, DefaultScalarValue> {
-        let given = Given::new(arguments);
+        let given = Given::new(executor.alloc, arguments);
         let answer = self
             .resolver
             .resolve(executor.alloc, executor.context, node, field, &given);
@@ -75,13 +72,14 @@ impl<R: MutationResolver> GraphQLMutationValue<DefaultScalarValue> for SimpleRes
     ghost use Rattle.std.proofs.Common.{ap};
     ghost use Rattle.graphql_arguments.specs.GivenValues.{arguments_told};
     ghost use Rattle.graphql_field_results.specs.Answered.{Answered, Leaves};
-    ghost use Rattle.graphql_embedding.specs.Answers.{tells_reason, with_reason};
-    ghost use Rattle.graphql_embedding.specs.Given.{leaves_of};
-    ghost use Rattle.graphql_given.proofs.SameGiven.{same-in-order};
+    ghost use Rattle.graphql_resolvers.specs.Answers.{with_reason};
+    ghost use Rattle.graphql_resolvers.specs.Given.{inputs_of};
+    ghost use Rattle.graphql_resolvers.proofs.ToldAnswers.{tells_reason};
+    ghost use Rattle.graphql_resolvers.proofs.SameGiven.{same-in-order};
 
     ghost changes = { λ r. record {
-      answer = λ context field given. with_reason (R.change_answer r.resolver context field (leaves_of given));
-      after = λ context field given. R.change_after r.resolver context field (leaves_of given);
+      answer = λ context field given. with_reason (R.change_answer r.resolver context field (inputs_of given));
+      after = λ context field given. R.change_after r.resolver context field (inputs_of given);
     } };
 
     ghost respects_root = { λ r context field a b same. (
@@ -90,10 +88,9 @@ impl<R: MutationResolver> GraphQLMutationValue<DefaultScalarValue> for SimpleRes
     ) };
 
     ghost root_tells_distinct_keys = { λ r context field given.
-        tells_reason (R.change_answer r.resolver context field (leaves_of given)) };
+        tells_reason (R.change_answer r.resolver context field (inputs_of given)) };
 
     /// What the resolver answers, and leaves.
-    #[tactic(auto, using(crate::proofs::Told::told_answer, crate::proofs::Told::told_leaves))]
     fn resolve_root(
         &self,
         alloc: Global,
@@ -101,13 +98,13 @@ impl<R: MutationResolver> GraphQLMutationValue<DefaultScalarValue> for SimpleRes
         field: &str,
         arguments: &Arguments<'_, DefaultScalarValue>,
     ) -> FieldResult<Resolved<DefaultScalarValue, R::Node>, DefaultScalarValue>
-        ensures answer { let given = leaves_of (arguments_told arguments.now) in
+        ensures answer { let given = inputs_of (arguments_told arguments.now) in
             Answered (with_reason (R.change_answer self.now.resolver context.old field.now given)) result }
-        ensures after { let given = leaves_of (arguments_told arguments.now) in
+        ensures after { let given = inputs_of (arguments_told arguments.now) in
             let after = R.change_after self.now.resolver context.old field.now given in
             Leaves context.old after result context.new }
     {
-        let given = Given::new(arguments);
+        let given = Given::new(alloc, arguments);
         into_field_result(self.resolver.change(alloc, context, field, &given))
     }
 }

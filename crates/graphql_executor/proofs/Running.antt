@@ -15,13 +15,13 @@ use Rattle.graphql_schema.specs.declared.schema.SchemaType.{SchemaType}
 use Rattle.graphql_written_out.specs.Trees.{Tree}
 use Rattle.graphql_written_out.specs.Written.{written}
 use Rattle.graphql_tree.specs.Definitions.{fragments_listed}
-use Rattle.graphql_collect.specs.Requests.{written_in}
-use Rattle.graphql_collect.specs.declared.request.Request.{Request}
+use Rattle.graphql_collected.specs.Requests.{written_in}
+use Rattle.graphql_collected.specs.declared.request.Request.{Request}
 use Rattle.graphql_field_results.specs.declared.execution_error.ExecutionError.{ExecutionError}
-use Rattle.graphql_evaluation.specs.Completion.{Members, object_members}
-use Rattle.graphql_execution.specs.Engines.{Resolves}
-use Rattle.graphql_execution.specs.declared.asked.Asked.{Asked}
-use Rattle.graphql_execution.specs.Sets.{sets_in}
+use Rattle.graphql_semantics.specs.Completion.{Members, object_members}
+use Rattle.graphql_execution_walk.specs.Engines.{Resolves}
+use Rattle.graphql_execution_walk.specs.declared.asked.Asked.{Asked}
+use Rattle.graphql_execution_walk.specs.Sets.{sets_in}
 use Rattle.graphql_look_ahead.specs.declared.selected.Selected.{Selected}
 use Rattle.graphql_mutation.specs.Mutations.{Changes, mutation_of, mutation_over}
 use Rattle.graphql_mutation.specs.Runs.{HasRun, run_map}

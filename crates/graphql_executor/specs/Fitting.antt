@@ -10,16 +10,16 @@ use Rattle.graphql_tree.specs.Definitions.{fragments_listed}
 use Rattle.graphql_tree.specs.Documents.{variables_in}
 use Rattle.graphql_tree.specs.declared.document.Definition.{Definition}
 use Rattle.graphql_tree.specs.declared.document.Operation.{Operation}
-use Rattle.graphql_final_variables.specs.FinalValues.{final_value}
+use Rattle.graphql_written_out.specs.FinalValues.{final_value}
 use Rattle.graphql_written_out.specs.Groups.{groups}
 use Rattle.graphql_written_out.specs.Trees.{Tree}
 use Rattle.graphql_written_out.specs.Written.{written}
 use Rattle.graphql_field_results.specs.declared.execution_error.ExecutionError.{ExecutionError}
-use Rattle.graphql_evaluation.specs.Completion.{Members, object_members}
-use Rattle.graphql_evaluation.specs.Evaluation.{found_in}
-use Rattle.graphql_evaluation.specs.Failing.{Fails}
-use Rattle.graphql_evaluation.specs.Fitting.{MembersFit}
-use Rattle.graphql_execution.specs.declared.asked.Asked.TheVariants as asked
+use Rattle.graphql_semantics.specs.Completion.{Members, object_members}
+use Rattle.graphql_semantics.specs.Evaluation.{found_in}
+use Rattle.graphql_semantics.specs.Failing.{Fails}
+use Rattle.graphql_semantics.specs.Fitting.{MembersFit}
+use Rattle.graphql_execution_walk.specs.declared.asked.Asked.TheVariants as asked
 use Rattle.graphql_mutation.specs.Fitting.{RunFails, RunFits}
 use Rattle.graphql_mutation.specs.Mutations.{mutation_over}
 use Rattle.graphql_mutation.specs.Serial.{Mutation, root_groups}

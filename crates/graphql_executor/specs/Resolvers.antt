@@ -1,6 +1,6 @@
 -- What a resolver answers and changes, by one word (GraphQL October 2021, 6.4.2 Value Resolution).
 use Rattle.graphql_names.specs.Names.{Bytes}
-use Rattle.graphql_execution.specs.Engines.{Resolves}
+use Rattle.graphql_execution_walk.specs.Engines.{Resolves}
 use Rattle.graphql_mutation.specs.Mutations.{Changes}
 
 -- of a resolver with nodes `N`, over contexts `X`

@@ -5,8 +5,8 @@ ghost use Rattle.std.specs.Str.{chars};
 ghost use Rattle.graphql_executor.specs.Answered.{IsAnswered, IsRefused, LeftUnanswered, asking};
 ghost use Rattle.graphql_executor.specs.IntrospectionQuery as spec;
 
+use crate::execute_request::execute_sync;
 use crate::operation::Response;
-use crate::request::execute_sync;
 use crate::resolving::Resolving;
 use graphql_field_results::ExecutionError;
 use graphql_mutation::GraphQLMutationValue;

@@ -2,8 +2,7 @@
 
 ghost use Rattle.graphql_executor.specs.Laws.{AnswersAreOne, AnswersFit};
 
-use graphql_evaluation::laws::{data_fit, failures_are_exact, no_data_fails};
-use graphql_execution::Asked;
+use graphql_execution_walk::Asked;
 use graphql_mutation::GraphQLMutationValue;
 use graphql_mutation::laws::{run_failures_are_exact, runs_fit, runs_without_data_fail};
 use graphql_requests::Meaning;
@@ -11,6 +10,7 @@ pub use graphql_requests::laws::{
     executable_requests_are_not_refused, one_operation_is_executed, refusals_have_steps,
 };
 use graphql_schema::SchemaScalar;
+use graphql_semantics::laws::{data_fit, failures_are_exact, no_data_fails};
 
 /// Two answers to one request, over one resolver and one context, have the same data, and leave the same
 /// context.

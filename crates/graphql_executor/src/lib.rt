@@ -1,22 +1,21 @@
 //! Execution of requests (GraphQL October 2021, 6 Execution).
 #![tactic(auto)]
 
+mod execute_request;
 mod introspection_query;
 pub mod laws;
 mod operation;
-mod request;
 mod resolving;
 mod validated;
 
+pub use execute_request::execute_sync;
 pub use graphql_arguments::Arguments;
-pub use graphql_declarations::TypeLiteral;
-pub use graphql_execution::{
+pub use graphql_execution_walk::{
     Context, Executor, FieldPath, FromContext, GraphQLValue, declared_type,
 };
 pub use graphql_field_results::{
     ExecutionError, ExecutionResult, FieldError, FieldFault, FieldResult, IntoFieldError, Resolved,
 };
-pub use graphql_final_variables::FinalVariables;
 pub use graphql_input_types::{ID, Nullable};
 pub use graphql_introspection::{introspection_metadata, kind_name, location_name};
 pub use graphql_look_ahead::{
@@ -25,6 +24,7 @@ pub use graphql_look_ahead::{
     look_ahead_object,
 };
 pub use graphql_mutation::GraphQLMutationValue;
+pub use graphql_occurrences::TypeLiteral;
 pub use graphql_registry::{
     AnswersByClones, EmptyMutation, EmptySubscription, GraphQLType, IntoResolvable, Registry,
 };
@@ -33,8 +33,8 @@ pub use graphql_requests::{
 };
 pub use graphql_schema::{IntrospectionChecks, TypeKind};
 pub use graphql_values::{FromInputValueArrayError, FromInputValueVecError};
+pub use graphql_written_out::FinalVariables;
 pub use introspection_query::{IntrospectionFormat, introspect};
 pub use operation::Response;
-pub use request::execute_sync;
 pub use resolving::Resolving;
 pub use validated::execute_validated_query;

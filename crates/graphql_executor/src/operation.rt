@@ -2,24 +2,23 @@
 
 ghost use Rattle.std.specs.Prelude.{◌≡◌, [], ◌∷◌, IfOk, OnErr, option_map};
 ghost use Rattle.std.specs.HashMap.{get_by_text};
-ghost use Rattle.graphql_final_variables.specs.FinalVariables.{value_in};
+ghost use Rattle.graphql_written_out.specs.FinalVariables.{value_in};
 ghost use Rattle.graphql_tree.specs.Definitions.{fragments_listed};
-ghost use Rattle.graphql_collect.specs.Requests.{fragments_in, written_in};
-ghost use Rattle.graphql_evaluation.specs.Evaluation.{evaluate};
+ghost use Rattle.graphql_collected.specs.Requests.{fragments_in, written_in};
+ghost use Rattle.graphql_semantics.specs.Evaluation.{evaluate};
 ghost use Rattle.graphql_written_out.specs.Written.{Settled, written};
-ghost use Rattle.graphql_execution.specs.Engines.{engine_of};
-ghost use Rattle.graphql_execution.specs.declared.asked.Asked.TheVariants as asked;
+ghost use Rattle.graphql_execution_walk.specs.Engines.{engine_of};
+ghost use Rattle.graphql_execution_walk.specs.declared.asked.Asked.TheVariants as asked;
 ghost use Rattle.graphql_mutation.specs.Mutations.{mutation_of, mutation_over};
 ghost use Rattle.graphql_mutation.specs.Serial.{AfterBeginning, mutate, root_groups};
 ghost use Rattle.graphql_executor.specs.Executed.{IsBegun, IsBegunAt, IsResponse, Responds, run_at, runs};
 
 use crate::resolving::Resolving;
-use graphql_collect::{Fragments, Request};
-use graphql_execution::{
+use graphql_collected::{Fragments, Request};
+use graphql_execution_walk::{
     Asked, Executor, GraphQLValue, Report, answer_selections, or_null, query_root_name,
 };
 use graphql_field_results::{ExecutionError, in_order};
-use graphql_final_variables::FinalVariables;
 use graphql_mutation::{GraphQLMutationValue, answer_serially};
 use graphql_output_values::Value;
 use graphql_requests::Meaning;
@@ -27,6 +26,7 @@ use graphql_schema::{SchemaScalar, SchemaType};
 use graphql_text::{Items, SourcePosition, Spanning};
 use graphql_tree::{Definition, Operation, Selection};
 use graphql_values::Variables;
+use graphql_written_out::FinalVariables;
 use std::alloc::{AllocError, Global};
 
 /// Data, and the errors of fields without a value, in order (GraphQL October 2021, 7.1 Response Format).

@@ -3,7 +3,7 @@
 ghost use Rattle.std.specs.Prelude.{◌≡◌, Ok};
 
 use graphql_arguments::Arguments;
-use graphql_execution::{Executor, GraphQLValue};
+use graphql_execution_walk::{Executor, GraphQLValue};
 use graphql_field_results::{FieldFault, FieldResult, Resolved};
 use graphql_mutation::GraphQLMutationValue;
 use graphql_sample::{SampleNode, SampleRecords, SampleResolver};
@@ -50,7 +50,9 @@ impl GraphQLValue<DefaultScalarValue> for Refusing {
 
     type Node = SampleNode;
 
-    ghost use Rattle.std.specs.Prelude.{refl, Ok};
+    ghost use Rattle.std.specs.Prelude.{Ok};
+    ghost use Rattle.std.proofs.Common.{ap};
+    ghost use Rattle.graphql_sample.specs.SameTexts.{answered-alike};
     ghost use Rattle.graphql_sample.specs.Sample as spec;
     ghost use Rattle.graphql_sample.specs.declared.resolver.SampleNode.TheVariants as node;
 
@@ -58,9 +60,9 @@ impl GraphQLValue<DefaultScalarValue> for Refusing {
 
     ghost type_of = { λ _ _ n. spec.type_name n };
 
-    ghost answer = { λ _ context n field _. Ok (spec.answer context.records n field) };
+    ghost answer = { λ _ context n field given. Ok (spec.answer context.records n field given) };
 
-    ghost respects = { λ _ _ _ _ _ _ _. refl };
+    ghost respects = { λ _ context n field a b same. ap Ok (answered-alike context.records a b same n field) };
 
     ghost tells_distinct_keys = { λ _ _ _ _ _. record { beside = tt } };
 

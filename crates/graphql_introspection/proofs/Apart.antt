@@ -1,7 +1,7 @@
 -- Wraps apart.
 use Rattle.std.proofs.Common.{◌≡◌, ◌++◌, ◌∷◌, [], List, refl, Some, ap}
 use Rattle.std.specs.Option.{option_map_or}
-use Rattle.graphql_type_references.specs.declared.type_modifier.TypeModifier.{TypeModifier}
+use Rattle.graphql_names.specs.declared.type_modifier.TypeModifier.{TypeModifier}
 use Rattle.graphql_introspection.specs.TypeAnswers.{apart}
 
 pub apart_snoc : (ws : List TypeModifier) (w : TypeModifier) → apart (ws ++ w ∷ []) ≡ Some (w, ws)

@@ -46,7 +46,7 @@ module _ {S C : Type 0} (of_text : Bytes → S) (of_bool : Bool → S) (answer :
   abbrev pub answer_of : SchemaPart S C → Bytes → Given S → Answer S C
   answer_of part.Schema field given = of_schema of_text schema field
   answer_of (part.Type m wraps) field given =
-      of_type of_text answer schema.types m wraps field given
+      of_type of_text of_bool answer schema.types m wraps field given
   answer_of (part.Field f) field given = of_field of_text of_bool schema.types f field
   answer_of (part.InputValue a) field given = of_input_value of_text answer schema.types a field
   answer_of (part.EnumValue v) field given = of_enum_value of_text of_bool v field

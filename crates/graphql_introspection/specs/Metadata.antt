@@ -4,8 +4,8 @@ use Rattle.std.specs.Prelude.{◌++◌, ◌∷◌, [], Bool, false, List, map, S
 use Rattle.std.specs.Borrow.{Bor}
 use Rattle.graphql_names.specs.Names.{Bytes}
 use Rattle.graphql_values.specs.declared.input_value.InputValue.TheVariants as value
-use Rattle.graphql_type_references.specs.declared.type_modifier.TypeModifier.{TypeModifier}
-use Rattle.graphql_type_references.specs.declared.type_modifier.TypeModifier.TheVariants as modifier
+use Rattle.graphql_names.specs.declared.type_modifier.TypeModifier.{TypeModifier}
+use Rattle.graphql_names.specs.declared.type_modifier.TypeModifier.TheVariants as modifier
 use Rattle.graphql_schema.specs.declared.directive_location.DirectiveLocation.{DirectiveLocation}
 use Rattle.graphql_schema.specs.declared.directive_location.DirectiveLocation.TheVariants as location
 use Rattle.graphql_schema.specs.declared.introspection_checks.IntrospectionChecks.{IntrospectionChecks}
@@ -59,7 +59,7 @@ schema =
     ∷ (codes "directives", codes "__Directive", non_null_list, form.Plain)
     ∷ []
 
--- 4.2.2 The __Type Type
+-- 4.2.2 The __Type Type, with `isOneOf` of September 2025
 abbrev pub of_type : List Row
 of_type =
     (codes "name", codes "String", nullable, form.Plain)
@@ -72,6 +72,7 @@ of_type =
     ∷ (codes "interfaces", codes "__Type", list, form.Plain)
     ∷ (codes "possibleTypes", codes "__Type", list, form.Plain)
     ∷ (codes "enumValues", codes "__EnumValue", list, form.Including)
+    ∷ (codes "isOneOf", codes "Boolean", nullable, form.Plain)
     ∷ []
 
 -- 4.2.3 The __Field Type

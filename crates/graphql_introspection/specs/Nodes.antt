@@ -3,7 +3,7 @@ use Rattle.std.specs.Prelude.{List, [], map, Option}
 use Rattle.std.specs.Option.{option_map_or}
 use Rattle.std.specs.List.{filter_map}
 use Rattle.graphql_names.specs.Names.{Bytes}
-use Rattle.graphql_type_references.specs.declared.type_modifier.TypeModifier.{TypeModifier}
+use Rattle.graphql_names.specs.declared.type_modifier.TypeModifier.{TypeModifier}
 use Rattle.graphql_schema.specs.declared.directive.DirectiveType.{DirectiveType}
 use Rattle.graphql_schema.specs.declared.meta.argument.Argument.{Argument}
 use Rattle.graphql_schema.specs.declared.meta.enum_value.EnumValue.{EnumValue}

@@ -4,8 +4,8 @@ use Rattle.std.specs.Option.{option_map_or}
 use Rattle.std.specs.Str.{bytes_eq}
 use Rattle.graphql_names.specs.Names.{Bytes}
 use Rattle.graphql_scalars.specs.ScalarAnswers.{ScalarAnswer}
-use Rattle.graphql_type_references.specs.declared.type_modifier.TypeModifier.{TypeModifier}
-use Rattle.graphql_type_references.specs.declared.type_modifier.TypeModifier.TheVariants as modifier
+use Rattle.graphql_names.specs.declared.type_modifier.TypeModifier.{TypeModifier}
+use Rattle.graphql_names.specs.declared.type_modifier.TypeModifier.TheVariants as modifier
 use Rattle.graphql_schema.specs.declared.meta.MetaType.{MetaType}
 use Rattle.graphql_schema.specs.declared.meta.MetaType.TheVariants as meta
 use Rattle.graphql_schema.specs.declared.meta.type_kind.TypeKind.{TypeKind}
@@ -16,7 +16,7 @@ use Rattle.graphql_schema.specs.Possible.{possible_types}
 use Rattle.graphql_arguments.specs.ArgumentValues.{Given}
 use Rattle.graphql_field_results.specs.declared.resolved.Resolved.TheVariants as resolved
 use Rattle.graphql_introspection.specs.Given.{includes_deprecated}
-use Rattle.graphql_introspection.specs.Leaves.{kind_or_null, text_or_null}
+use Rattle.graphql_introspection.specs.Leaves.{kind_or_null, text_or_null, truth}
 use Rattle.graphql_introspection.specs.Nodes.{Answer, arguments, bare_types}
 use Rattle.graphql_introspection.specs.Nodes.{enum_values, fields, named_types, wrapped}
 use Rattle.graphql_introspection.specs.Told.{told_fields, told_values}
@@ -32,6 +32,11 @@ module _ {S C : Type 0} where
   abbrev pub input_fields_of : MetaType S C → Answer S C
   input_fields_of (meta.InputObject m) = arguments m.input_fields
   input_fields_of _ = resolved.Null
+
+  -- of an input object: whether exactly one field is given
+  abbrev pub is_one_of_or_null : (Bool → S) → MetaType S C → Answer S C
+  is_one_of_or_null of_bool (meta.InputObject m) = truth of_bool m.exactly_one
+  is_one_of_or_null of_bool _ = resolved.Null
 
   -- of an enum
   abbrev pub values_of : Bool → MetaType S C → Answer S C
@@ -53,7 +58,7 @@ module _ {S C : Type 0} (types : List (MetaType S C)) where
   possible_types_of _ = resolved.Null
 
 -- a named type
-module _ {S C : Type 0} (of_text : Bytes → S) (answer : S → ScalarAnswer) (types : List (MetaType S C)) where
+module _ {S C : Type 0} (of_text : Bytes → S) (of_bool : Bool → S) (answer : S → ScalarAnswer) (types : List (MetaType S C)) where
   abbrev pub of_named : MetaType S C → Bytes → Given S → Answer S C
   of_named m field given =
       if bytes_eq field (codes "kind") then kind_or_null of_text (kind_of m) else
@@ -65,7 +70,8 @@ module _ {S C : Type 0} (of_text : Bytes → S) (answer : S → ScalarAnswer) (t
       if bytes_eq field (codes "possibleTypes") then possible_types_of types m else
       if bytes_eq field (codes "enumValues")
       then values_of (includes_deprecated answer given) m else
-      if bytes_eq field (codes "inputFields") then input_fields_of m else resolved.Null
+      if bytes_eq field (codes "inputFields") then input_fields_of m else
+      if bytes_eq field (codes "isOneOf") then is_one_of_or_null of_bool m else resolved.Null
 
 -- the outermost wrap, and those within it
 abbrev pub Unwrapped : Type 0
@@ -87,9 +93,9 @@ of_wrapped of_text m wraps field =
     if bytes_eq field (codes "kind") then kind_or_null of_text (Some (kind_of_wrap wraps.0)) else
     if bytes_eq field (codes "ofType") then wrapped wraps.1 m else resolved.Null
 
-module _ {S C : Type 0} (of_text : Bytes → S) (answer : S → ScalarAnswer) (types : List (MetaType S C)) where
+module _ {S C : Type 0} (of_text : Bytes → S) (of_bool : Bool → S) (answer : S → ScalarAnswer) (types : List (MetaType S C)) where
   abbrev pub of_apart : MetaType S C → Option Unwrapped → Bytes → Given S → Answer S C
-  of_apart m None field given = of_named of_text answer types m field given
+  of_apart m None field given = of_named of_text of_bool answer types m field given
   of_apart m (Some wraps) field given = of_wrapped of_text m wraps field
 
   -- a type within its wraps, the innermost first

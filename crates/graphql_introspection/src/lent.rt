@@ -1,9 +1,9 @@
 //! What is lent, which contracts see as it is.
 
 ghost use Rattle.std.specs.Prelude.{◌≡◌, List};
-ghost use Rattle.graphql_type_references.specs.declared.type_modifier.TypeModifier.{TypeModifier};
+ghost use Rattle.graphql_names.specs.declared.type_modifier.TypeModifier.{TypeModifier};
 
-use graphql_type_references::TypeModifier;
+use graphql_names::TypeModifier;
 use std::marker::Model;
 
 /// A reference that contracts see as what it leads to.

@@ -7,14 +7,13 @@ ghost use Rattle.graphql_introspection.specs.Metadata as spec;
 use crate::names::{kind_name, location_name};
 use crate::part::PartKind;
 use crate::rows::{DIRECTIVE_LOCATIONS, FieldForm, FieldRow, OBJECTS, TYPE_KINDS, rows_of};
-use graphql_names::NamedItems;
+use graphql_names::{NamedItems, Type, TypeModifier};
 use graphql_scalars::ScalarValue;
 use graphql_schema::{
     Argument, DeprecationStatus, DirectiveLocation, EnumMeta, EnumValue, Field,
     IntrospectionChecks, MetaType, ObjectMeta, SchemaScalar, TypeKind,
 };
 use graphql_text::{Items, Text};
-use graphql_type_references::{Type, TypeModifier};
 use graphql_values::InputValue;
 use std::alloc::{AllocError, Global};
 

@@ -10,11 +10,11 @@ use crate::lent::{Lent, LentWraps};
 use crate::part::SchemaPart;
 use crate::told::{is_told, is_told_field};
 use graphql_field_results::Resolved;
+use graphql_names::{Type, TypeModifier};
 use graphql_schema::{
     Argument, DirectiveType, EnumValue, Field, MetaType, SchemaScalar, SchemaType,
 };
 use graphql_text::{Items, Text};
-use graphql_type_references::{Type, TypeModifier};
 use std::alloc::{AllocError, Global};
 
 /// What a part of a schema answers for a field: a scalar, a part, a list of these, or `null`.

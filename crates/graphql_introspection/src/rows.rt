@@ -4,8 +4,8 @@ ghost use Rattle.std.specs.Prelude.{◌≡◌, map};
 ghost use Rattle.graphql_introspection.specs.Metadata as spec;
 
 use crate::part::PartKind;
+use graphql_names::TypeModifier;
 use graphql_schema::{DirectiveLocation, TypeKind};
-use graphql_type_references::TypeModifier;
 
 /// What a field of introspection takes, and whether it is deprecated.
 #[derive(Clone, Copy)]
@@ -61,6 +61,7 @@ const TYPE: &[FieldRow] = &[
     ("interfaces", "__Type", LIST, FieldForm::Plain),
     ("possibleTypes", "__Type", LIST, FieldForm::Plain),
     ("enumValues", "__EnumValue", LIST, FieldForm::Including),
+    ("isOneOf", "Boolean", NULLABLE, FieldForm::Plain),
 ];
 
 const FIELD: &[FieldRow] = &[

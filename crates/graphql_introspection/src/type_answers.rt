@@ -9,13 +9,13 @@ ghost use Rattle.graphql_introspection.specs.Nodes as nodes;
 ghost use Rattle.graphql_introspection.specs.TypeAnswers as spec;
 
 use crate::given::includes_deprecated;
-use crate::leaves::{kind_or_null, text_or_null};
+use crate::leaves::{kind_or_null, text_or_null, truth};
 use crate::nodes::{SchemaAnswer, arguments, bare_types, enum_values, fields, wrapped};
 use graphql_arguments::Arguments;
 use graphql_field_results::Resolved;
+use graphql_names::TypeModifier;
 use graphql_schema::{MetaType, SchemaScalar, SchemaType, TypeKind};
 use graphql_text::{Items, Text};
-use graphql_type_references::TypeModifier;
 use std::alloc::{AllocError, Global};
 
 /// The fields of an object or an interface; `null` of any other type. An error is want of memory.
@@ -43,6 +43,16 @@ fn input_fields_of<'s, S: SchemaScalar + Drop>(
     match meta {
         MetaType::InputObject(object) => arguments(alloc, object.input_fields.as_slice()),
         _ => Ok(Resolved::Null),
+    }
+}
+
+/// Whether exactly one field is given of the values of an input object; `null` of any other type.
+fn is_one_of_or_null<'s, S: SchemaScalar>(meta: &MetaType<S>) -> SchemaAnswer<'s, S>
+    ensures { result ≡ spec.is_one_of_or_null S.of_bool meta.now }
+{
+    match meta {
+        MetaType::InputObject(object) => truth(object.is_one_of()),
+        _ => Resolved::Null,
     }
 }
 
@@ -133,7 +143,7 @@ fn of_named<'s, S: SchemaScalar + Drop>(
     field: &str,
     arguments: &Arguments<'_, S>,
 ) -> Result<SchemaAnswer<'s, S>, AllocError>
-    ensures { Gives result (spec.of_named S.of_text S.answer schema.now.types meta.now field.now (arguments_told arguments.now)) }
+    ensures { Gives result (spec.of_named S.of_text S.of_bool S.answer schema.now.types meta.now field.now (arguments_told arguments.now)) }
 {
     match field {
         "kind" => kind_or_null(alloc, meta.type_kind()),
@@ -145,6 +155,7 @@ fn of_named<'s, S: SchemaScalar + Drop>(
         "possibleTypes" => possible_types_of(alloc, schema, meta),
         "enumValues" => values_of(alloc, includes_deprecated(arguments), meta),
         "inputFields" => input_fields_of(alloc, meta),
+        "isOneOf" => Ok(is_one_of_or_null(meta)),
         _ => Ok(Resolved::Null),
     }
 }
@@ -187,7 +198,7 @@ pub fn of_type<'s, S: SchemaScalar + Drop>(
     field: &str,
     arguments: &Arguments<'_, S>,
 ) -> Result<SchemaAnswer<'s, S>, AllocError>
-    ensures { Gives result (spec.of_type S.of_text S.answer schema.now.types meta.now wraps.now field.now (arguments_told arguments.now)) }
+    ensures { Gives result (spec.of_type S.of_text S.of_bool S.answer schema.now.types meta.now wraps.now field.now (arguments_told arguments.now)) }
 {
     match wraps.split_last() {
         None => of_named(alloc, schema, meta, field, arguments),

@@ -22,10 +22,10 @@ use Rattle.graphql_introspection.specs.Given.{truth_layer}
 use Rattle.graphql_introspection.specs.TypeAnswers.{Unwrapped, apart, of_apart}
 use Rattle.graphql_introspection.specs.declared.part.SchemaPart.{SchemaPart}
 use Rattle.graphql_introspection.specs.declared.part.SchemaPart.TheVariants as part
-use Rattle.graphql_execution.specs.Asked.{Resolves, asked_answer, map_answer, map_nodes, or_asked, own_answer}
-use Rattle.graphql_execution.specs.Asked.{told_of_itself}
-use Rattle.graphql_execution.specs.declared.asked.Asked.{Asked}
-use Rattle.graphql_execution.specs.declared.asked.Asked.TheVariants as asked
+use Rattle.graphql_execution_walk.specs.Asked.{Resolves, asked_answer, map_answer, map_nodes, or_asked, own_answer}
+use Rattle.graphql_execution_walk.specs.Asked.{told_of_itself}
+use Rattle.graphql_execution_walk.specs.declared.asked.Asked.{Asked}
+use Rattle.graphql_execution_walk.specs.declared.asked.Asked.TheVariants as asked
 
 module _ {S : Type 0} (eq : S → S → Bool) where
   -- what is read of a value's outermost layer, where scalars that are the same are read the same
@@ -85,7 +85,7 @@ module _ {S C : Type 0} (of_text : Bytes → S) (of_bool : Bool → S) (answer :
       (Some (found schema.types (name-same eq answer answers_alike a b same i))) None))
 
   apart-same : (m : MetaType S C) (wraps : Option Unwrapped) (field : Bytes)
-      → of_apart of_text answer schema.types m wraps field a ≡ of_apart of_text answer schema.types m wraps field b
+      → of_apart of_text of_bool answer schema.types m wraps field a ≡ of_apart of_text of_bool answer schema.types m wraps field b
   apart-same m None field = rw (deprecated-same eq answer answers_alike a b same) refl
   apart-same m (Some wraps) field = refl
 

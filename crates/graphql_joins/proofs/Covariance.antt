@@ -25,9 +25,9 @@ use Rattle.graphql_schema.specs.Subtypes.{is_below, is_named_subtype}
 use Rattle.graphql_schema.specs.Types.{TypeOf, fields_of}
 use Rattle.graphql_schema.proofs.Executables.{once_passes}
 use Rattle.graphql_schema.proofs.ExecutableSchemas.{executable_has_field, executable_lists_all}
-use Rattle.graphql_declarations.specs.Lookups.{field_in, field_of, field_type, typename_field}
+use Rattle.graphql_occurrences.specs.DeclaredLookups.{field_in, field_of, field_type, typename_field}
 use Rattle.graphql_merging.specs.Members.{scope_of}
-use Rattle.graphql_merged_fields.specs.Chosen.{IsTypeAbove}
+use Rattle.graphql_merging.specs.Chosen.{IsTypeAbove}
 use Rattle.graphql_joins.specs.Laws.{TypesAreCovariant}
 
 is-listed : (names : List Bytes) (name : Bytes) → is_one_of names name ≡ true → Contains names name

@@ -9,7 +9,7 @@ use Rattle.std.proofs.lemmas.List.Folds.{list_any-append}
 use Rattle.graphql_names.specs.Names.{Bytes}
 use Rattle.graphql_written_out.specs.Fields.{Found}
 use Rattle.graphql_written_out.specs.Groups.{keys_after, keys, under}
-use Rattle.graphql_evaluation.proofs.GroupRepeats.{any-last}
+use Rattle.graphql_semantics.proofs.GroupRepeats.{any-last}
 
 abbrev pub has : Bytes → List Bytes → Bool
 has key = list_any (bytes_eq key)

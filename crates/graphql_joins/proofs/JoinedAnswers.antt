@@ -2,17 +2,17 @@
 use Rattle.std.proofs.Common.{◌≡◌, refl, Bool, true, false, List, [], ◌∷◌, map, Option, Some, None, Ok, Err, Result}
 use Rattle.std.specs.Option.{option_map}
 use Rattle.graphql_names.specs.Names.{Bytes}
-use Rattle.graphql_type_references.specs.declared.type_modifier.TypeModifier.{TypeModifier}
-use Rattle.graphql_type_references.specs.declared.type_modifier.TypeModifier.TheVariants as modifier
+use Rattle.graphql_names.specs.declared.type_modifier.TypeModifier.{TypeModifier}
+use Rattle.graphql_names.specs.declared.type_modifier.TypeModifier.TheVariants as modifier
 use Rattle.graphql_output_values.specs.declared.value.Value.{Value}
 use Rattle.graphql_output_values.specs.declared.value.Value.TheVariants as value
 use Rattle.graphql_field_results.specs.declared.execution_error.ExecutionError.{ExecutionError}
 use Rattle.graphql_field_results.specs.declared.field_error.FieldError.{FieldError}
 use Rattle.graphql_field_results.specs.declared.resolved.Resolved.{Resolved, out-Resolved}
 use Rattle.graphql_field_results.specs.declared.resolved.Resolved.TheOpen.{Resolved-F}
-use Rattle.graphql_evaluation.specs.Outcomes.{Outcome, both, shown, show_place, together}
-use Rattle.graphql_evaluation.specs.Completion.{Members, object_members, is_required, run_if, leaf_if, at_name, at_list}
-use Rattle.graphql_evaluation.specs.Completion.{at_required, complete, complete_result}
+use Rattle.graphql_semantics.specs.Outcomes.{Outcome, both, shown, show_place, together}
+use Rattle.graphql_semantics.specs.Completion.{Members, object_members, is_required, run_if, leaf_if, at_name, at_list}
+use Rattle.graphql_semantics.specs.Completion.{at_required, complete, complete_result}
 use Rattle.graphql_joins.specs.Joins.{IsJoin, null_first, null_second, same_scalar, lists, objects, ItemsJoin, no_items}
 use Rattle.graphql_joins.specs.Joins.{more_items, MembersJoin, JoinsIfThere, none_first, none_second, both_there}
 

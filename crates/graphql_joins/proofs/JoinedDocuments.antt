@@ -13,9 +13,9 @@ use Rattle.graphql_written_out.specs.Written.{written}
 use Rattle.graphql_merging.specs.Members.{Member, members}
 use Rattle.graphql_merging.specs.Merging.{Merging}
 use Rattle.graphql_merging.specs.Sets.{Set}
-use Rattle.graphql_merged_fields.specs.Chosen.{IsAbove}
-use Rattle.graphql_execution.specs.Engines.{engine_over}
-use Rattle.graphql_execution.specs.declared.asked.Asked.{Asked}
+use Rattle.graphql_merging.specs.Chosen.{IsAbove}
+use Rattle.graphql_execution_walk.specs.Engines.{engine_over}
+use Rattle.graphql_execution_walk.specs.declared.asked.Asked.{Asked}
 use Rattle.graphql_rules_document.proofs.KnownFieldTypes.{field-types-are-known}
 use Rattle.graphql_validation.proofs.WellFormedLemmas.{well_formed}
 use Rattle.graphql_joins.proofs.Selections.{selections-join}

@@ -10,8 +10,8 @@ use Rattle.graphql_names.specs.Names.{Bytes}
 use Rattle.graphql_names.proofs.NameLemmas.{eq_either_way}
 use Rattle.graphql_output_values.specs.Objects.{Pair, field_value}
 use Rattle.graphql_output_values.specs.declared.value.Value.{Value}
-use Rattle.graphql_evaluation.specs.Completion.{Members}
-use Rattle.graphql_evaluation.specs.Outcomes.{both}
+use Rattle.graphql_semantics.specs.Completion.{Members}
+use Rattle.graphql_semantics.specs.Outcomes.{both}
 use Rattle.graphql_joins.specs.Joins.{IsJoin, MembersJoin, new_keys, key_of_both, key_of_first, JoinsIfThere}
 use Rattle.graphql_joins.specs.Joins.{none_first, none_second, both_there, without}
 use Rattle.graphql_joins.proofs.JoinKeys.{has, lacks, Once}

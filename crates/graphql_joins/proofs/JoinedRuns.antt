@@ -18,15 +18,15 @@ use Rattle.graphql_written_out.specs.Groups.{keys, under, groups}
 use Rattle.graphql_merging.specs.Members.{Member}
 use Rattle.graphql_merging.specs.Merging.{SameField}
 use Rattle.graphql_merging.specs.Sets.{Set}
-use Rattle.graphql_merged_fields.specs.Chosen.{found_of, under_key, own_set, chosen_of, chosen_of_all, IsAbove}
-use Rattle.graphql_merged_fields.proofs.ChosenMembers.{from-sets}
-use Rattle.graphql_merged_fields.proofs.OneObject.{one-field, own-sets-merge, under-has}
-use Rattle.graphql_evaluation.specs.Engines.{Engine}
-use Rattle.graphql_evaluation.specs.Outcomes.{Outcome, together}
-use Rattle.graphql_evaluation.specs.Completion.{Members, blame_at, is_required}
-use Rattle.graphql_evaluation.specs.Evaluation.{Runs, sets_below, at_declared, group, keyed, found_in, run, highest}
-use Rattle.graphql_evaluation.specs.Evaluation.{evaluate}
-use Rattle.graphql_evaluation.proofs.Depths.{evaluate-run}
+use Rattle.graphql_merging.specs.Chosen.{found_of, under_key, own_set, chosen_of, chosen_of_all, IsAbove}
+use Rattle.graphql_merging.proofs.ChosenMembers.{from-sets}
+use Rattle.graphql_merging.proofs.OneObject.{one-field, own-sets-merge, under-has}
+use Rattle.graphql_semantics.specs.Engines.{Engine}
+use Rattle.graphql_semantics.specs.Outcomes.{Outcome, together}
+use Rattle.graphql_semantics.specs.Completion.{Members, blame_at, is_required}
+use Rattle.graphql_semantics.specs.Evaluation.{Runs, sets_below, at_declared, group, keyed, found_in, run, highest}
+use Rattle.graphql_semantics.specs.Evaluation.{evaluate}
+use Rattle.graphql_semantics.proofs.Depths.{evaluate-run}
 use Rattle.graphql_joins.specs.Laws.{trees, FitTogether, IsSound, OutcomesJoin, OwnSetsFitTogether, SetsJoin}
 use Rattle.graphql_joins.specs.Joins.{both_there, new_keys}
 use Rattle.graphql_joins.specs.Typed.{HasDistinctArguments}

@@ -5,7 +5,7 @@ use Rattle.graphql_output_values.specs.declared.object.Object.{Object}
 use Rattle.graphql_output_values.specs.declared.value.Value.{Value, out-Value}
 use Rattle.graphql_output_values.specs.declared.value.Value.TheOpen.{Value-F}
 use Rattle.graphql_output_values.specs.declared.value.Value.TheVariants as value
-use Rattle.graphql_evaluation.specs.Completion.{Members}
+use Rattle.graphql_semantics.specs.Completion.{Members}
 use Rattle.graphql_joins.specs.Joins.{IsJoin, null_first, null_second, same_scalar, lists, objects, ItemsJoin, no_items}
 use Rattle.graphql_joins.specs.Joins.{more_items, MembersJoin, new_keys, key_of_both, key_of_first, without}
 use Rattle.graphql_joins.specs.Laws.{JoinsAreOne}

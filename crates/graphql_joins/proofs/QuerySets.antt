@@ -17,9 +17,9 @@ use Rattle.graphql_schema.specs.declared.meta.MetaType.{MetaType}
 use Rattle.graphql_schema.specs.declared.meta.MetaType.TheVariants as meta
 use Rattle.graphql_schema.specs.declared.schema.SchemaType.{SchemaType}
 use Rattle.graphql_schema.proofs.RootLemmas.{query_is_object}
-use Rattle.graphql_declarations.specs.Lookups.{root_of}
+use Rattle.graphql_occurrences.specs.DeclaredLookups.{root_of}
 use Rattle.graphql_merging.specs.Members.{Scope}
-use Rattle.graphql_execution.specs.FieldDeclarations.{are_possible, is_possible_named}
+use Rattle.graphql_execution_walk.specs.FieldDeclarations.{are_possible, is_possible_named}
 use Rattle.graphql_joins.specs.RequestLaws.{IsSetOf, of_operation, QueriesStand}
 
 module _ {S C : Type 0} (schema : SchemaType S C) where

@@ -21,8 +21,8 @@ use Rattle.graphql_tree.specs.declared.selection.Field.{Field}
 use Rattle.graphql_tree.specs.declared.selection.Selection.{Selection}
 use Rattle.graphql_tree.specs.declared.selection.Selection.TheVariants as selection
 use Rattle.graphql_schema.proofs.Rows.{being, beings, beings_schema, query_type}
-use Rattle.graphql_scopes.proofs.Rows.{put, select}
-use Rattle.graphql_execution.specs.FieldDeclarations.{is_possible_named}
+use Rattle.graphql_rules_document.proofs.ScopeRows.{put, select}
+use Rattle.graphql_execution_walk.specs.FieldDeclarations.{is_possible_named}
 use Rattle.graphql_joins.specs.RequestLaws.{IsSetOf, of_operation, of_field}
 
 -- `name` and `friend { name }`

@@ -12,7 +12,7 @@ use Rattle.graphql_values.specs.InputValues.{unplaced}
 use Rattle.graphql_values.specs.SameValue.{SameValue}
 use Rattle.graphql_values.specs.declared.input_value.InputValue.{InputValue}
 use Rattle.graphql_tree.specs.Arguments.{Argument}
-use Rattle.graphql_final_variables.specs.Filled.{filled}
+use Rattle.graphql_written_out.specs.Filled.{filled}
 use Rattle.graphql_schema.specs.declared.meta.argument.Argument.{Argument as Declared}
 use Rattle.graphql_arguments.specs.ArgumentValues.{Given, Value, absent_defaults, argument_values, has_value}
 use Rattle.graphql_arguments.specs.ArgumentValues.{value_named, written_values}

@@ -14,8 +14,8 @@ use Rattle.graphql_values.specs.declared.input_value.InputValue.{InputValue}
 use Rattle.graphql_values.specs.declared.input_value.InputValue.TheVariants as value
 use Rattle.graphql_values.proofs.InputValueEquations.{fold_null, fold_scalar, fold_enum, fold_variable}
 use Rattle.graphql_values.proofs.SameValueLaws.{same_as_itself}
-use Rattle.graphql_final_variables.specs.Filled.{filled, filled_item, filled_layer, filled_pair, value_or_null}
-use Rattle.graphql_final_variables.proofs.FilledEquations.{filled_list, filled_object}
+use Rattle.graphql_written_out.specs.Filled.{filled, filled_item, filled_layer, filled_pair, value_or_null}
+use Rattle.graphql_written_out.proofs.FilledEquations.{filled_list, filled_object}
 use Rattle.graphql_arguments.specs.SameArguments.{SameGiven}
 
 module _ {S : Type 0} (eq : S → S → Bool) (laws : IsEquivalence eq) (given : Bytes → Option (InputValue S)) where

@@ -19,12 +19,12 @@ use Rattle.graphql_written_out.proofs.Layers.{one-deep, fields-written}
 use Rattle.graphql_merging.specs.Members.{Member, Scope, members}
 use Rattle.graphql_merging.specs.Merging.{Merging}
 use Rattle.graphql_merging.specs.Sets.{Set}
-use Rattle.graphql_merged_fields.specs.Chosen.{IsAbove}
-use Rattle.graphql_evaluation.specs.Engines.{Engine}
-use Rattle.graphql_evaluation.specs.Outcomes.{together}
-use Rattle.graphql_evaluation.specs.Evaluation.{evaluate, found_in, keyed}
-use Rattle.graphql_evaluation.proofs.RepeatLemmas.{adds-all}
-use Rattle.graphql_evaluation.proofs.RunRepeats.{evaluate-groups}
+use Rattle.graphql_merging.specs.Chosen.{IsAbove}
+use Rattle.graphql_semantics.specs.Engines.{Engine}
+use Rattle.graphql_semantics.specs.Outcomes.{together}
+use Rattle.graphql_semantics.specs.Evaluation.{evaluate, found_in, keyed}
+use Rattle.graphql_semantics.proofs.RepeatLemmas.{adds-all}
+use Rattle.graphql_semantics.proofs.RunRepeats.{evaluate-groups}
 use Rattle.graphql_joins.specs.Laws.{OutcomesJoin, SelectionsJoin}
 use Rattle.graphql_joins.specs.Typed.{IsTyped}
 use Rattle.graphql_joins.proofs.JoinedRuns.{sets-joined}

@@ -18,13 +18,13 @@ use Rattle.graphql_schema.specs.Types.{TypeOf}
 use Rattle.graphql_written_out.specs.Trees.{Head}
 use Rattle.graphql_merging.specs.Members.{scope_of}
 use Rattle.graphql_merging.specs.Merging.{SameArguments}
-use Rattle.graphql_merged_fields.specs.Chosen.{IsTypeAbove}
-use Rattle.graphql_merged_fields.proofs.OneObject.{one-object}
-use Rattle.graphql_execution.specs.Asked.{Resolves, asked_answer}
-use Rattle.graphql_execution.specs.Engines.{arguments_over, engine_over}
-use Rattle.graphql_execution.specs.FieldDeclarations.{are_possible, declared_arguments, declared_type}
-use Rattle.graphql_execution.specs.FieldDeclarations.{is_possible_named}
-use Rattle.graphql_execution.specs.declared.asked.Asked.{Asked}
+use Rattle.graphql_merging.specs.Chosen.{IsTypeAbove}
+use Rattle.graphql_merging.proofs.OneObject.{one-object}
+use Rattle.graphql_execution_walk.specs.Asked.{Resolves, asked_answer}
+use Rattle.graphql_execution_walk.specs.Engines.{arguments_over, engine_over}
+use Rattle.graphql_execution_walk.specs.FieldDeclarations.{are_possible, declared_arguments, declared_type}
+use Rattle.graphql_execution_walk.specs.FieldDeclarations.{is_possible_named}
+use Rattle.graphql_execution_walk.specs.declared.asked.Asked.{Asked}
 use Rattle.graphql_joins.specs.Laws.{IsSound}
 use Rattle.graphql_joins.specs.RequestLaws.{EqualsAnswerAlike, RespectsArguments}
 use Rattle.graphql_joins.specs.Typed.{HasDistinctArguments}

@@ -25,7 +25,7 @@ use Rattle.graphql_schema.specs.declared.meta.MetaType.{MetaType}
 use Rattle.graphql_schema.specs.Declarations.{Declarations}
 use Rattle.graphql_schema.specs.Lookups.{own_name, type_named}
 use Rattle.graphql_schema.specs.Types.{TypeOf}
-use Rattle.graphql_declarations.specs.Lookups.{known, root_of}
+use Rattle.graphql_occurrences.specs.DeclaredLookups.{known, root_of}
 use Rattle.graphql_occurrences.specs.Lookups.{location_of}
 use Rattle.graphql_occurrences.specs.Occurrences.{definition_parts, directives_parts, occurrences, set_parts}
 use Rattle.graphql_occurrences.specs.Occurrences.{variable_parts}

@@ -19,7 +19,7 @@ use Rattle.graphql_tree.proofs.SelectionInduction.{selection_ind}
 use Rattle.graphql_schema.specs.declared.directive_location.DirectiveLocation.TheVariants as location
 use Rattle.graphql_schema.specs.declared.meta.MetaType.{MetaType}
 use Rattle.graphql_schema.specs.Declarations.{Declarations}
-use Rattle.graphql_declarations.specs.Lookups.{field_in, field_type, known, referred}
+use Rattle.graphql_occurrences.specs.DeclaredLookups.{field_in, field_type, known, referred}
 use Rattle.graphql_occurrences.specs.Lookups.{argument_place, field_arguments}
 use Rattle.graphql_occurrences.specs.Occurrences.{directives_parts, placed_parts, selection_parts, set_parts}
 use Rattle.graphql_occurrences.specs.Occurrences.{type_inside, under}
@@ -28,7 +28,7 @@ use Rattle.graphql_occurrences.proofs.OccurrenceEquations.{parts_field, parts_in
 use Rattle.graphql_written_out.specs.Trees.{Directives, Tree, none}
 use Rattle.graphql_written_out.specs.Written.{Before, chain, fragment_meant, listed, spread_as, write, write_with}
 use Rattle.graphql_written_out.proofs.WrittenEquations.{write_field, write_spread, write_inline}
-use Rattle.graphql_rules_local.specs.Laws.{AreDistinct}
+use Rattle.graphql_rules.specs.Laws.{AreDistinct}
 use Rattle.graphql_rules_document.specs.Counted.{AreKnown, FieldTypesAreKnown}
 use Rattle.graphql_rules_document.proofs.CountedSpreads.{among-types, known-left, known-right, value-of}
 use Rattle.graphql_rules_document.proofs.ListItems.{all-first, all-after}

@@ -11,7 +11,7 @@ use Rattle.graphql_written_out.specs.Fields.{Found, applies, fields}
 use Rattle.graphql_merging.specs.Members.{Member, Scope, inside, scope_of}
 use Rattle.graphql_merging.specs.Sets.{Set}
 use Rattle.graphql_merging.proofs.Nested.{one-only, in-nothing}
-use Rattle.graphql_merged_fields.specs.Chosen.{found_of, own_set, chosen, chosen_of, chosen_of_all, IsAbove}
+use Rattle.graphql_merging.specs.Chosen.{found_of, own_set, chosen, chosen_of, chosen_of_all, IsAbove}
 use Rattle.graphql_joins.specs.Laws.{trees}
 use Rattle.graphql_joins.specs.Typed.{AreTyped, HasDistinctArguments, IsTyped}
 

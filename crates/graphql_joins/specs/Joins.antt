@@ -7,7 +7,7 @@ use Rattle.graphql_names.specs.Names.{Bytes}
 use Rattle.graphql_output_values.specs.Objects.{Pair, field_value}
 use Rattle.graphql_output_values.specs.declared.value.Value.{Value}
 use Rattle.graphql_output_values.specs.declared.value.Value.TheVariants as value
-use Rattle.graphql_evaluation.specs.Completion.{Members, object_members}
+use Rattle.graphql_semantics.specs.Completion.{Members, object_members}
 
 -- the members of all keys but one
 abbrev pub without : {A : Type 0} → Bytes → List (Pair A) → List (Pair A)

@@ -17,18 +17,18 @@ use Rattle.graphql_tree.specs.declared.document.Fragment.{Fragment}
 use Rattle.graphql_tree.specs.declared.selection.Selection.{Selection}
 use Rattle.graphql_written_out.specs.Trees.{Head, Tree}
 use Rattle.graphql_written_out.specs.Written.{written}
-use Rattle.graphql_declarations.specs.Lookups.{field_of, field_type}
+use Rattle.graphql_occurrences.specs.DeclaredLookups.{field_of, field_type}
 use Rattle.graphql_arguments.specs.ArgumentValues.{argument_values}
 use Rattle.graphql_arguments.specs.SameArguments.{SameArguments as SameUnderNames}
 use Rattle.graphql_merging.specs.Members.{Member, members, scope_of}
 use Rattle.graphql_merging.specs.Merging.{Merging, SameArguments}
 use Rattle.graphql_merging.specs.Sets.{Set}
-use Rattle.graphql_merged_fields.specs.Chosen.{IsAbove, IsTypeAbove, OneObject}
-use Rattle.graphql_merged_fields.specs.Chosen.{chosen_of_all, members_of_all, own_set, under_key}
-use Rattle.graphql_evaluation.specs.Completion.{Members}
-use Rattle.graphql_evaluation.specs.Engines.{Engine}
-use Rattle.graphql_evaluation.specs.Evaluation.{evaluate}
-use Rattle.graphql_evaluation.specs.Outcomes.{Outcome}
+use Rattle.graphql_merging.specs.Chosen.{IsAbove, IsTypeAbove, OneObject}
+use Rattle.graphql_merging.specs.Chosen.{chosen_of_all, members_of_all, own_set, under_key}
+use Rattle.graphql_semantics.specs.Completion.{Members}
+use Rattle.graphql_semantics.specs.Engines.{Engine}
+use Rattle.graphql_semantics.specs.Evaluation.{evaluate}
+use Rattle.graphql_semantics.specs.Outcomes.{Outcome}
 use Rattle.graphql_output_values.specs.declared.value.Value.{Value}
 use Rattle.graphql_joins.specs.Joins.{IsJoin, JoinsIfThere, MembersJoin}
 use Rattle.graphql_joins.specs.Typed.{AreTyped, AreDistinct, HasDistinctArguments, IsTyped}

@@ -23,18 +23,18 @@ use Rattle.graphql_schema.specs.Schemas.{roots_of}
 use Rattle.graphql_schema.specs.Subtypes.{is_named_subtype}
 use Rattle.graphql_schema.specs.declared.meta.MetaType.{MetaType}
 use Rattle.graphql_schema.specs.declared.schema.SchemaType.{SchemaType}
-use Rattle.graphql_declarations.specs.Lookups.{known, root_of}
+use Rattle.graphql_occurrences.specs.DeclaredLookups.{known, root_of}
 use Rattle.graphql_written_out.specs.Written.{condition_of, written}
 use Rattle.graphql_merging.specs.Members.{Scope, inside, scope_of}
 use Rattle.graphql_arguments.specs.ArgumentValues.{Given}
 use Rattle.graphql_arguments.specs.SameArguments.{SameArguments}
-use Rattle.graphql_evaluation.specs.Completion.{Members}
-use Rattle.graphql_evaluation.specs.Evaluation.{evaluate}
-use Rattle.graphql_evaluation.specs.Outcomes.{Outcome}
-use Rattle.graphql_execution.specs.Asked.{Resolves}
-use Rattle.graphql_execution.specs.Engines.{engine_over}
-use Rattle.graphql_execution.specs.FieldDeclarations.{is_possible_named}
-use Rattle.graphql_execution.specs.declared.asked.Asked.{Asked}
+use Rattle.graphql_semantics.specs.Completion.{Members}
+use Rattle.graphql_semantics.specs.Evaluation.{evaluate}
+use Rattle.graphql_semantics.specs.Outcomes.{Outcome}
+use Rattle.graphql_execution_walk.specs.Asked.{Resolves}
+use Rattle.graphql_execution_walk.specs.Engines.{engine_over}
+use Rattle.graphql_execution_walk.specs.FieldDeclarations.{is_possible_named}
+use Rattle.graphql_execution_walk.specs.declared.asked.Asked.{Asked}
 use Rattle.graphql_validation.specs.AllRules.{IsValid}
 use Rattle.graphql_joins.specs.Laws.{FitTogether, IsSound, OutcomesJoin}
 

@@ -9,3 +9,10 @@ pub mod SelectionParts
 pub mod OpenSets
 pub mod DocumentParts
 pub mod DocumentReadings
+pub mod Calls
+pub mod Lists
+pub mod NextTokens
+pub mod SpelledLists
+pub mod Leaves
+pub mod TypeFronts
+pub mod LiteralLaws

@@ -7,3 +7,8 @@ pub mod Texts
 pub mod Alike
 pub mod ReadDefinitions
 pub mod TokenTexts
+pub mod Parser
+pub mod Lists
+pub mod SpelledLists
+pub mod Leaves
+pub mod Literals

@@ -4,7 +4,7 @@
 ghost use Rattle.graphql_language.specs.Alike.{DifferInPlaces, RefusedAlike};
 ghost use Rattle.graphql_language.specs.Texts.{OneDocument, DocumentOrRefused, NotBoth, OneFault};
 
-pub use graphql_parser::laws::{
+pub use crate::parser_laws::{
     Production, lists_are_spelled, lists_leave_the_rest, type_or_refused, value_or_refused,
 };
 use graphql_values::ScalarValue;

@@ -6,16 +6,22 @@
 //! tokens beside its tree makes [`TokenRecords`] once, and takes both of them. What a document is,
 //! production by production, is said by the relations in `specs/Documents.antt` and the files that it
 //! names, in the words of the standard's grammar.
+//!
+//! [`Parser`] is what users call token by token: single tokens and names, lists between two tokens by
+//! a function that reads an item, values and type references. After a refusal it has failed, and
+//! answers that refusal again. What a call may answer, and what it leaves of the text, is said by the
+//! relations in `specs/Parser.antt` and `specs/Lists.antt`.
 #![tactic(auto)]
 
 pub mod laws;
 mod parse;
+mod parser;
+pub mod parser_laws;
 mod source;
 mod texts;
 
 pub use graphql_lexer::{Lexer, TokenRecords, TokenText, TokenTexts, lex_all};
 pub use graphql_output_values::{IntoValue, Object, Value};
-pub use graphql_parser::{Parser, parse_type, parse_value_literal};
 pub use graphql_scalars::{
     CheckError, DefaultScalarValue, FromScalarValue, ParseScalarResult, ParseScalarValue, Scalar,
     ScalarValue, ToScalarValue, TryToPrimitive, WrongInputScalarTypeError,
@@ -33,5 +39,6 @@ pub use graphql_values::{
     IntoInputValue, Name, NameParseError, ToInputValue, Type, TypeModifier, TypeModifiers,
     Variables,
 };
+pub use parser::{Parser, parse_type, parse_value_literal};
 pub use source::{parse_document_records, parse_document_source};
 pub use texts::token_texts;

@@ -4,8 +4,8 @@ use Rattle.std.specs.List.{All, Contains}
 use Rattle.std.proofs.lemmas.List.Elements.{All-contains, All-contains_itself, All-weaker}
 use Rattle.graphql_names.specs.Names.{Bytes}
 use Rattle.graphql_occurrences.specs.Parts.{Use, VariablePart}
-use Rattle.graphql_scopes.specs.Reached.{uses_from}
-use Rattle.graphql_scopes.specs.Scopes.{FragmentScope, OperationScope}
+use Rattle.graphql_rules_document.specs.Reached.{uses_from}
+use Rattle.graphql_rules_document.specs.Scopes.{FragmentScope, OperationScope}
 use Rattle.graphql_rules_document.specs.Laws.{UsesAreReached}
 use Rattle.graphql_rules_merging.proofs.Lists.{map_has, map_of}
 use Rattle.graphql_law_rows.specs.KeptRules.{IsUseIn}

@@ -2,8 +2,8 @@
 use Rattle.std.proofs.Common.{◌≡◌, subst, None, Result, Ok, Err}
 use Rattle.std.specs.Prelude.{MatchOption}
 use Rattle.graphql_grammar.specs.Input.{Input, Fault}
-use Rattle.graphql_parser.specs.Literals.{NeverBoth, OneRefusal}
-use Rattle.graphql_parser.specs.Parser.{Calls, CallsFresh, RefusesAgain, Rule, State}
+use Rattle.graphql_language.specs.Literals.{NeverBoth, OneRefusal}
+use Rattle.graphql_language.specs.Parser.{Calls, CallsFresh, RefusesAgain, Rule, State}
 use Rattle.graphql_law_rows.specs.OnlyAnswers.{AnsweredAlone}
 
 module _ {A : Type 0} (rule : Rule A) (never_both : NeverBoth rule) (one_fault : OneRefusal rule) where

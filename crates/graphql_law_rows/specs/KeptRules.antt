@@ -24,12 +24,12 @@ use Rattle.graphql_occurrences.specs.Parts.{
   ObjectOf,
   VariableDefined,
 }
-use Rattle.graphql_scopes.specs.Reached.{IsReached}
-use Rattle.graphql_scopes.specs.Scopes.{FragmentScope, OperationScope}
+use Rattle.graphql_rules_document.specs.Reached.{IsReached}
+use Rattle.graphql_rules_document.specs.Scopes.{FragmentScope, OperationScope}
 use Rattle.graphql_visitors.specs.Subjects.{Subject}
 use Rattle.graphql_rules_document.specs.VariablesInAllowedPosition.{is_allowed}
-use Rattle.graphql_rules_local.specs.Laws.{AreDeclared, AreDistinct, AreProvided, EachOf, IsKnownAs, IsPlaced, IsSelected, MayApply}
-use Rattle.graphql_rules_values.specs.Laws.{ArgumentsFit, DefaultFits}
+use Rattle.graphql_rules.specs.Laws.{AreDeclared, AreDistinct, AreProvided, EachOf, IsKnownAs, IsPlaced, IsSelected, MayApply}
+use Rattle.graphql_rules.specs.Laws.{ArgumentsFit, DefaultFits}
 use Rattle.graphql_validation.specs.FirstStage.{parts, scopes}
 
 -- a use of a variable in an operation, or in a fragment that it reaches

@@ -2,7 +2,7 @@
 use Rattle.std.specs.Prelude.{◌≡◌, Some, Result, Ok, Err}
 use Rattle.graphql_text.specs.Memory.{UnlessMemory}
 use Rattle.graphql_grammar.specs.Input.{Input, Fault, IsMemory}
-use Rattle.graphql_parser.specs.Parser.{Rule, State}
+use Rattle.graphql_language.specs.Parser.{Rule, State}
 
 module _ {A : Type 0} (rule : Rule A) (i : Input) where
   -- by a rule, nothing is refused at an input

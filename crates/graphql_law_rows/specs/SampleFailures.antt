@@ -6,9 +6,9 @@ use Rattle.graphql_schema.specs.Types.{reference_to}
 use Rattle.graphql_written_out.specs.Trees.{Head, Tree, none, field}
 use Rattle.graphql_field_results.specs.declared.execution_error.ExecutionError.{ExecutionError}
 use Rattle.graphql_field_results.specs.declared.field_error.FieldError.{FieldError}
-use Rattle.graphql_evaluation.specs.Completion.{blame_at, reason}
-use Rattle.graphql_evaluation.specs.Engines.{Engine}
-use Rattle.graphql_evaluation.specs.Evaluation.{evaluate}
+use Rattle.graphql_semantics.specs.Completion.{blame_at, reason}
+use Rattle.graphql_semantics.specs.Engines.{Engine}
+use Rattle.graphql_semantics.specs.Evaluation.{evaluate}
 use Rattle.graphql_law_rows.specs.SampleTokens.{at}
 
 abbrev pub no_answer : FieldError ℕ

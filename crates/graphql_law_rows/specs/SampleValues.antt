@@ -1,6 +1,6 @@
 -- Objects and input values, each in two orders.
 use Rattle.std.specs.Prelude.{ℕ, List, [], ◌∷◌, Option, Some, None, codes, ◌+◌}
-use Rattle.graphql_text.specs.Memory.{Text}
+use Rattle.graphql_text.specs.declared.text.Text.{Text}
 use Rattle.graphql_output_values.specs.Objects.{Pair}
 use Rattle.graphql_output_values.specs.declared.object.Object.{Object}
 use Rattle.graphql_output_values.specs.declared.value.Value.{Value}

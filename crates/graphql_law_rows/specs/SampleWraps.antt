@@ -1,7 +1,7 @@
 -- The wraps of two types, the outermost first.
 use Rattle.std.specs.Prelude.{List, [], ◌∷◌, None}
-use Rattle.graphql_type_references.specs.declared.type_modifier.TypeModifier.{TypeModifier}
-use Rattle.graphql_type_references.specs.declared.type_modifier.TypeModifier.TheVariants as modifier
+use Rattle.graphql_names.specs.declared.type_modifier.TypeModifier.{TypeModifier}
+use Rattle.graphql_names.specs.declared.type_modifier.TypeModifier.TheVariants as modifier
 
 -- of `[T!]!`
 abbrev pub without_null : List TypeModifier

@@ -1,19 +1,19 @@
 //! What becomes of literals once the values of variables are known, and which conform to a type.
 
 ghost use Rattle.std.specs.Prelude.{◌≡◌, ◌↔◌, true, IfOk, Some};
-ghost use Rattle.graphql_final_variables.specs.Filled.{filled};
+ghost use Rattle.graphql_written_out.specs.Filled.{filled};
 ghost use Rattle.graphql_literal_checks.specs.Conforms.{Conforms};
 ghost use Rattle.graphql_literal_checks.specs.declared.source.Source.TheVariants.{Literal};
 ghost use Rattle.graphql_values.specs.InputValues.{unlocated};
 ghost use Rattle.graphql_law_rows.specs.SampleLiterals as spec;
 
-use graphql_final_variables::laws::{agrees_with_constants, constants_stay};
 use graphql_literal_checks::laws::conforming_without_places;
 use graphql_literal_checks::validate_literal_value;
+use graphql_names::Type;
 use graphql_schema::{SchemaScalar, SchemaType};
 use graphql_text::Text;
-use graphql_type_references::Type;
 use graphql_values::InputValue;
+use graphql_written_out::laws::{agrees_with_constants, constants_stay};
 use std::alloc::{AllocError, Global};
 
 /// A list with a variable becomes the list with the variable's value, in which no variable stands, so that

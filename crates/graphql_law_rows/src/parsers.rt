@@ -2,7 +2,7 @@
 
 ghost use Rattle.std.specs.Prelude.{◌≡◌, None};
 ghost use Rattle.graphql_law_rows.specs.OnlyAnswers.{AnsweredAlone};
-ghost use Rattle.graphql_parser.specs.Literals.{NextType, NextValue};
+ghost use Rattle.graphql_language.specs.Literals.{NextType, NextValue};
 
 use graphql_language::laws::{type_or_refused, value_or_refused};
 use graphql_language::{Parser, parse_type, parse_value_literal};

@@ -5,8 +5,8 @@ ghost use Rattle.std.specs.Prelude.{◌≡◌, ◌↔◌, ℕ, false, length, tr
 ghost use Rattle.graphql_names.specs.Names.{Bytes};
 ghost use Rattle.graphql_occurrences.specs.Parts.{AField};
 ghost use Rattle.graphql_rules_document.specs.Ends.{EndsWithin, IsRanking};
-ghost use Rattle.graphql_rules_local.specs.DisableIntrospection.{introspects};
-ghost use Rattle.graphql_rules_local.specs.Laws.{EachOf, IsDeclaredField};
+ghost use Rattle.graphql_rules.specs.DisableIntrospection.{introspects};
+ghost use Rattle.graphql_rules.specs.Laws.{EachOf, IsDeclaredField};
 ghost use Rattle.graphql_schema.specs.Declarations.{declarations_of};
 ghost use Rattle.graphql_validation.specs.FirstStage.{parts};
 ghost use Rattle.graphql_validation.specs.Valid.{HasNoFault, HasNoFaultInScopes};

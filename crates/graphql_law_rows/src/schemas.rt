@@ -9,9 +9,9 @@ ghost use Rattle.graphql_schema.specs.Subtypes.{IsSubtypeOf, IsWrappedSubtype, i
 ghost use Rattle.graphql_schema.specs.Lookups.{is_object, type_named};
 ghost use Rattle.graphql_law_rows.specs.SampleWraps as wraps;
 
+use graphql_names::{Type, TypeModifier};
 use graphql_schema::{MetaType, SchemaType};
 use graphql_text::Text;
-use graphql_type_references::{Type, TypeModifier};
 use graphql_validation::laws::{
     overlap_is_symmetric, possible_is_below, subtype_is_reflexive, subtype_is_transitive,
     wrapped_subtype_decides,

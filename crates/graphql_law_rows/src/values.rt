@@ -3,7 +3,7 @@
 ghost use Rattle.std.specs.Prelude.{◌≡◌, [], ◌∷◌, Some, None, IfSome, nat_eq, true, codes};
 ghost use Rattle.std.specs.Map.{set_value};
 ghost use Rattle.std.specs.Str.{bytes_eq};
-ghost use Rattle.graphql_text.specs.Memory.{Text as Name};
+ghost use Rattle.graphql_text.specs.declared.text.Text.{Text as Name};
 ghost use Rattle.graphql_output_values.specs.DistinctKeys.{HasDistinctKeysThroughout, ObjectHasDistinctKeysThroughout};
 ghost use Rattle.graphql_output_values.specs.Equality.{equal, fields_equal};
 ghost use Rattle.graphql_output_values.specs.Laws.{StandIn};

@@ -2,12 +2,12 @@
 //! fault.
 
 ghost use Rattle.std.specs.Prelude.{◌≡◌, ◌++◌, IfOk, IsPermutation, false, true};
-ghost use Rattle.graphql_rules_document.specs.NoUnusedFragments.{never_reached};
+ghost use Rattle.graphql_rules_document.specs.NoUnusedFragments.{no_unused_fragments_faults};
 ghost use Rattle.graphql_rules_document.specs.Once.{said_of};
-ghost use Rattle.graphql_rules_local.specs.FieldsOnCorrectType.{unknown_field};
-ghost use Rattle.graphql_rules_local.specs.KnownFragmentNames.{unknown_fragment};
-ghost use Rattle.graphql_rules_local.specs.PossibleFragmentSpreads.{impossible_spread};
-ghost use Rattle.graphql_rules_merging.specs.Visitor.{IsCounted, RuleTold};
+ghost use Rattle.graphql_rules.specs.FieldsOnCorrectType.{fields_on_correct_type_faults};
+ghost use Rattle.graphql_rules.specs.KnownFragmentNames.{known_fragment_names_faults};
+ghost use Rattle.graphql_rules.specs.PossibleFragmentSpreads.{possible_fragment_spreads_faults};
+ghost use Rattle.graphql_rules_merging.specs.OverlappingFieldsCanBeMerged.{IsCounted, RuleTold};
 ghost use Rattle.graphql_schema.specs.Declarations.{declarations_of};
 ghost use Rattle.graphql_validation.specs.FirstStage.{ArgumentsTold, DefaultsTold, places_of};
 ghost use Rattle.graphql_validation.specs.WellFormed.{IsWellFormed};
@@ -16,20 +16,19 @@ ghost use Rattle.graphql_visitors.specs.Subjects.{Subject, subject_of};
 ghost use Rattle.graphql_law_rows.specs.OnlyTold.{IsOnlyTold};
 
 use graphql_document_walk::visit;
+use graphql_rules::laws::{
+    possible_spreads_tell_of_occurrences, told_of_arguments_is_determined,
+    told_of_defaults_is_determined,
+};
+use graphql_rules::{
+    ArgumentsOfCorrectType, DefaultValuesOfCorrectType, FieldsOnCorrectType, KnownFragmentNames,
+    arguments_of_correct_type, default_values_of_correct_type, fields_on_correct_type,
+    known_fragment_names, possible_fragment_spreads,
+};
 use graphql_rules_document::laws::document_rules_tell_of_documents;
 use graphql_rules_document::{NoUnusedFragments, no_unused_fragments};
-use graphql_rules_local::laws::possible_spreads_tell_of_occurrences;
-use graphql_rules_local::{
-    FieldsOnCorrectType, KnownFragmentNames, fields_on_correct_type, known_fragment_names,
-    possible_fragment_spreads,
-};
 use graphql_rules_merging::laws::{visitor_counts_comparisons, visitor_tells_of_document};
-use graphql_rules_merging::visitor as merging;
-use graphql_rules_values::laws::{told_of_arguments_is_determined, told_of_defaults_is_determined};
-use graphql_rules_values::{
-    ArgumentsOfCorrectType, DefaultValuesOfCorrectType, arguments_of_correct_type,
-    default_values_of_correct_type,
-};
+use graphql_rules_merging::overlapping_fields_can_be_merged as merging;
 use graphql_schema::{SchemaScalar, SchemaType};
 use graphql_tree::Definition;
 use graphql_validation::first_stage_errors;
@@ -43,7 +42,7 @@ use std::alloc::{AllocError, Global};
 
 /// Reports the spreads of fragments that the document has not: what the rule says of its parts.
 pub fn report_unknown_fragments<'a, 't, S: SchemaScalar>(context: &mut ValidatorContext<'a, 't, S>)
-    ensures { Reports (places_of (subject_of context.old) unknown_fragment) context.old context.new }
+    ensures { Reports (places_of (subject_of context.old) known_fragment_names_faults) context.old context.new }
 {
     local_rules_tell_of_occurrences::<S, KnownFragmentNames>();
     let mut rule = known_fragment_names::factory();
@@ -77,7 +76,7 @@ pub fn report_defaults<'a, 't, S: SchemaScalar>(context: &mut ValidatorContext<'
 /// in some order.
 pub fn report_unknown_names<'a, 't, S: SchemaScalar>(context: &mut ValidatorContext<'a, 't, S>)
     ensures { let told = places_of (subject_of context.old) in
-        let both = told unknown_field ++ told unknown_fragment in
+        let both = told fields_on_correct_type_faults ++ told known_fragment_names_faults in
         ReportsBy (IsPermutation both) context.old context.new }
 {
     local_rules_tell_of_occurrences::<S, FieldsOnCorrectType>();
@@ -98,7 +97,7 @@ pub fn report_unknown_names<'a, 't, S: SchemaScalar>(context: &mut ValidatorCont
 /// Reports the spreads and inline fragments that can apply to nothing where they stand: what the rule says
 /// of the document's parts.
 pub fn report_impossible_spreads<'a, 't, S: SchemaScalar>(context: &mut ValidatorContext<'a, 't, S>)
-    ensures { Reports (places_of (subject_of context.old) impossible_spread) context.old context.new }
+    ensures { Reports (places_of (subject_of context.old) possible_fragment_spreads_faults) context.old context.new }
 {
     possible_spreads_tell_of_occurrences::<S>();
     let mut rule = possible_fragment_spreads::factory(context.alloc(), context.schema());
@@ -107,7 +106,7 @@ pub fn report_impossible_spreads<'a, 't, S: SchemaScalar>(context: &mut Validato
 
 /// Reports the fragments that no operation reaches: what the rule says of the document.
 pub fn report_unused_fragments<'a, 't, S: SchemaScalar>(context: &mut ValidatorContext<'a, 't, S>)
-    ensures { let said = said_of (λ types operations fragments. never_reached operations fragments) in
+    ensures { let said = said_of (λ types operations fragments. no_unused_fragments_faults operations fragments) in
         Reports (said (subject_of context.old)) context.old context.new }
 {
     document_rules_tell_of_documents::<S, NoUnusedFragments>();

@@ -1,12 +1,6 @@
 pub mod Turns
-pub mod Fronts
 pub mod Named
 pub mod Requests
-pub mod JsonSteps
-pub mod Written
-pub mod ReadBack
-pub mod Outline
-pub mod Keys
 pub mod BadNumbers
 pub mod Constants
 pub mod Members

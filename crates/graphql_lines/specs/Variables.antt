@@ -1,5 +1,5 @@
 -- Variables' values, as JSON gives them (GraphQL October 2021, 7.2 Serialization Format, 3.5 Scalars).
-use Rattle.std.specs.Prelude.{ℕ, ◌^◌, ℤ, pos, negsuc, nat_lt, Bool, if◌then◌else◌, List, [], ◌∷◌, Option, Some, None, option_map, option_and_then, IsSome, String, ◌≡◌, Result}
+use Rattle.std.specs.Prelude.{ℕ, ℤ, Bool, if◌then◌else◌, List, [], ◌∷◌, Option, Some, None, option_map, option_and_then, IsSome, String, ◌≡◌, Result}
 use Rattle.std.specs.HashMap.{HashMap}
 use Rattle.std.specs.declared.alloc.Global.{Global}
 use Rattle.std.specs.HashMap.{get_by_text}
@@ -8,14 +8,10 @@ use Rattle.serde_json.specs.Find.{as_i64, get_member}
 use Rattle.graphql_text.specs.Memory.{Answers}
 use Rattle.graphql_values.specs.declared.input_value.InputValue.{InputValue}
 use Rattle.graphql_values.specs.declared.input_value.InputValue.TheVariants as value
+use Rattle.graphql_json.specs.Numbers.{has_32_bits}
 use Rattle.graphql_lines.specs.declared.refusal.LineRefusal.{LineRefusal}
 use Rattle.graphql_lines.specs.declared.refusal.LineRefusal.TheVariants.{LineTooLong, NotARequest, BadNumber, Memory}
 use Rattle.graphql_values.specs.InputValues.{Placed, Pair, unplaced, unplaced_pair}
-
--- of 32 bits, the sign among them
-abbrev pub has_32_bits : ℤ → Bool
-has_32_bits (pos n) = nat_lt n (2 ^ 31)
-has_32_bits (negsuc n) = nat_lt n (2 ^ 31)
 
 abbrev pub if_32_bits : ℤ → Option ℤ
 if_32_bits z = if has_32_bits z then Some z else None

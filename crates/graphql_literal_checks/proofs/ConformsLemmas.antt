@@ -15,9 +15,9 @@ use Rattle.graphql_values.specs.Variables.{IsConstant, variables_in, variables_l
 use Rattle.graphql_values.proofs.InputValueEquations.{fold_null, fold_variable}
 use Rattle.graphql_values.proofs.VariableLemmas.{variables_in_list, variables_in_object}
 use Rattle.graphql_values.proofs.VariableLaws.{none_is_listed}
-use Rattle.graphql_type_references.specs.declared.type_modifier.TypeModifier.{TypeModifier}
-use Rattle.graphql_type_references.specs.declared.type_modifier.TypeModifier.TheVariants as modifier
-use Rattle.graphql_type_references.specs.declared.type_reference.«Type».{«Type»}
+use Rattle.graphql_names.specs.declared.type_modifier.TypeModifier.{TypeModifier}
+use Rattle.graphql_names.specs.declared.type_modifier.TypeModifier.TheVariants as modifier
+use Rattle.graphql_names.specs.declared.type_reference.«Type».{«Type»}
 use Rattle.graphql_schema.specs.declared.meta.argument.Argument.{Argument}
 use Rattle.graphql_schema.specs.declared.meta.input_object.InputObjectMeta.{InputObjectMeta}
 use Rattle.graphql_schema.specs.declared.meta.MetaType.{MetaType}

@@ -4,3 +4,6 @@ pub mod OpenLemmas
 pub mod OpenParts
 pub mod Rows
 pub mod UnlocatedLemmas
+pub mod Conformed
+pub mod Decided
+pub mod FirstUnfit

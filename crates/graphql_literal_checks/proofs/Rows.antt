@@ -1,13 +1,13 @@
 -- Values over a small schema, and whether they conform.
-use Rattle.std.specs.Prelude.{refl, ℕ, List, [], ◌∷◌, Some, None, codes}
+use Rattle.std.specs.Prelude.{◌≡◌, refl, ℕ, true, false, List, [], ◌∷◌, Some, None, codes}
 use Rattle.std.proofs.Common.{sym}
 use Rattle.std.proofs.lemmas.Bool.{false≢true}
 use Rattle.graphql_scalars.specs.ScalarAnswers.{ScalarAnswer, text}
 use Rattle.graphql_values.specs.declared.input_value.InputValue.{InputValue}
 use Rattle.graphql_values.specs.declared.input_value.InputValue.TheVariants as value
 use Rattle.graphql_values.specs.InputValues.{unplaced, unplaced_pair}
-use Rattle.graphql_type_references.specs.declared.type_modifier.TypeModifier.{TypeModifier}
-use Rattle.graphql_type_references.specs.declared.type_modifier.TypeModifier.TheVariants as modifier
+use Rattle.graphql_names.specs.declared.type_modifier.TypeModifier.{TypeModifier}
+use Rattle.graphql_names.specs.declared.type_modifier.TypeModifier.TheVariants as modifier
 use Rattle.graphql_schema.specs.declared.meta.argument.Argument.{Argument}
 use Rattle.graphql_schema.specs.declared.meta.deprecation.DeprecationStatus.TheVariants as status
 use Rattle.graphql_schema.specs.declared.meta.enumeration.EnumMeta.{EnumMeta}
@@ -20,6 +20,7 @@ use Rattle.graphql_names.specs.Names.{Bytes}
 use Rattle.graphql_literal_checks.specs.declared.source.Source.{Source}
 use Rattle.graphql_literal_checks.specs.declared.source.Source.TheVariants.{Literal, Sent}
 use Rattle.graphql_literal_checks.specs.Conforms.{Conforms, null, variable, scalar, enum, sent_enum, list, object, no_items, more_items, no_fields, more_fields}
+use Rattle.graphql_literal_checks.specs.InputTypes.{is_complete}
 use Rattle.graphql_literal_checks.proofs.ConformsLemmas.{null_of}
 
 -- every scalar is the text RED, and each check accepts every value
@@ -40,10 +41,17 @@ abbrev x : Argument ℕ
 x = record { name = codes "x"; description = None; arg_type = record { name = codes "Int"; modifiers = modifier.NonNull ∷ [] }; default_value = None }
 
 abbrev point : InputObjectMeta ℕ ℕ
-point = record { name = codes "Point"; description = None; input_fields = x ∷ []; check = 0 }
+point = record { name = codes "Point"; description = None; input_fields = x ∷ []; check = 0; exactly_one = false }
+
+-- `input By @oneOf { y: Int }`
+abbrev y : Argument ℕ
+y = record { name = codes "y"; description = None; arg_type = record { name = codes "Int"; modifiers = [] }; default_value = None }
+
+abbrev by : InputObjectMeta ℕ ℕ
+by = record { name = codes "By"; description = None; input_fields = y ∷ []; check = 0; exactly_one = true }
 
 abbrev types : List (MetaType ℕ ℕ)
-types = meta.Scalar int ∷ meta.Enum color ∷ meta.InputObject point ∷ []
+types = meta.Scalar int ∷ meta.Enum color ∷ meta.InputObject point ∷ meta.InputObject by ∷ []
 
 abbrev asked : Bytes → List TypeModifier → TypeOf
 asked name modifiers = record { name = name; modifiers = modifiers }
@@ -88,3 +96,19 @@ one_point =
     object (asked (codes "Point") []) point (unplaced_pair (codes "x", value.Scalar 1) ∷ []) refl refl
     (more_fields (x ∷ []) x (unplaced_pair (codes "x", value.Scalar 1)) [] refl (scalar (asked (codes "Int") (modifier.NonNull ∷ [])) int 1 refl refl tt) (no_fields (x ∷ [])))
     (refl, λ constant. tt)
+
+-- `{ y: 1 }` at `By`; no field, two and `null` are not one
+pub one_field : Fits Literal (asked (codes "By") []) (value.Object (unplaced_pair (codes "y", value.Scalar 1) ∷ []))
+one_field =
+    object (asked (codes "By") []) by (unplaced_pair (codes "y", value.Scalar 1) ∷ []) refl refl
+    (more_fields (y ∷ []) y (unplaced_pair (codes "y", value.Scalar 1)) [] refl (scalar (asked (codes "Int") []) int 1 refl refl tt) (no_fields (y ∷ [])))
+    (refl, λ constant. tt)
+
+pub none_is_not_one : is_complete by [] ≡ false
+none_is_not_one = refl
+
+pub two_are_not_one : is_complete by (unplaced_pair (codes "y", value.Scalar 1) ∷ unplaced_pair (codes "y", value.Scalar 1) ∷ []) ≡ false
+two_are_not_one = refl
+
+pub null_is_not_one : is_complete by (unplaced_pair (codes "y", value.Null) ∷ []) ≡ false
+null_is_not_one = refl

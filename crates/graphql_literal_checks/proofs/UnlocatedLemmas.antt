@@ -1,5 +1,5 @@
 -- A value conforms exactly where it does without its places.
-use Rattle.std.proofs.Common.{◌≡◌, ◌↔◌, refl, sym, ◌∙◌, ap, subst, suc, arith, ℕ, Bool, true, List, [], ◌∷◌, map, Option, Some}
+use Rattle.std.proofs.Common.{◌≡◌, ◌↔◌, refl, sym, ◌∙◌, ap, subst, suc, arith, ℕ, Bool, true, cond, List, [], ◌∷◌, map, Option, Some}
 use Rattle.std.specs.Cmp.{IsEquivalence}
 use Rattle.std.proofs.lemmas.List.{length-map}
 use Rattle.std.proofs.lemmas.Simd.{map-map}
@@ -15,7 +15,7 @@ use Rattle.graphql_values.proofs.InputValueInduction.{value_ind, HoldsOfItems, H
 use Rattle.graphql_values.proofs.SamePlaces.{unlocated_item, unlocated_pair, same_unlocated}
 use Rattle.graphql_values.proofs.SameValueLaws.{either_way}
 use Rattle.graphql_values.proofs.UnlocatedVariables.{same_constant}
-use Rattle.graphql_type_references.specs.declared.type_modifier.TypeModifier.{TypeModifier}
+use Rattle.graphql_names.specs.declared.type_modifier.TypeModifier.{TypeModifier}
 use Rattle.graphql_schema.specs.declared.meta.argument.Argument.{Argument}
 use Rattle.graphql_schema.specs.declared.meta.input_object.InputObjectMeta.{InputObjectMeta}
 use Rattle.graphql_schema.specs.declared.meta.MetaType.{MetaType}
@@ -23,7 +23,7 @@ use Rattle.graphql_schema.specs.declared.meta.MetaType.TheVariants as meta
 use Rattle.graphql_schema.specs.Types.{TypeOf}
 use Rattle.graphql_schema.specs.Lookups.{type_named}
 use Rattle.graphql_literal_checks.specs.declared.source.Source.{Source}
-use Rattle.graphql_literal_checks.specs.InputTypes.{allows, may_stand_alone, none_missing}
+use Rattle.graphql_literal_checks.specs.InputTypes.{allows, is_complete, is_one_given, is_value, may_stand_alone, none_missing}
 use Rattle.graphql_literal_checks.specs.Conforms.{Conforms, null, variable, scalar, enum, sent_enum, list, object, EachConforms, no_items, more_items, FieldsConform, no_fields, more_fields}
 use Rattle.graphql_literal_checks.specs.Judged.{ListFits, ObjectFits}
 use Rattle.graphql_literal_checks.specs.Laws.{ConformsWithoutPlaces}
@@ -132,6 +132,27 @@ module _ {S C : Type 0} (answer : S → ScalarAnswer) (accepts : C → InputValu
             more_fields declared a p ps fits.0.1 ((first a.arg_type).1 fits.0.2) (rest.1 fits.1),
       )
 
+  value_given_alike : (v : InputValue S) → is_value (unlocated v) ≡ is_value v
+  value_given_alike = value_ind (λ v. is_value (unlocated v) ≡ is_value v)
+      (ap is_value (fold_null unlocated_layer))
+      (λ s. ap is_value (fold_scalar unlocated_layer s))
+      (λ n. ap is_value (fold_enum unlocated_layer n))
+      (λ n. ap is_value (fold_variable unlocated_layer n))
+      (λ xs each. ap is_value (unlocated_list xs))
+      (λ ps each. ap is_value (unlocated_object ps))
+
+  one_given_alike : (ps : List (Pair (InputValue S))) → is_one_given (map unlocated_pair ps) ≡ is_one_given ps
+  one_given_alike [] = refl
+  one_given_alike (p ∷ []) = value_given_alike p.1.item
+  one_given_alike (p ∷ q ∷ ps) = refl
+
+  complete_alike : (m : InputObjectMeta S C) (ps : List (Pair (InputValue S)))
+      → is_complete m (map unlocated_pair ps) ≡ is_complete m ps
+  complete_alike m ps =
+      ap (λ names. cond m.exactly_one (is_one_given (map unlocated_pair ps)) (none_missing m.input_fields names))
+      (map-map (λ p. p.0.item) unlocated_pair ps)
+      ∙ ap (λ b. cond m.exactly_one b (none_missing m.input_fields (map (λ p. p.0.item) ps))) (one_given_alike ps)
+
   module _ (eq : S → S → Bool) (laws : IsEquivalence eq) (respects : Respects eq accepts) where
     -- the check accepts the value where no variable stands in it
     abbrev Passes : C → InputValue S → Type 0
@@ -150,19 +171,17 @@ module _ {S C : Type 0} (answer : S → ScalarAnswer) (accepts : C → InputValu
         let v : InputValue S = value.Object ps in
         let u = unlocated v in
         let qs = map unlocated_pair ps in
-        let names = λ (declared : List (Argument S)).
-        ap (none_missing declared) (map-map (λ p. p.0.item) unlocated_pair ps) in
         let passes = λ (m : InputObjectMeta S C).
         subst (λ w. Passes m.check v ↔ Passes m.check w) (unlocated_object ps) (passes_alike m.check v) in
         let fields = fields_alike ps each in (
           λ h. let fits = fits_as_object t v ps refl h in
               let m = fits.0 in
-              let complete = names m.input_fields ∙ fits.3.1.0 in
+              let complete = complete_alike m ps ∙ fits.3.1.0 in
               object_fits_as t u qs (unlocated_object ps)
               (m, fits.1, fits.2, ((fields m.input_fields).0 fits.3.0, (complete, (passes m).0 fits.3.1.1))),
           λ h. let fits = fits_as_object t u qs (unlocated_object ps) h in
               let m = fits.0 in
-              let complete = sym (names m.input_fields) ∙ fits.3.1.0 in
+              let complete = sym (complete_alike m ps) ∙ fits.3.1.0 in
               object_fits_as t v ps refl
               (m, fits.1, fits.2, ((fields m.input_fields).1 fits.3.0, (complete, (passes m).1 fits.3.1.1))),
         )

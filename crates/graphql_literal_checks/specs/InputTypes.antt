@@ -1,15 +1,16 @@
 -- What a type asks of the values that are given to it (GraphQL October 2021, 3.11 List, 3.12 Non-Null: input coercion; 3.9 Enums; 3.10 Input Objects).
-use Rattle.std.specs.Prelude.{◌≡◌, ◌||◌, ℕ, Bool, true, nat_eq, List, map, Option, Some, None}
+use Rattle.std.specs.Prelude.{◌≡◌, ◌||◌, ℕ, Bool, true, false, if◌then◌else◌, nat_eq, List, [], ◌∷◌, map, Option, Some, None}
 use Rattle.std.specs.List.{list_all, list_any}
-use Rattle.graphql_type_references.specs.TypeReference.{outermost, is_non_null}
-use Rattle.graphql_type_references.specs.declared.type_modifier.TypeModifier.{TypeModifier}
-use Rattle.graphql_type_references.specs.declared.type_modifier.TypeModifier.TheVariants as modifier
+use Rattle.graphql_names.specs.TypeReference.{outermost, is_non_null}
+use Rattle.graphql_names.specs.declared.type_modifier.TypeModifier.{TypeModifier}
+use Rattle.graphql_names.specs.declared.type_modifier.TypeModifier.TheVariants as modifier
 use Rattle.graphql_schema.specs.declared.meta.argument.Argument.{Argument}
 use Rattle.graphql_schema.specs.declared.meta.enumeration.EnumMeta.{EnumMeta}
 use Rattle.graphql_schema.specs.declared.meta.input_object.InputObjectMeta.{InputObjectMeta}
 use Rattle.graphql_schema.specs.Types.{TypeOf}
 use Rattle.graphql_names.specs.Names.{Bytes, is_named, is_one_of}
 use Rattle.graphql_values.specs.declared.input_value.InputValue.{InputValue}
+use Rattle.graphql_values.specs.declared.input_value.InputValue.TheVariants as value
 use Rattle.graphql_values.specs.InputValues.{Pair}
 pub use Rattle.graphql_schema.specs.Declarations.{argument_named}
 pub use Rattle.graphql_schema.specs.Executable.{is_optional}
@@ -40,10 +41,25 @@ module _ {S : Type 0} where
   abbrev pub none_missing : List (Argument S) → List Bytes → Bool
   none_missing declared given = list_all (λ a. is_optional a || is_one_of given a.name) declared
 
+  -- the value is not `null`
+  abbrev pub is_value : InputValue S → Bool
+  is_value value.Null = false
+  is_value _ = true
+
+  -- one field is given, and not `null`
+  abbrev pub is_one_given : List (Pair (InputValue S)) → Bool
+  is_one_given [] = false
+  is_one_given (p ∷ []) = is_value p.1.item
+  is_one_given (p ∷ q ∷ ps) = false
+
 module _ {S C : Type 0} where
-  -- as many fields are given as the input object asks for: each that has to be given is (3.10)
+  -- exactly one field is given where the input object asks for that
+  abbrev pub is_one_if_asked : InputObjectMeta S C → List (Pair (InputValue S)) → Bool
+  is_one_if_asked m pairs = if m.exactly_one then is_one_given pairs else true
+
+  -- as many fields are given as the input object asks for: exactly one, or each that has to be given (3.10)
   abbrev pub is_complete : InputObjectMeta S C → List (Pair (InputValue S)) → Bool
-  is_complete m pairs = none_missing m.input_fields (map (λ p. p.0.item) pairs)
+  is_complete m pairs = if m.exactly_one then is_one_given pairs else none_missing m.input_fields (map (λ p. p.0.item) pairs)
 
   -- what the input object asks of an object beside its fields: they are complete, and its check accepts it where no variable stands in it
   abbrev pub WholeFits : (C → InputValue S → Type 0) → InputObjectMeta S C → InputValue S → List (Pair (InputValue S)) → Type 0 → Type 0

@@ -4,3 +4,4 @@ pub mod InputFields
 pub mod Judged
 pub mod OpenValues
 pub mod Laws
+pub mod Defaults

@@ -8,15 +8,15 @@ ghost use Rattle.graphql_literal_checks.specs.Judged.{AloneFits, FieldFits, IsMe
 ghost use Rattle.graphql_literal_checks.specs.OpenValues.{ListOwes, ObjectOwes, Opens, Owes, all_left, fields_left, items_left, left_in, list_constant, object_constant, stays_constant};
 
 use crate::input_fields::declared_field;
-use crate::judging::{judge_enum, judge_scalar, judge_whole, no_list};
+use crate::judging::{judge_enum, judge_scalar, judge_whole, no_list, one_if_asked};
 use crate::misfit::Misfit;
 use crate::open_values::{Open, OpenList, OpenObject, Pair, add};
 use crate::reasons::{invalid_value, null_given, unknown_field, wrong_size};
 use crate::source::Source;
 use crate::wraps::{allows, list_within, size_but_one};
+use graphql_names::BorrowedType;
 use graphql_schema::{InputObjectMeta, MetaType, SchemaScalar, SchemaType};
 use graphql_text::{Items, Spanning, TextRef};
-use graphql_type_references::BorrowedType;
 use graphql_values::InputValue;
 use std::alloc::Global;
 
@@ -131,7 +131,8 @@ impl<'a, S: SchemaScalar> Judge<'a, S> {
         }
     }
 
-    /// Opens an object of an input object's fields (3.10 Input Objects).
+    /// Opens an object of an input object's fields (3.10 Input Objects). That not exactly one is given
+    /// where exactly one is asked for is told before what is wrong with their values.
     fn enter_object(
         &self,
         opened: &mut Items<Open<'a, S>>,
@@ -144,6 +145,9 @@ impl<'a, S: SchemaScalar> Judge<'a, S> {
         match value {
             InputValue::Object(fields) => {
                 let pairs = fields.as_slice();
+                if let Err(misfit) = one_if_asked(self.alloc, meta, pairs) {
+                    return Err(misfit);
+                }
                 add(
                     opened,
                     Open::Object(OpenObject {

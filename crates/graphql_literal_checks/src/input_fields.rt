@@ -24,6 +24,20 @@ pub(crate) fn declared_field<'s, S, C>(
     meta.input_fields.get(name)
 }
 
+/// The name of the first field that is given and not declared.
+pub(crate) fn first_undeclared<'a, S, C>(
+    meta: &InputObjectMeta<S, C>,
+    pairs: &'a [(Spanning<Text>, Spanning<InputValue<S>>)],
+) -> Option<&'a str> {
+    for pair in pairs {
+        let name = pair.0.item.as_str();
+        if declared_field(meta, name).is_none() {
+            return Some(name);
+        }
+    }
+    None
+}
+
 /// Whether the field need not be given: `null` is among its values, or it has a default.
 fn is_optional<S>(field: &Argument<S>) -> bool
     ensures { result ≡ spec.is_optional field.now }

@@ -4,20 +4,22 @@ ghost use Rattle.std.specs.Prelude.{◌≡◌, ◌↔◌, ℕ, List, true, IsTru
 ghost use Rattle.graphql_text.specs.Memory.{Told};
 ghost use Rattle.std.specs.List.{list_any};
 ghost use Rattle.graphql_names.specs.Names.{is_named};
+ghost use Rattle.graphql_literal_checks.specs.InputTypes as spec;
 ghost use Rattle.graphql_literal_checks.specs.InputTypes.{WholeFits, is_complete};
 ghost use Rattle.graphql_literal_checks.specs.Judged.{EnumFits, IsMemory, IsOfEnum, Judged, Names, ScalarFits, is_constant};
 
-use crate::input_fields::missing;
+use crate::input_fields::{first_undeclared, missing};
 use crate::misfit::Misfit;
 use crate::open_values::Pair;
-use crate::reasons::{invalid_enum_value, invalid_value, missing_field};
+use crate::reasons::{
+    invalid_enum_value, invalid_value, missing_field, not_one_given, unknown_field,
+};
 use crate::source::Source;
-use graphql_names::NamedItems;
+use graphql_names::{BorrowedType, NamedItems};
 use graphql_scalars::CheckError;
 use graphql_schema::{
     Check, EnumMeta, EnumValue, InputObjectMeta, MetaType, ScalarMeta, SchemaScalar, SchemaType,
 };
-use graphql_type_references::BorrowedType;
 use graphql_values::InputValue;
 use std::alloc::Global;
 
@@ -94,6 +96,35 @@ pub(crate) fn judge_enum<S: SchemaScalar>(
     }
 }
 
+/// Whether one field is given, and not `null`.
+fn is_one_given<S>(pairs: &[Pair<S>]) -> bool
+    ensures { result ≡ spec.is_one_given pairs.now }
+{
+    match pairs {
+        [pair] => !pair.1.item.is_null(),
+        _ => false,
+    }
+}
+
+/// That exactly one field is given where the input object asks for that: `Ok` where it is. Of several
+/// fields one that is not declared is told first.
+pub(crate) fn one_if_asked<S, C>(
+    alloc: Global,
+    meta: &InputObjectMeta<S, C>,
+    pairs: &[Pair<S>],
+) -> Result<(), Misfit>
+    ensures { Told IsMemory result (spec.is_one_if_asked meta.now pairs.now ≡ true) }
+{
+    if !meta.is_one_of() || is_one_given(pairs) {
+        return Ok(());
+    }
+    let type_name = meta.name.as_str();
+    match first_undeclared(meta, pairs) {
+        Some(name) => Err(unknown_field(alloc, name, type_name)),
+        None => Err(not_one_given(alloc, type_name)),
+    }
+}
+
 /// That as many fields are given as the input object asks for: `Ok` where they are.
 fn complete<S, C>(
     alloc: Global,
@@ -102,6 +133,9 @@ fn complete<S, C>(
 ) -> Result<(), Misfit>
     ensures { Told IsMemory result (is_complete meta.now pairs.now ≡ true) }
 {
+    if meta.is_one_of() {
+        return one_if_asked(alloc, meta, pairs);
+    }
     match missing(alloc, meta.input_fields.as_slice(), pairs) {
         Ok(None) => Ok(()),
         Ok(Some(field)) => Err(missing_field(alloc, field.name.as_str(), &field.arg_type)),

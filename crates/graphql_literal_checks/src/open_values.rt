@@ -2,9 +2,9 @@
 
 ghost use Rattle.std.specs.Prelude.{◌≡◌, ◌∷◌, [], ◌++◌, OnOk};
 
+use graphql_names::BorrowedType;
 use graphql_schema::{InputObjectMeta, SchemaScalar};
 use graphql_text::{Items, Spanning, Text, TextRef};
-use graphql_type_references::BorrowedType;
 use graphql_values::InputValue;
 use std::alloc::{AllocError, Global};
 

@@ -1,9 +1,9 @@
 //! The reasons why values do not conform, in words.
 
 use crate::misfit::Misfit;
+use graphql_names::{BorrowedType, Type};
 use graphql_scalars::ScalarValue;
 use graphql_text::Text;
-use graphql_type_references::{BorrowedType, Type};
 use graphql_values::InputValue;
 use std::alloc::Global;
 
@@ -43,4 +43,9 @@ pub(crate) fn unknown_field(alloc: Global, name: &str, type_name: &str) -> Misfi
 /// A field that has to be given, and is not.
 pub(crate) fn missing_field(alloc: Global, name: &str, field_type: &Type<Text>) -> Misfit {
     Misfit::told(format!(in alloc; "missing field \"{name}\" of type \"{field_type}\""))
+}
+
+/// No field, several fields or `null` where exactly one field is to be given.
+pub(crate) fn not_one_given(alloc: Global, type_name: &str) -> Misfit {
+    Misfit::told(format!(in alloc; "exactly one field of \"{type_name}\" must be given"))
 }

@@ -8,9 +8,9 @@ ghost use Rattle.graphql_literal_checks.specs.declared.source.Source.TheVariants
 use crate::conforming::Judge;
 use crate::misfit::Misfit;
 use crate::source::Source;
+use graphql_names::{Type, TypeModifier};
 use graphql_schema::{SchemaScalar, SchemaType};
 use graphql_text::Text;
-use graphql_type_references::{Type, TypeModifier};
 use graphql_values::InputValue;
 use std::alloc::{AllocError, Global};
 use std::convert::{AsSlice, AsStr};

@@ -1,13 +1,13 @@
 //! What the wraps of a type ask of a value (GraphQL October 2021, 3.11 List, 3.12 Non-Null).
 
 ghost use Rattle.std.specs.Prelude.{◌≡◌, ℕ, List, MatchOption, Option, true, false};
-ghost use Rattle.graphql_type_references.specs.TypeReference.{nullable};
-ghost use Rattle.graphql_type_references.specs.declared.type_modifier.TypeModifier.{TypeModifier};
+ghost use Rattle.graphql_names.specs.TypeReference.{nullable};
+ghost use Rattle.graphql_names.specs.declared.type_modifier.TypeModifier.{TypeModifier};
 ghost use Rattle.graphql_literal_checks.specs.InputTypes as spec;
 ghost use Rattle.graphql_literal_checks.specs.Judged.{IsListOf};
 ghost use Rattle.std.specs.List.{list_all};
 
-use graphql_type_references::TypeModifier;
+use graphql_names::TypeModifier;
 
 /// Whether a list may have so many items: the size that is asked for, where one is.
 pub(crate) fn allows(size: Option<usize>, count: usize) -> bool

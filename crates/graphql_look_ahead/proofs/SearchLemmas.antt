@@ -18,14 +18,14 @@ use Rattle.graphql_tree.specs.declared.selection.Selection.{Selection}
 use Rattle.graphql_tree.specs.declared.selection.Selection.TheVariants as selection
 use Rattle.graphql_written_out.specs.Trees.{Directives}
 use Rattle.graphql_written_out.specs.Written.{Settled, condition_of, fragment_meant, listed, response_key}
-use Rattle.graphql_collect.proofs.WalkLaws.{last-cases}
+use Rattle.graphql_collected.proofs.NamesBehind.{last-cases}
 use Rattle.graphql_look_ahead.specs.Applies.{bound, only_of}
 use Rattle.graphql_look_ahead.specs.Children.{Ahead, Children, a_field, left_out, no_more, of_field, of_inline, of_spread, of_unknown}
 use Rattle.graphql_look_ahead.specs.FirstChild.{AllLack, FragmentLacks, Finds, GoesOn, IsFirst, IsSearch, Turns, IsSound, Lacks, Leads, first_child, lists_left, turns_left}
 use Rattle.graphql_look_ahead.specs.Open.{AllHave, IsMet, IsNext, OpenSet, Skips, open_set, rest_of, turns_of}
 use Rattle.graphql_look_ahead.specs.Told.{key_of, looked_at, told, within}
-use Rattle.graphql_collect.specs.Requests.{drops_in, fragments_in}
-use Rattle.graphql_collect.specs.declared.request.Request.{Request}
+use Rattle.graphql_collected.specs.Requests.{drops_in, fragments_in}
+use Rattle.graphql_collected.specs.declared.request.Request.{Request}
 use Rattle.graphql_scalars.specs.ScalarAnswers.{ScalarAnswer}
 use Rattle.graphql_look_ahead.specs.declared.selection.LookAheadSelection.{LookAheadSelection}
 use Rattle.graphql_look_ahead.specs.declared.open.Met.{Met}

@@ -12,7 +12,7 @@ use Rattle.graphql_tree.specs.declared.selection.Selection.{Selection, out-Selec
 use Rattle.graphql_tree.specs.declared.selection.Selection.TheOpen.{Selection-F}
 use Rattle.graphql_tree.specs.declared.selection.Selection.TheVariants as selection
 use Rattle.graphql_written_out.specs.Written.{response_key}
-use Rattle.graphql_collect.specs.declared.request.Request.{Request}
+use Rattle.graphql_collected.specs.declared.request.Request.{Request}
 use Rattle.graphql_look_ahead.specs.Children.{Ahead}
 use Rattle.graphql_look_ahead.specs.Selections.{first_of_key, opened_of_key}
 use Rattle.graphql_look_ahead.specs.Told.{IsOf, looked_at, within}

@@ -1,6 +1,6 @@
 -- What is seen of a list and of an input object, by their parts.
 use Rattle.std.proofs.Common.{◌≡◌, List, map, Option}
-use Rattle.graphql_text.specs.Memory.{Text}
+use Rattle.graphql_text.specs.declared.text.Text.{Text}
 use Rattle.graphql_values.specs.InputValues.{Placed, Pair}
 use Rattle.graphql_values.specs.declared.input_value.InputValue.{InputValue}
 use Rattle.graphql_values.specs.declared.input_value.InputValue.TheVariants as value

@@ -9,8 +9,8 @@ use Rattle.graphql_written_out.specs.Trees.{Directives}
 use Rattle.graphql_written_out.specs.Written.{fragment_meant}
 use Rattle.graphql_tree.specs.declared.document.Fragment.{Fragment}
 use Rattle.graphql_tree.specs.declared.selection.Selection.{Selection}
-use Rattle.graphql_collect.specs.Requests.{drops_in, fragments_in}
-use Rattle.graphql_collect.specs.declared.request.Request.{Request}
+use Rattle.graphql_collected.specs.Requests.{drops_in, fragments_in}
+use Rattle.graphql_collected.specs.declared.request.Request.{Request}
 use Rattle.graphql_look_ahead.specs.Children.{Ahead, Children}
 use Rattle.graphql_look_ahead.specs.Open.{AllHave, OpenSet, open_set, rest_of, turns_of}
 use Rattle.graphql_look_ahead.specs.Told.{key_of, looked_at, told, within}

@@ -1,13 +1,13 @@
 -- What look-ahead sees of a value that a document writes (GraphQL October 2021, 2.10 Variables).
 use Rattle.std.specs.Prelude.{Option, None}
 use Rattle.std.specs.Option.{option_map}
-use Rattle.graphql_text.specs.Memory.{Text}
+use Rattle.graphql_text.specs.declared.text.Text.{Text}
 use Rattle.graphql_values.specs.declared.input_value.InputValue.{InputValue, fold-InputValue}
 use Rattle.graphql_values.specs.declared.input_value.InputValue.TheOpen.{InputValue-F}
 use Rattle.graphql_values.specs.declared.input_value.InputValue.TheVariants as value
-use Rattle.graphql_final_variables.specs.Filled.{value_or_null}
-use Rattle.graphql_final_variables.specs.FinalVariables.{value_in}
-use Rattle.graphql_final_variables.specs.declared.final_variables.FinalVariables.{FinalVariables}
+use Rattle.graphql_written_out.specs.Filled.{value_or_null}
+use Rattle.graphql_written_out.specs.FinalVariables.{value_in}
+use Rattle.graphql_written_out.specs.declared.final_variables.FinalVariables.{FinalVariables}
 
 module _ {S : Type 0} (given : Text → Option (InputValue S)) where
   -- one layer of a value, of whose parts it is known what is seen of them

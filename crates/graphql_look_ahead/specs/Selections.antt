@@ -9,7 +9,7 @@ use Rattle.graphql_tree.specs.declared.selection.Field.{Field}
 use Rattle.graphql_tree.specs.declared.selection.Selection.{Selection, out-Selection}
 use Rattle.graphql_tree.specs.declared.selection.Selection.TheOpen.{Selection-F}
 use Rattle.graphql_written_out.specs.Written.{listed, response_key}
-use Rattle.graphql_collect.specs.declared.collected_field.CollectedField.{CollectedField}
+use Rattle.graphql_collected.specs.declared.collected_field.CollectedField.{CollectedField}
 use Rattle.graphql_look_ahead.specs.Children.{Ahead, Opened, a_field, a_key}
 use Rattle.graphql_look_ahead.specs.declared.selected.Selected.{Selected}
 use Rattle.graphql_look_ahead.specs.declared.selected.Selected.TheVariants as selected

@@ -7,7 +7,7 @@ use Rattle.graphql_tree.specs.Arguments.{Argument}
 use Rattle.graphql_tree.specs.Documents.{arguments_in}
 use Rattle.graphql_tree.specs.declared.selection.Selection.{Selection}
 use Rattle.graphql_written_out.specs.Written.{response_key}
-use Rattle.graphql_collect.specs.declared.request.Request.{Request}
+use Rattle.graphql_collected.specs.declared.request.Request.{Request}
 use Rattle.graphql_look_ahead.specs.Applies.{only_of}
 use Rattle.graphql_look_ahead.specs.Children.{Ahead, a_field, a_key}
 use Rattle.graphql_look_ahead.specs.Selections.{selections_of, set_of}

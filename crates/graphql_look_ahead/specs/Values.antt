@@ -6,7 +6,7 @@ use Rattle.graphql_tree.specs.Arguments.{Argument}
 use Rattle.graphql_values.specs.InputValues.{Placed, Pair}
 use Rattle.graphql_values.specs.declared.input_value.InputValue.{InputValue}
 use Rattle.graphql_values.specs.declared.input_value.InputValue.TheVariants as value
-use Rattle.graphql_final_variables.specs.declared.final_variables.FinalVariables.{FinalVariables}
+use Rattle.graphql_written_out.specs.declared.final_variables.FinalVariables.{FinalVariables}
 use Rattle.graphql_look_ahead.specs.Seen.{seen_alone, seen_in}
 use Rattle.graphql_look_ahead.specs.declared.argument.LookAheadArgument.{LookAheadArgument}
 use Rattle.graphql_look_ahead.specs.declared.argument.LookAheadArguments.{LookAheadArguments}

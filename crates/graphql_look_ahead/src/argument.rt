@@ -6,9 +6,9 @@ ghost use Rattle.std.specs.Option.{option_map};
 ghost use Rattle.graphql_look_ahead.specs.Values.{argument_named, argument_seen, argument_told, arguments_left, told, written_left};
 
 use crate::value::LookAheadValue;
-use graphql_final_variables::FinalVariables;
 use graphql_text::{Span, Spanning, TextRef};
 use graphql_values::InputValue;
+use graphql_written_out::FinalVariables;
 use std::iter::FusedIterator;
 
 /// An argument of a field (GraphQL October 2021, 2.6 Arguments), with the values of variables in their

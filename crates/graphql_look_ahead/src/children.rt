@@ -5,7 +5,7 @@ ghost use Rattle.std.specs.List.{All, find};
 ghost use Rattle.std.specs.Option.{is_some, option_copied};
 ghost use Rattle.std.specs.Slice.Iter.{iter_rest, iter_steps};
 ghost use Rattle.std.specs.Iterator.Runs.{EveryRun, ItemsMapTo};
-ghost use Rattle.graphql_collect.specs.declared.request.Request.{Request};
+ghost use Rattle.graphql_collected.specs.declared.request.Request.{Request};
 ghost use Rattle.graphql_look_ahead.specs.declared.selection.LookAheadSelection.{LookAheadSelection};
 ghost use Rattle.graphql_look_ahead.specs.NamesLeft.{key_at, names_left};
 ghost use Rattle.graphql_look_ahead.specs.Told.{IsOf, has_key};

@@ -4,9 +4,9 @@ ghost use Rattle.std.specs.Prelude.{◌≡◌, [], map};
 ghost use Rattle.graphql_look_ahead.specs.Values.{item_seen, items_left, items_told};
 
 use crate::look_ahead_list::Iter;
-use graphql_final_variables::FinalVariables;
 use graphql_text::Spanning;
 use graphql_values::InputValue;
+use graphql_written_out::FinalVariables;
 
 /// A list of values, in order, with the values of variables in their stead.
 #[derive_where(Clone, Copy)]

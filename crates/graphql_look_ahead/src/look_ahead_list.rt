@@ -5,9 +5,9 @@ ghost use Rattle.std.specs.Iterator.{YieldsFirstBy, YieldsLastBy, item_count};
 ghost use Rattle.graphql_look_ahead.specs.Values.{item_seen, items_left, placed};
 
 use crate::value::LookAheadValue;
-use graphql_final_variables::FinalVariables;
 use graphql_text::Spanning;
 use graphql_values::InputValue;
+use graphql_written_out::FinalVariables;
 use std::iter::FusedIterator;
 
 /// The items of a list that have yet to be read, each at its place, from both ends.

@@ -5,9 +5,9 @@ ghost use Rattle.std.specs.Iterator.{YieldsFirstBy, YieldsLastBy, item_count};
 ghost use Rattle.graphql_look_ahead.specs.Values.{field_seen, fields_left, named};
 
 use crate::value::LookAheadValue;
-use graphql_final_variables::FinalVariables;
 use graphql_text::{Spanning, Text};
 use graphql_values::InputValue;
+use graphql_written_out::FinalVariables;
 use std::iter::FusedIterator;
 
 /// The fields of an input object that have yet to be read, names and values at their places, from both

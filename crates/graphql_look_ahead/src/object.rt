@@ -4,9 +4,9 @@ ghost use Rattle.std.specs.Prelude.{◌≡◌, [], map};
 ghost use Rattle.graphql_look_ahead.specs.Values.{field_seen, fields_left, fields_told};
 
 use crate::look_ahead_object::Iter;
-use graphql_final_variables::FinalVariables;
 use graphql_text::{Spanning, Text};
 use graphql_values::InputValue;
+use graphql_written_out::FinalVariables;
 
 /// An input object: its fields' names and values, in order, with the values of variables in their
 /// stead.

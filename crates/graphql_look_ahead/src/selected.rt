@@ -1,6 +1,6 @@
 //! Selections that are lent.
 
-use graphql_collect::CollectedField;
+use graphql_collected::CollectedField;
 use graphql_tree::Selection;
 
 /// What is selected from the objects of an answer (GraphQL October 2021, 6.4.3 Value Completion, Merging

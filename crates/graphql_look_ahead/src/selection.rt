@@ -3,7 +3,7 @@
 ghost use Rattle.std.specs.Prelude.{◌≡◌, ◌↔◌, [], IfOk, IfSome, IsFalse, List, None, map};
 ghost use Rattle.std.specs.List.{All, filter};
 ghost use Rattle.std.specs.Option.{option_copied, option_map};
-ghost use Rattle.graphql_collect.specs.Requests.{drops_in, fragments_in};
+ghost use Rattle.graphql_collected.specs.Requests.{drops_in, fragments_in};
 ghost use Rattle.graphql_tree.specs.Documents.{arguments_in as written_in};
 ghost use Rattle.graphql_written_out.specs.Written.{Settled, listed};
 ghost use Rattle.graphql_look_ahead.specs.Applies.{applies_to};
@@ -20,7 +20,7 @@ use crate::children::LookAheadChildren;
 use crate::gathering::gather_selected;
 use crate::searching::find_first;
 use crate::selected::Selected;
-use graphql_collect::Request;
+use graphql_collected::Request;
 use graphql_schema::SchemaScalar;
 use graphql_text::{Items, Spanning};
 use graphql_tree::{Field, Selection, arguments_in};

@@ -6,8 +6,8 @@ ghost use Rattle.graphql_look_ahead.specs.Values.{seen_by, told};
 
 use crate::list::LookAheadList;
 use crate::object::LookAheadObject;
-use graphql_final_variables::FinalVariables;
 use graphql_values::InputValue;
+use graphql_written_out::FinalVariables;
 
 /// The value of an argument, or a part of it, with the values of variables in their stead. It is read
 /// layer by layer, and lends what the document and the variables hold.

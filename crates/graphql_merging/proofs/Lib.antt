@@ -9,3 +9,6 @@ pub mod Meeting
 pub mod Contracts
 pub mod NodeEquations
 pub mod Rows
+pub mod ChosenMembers
+pub mod OneObject
+pub mod MergedRows

@@ -3,7 +3,7 @@ use Rattle.std.proofs.Common.{◌≡◌, refl, sym, ◌∙◌, ℕ, zero, suc, �
 use Rattle.std.specs.Bool.{beq}
 use Rattle.std.specs.Str.{bytes_eq}
 use Rattle.std.proofs.lemmas.Slice.Eq.{bytes_eq-Decides}
-use Rattle.graphql_type_references.specs.declared.type_modifier.TypeModifier.{TypeModifier}
+use Rattle.graphql_names.specs.declared.type_modifier.TypeModifier.{TypeModifier}
 use Rattle.graphql_merging.specs.Merging.{is_list}
 
 pub wraps-at : (xs ys : List TypeModifier) → map is_list xs ≡ map is_list ys → (k : ℕ) (x y : TypeModifier) → k < length xs → is_list (get_or xs k x) ≡ is_list (get_or ys k y)

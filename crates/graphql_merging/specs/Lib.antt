@@ -9,3 +9,4 @@ pub mod Done
 pub mod Tables
 pub mod Laws
 pub mod FieldNodes
+pub mod Chosen

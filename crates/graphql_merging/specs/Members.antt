@@ -5,7 +5,7 @@ use Rattle.graphql_names.specs.Names.{Bytes}
 use Rattle.graphql_schema.specs.declared.meta.MetaType.{MetaType}
 use Rattle.graphql_schema.specs.Types.{TypeOf}
 use Rattle.graphql_schema.specs.Lookups.{type_named}
-use Rattle.graphql_declarations.specs.Lookups.{field_in, field_type}
+use Rattle.graphql_occurrences.specs.DeclaredLookups.{field_in, field_type}
 use Rattle.graphql_written_out.specs.Trees.{Head, Tree, none, field, inline}
 
 -- a field of a set, and the innermost type around it: that of the nearest condition, else that whose set it is

@@ -10,7 +10,7 @@ use Rattle.graphql_tree.specs.declared.document.Definition.TheVariants as defini
 use Rattle.graphql_schema.specs.declared.meta.MetaType.{MetaType}
 use Rattle.graphql_schema.specs.Declarations.{Declarations}
 use Rattle.graphql_schema.specs.Lookups.{type_named}
-use Rattle.graphql_declarations.specs.Lookups.{root_of}
+use Rattle.graphql_occurrences.specs.DeclaredLookups.{root_of}
 use Rattle.graphql_written_out.specs.Trees.{Tree, none, field, inline}
 use Rattle.graphql_written_out.specs.Written.{written}
 use Rattle.graphql_merging.specs.Members.{Member, Scope, member, inside, members, scope_of}

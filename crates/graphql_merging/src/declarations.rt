@@ -2,11 +2,11 @@
 
 ghost use Rattle.std.specs.Prelude.{◌≡◌, Some, None};
 ghost use Rattle.std.specs.Option.{option_map};
-ghost use Rattle.graphql_declarations.specs.Lent.{literal_of};
+ghost use Rattle.graphql_occurrences.specs.DeclaredLent.{literal_of};
 ghost use Rattle.graphql_merging.specs.Members as members;
 ghost use Rattle.graphql_merging.specs.Merging as merging;
 
-use graphql_declarations::{TypeLiteral, field_of, type_of_field};
+use graphql_occurrences::{TypeLiteral, field_of, type_of_field};
 use graphql_schema::{MetaType, SchemaType};
 
 /// The type of the field of this name, where its parent has it.

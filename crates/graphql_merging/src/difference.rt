@@ -1,7 +1,7 @@
 //! Whether two fields of one response key agree.
 
 ghost use Rattle.std.specs.Prelude.{◌≡◌, ◌↔◌, IfOk, IsTrue, List, ◌||◌};
-ghost use Rattle.graphql_declarations.specs.Lent.{literal_of};
+ghost use Rattle.graphql_occurrences.specs.DeclaredLent.{literal_of};
 ghost use Rattle.graphql_tree.specs.declared.document.Fragment.{Fragment};
 ghost use Rattle.graphql_tree.specs.Documents.{arguments_in as arguments_given};
 ghost use Rattle.graphql_merging.specs.Members.{declared, declared_type};
@@ -13,7 +13,7 @@ use crate::arguments::same_arguments;
 use crate::declarations::{are_different_objects, declared_type, is_leaf};
 use crate::selected::SelectedField;
 use crate::wraps::same_wraps;
-use graphql_declarations::TypeLiteral;
+use graphql_occurrences::TypeLiteral;
 use graphql_schema::{MetaType, SchemaType};
 use graphql_tree::{Field, arguments_in};
 use std::alloc::{AllocError, Global};

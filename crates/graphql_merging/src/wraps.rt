@@ -3,7 +3,7 @@
 ghost use Rattle.std.specs.Prelude.{◌≡◌, ◌↔◌, IsTrue, map};
 ghost use Rattle.graphql_merging.specs.Merging.{is_list, SameWraps};
 
-use graphql_type_references::TypeModifier;
+use graphql_names::TypeModifier;
 
 /// Whether the wrap is a list.
 fn is_list(wrap: &TypeModifier) -> bool

@@ -14,8 +14,8 @@ use Rattle.graphql_values.proofs.InputValueInduction.{value_ind}
 use Rattle.graphql_tree.specs.Arguments.{Argument, value_of}
 use Rattle.graphql_tree.specs.Documents.{arguments_in}
 use Rattle.graphql_tree.specs.declared.directive.Directive.{Directive}
-use Rattle.graphql_final_variables.specs.Filled.{filled, filled_layer}
-use Rattle.graphql_final_variables.proofs.FilledEquations.{filled_list, filled_object}
+use Rattle.graphql_written_out.specs.Filled.{filled, filled_layer}
+use Rattle.graphql_written_out.proofs.FilledEquations.{filled_list, filled_object}
 use Rattle.graphql_written_out.specs.Trees.{Directives}
 use Rattle.graphql_written_out.specs.Conditions.{truth_layer, truth_of, truth, condition, leaves_out, left_out}
 use Rattle.graphql_moved.specs.Moved.{moved, moved_value, moved_argument, moved_directive}

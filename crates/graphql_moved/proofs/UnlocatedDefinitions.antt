@@ -8,7 +8,7 @@ use Rattle.graphql_values.specs.InputValues.{unlocated, Placed}
 use Rattle.graphql_values.specs.declared.input_value.InputValue.{InputValue}
 use Rattle.graphql_tree.specs.Unlocated.{without_place, unlocated_name, unlocated_variable, unlocated_operation, unlocated_variables}
 use Rattle.graphql_tree.specs.Variables.{Variable}
-use Rattle.graphql_final_variables.specs.FinalValues.{default_named, default_of, final_value, variable_name}
+use Rattle.graphql_written_out.specs.FinalValues.{default_named, default_of, final_value, variable_name}
 use Rattle.graphql_tree.specs.Documents.{variables_in}
 use Rattle.graphql_tree.specs.declared.document.Operation.{Operation}
 use Rattle.graphql_tree.specs.declared.variable.VariableDefinitions.{VariableDefinitions}

@@ -7,8 +7,8 @@ use Rattle.std.specs.Option.{option_map}
 use Rattle.std.specs.Str.{bytes_eq}
 use Rattle.std.proofs.lemmas.List.Elements.{All-nil, All-cons, All-append}
 use Rattle.graphql_names.specs.Names.{Bytes}
-use Rattle.graphql_type_references.specs.declared.type_modifier.TypeModifier.{TypeModifier}
-use Rattle.graphql_type_references.specs.declared.type_modifier.TypeModifier.TheVariants as modifier
+use Rattle.graphql_names.specs.declared.type_modifier.TypeModifier.{TypeModifier}
+use Rattle.graphql_names.specs.declared.type_modifier.TypeModifier.TheVariants as modifier
 use Rattle.graphql_schema.specs.Types.{TypeOf}
 use Rattle.graphql_output_values.specs.DistinctKeys.{HasDistinctKeysThroughout}
 use Rattle.graphql_output_values.specs.declared.value.Value.{Value}
@@ -21,13 +21,13 @@ use Rattle.graphql_field_results.specs.declared.execution_error.ExecutionError.{
 use Rattle.graphql_field_results.specs.declared.field_error.FieldError.{FieldError}
 use Rattle.graphql_field_results.specs.declared.resolved.Resolved.{Resolved, out-Resolved}
 use Rattle.graphql_field_results.specs.declared.resolved.Resolved.TheOpen.{Resolved-F}
-use Rattle.graphql_evaluation.specs.Engines.{Engine}
-use Rattle.graphql_evaluation.specs.Outcomes.{Outcome, both, show_place, shown, together}
-use Rattle.graphql_evaluation.specs.Completion.{Members, at_list, at_name, at_required, blame_at, complete, complete_result, is_required, leaf_if, object_members, run_if}
-use Rattle.graphql_evaluation.specs.Evaluation.{Group, evaluate, found_in, sets_below}
-use Rattle.graphql_evaluation.specs.Laws.{DataHaveDistinctKeys, FailuresTellDistinctKeys, TellsDistinctKeys}
-use Rattle.graphql_evaluation.proofs.GroupKeys.{distinct-groups}
-use Rattle.graphql_evaluation.proofs.ToldErrors.{type-tells}
+use Rattle.graphql_semantics.specs.Engines.{Engine}
+use Rattle.graphql_semantics.specs.Outcomes.{Outcome, both, show_place, shown, together}
+use Rattle.graphql_semantics.specs.Completion.{Members, at_list, at_name, at_required, blame_at, complete, complete_result, is_required, leaf_if, object_members, run_if}
+use Rattle.graphql_semantics.specs.Evaluation.{Group, evaluate, found_in, sets_below}
+use Rattle.graphql_semantics.specs.Laws.{DataHaveDistinctKeys, FailuresTellDistinctKeys, TellsDistinctKeys}
+use Rattle.graphql_semantics.proofs.GroupKeys.{distinct-groups}
+use Rattle.graphql_semantics.proofs.ToldErrors.{type-tells}
 use Rattle.graphql_mutation.specs.Laws.{RunsHaveDistinctKeys, StepsTellDistinctKeys}
 use Rattle.graphql_mutation.specs.Serial.{Mutation, Run, Step, completed_step, declared_step, mutate, root_group, root_groups, serially, step_of, unless_null}
 

@@ -14,18 +14,18 @@ use Rattle.graphql_written_out.specs.Groups.{keys, under}
 use Rattle.graphql_field_results.specs.declared.execution_error.ExecutionError.{ExecutionError}
 use Rattle.graphql_field_results.specs.declared.field_error.FieldError.{FieldError}
 use Rattle.graphql_field_results.specs.declared.resolved.Resolved.{Resolved}
-use Rattle.graphql_evaluation.specs.Completion.{Members, blame_at, complete_result, is_required}
-use Rattle.graphql_evaluation.specs.Engines.{Engine}
-use Rattle.graphql_evaluation.specs.Evaluation.{Group, evaluate, found_in, sets_below}
-use Rattle.graphql_evaluation.specs.Failing.{IsAccounted}
-use Rattle.graphql_evaluation.specs.Fitting.{Fits}
-use Rattle.graphql_evaluation.specs.Laws.{DataFit, FailuresAreExact, NoDataFails}
-use Rattle.graphql_evaluation.specs.Outcomes.{Outcome, show_place}
-use Rattle.graphql_evaluation.proofs.ExactFailures.{comes, told-below, told-failure}
-use Rattle.graphql_evaluation.proofs.Failures.{result-accounted}
-use Rattle.graphql_evaluation.proofs.FittingData.{fit-result}
-use Rattle.graphql_evaluation.proofs.Elements.{here, none-in, only-one}
-use Rattle.graphql_evaluation.proofs.GroupKeys.{HasField, keys-have_fields}
+use Rattle.graphql_semantics.specs.Completion.{Members, blame_at, complete_result, is_required}
+use Rattle.graphql_semantics.specs.Engines.{Engine}
+use Rattle.graphql_semantics.specs.Evaluation.{Group, evaluate, found_in, sets_below}
+use Rattle.graphql_semantics.specs.Failing.{IsAccounted}
+use Rattle.graphql_semantics.specs.Fitting.{Fits}
+use Rattle.graphql_semantics.specs.Laws.{DataFit, FailuresAreExact, NoDataFails}
+use Rattle.graphql_semantics.specs.Outcomes.{Outcome, show_place}
+use Rattle.graphql_semantics.proofs.ExactFailures.{comes, told-below, told-failure}
+use Rattle.graphql_semantics.proofs.Failures.{result-accounted}
+use Rattle.graphql_semantics.proofs.FittingData.{fit-result}
+use Rattle.graphql_semantics.proofs.Elements.{here, none-in, only-one}
+use Rattle.graphql_semantics.proofs.GroupKeys.{HasField, keys-have_fields}
 use Rattle.graphql_mutation.specs.Fitting.{RootFails, RootFits, RunFails, RunFits, after_step, declared, undeclared, no_groups, more_groups, resolver, answer, below, first, later}
 use Rattle.graphql_mutation.specs.Laws.{RunFailuresAreExact, RunsFit, RunsWithoutDataFail}
 use Rattle.graphql_mutation.specs.Serial.{Mutation, Run, declared_step, mutate, root_group, root_groups, serially, step_of, unless_null}

@@ -12,13 +12,13 @@ use Rattle.graphql_output_values.specs.declared.value.Value.TheVariants as value
 use Rattle.graphql_field_results.specs.declared.execution_error.ExecutionError.{ExecutionError}
 use Rattle.graphql_field_results.specs.declared.resolved.Resolved.{Resolved}
 use Rattle.graphql_field_results.specs.declared.resolved.Resolved.TheVariants as resolved
-use Rattle.graphql_evaluation.specs.Completion.{Members, blame_at, own_null}
-use Rattle.graphql_evaluation.specs.Engines.{Engine}
+use Rattle.graphql_semantics.specs.Completion.{Members, blame_at, own_null}
+use Rattle.graphql_semantics.specs.Engines.{Engine}
 use Rattle.graphql_mutation.specs.Laws.{GivesOf}
 use Rattle.graphql_mutation.specs.Serial.{Mutation, Run, mutate, serially}
 use Rattle.graphql_mutation.proofs.SerialQueries.{asking-only-is-querying}
 use Rattle.graphql_mutation.proofs.SerialRepeats.{repeats-change-nothing}
-use Rattle.graphql_evaluation.specs.Evaluation.{evaluate, found_in}
+use Rattle.graphql_semantics.specs.Evaluation.{evaluate, found_in}
 
 -- `lose` answers null, each other field the count
 abbrev told : Bytes → ℕ → Resolved ℕ ℕ

@@ -10,31 +10,31 @@ use Rattle.graphql_output_values.specs.declared.value.Value.{Value}
 use Rattle.graphql_output_values.specs.declared.value.Value.TheVariants as value
 use Rattle.graphql_written_out.specs.Trees.{Head, Tree}
 use Rattle.graphql_written_out.specs.Written.{head_of}
-use Rattle.graphql_collect.specs.declared.collected_field.CollectedField.{CollectedField}
-use Rattle.graphql_collect.specs.declared.request.Request.{Request}
+use Rattle.graphql_collected.specs.declared.collected_field.CollectedField.{CollectedField}
+use Rattle.graphql_collected.specs.declared.request.Request.{Request}
 use Rattle.graphql_collect.specs.Grouped.{Lent, all_found}
-use Rattle.graphql_collect.specs.Requests.{fragments_in}
-use Rattle.graphql_declarations.specs.Lent.{literal_of}
+use Rattle.graphql_collected.specs.Requests.{fragments_in}
+use Rattle.graphql_occurrences.specs.DeclaredLent.{literal_of}
 use Rattle.graphql_field_results.specs.declared.execution_error.ExecutionError.{ExecutionError}
 use Rattle.graphql_field_results.specs.declared.field_error.FieldError.{FieldError}
 use Rattle.graphql_field_results.specs.declared.field_fault.FieldFault.{FieldFault}
 use Rattle.graphql_field_results.specs.declared.field_fault.FieldFault.TheVariants as fault
 use Rattle.graphql_field_results.specs.declared.resolved.Resolved.{Resolved}
-use Rattle.graphql_evaluation.specs.Completion.{blame_at, is_required}
-use Rattle.graphql_evaluation.specs.Engines.{Engine}
-use Rattle.graphql_evaluation.specs.Evaluation.{at_type, evaluate, sets_below}
-use Rattle.graphql_evaluation.specs.Outcomes.{Outcome, fails, shown}
-use Rattle.graphql_execution.specs.Begins.{Completes, outcome_at, own_error_at}
-use Rattle.graphql_execution.specs.Completions.{outcome_here, own_error_here}
-use Rattle.graphql_execution.specs.Asked.{AskedAnswer}
-use Rattle.graphql_execution.specs.Engines.{Resolves, engine_of}
-use Rattle.graphql_execution.specs.declared.asked.Asked.{Asked}
-use Rattle.graphql_execution.specs.FieldDeclarations.{declared_type}
-use Rattle.graphql_execution.specs.FieldPaths.{keys_of, place_of}
-use Rattle.graphql_execution.specs.Sets.{sets_in}
-use Rattle.graphql_execution.specs.declared.executor.Executor.{Executor}
-use Rattle.graphql_execution.proofs.BeginLemmas.{own-outcome}
-use Rattle.graphql_execution.proofs.EngineParts.{engine-declared}
+use Rattle.graphql_semantics.specs.Completion.{blame_at, is_required}
+use Rattle.graphql_semantics.specs.Engines.{Engine}
+use Rattle.graphql_semantics.specs.Evaluation.{at_type, evaluate, sets_below}
+use Rattle.graphql_semantics.specs.Outcomes.{Outcome, fails, shown}
+use Rattle.graphql_execution_walk.specs.Begins.{Completes, outcome_at, own_error_at}
+use Rattle.graphql_execution_walk.specs.Completions.{outcome_here, own_error_here}
+use Rattle.graphql_execution_walk.specs.Asked.{AskedAnswer}
+use Rattle.graphql_execution_walk.specs.Engines.{Resolves, engine_of}
+use Rattle.graphql_execution_walk.specs.declared.asked.Asked.{Asked}
+use Rattle.graphql_execution_walk.specs.FieldDeclarations.{declared_type}
+use Rattle.graphql_execution_walk.specs.FieldPaths.{keys_of, place_of}
+use Rattle.graphql_execution_walk.specs.Sets.{sets_in}
+use Rattle.graphql_execution_walk.specs.declared.executor.Executor.{Executor}
+use Rattle.graphql_execution_walk.proofs.BeginLemmas.{own-outcome}
+use Rattle.graphql_execution_walk.proofs.EngineParts.{engine-declared}
 use Rattle.graphql_mutation.specs.Completing.{IsValueOrTold, outcome_of_result, own_error_of_result, step_shown}
 use Rattle.graphql_mutation.specs.Mutations.{Changes, mutation_of}
 use Rattle.graphql_mutation.specs.Runs.{HasRun, LeavesOrKeeps}

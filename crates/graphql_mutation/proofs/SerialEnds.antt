@@ -10,10 +10,10 @@ use Rattle.graphql_output_values.specs.declared.value.Value.{Value}
 use Rattle.graphql_written_out.specs.Trees.{Tree}
 use Rattle.graphql_collect.specs.Grouped.{Group as Lent, all_found, group_found}
 use Rattle.graphql_field_results.specs.declared.execution_error.ExecutionError.{ExecutionError}
-use Rattle.graphql_evaluation.specs.Completion.{Members, object_members}
-use Rattle.graphql_evaluation.specs.Evaluation.{Group, found_in}
-use Rattle.graphql_evaluation.proofs.GroupKeys.{distinct-groups}
-use Rattle.graphql_execution.specs.Sets.{AreGroups}
+use Rattle.graphql_semantics.specs.Completion.{Members, object_members}
+use Rattle.graphql_semantics.specs.Evaluation.{Group, found_in}
+use Rattle.graphql_semantics.proofs.GroupKeys.{distinct-groups}
+use Rattle.graphql_execution_walk.specs.Sets.{AreGroups}
 use Rattle.graphql_mutation.specs.Runs.{HasRun, run_map}
 use Rattle.graphql_mutation.specs.Serial.{AfterBeginning, Mutation, mutate, root_group, root_groups, serially}
 use Rattle.graphql_mutation.proofs.SerialRepeats.{beginning-repeats, serially-repeats}

@@ -7,12 +7,12 @@ use Rattle.graphql_written_out.specs.Trees.{Head, Tree}
 use Rattle.graphql_written_out.specs.Fields.{Found}
 use Rattle.graphql_written_out.specs.Groups.{groups}
 use Rattle.graphql_schema.specs.Types.{TypeOf}
-use Rattle.graphql_evaluation.specs.Completion.{Members, blame_at}
-use Rattle.graphql_evaluation.specs.Engines.{Engine}
-use Rattle.graphql_evaluation.specs.Evaluation.{Group, at_declared, evaluate, found_in, group, keyed, sets_below}
-use Rattle.graphql_evaluation.specs.Outcomes.{Outcome, both, together}
-use Rattle.graphql_evaluation.proofs.RepeatLemmas.{adds-all}
-use Rattle.graphql_evaluation.proofs.RunRepeats.{evaluate-groups}
+use Rattle.graphql_semantics.specs.Completion.{Members, blame_at}
+use Rattle.graphql_semantics.specs.Engines.{Engine}
+use Rattle.graphql_semantics.specs.Evaluation.{Group, at_declared, evaluate, found_in, group, keyed, sets_below}
+use Rattle.graphql_semantics.specs.Outcomes.{Outcome, both, together}
+use Rattle.graphql_semantics.proofs.RepeatLemmas.{adds-all}
+use Rattle.graphql_semantics.proofs.RunRepeats.{evaluate-groups}
 use Rattle.graphql_mutation.specs.Laws.{AskingOnlyIsQuerying, AsksOnly, GivesOf}
 use Rattle.graphql_mutation.specs.Serial.{Mutation, Run, completed_step, declared_step, root_group, serially, unless_null}
 

@@ -9,11 +9,11 @@ use Rattle.graphql_written_out.specs.Fields.{Found}
 use Rattle.graphql_written_out.specs.Groups.{groups, keys, under}
 use Rattle.graphql_written_out.specs.Repeats.{Repeats}
 use Rattle.graphql_schema.specs.Types.{TypeOf}
-use Rattle.graphql_evaluation.specs.Completion.{Members, blame_at}
-use Rattle.graphql_evaluation.specs.Evaluation.{at_type, found_in, sets_below}
-use Rattle.graphql_evaluation.proofs.GroupRepeats.{adds-keys}
-use Rattle.graphql_evaluation.proofs.RepeatLemmas.{adds-filter, adds-first, adds-map, first}
-use Rattle.graphql_evaluation.proofs.RunRepeats.{evaluate-repeats}
+use Rattle.graphql_semantics.specs.Completion.{Members, blame_at}
+use Rattle.graphql_semantics.specs.Evaluation.{at_type, found_in, sets_below}
+use Rattle.graphql_semantics.proofs.GroupRepeats.{adds-keys}
+use Rattle.graphql_semantics.proofs.RepeatLemmas.{adds-filter, adds-first, adds-map, first}
+use Rattle.graphql_semantics.proofs.RunRepeats.{evaluate-repeats}
 use Rattle.graphql_mutation.specs.Laws.{RepeatsChangeNothing}
 use Rattle.graphql_mutation.specs.Serial.{AfterBeginning, Mutation, Run, declared_step, root_group, serially, step_of, unless_null}
 

@@ -5,8 +5,8 @@ use Rattle.graphql_names.specs.Names.{Bytes}
 use Rattle.graphql_output_values.specs.declared.value.Value.{Value}
 use Rattle.graphql_written_out.specs.Fields.{Found}
 use Rattle.graphql_field_results.specs.declared.execution_error.ExecutionError.{ExecutionError}
-use Rattle.graphql_evaluation.specs.Completion.{Members, object_members}
-use Rattle.graphql_evaluation.specs.Evaluation.{Group}
+use Rattle.graphql_semantics.specs.Completion.{Members, object_members}
+use Rattle.graphql_semantics.specs.Evaluation.{Group}
 use Rattle.graphql_mutation.specs.Runs.{HasRun, run_map}
 use Rattle.graphql_mutation.specs.Serial.{AfterBeginning, Mutation, Run, root_group, serially, unless_null}
 

@@ -7,13 +7,13 @@ use Rattle.graphql_field_results.specs.declared.field_fault.FieldFault.{FieldFau
 use Rattle.graphql_field_results.specs.declared.field_fault.FieldFault.TheVariants as fault
 use Rattle.graphql_field_results.specs.declared.field_error.FieldError.{FieldError}
 use Rattle.graphql_field_results.specs.declared.resolved.Resolved.{Resolved}
-use Rattle.graphql_evaluation.specs.Completion.{is_required}
-use Rattle.graphql_evaluation.specs.Engines.{Engine}
-use Rattle.graphql_evaluation.specs.Outcomes.{Outcome, show_place}
-use Rattle.graphql_execution.specs.Begins.{outcome_at, own_error_at}
-use Rattle.graphql_execution.specs.FieldPaths.{error_at, keys_of, place_of}
-use Rattle.graphql_execution.specs.Sets.{sets_in}
-use Rattle.graphql_execution.specs.declared.executor.Executor.{Executor}
+use Rattle.graphql_semantics.specs.Completion.{is_required}
+use Rattle.graphql_semantics.specs.Engines.{Engine}
+use Rattle.graphql_semantics.specs.Outcomes.{Outcome, show_place}
+use Rattle.graphql_execution_walk.specs.Begins.{outcome_at, own_error_at}
+use Rattle.graphql_execution_walk.specs.FieldPaths.{error_at, keys_of, place_of}
+use Rattle.graphql_execution_walk.specs.Sets.{sets_in}
+use Rattle.graphql_execution_walk.specs.declared.executor.Executor.{Executor}
 use Rattle.graphql_mutation.specs.Serial.{Mutation, Run, Step}
 
 module _ {S N Context C : Type 0} (e : Engine S N) (executor : Executor Context S C)

@@ -9,11 +9,11 @@ use Rattle.graphql_written_out.specs.Fields.{Found}
 use Rattle.graphql_field_results.specs.declared.execution_error.ExecutionError.{ExecutionError}
 use Rattle.graphql_field_results.specs.declared.field_error.FieldError.{FieldError}
 use Rattle.graphql_field_results.specs.declared.resolved.Resolved.{Resolved}
-use Rattle.graphql_evaluation.specs.Completion.{Members, blame_at}
-use Rattle.graphql_evaluation.specs.Engines.{Engine}
-use Rattle.graphql_evaluation.specs.Evaluation.{Group, sets_below}
-use Rattle.graphql_evaluation.specs.Failing.{Fails, NodeAt, ReasonAt}
-use Rattle.graphql_evaluation.specs.Fitting.{Fits}
+use Rattle.graphql_semantics.specs.Completion.{Members, blame_at}
+use Rattle.graphql_semantics.specs.Engines.{Engine}
+use Rattle.graphql_semantics.specs.Evaluation.{Group, sets_below}
+use Rattle.graphql_semantics.specs.Failing.{Fails, NodeAt, ReasonAt}
+use Rattle.graphql_semantics.specs.Fitting.{Fits}
 use Rattle.graphql_mutation.specs.Serial.{Mutation, root_group, step_of}
 
 module _ {S N X : Type 0} (m : Mutation S N X) (object : Bytes) where

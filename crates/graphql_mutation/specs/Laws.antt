@@ -10,11 +10,11 @@ use Rattle.graphql_written_out.specs.Groups.{groups}
 use Rattle.graphql_written_out.specs.Repeats.{Repeats}
 use Rattle.graphql_field_results.specs.Answered.{TellsInDistinctKeys}
 use Rattle.graphql_field_results.specs.declared.execution_error.ExecutionError.{ExecutionError}
-use Rattle.graphql_evaluation.specs.Completion.{Members, object_members}
-use Rattle.graphql_evaluation.specs.Evaluation.{evaluate, found_in}
-use Rattle.graphql_evaluation.specs.Laws.{AnswersTellDistinctKeys, TellsDistinctKeys}
-use Rattle.graphql_evaluation.specs.Outcomes.{Outcome}
-use Rattle.graphql_evaluation.specs.Failing.{IsAccounted}
+use Rattle.graphql_semantics.specs.Completion.{Members, object_members}
+use Rattle.graphql_semantics.specs.Evaluation.{evaluate, found_in}
+use Rattle.graphql_semantics.specs.Laws.{AnswersTellDistinctKeys, TellsDistinctKeys}
+use Rattle.graphql_semantics.specs.Outcomes.{Outcome}
+use Rattle.graphql_semantics.specs.Failing.{IsAccounted}
 use Rattle.graphql_mutation.specs.Fitting.{RunFails, RunFits}
 use Rattle.graphql_mutation.specs.Serial.{Mutation, Run, mutate, root_groups, serially, step_of}
 

@@ -5,14 +5,14 @@ use Rattle.graphql_names.specs.Names.{Bytes}
 use Rattle.graphql_values.specs.declared.input_value.InputValue.{InputValue}
 use Rattle.graphql_schema.specs.declared.schema.SchemaType.{SchemaType}
 use Rattle.graphql_arguments.specs.ArgumentValues.{Given}
-use Rattle.graphql_final_variables.specs.FinalVariables.{value_in}
-use Rattle.graphql_collect.specs.declared.request.Request.{Request}
+use Rattle.graphql_written_out.specs.FinalVariables.{value_in}
+use Rattle.graphql_collected.specs.declared.request.Request.{Request}
 use Rattle.graphql_field_results.specs.declared.field_error.FieldError.{FieldError}
 use Rattle.graphql_field_results.specs.declared.resolved.Resolved.{Resolved}
-use Rattle.graphql_execution.specs.Asked.{map_answer, or_asked, told_of_itself}
-use Rattle.graphql_execution.specs.Engines.{Resolves, engine_over}
-use Rattle.graphql_execution.specs.declared.asked.Asked.{Asked}
-use Rattle.graphql_execution.specs.declared.asked.Asked.TheVariants as asked
+use Rattle.graphql_execution_walk.specs.Asked.{map_answer, or_asked, told_of_itself}
+use Rattle.graphql_execution_walk.specs.Engines.{Resolves, engine_over}
+use Rattle.graphql_execution_walk.specs.declared.asked.Asked.{Asked}
+use Rattle.graphql_execution_walk.specs.declared.asked.Asked.TheVariants as asked
 use Rattle.graphql_mutation.specs.Serial.{Mutation, Step}
 
 -- what a resolver does at a mutation's root: what it answers for a field by its argument values, and the context after

@@ -3,7 +3,7 @@ use Rattle.std.specs.Prelude.{◌≡◌, ◌⊎◌, ◌++◌, List, Option, Resu
 use Rattle.graphql_field_results.specs.declared.execution_error.ExecutionError.{ExecutionError}
 use Rattle.graphql_field_results.specs.declared.field_fault.FieldFault.{FieldFault}
 use Rattle.graphql_field_results.specs.declared.field_fault.FieldFault.TheVariants as fault
-use Rattle.graphql_evaluation.specs.Outcomes.{outcome_map}
+use Rattle.graphql_semantics.specs.Outcomes.{outcome_map}
 use Rattle.graphql_mutation.specs.Serial.{Run}
 
 abbrev pub run_map : {S X A B : Type 0} → (A → B) → Run S X A → Run S X B

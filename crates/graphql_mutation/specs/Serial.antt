@@ -12,10 +12,10 @@ use Rattle.graphql_written_out.specs.Groups.{groups}
 use Rattle.graphql_schema.specs.Types.{TypeOf}
 use Rattle.graphql_field_results.specs.declared.field_error.FieldError.{FieldError}
 use Rattle.graphql_field_results.specs.declared.resolved.Resolved.{Resolved}
-use Rattle.graphql_evaluation.specs.Completion.{Members, blame_at}
-use Rattle.graphql_evaluation.specs.Engines.{Engine}
-use Rattle.graphql_evaluation.specs.Evaluation.{Group, at_type, evaluate, found_in, sets_below}
-use Rattle.graphql_evaluation.specs.Outcomes.{Outcome, gives, no_value}
+use Rattle.graphql_semantics.specs.Completion.{Members, blame_at}
+use Rattle.graphql_semantics.specs.Engines.{Engine}
+use Rattle.graphql_semantics.specs.Evaluation.{Group, at_type, evaluate, found_in, sets_below}
+use Rattle.graphql_semantics.specs.Outcomes.{Outcome, gives, no_value}
 
 -- what a field of the root is answered, and the context after
 pub record Step (S N X : Type 0) : Type 0 where

@@ -7,7 +7,9 @@ ghost use Rattle.graphql_mutation.specs.Runs.{LeavesOrKeeps};
 ghost use Rattle.graphql_mutation.specs.Serial.{step_of};
 
 use crate::mutation_value::GraphQLMutationValue;
-use graphql_execution::{Asked, Executor, arguments_of, of_resolver, of_schema, told_of_itself};
+use graphql_execution_walk::{
+    Asked, Executor, arguments_of, of_resolver, of_schema, told_of_itself,
+};
 use graphql_field_results::{FieldResult, Resolved};
 use graphql_schema::SchemaScalar;
 use graphql_text::Spanning;
@@ -17,7 +19,7 @@ use graphql_tree::Field;
 /// the one after. Of what each object tells of itself the resolver is not asked, and it leaves the context as it
 /// was (GraphQL October 2021, 4 Introspection). `FieldFault::Memory` is want of memory: the context is then as it
 /// was, or the one after.
-#[tactic(auto, unfolding(graphql_execution::specs::Engines::engine_over))]
+#[tactic(auto, unfolding(graphql_execution_walk::specs::Engines::engine_over))]
 pub(crate) fn ask_root<'d, 'a, S: SchemaScalar + Drop, R: GraphQLMutationValue<S>>(
     resolver: &R,
     executor: &Executor<'_, 'd, 'a, (), S>,

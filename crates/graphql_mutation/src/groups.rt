@@ -2,8 +2,8 @@
 
 ghost use Rattle.std.specs.Prelude.{◌≡◌, ◌⊎◌, IfOk, OnErr};
 ghost use Rattle.graphql_collect.specs.Grouped.{all_found};
-ghost use Rattle.graphql_collect.specs.Requests.{fragments_in};
-ghost use Rattle.graphql_execution.specs.Sets.{AreGroups, selected_in, sets_in};
+ghost use Rattle.graphql_collected.specs.Requests.{fragments_in};
+ghost use Rattle.graphql_execution_walk.specs.Sets.{AreGroups, selected_in, sets_in};
 ghost use Rattle.graphql_written_out.specs.Repeats.{Repeats};
 ghost use Rattle.graphql_written_out.specs.Written.{Settled};
 ghost use Rattle.graphql_mutation.specs.Mutations.{mutation_of};
@@ -12,8 +12,9 @@ ghost use Rattle.graphql_mutation.specs.Serial.{root_group};
 
 use crate::mutation_value::GraphQLMutationValue;
 use crate::root_fields::show_field;
-use graphql_collect::{CollectedField, Group, fields_below, fields_of_set, grouped};
-use graphql_execution::{Executor, Selected, declared_type};
+use graphql_collect::{Group, fields_below, fields_of_set, grouped};
+use graphql_collected::CollectedField;
+use graphql_execution_walk::{Executor, Selected, declared_type};
 use graphql_field_results::ExecutionError;
 use graphql_output_values::Value;
 use graphql_schema::SchemaScalar;

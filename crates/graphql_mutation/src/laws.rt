@@ -2,7 +2,7 @@
 
 ghost use Rattle.graphql_mutation.specs.Laws.{AskingOnlyIsQuerying, RepeatsChangeNothing, RunFailuresAreExact, RunsFit, RunsHaveDistinctKeys, RunsWithoutDataFail};
 
-use graphql_evaluation::laws::{
+use graphql_semantics::laws::{
     data_fit, data_have_distinct_keys, failures_are_exact, failures_tell_distinct_keys,
     no_data_fails,
 };

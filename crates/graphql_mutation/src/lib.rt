@@ -10,7 +10,7 @@ mod root_fields;
 mod serially;
 mod without_mutations;
 
-pub use graphql_execution::{Executor, GraphQLValue};
+pub use graphql_execution_walk::{Executor, GraphQLValue};
 pub use mutation_value::GraphQLMutationValue;
 pub use serially::answer_serially;
 pub use without_mutations::WithoutMutations;

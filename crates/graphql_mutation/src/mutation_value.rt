@@ -1,7 +1,7 @@
 //! What resolvers of mutations are.
 
 use graphql_arguments::Arguments;
-use graphql_execution::GraphQLValue;
+use graphql_execution_walk::GraphQLValue;
 use graphql_field_results::{FieldResult, Resolved};
 use graphql_schema::SchemaScalar;
 use std::alloc::Global;

@@ -1,9 +1,9 @@
 //! What a field of a mutation's root comes to, on the context that its answer leaves.
 
 ghost use Rattle.std.specs.Prelude.{◌≡◌, ◌⊎◌, IfOk, OnErr};
-ghost use Rattle.graphql_collect.specs.Requests.{fragments_in};
+ghost use Rattle.graphql_collected.specs.Requests.{fragments_in};
 ghost use Rattle.graphql_written_out.specs.Written.{Settled, head_of};
-ghost use Rattle.graphql_execution.specs.Begins.{Completes};
+ghost use Rattle.graphql_execution_walk.specs.Begins.{Completes};
 ghost use Rattle.graphql_mutation.specs.Completing.{IsValueOrTold, outcome_of_result, own_error_of_result, step_shown};
 ghost use Rattle.graphql_mutation.specs.Mutations.{mutation_of};
 ghost use Rattle.graphql_mutation.specs.Runs.{HasRun, LeavesOrKeeps};
@@ -11,7 +11,7 @@ ghost use Rattle.graphql_mutation.specs.Serial.{step_of};
 
 use crate::asking::ask_root;
 use crate::mutation_value::GraphQLMutationValue;
-use graphql_execution::{Executor, is_required, shown};
+use graphql_execution_walk::{Executor, is_required, shown};
 use graphql_field_results::{ExecutionError, FieldFault, FieldResult};
 use graphql_output_values::Value;
 use graphql_schema::SchemaScalar;

@@ -1,9 +1,9 @@
 //! What a mutation gives and changes.
 
 ghost use Rattle.std.specs.Prelude.{◌≡◌, ◌++◌, [], ◌∷◌, IfOk, OnErr, OnOk};
-ghost use Rattle.graphql_collect.specs.Requests.{fragments_in};
-ghost use Rattle.graphql_evaluation.specs.Completion.{object_members};
-ghost use Rattle.graphql_execution.specs.Sets.{sets_in};
+ghost use Rattle.graphql_collected.specs.Requests.{fragments_in};
+ghost use Rattle.graphql_semantics.specs.Completion.{object_members};
+ghost use Rattle.graphql_execution_walk.specs.Sets.{sets_in};
 ghost use Rattle.graphql_written_out.specs.Written.{Settled};
 ghost use Rattle.graphql_mutation.specs.Mutations.{mutation_of};
 ghost use Rattle.graphql_mutation.specs.Runs.{HasRun, run_map};
@@ -11,7 +11,7 @@ ghost use Rattle.graphql_mutation.specs.Serial.{AfterBeginning, mutate, root_gro
 
 use crate::groups::{answer_group, groups_of_root};
 use crate::mutation_value::GraphQLMutationValue;
-use graphql_execution::Executor;
+use graphql_execution_walk::Executor;
 use graphql_field_results::ExecutionError;
 use graphql_output_values::{Object, Value};
 use graphql_schema::SchemaScalar;

@@ -4,3 +4,4 @@ pub mod Repeats
 pub mod NameMaps
 pub mod Indexes
 pub mod IndexInsertions
+pub mod TypeLemmas

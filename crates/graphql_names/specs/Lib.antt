@@ -2,3 +2,4 @@ pub mod Names
 pub mod NameMaps
 pub mod Indexes
 pub mod Laws
+pub mod TypeReference

@@ -7,3 +7,4 @@ pub mod TellsSelections
 pub mod TellsDefinitions
 pub mod Rows
 pub mod UnlocatedParts
+pub mod TypenameLemmas

@@ -8,7 +8,7 @@ use Rattle.graphql_schema.specs.declared.meta.MetaType.{MetaType}
 use Rattle.graphql_schema.specs.declared.meta.MetaType.TheVariants as meta
 use Rattle.graphql_schema.specs.Types.{TypeOf}
 use Rattle.graphql_names.specs.Names.{Bytes}
-use Rattle.graphql_declarations.specs.Lookups.{Declarations}
+use Rattle.graphql_occurrences.specs.DeclaredLookups.{Declarations}
 use Rattle.graphql_text.specs.declared.position.SourcePosition.{SourcePosition}
 use Rattle.graphql_tree.specs.Arguments.{Argument}
 use Rattle.graphql_tree.specs.declared.document.Definition.{Definition}
@@ -17,8 +17,8 @@ use Rattle.graphql_tree.specs.declared.document.OperationType.{OperationType}
 use Rattle.graphql_tree.specs.declared.document.OperationType.TheVariants as kind
 use Rattle.graphql_tree.specs.declared.selection.Selection.{Selection}
 use Rattle.graphql_tree.specs.declared.selection.Selection.TheVariants as selection
-use Rattle.graphql_type_references.specs.declared.type_modifier.TypeModifier.{TypeModifier}
-use Rattle.graphql_type_references.specs.declared.type_modifier.TypeModifier.TheVariants as modifier
+use Rattle.graphql_names.specs.declared.type_modifier.TypeModifier.{TypeModifier}
+use Rattle.graphql_names.specs.declared.type_modifier.TypeModifier.TheVariants as modifier
 use Rattle.graphql_values.specs.declared.input_value.InputValue.{InputValue}
 use Rattle.graphql_values.specs.declared.input_value.InputValue.TheVariants as value
 use Rattle.graphql_values.specs.InputValues.{Placed}
@@ -67,7 +67,7 @@ abbrev pub human : MetaType ℕ ℕ
 human = meta.Object (record { name = codes "Human"; description = None; fields = field (codes "id") None (type_of (codes "String") []) ∷ []; interface_names = [] })
 
 abbrev pub by_type : MetaType ℕ ℕ
-by_type = meta.InputObject (record { name = codes "By"; description = None; input_fields = by_name ∷ []; check = 0 })
+by_type = meta.InputObject (record { name = codes "By"; description = None; input_fields = by_name ∷ []; check = 0; exactly_one = false })
 
 -- two objects, `Query` with `hero` and `find` and `Human` with `id`, and the input object `By` with `name`
 abbrev pub humans : Declarations ℕ ℕ
@@ -136,7 +136,7 @@ pub place_of_x :
     ≡ AField (record { name = codes "find"; place = at 2; parent = query_type; declared = Some find; has_set = false })
     ∷ Given (record { place = at 2; given = given_by; declared = Some (by ∷ []) })
     ∷ ObjectOf (put 13 (codes "name") ∷ [])
-    ∷ VariableUsed (record { name = codes "x"; place = at 19; at = Some (record { asked = type_of (codes "String") []; has_default = true }) }) ∷ []
+    ∷ VariableUsed (record { name = codes "x"; place = at 19; at = Some (record { asked = type_of (codes "String") []; has_default = true; is_only_field = false }) }) ∷ []
 unfolding occurrences
 place_of_x = simp (parts_field humans, parts_list humans, parts_object humans, parts_variable humans) refl
 

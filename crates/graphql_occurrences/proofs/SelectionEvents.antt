@@ -12,7 +12,7 @@ use Rattle.graphql_tree.specs.declared.selection.InlineFragment.{InlineFragment}
 use Rattle.graphql_tree.specs.declared.selection.Selection.{Selection}
 use Rattle.graphql_tree.specs.declared.selection.Selection.TheVariants as selection
 use Rattle.graphql_tree.proofs.SelectionEquations.{field_layer as layer_of_field, fold_field, fold_spread, fold_inline, fold_in_field, fold_in_inline}
-use Rattle.graphql_declarations.specs.Lookups.{Declarations}
+use Rattle.graphql_occurrences.specs.DeclaredLookups.{Declarations}
 use Rattle.graphql_occurrences.specs.Nodes.{Around, Inner, AtSelectionSet, AtField, AtInlineFragment, OfField}
 use Rattle.graphql_occurrences.specs.Nodes.{field_head, inline_head}
 use Rattle.graphql_occurrences.specs.Lookups.{field_arguments, field_of}

@@ -10,8 +10,8 @@ use Rattle.graphql_values.specs.InputValues.{Placed}
 use Rattle.graphql_values.specs.declared.input_value.InputValue.{InputValue}
 use Rattle.graphql_schema.specs.declared.directive_location.DirectiveLocation.TheVariants as location
 use Rattle.graphql_schema.specs.declared.meta.MetaType.{MetaType}
-use Rattle.graphql_declarations.specs.Lookups.{Declarations}
-use Rattle.graphql_declarations.specs.Lookups.{type_named, own_name}
+use Rattle.graphql_occurrences.specs.DeclaredLookups.{Declarations}
+use Rattle.graphql_occurrences.specs.DeclaredLookups.{type_named, own_name}
 use Rattle.graphql_tree.specs.Variables.{Variable}
 use Rattle.graphql_tree.specs.declared.document.OperationType.{OperationType}
 use Rattle.graphql_tree.specs.declared.document.OperationType.TheVariants as operation

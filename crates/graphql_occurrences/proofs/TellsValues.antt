@@ -12,8 +12,8 @@ use Rattle.graphql_values.specs.declared.input_value.InputValue.TheVariants as v
 use Rattle.graphql_values.proofs.InputValueInduction.{value_ind}
 use Rattle.graphql_schema.specs.declared.directive_location.DirectiveLocation.{DirectiveLocation}
 use Rattle.graphql_schema.specs.declared.meta.argument.Argument.{Argument as DeclaredArgument}
-use Rattle.graphql_declarations.specs.Lookups.{Declarations}
-use Rattle.graphql_declarations.specs.Lookups.{directive_named}
+use Rattle.graphql_occurrences.specs.DeclaredLookups.{Declarations}
+use Rattle.graphql_occurrences.specs.DeclaredLookups.{directive_named}
 use Rattle.graphql_tree.specs.Arguments.{Argument}
 use Rattle.graphql_tree.specs.declared.directive.Directive.{Directive}
 use Rattle.graphql_occurrences.specs.Lookups.{argument_place, directive_arguments, field_place, item_place}

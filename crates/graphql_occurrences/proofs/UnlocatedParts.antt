@@ -36,8 +36,8 @@ use Rattle.graphql_schema.specs.declared.directive_location.DirectiveLocation.{D
 use Rattle.graphql_schema.specs.declared.directive_location.DirectiveLocation.TheVariants as location
 use Rattle.graphql_schema.specs.declared.meta.MetaType.{MetaType}
 use Rattle.graphql_schema.specs.declared.meta.argument.Argument.{Argument as Declared}
-use Rattle.graphql_declarations.specs.Lookups.{Declarations}
-use Rattle.graphql_declarations.specs.Lookups.{directive_named}
+use Rattle.graphql_occurrences.specs.DeclaredLookups.{Declarations}
+use Rattle.graphql_occurrences.specs.DeclaredLookups.{directive_named}
 use Rattle.graphql_occurrences.specs.Lookups.{argument_place, bare_place, directive_arguments, field_arguments, field_in, field_place, field_type, item_place, known, location_of, referred, root_of}
 use Rattle.graphql_occurrences.specs.Laws.{OccurrencesAreUnlocated}
 use Rattle.graphql_occurrences.specs.Occurrences.{variable_part, value_parts, placed_parts, given_parts, directive_parts, directives_parts, under, type_inside, selection_parts, set_parts, variable_parts, operation_parts, fragment_parts, definition_parts, occurrences}

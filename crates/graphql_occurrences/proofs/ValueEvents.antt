@@ -3,14 +3,14 @@ use Rattle.std.proofs.Common.{◌≡◌, List, [], map, sym, ap, ◌∙◌}
 use Rattle.std.proofs.lemmas.Simd.{map-map}
 use Rattle.std.proofs.lemmas.List.Folds.{flat_map-map}
 use Rattle.graphql_text.specs.declared.position.Span.{Span}
-use Rattle.graphql_text.specs.Memory.{Text}
+use Rattle.graphql_text.specs.declared.text.Text.{Text}
 use Rattle.graphql_values.specs.InputValues.{Placed, Pair}
 use Rattle.graphql_values.specs.declared.input_value.InputValue.{InputValue}
 use Rattle.graphql_values.specs.declared.input_value.InputValue.TheOpen.{InputValue-F}
 use Rattle.graphql_values.specs.declared.input_value.InputValue.TheVariants as value
 use Rattle.graphql_values.proofs.InputValueEquations.{on_item, on_value, fold_null, fold_scalar, fold_enum, fold_variable, fold_list, fold_object}
 use Rattle.graphql_values.proofs.InputValueInduction.{value_ind}
-use Rattle.graphql_declarations.specs.Lookups.{Declarations}
+use Rattle.graphql_occurrences.specs.DeclaredLookups.{Declarations}
 use Rattle.graphql_occurrences.specs.Nodes.{Around, Seen, Inner, AtValue, value_head_layer, nulled}
 use Rattle.graphql_occurrences.specs.Nodes.{value_head}
 use Rattle.graphql_occurrences.specs.Events.{through, each, value_within, value_layer, item_layer, pair_layer, item_events, pair_events, content_of, content_events}

@@ -8,9 +8,9 @@ use Rattle.graphql_schema.specs.declared.meta.argument.Argument as declared
 use Rattle.graphql_schema.specs.declared.meta.MetaType.{MetaType}
 use Rattle.graphql_schema.specs.Types.{TypeOf, reference_to}
 use Rattle.graphql_names.specs.Names.{Bytes}
-use Rattle.graphql_declarations.specs.Lookups.{Declarations}
-use Rattle.graphql_declarations.specs.Lookups.{directive_named}
-use Rattle.graphql_declarations.specs.Lookups.{own_name}
+use Rattle.graphql_occurrences.specs.DeclaredLookups.{Declarations}
+use Rattle.graphql_occurrences.specs.DeclaredLookups.{directive_named}
+use Rattle.graphql_occurrences.specs.DeclaredLookups.{own_name}
 use Rattle.graphql_text.specs.declared.position.Span.{Span}
 use Rattle.graphql_tree.specs.Arguments.{Argument}
 use Rattle.graphql_tree.specs.declared.directive.Directive.{Directive}

@@ -2,7 +2,7 @@
 use Rattle.std.specs.Prelude.{◌≡◌, List, map}
 use Rattle.graphql_tree.specs.Unlocated.{unlocated_document}
 use Rattle.graphql_tree.specs.declared.document.Definition.{Definition}
-use Rattle.graphql_declarations.specs.Lookups.{Declarations}
+use Rattle.graphql_occurrences.specs.DeclaredLookups.{Declarations}
 use Rattle.graphql_occurrences.specs.Occurrences.{occurrences}
 use Rattle.graphql_occurrences.specs.Unlocated.{unlocated_part}
 

@@ -1,7 +1,7 @@
 -- What the nodes and the types that a walk lends stand for.
 use Rattle.std.specs.Prelude.{List, []}
 use Rattle.std.specs.Option.{option_copied, option_map}
-pub use Rattle.graphql_declarations.specs.Lent.{literal_of, field_of_known, arguments_lent}
+pub use Rattle.graphql_occurrences.specs.DeclaredLent.{literal_of, field_of_known, arguments_lent}
 use Rattle.graphql_occurrences.specs.Nodes.{OfField, OfDirective, AtVariableDefinition, AtDirective, AtArgument, AtSelectionSet, AtField, AtFragmentSpread, AtInlineFragment, AtValue, AtObjectField, AtDocument, AtOperation, AtFragment, Inner, Enter, Leave, placed_as, operation_head, fragment_head, spread_head, field_head, inline_head, value_head}
 use Rattle.graphql_occurrences.specs.Nodes as spec
 use Rattle.graphql_occurrences.specs.Parts as part
@@ -16,7 +16,7 @@ use Rattle.graphql_occurrences.specs.declared.event.Owner.TheVariants as owner
 use Rattle.graphql_occurrences.specs.declared.event.Seen.{Seen}
 
 abbrev pub input_of : InputPlace → part.InputPlace
-input_of i = record { asked = literal_of i.asked; has_default = i.has_default }
+input_of i = record { asked = literal_of i.asked; has_default = i.has_default; is_only_field = i.is_only_field }
 
 abbrev pub owner_of : Owner → spec.Owner
 owner_of (owner.Field name) = OfField name.now

@@ -7,3 +7,5 @@ pub mod PartsOf
 pub mod Lent
 pub mod Unlocated
 pub mod Laws
+pub mod DeclaredLookups
+pub mod DeclaredLent

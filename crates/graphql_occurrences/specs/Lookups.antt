@@ -9,14 +9,14 @@ use Rattle.graphql_schema.specs.declared.meta.MetaType.{MetaType}
 use Rattle.graphql_schema.specs.declared.meta.MetaType.TheVariants as meta
 use Rattle.graphql_schema.specs.Types.{TypeOf}
 use Rattle.graphql_names.specs.Names.{Bytes}
-pub use Rattle.graphql_declarations.specs.Lookups.{Declarations, declarations_of, argument_named, item_type, typename_field, field_arguments, field_type, directive_arguments, field_in, field_of, known, referred, root_of}
+pub use Rattle.graphql_occurrences.specs.DeclaredLookups.{Declarations, declarations_of, argument_named, item_type, typename_field, field_arguments, field_type, directive_arguments, field_in, field_of, known, referred, root_of}
 use Rattle.graphql_tree.specs.declared.document.OperationType.{OperationType}
 use Rattle.graphql_tree.specs.declared.document.OperationType.TheVariants as operation
 use Rattle.graphql_occurrences.specs.Parts.{InputPlace}
 
 -- a place for values of this type, without a default
 abbrev pub bare_place : TypeOf → InputPlace
-bare_place t = record { asked = t; has_default = false }
+bare_place t = record { asked = t; has_default = false; is_only_field = false }
 
 -- the place of an item of the list that stands here
 abbrev pub item_place : Option InputPlace → Option InputPlace
@@ -31,7 +31,7 @@ location_of operation.Subscription = location.Subscription
 module _ {S : Type 0} where
   -- the place of the value of an argument, or of a field of an input object
   abbrev pub place_of : Argument S → InputPlace
-  place_of a = record { asked = a.arg_type; has_default = is_some a.default_value }
+  place_of a = record { asked = a.arg_type; has_default = is_some a.default_value; is_only_field = false }
 
   -- the place of the value of the argument of a name among those declared, where it is known
   abbrev pub argument_place : Option (List (Argument S)) → Bytes → Option InputPlace
@@ -44,7 +44,7 @@ module _ {S C : Type 0} where
 
   -- the place of the value of the field of a name of an input object, where it is declared
   abbrev pub place_within : Bytes → InputObjectMeta S C → Option InputPlace
-  place_within name m = option_map place_of (argument_named m.input_fields name)
+  place_within name m = option_map (λ a. record (place_of a) { is_only_field = m.exactly_one }) (argument_named m.input_fields name)
 
 module _ {S C : Type 0} (schema : Declarations S C) where
   -- the input object within every wrap of a reference, where there is one (3.10 Input Objects)

@@ -1,6 +1,6 @@
 -- The nodes of a document, each by its head: what it is, without what stands within it. And the types around one.
 use Rattle.std.specs.Prelude.{List, [], Option, Some, None, map}
-use Rattle.graphql_text.specs.Memory.{Text}
+use Rattle.graphql_text.specs.declared.text.Text.{Text}
 use Rattle.graphql_schema.specs.declared.directive.DirectiveType.{DirectiveType}
 use Rattle.graphql_schema.specs.declared.directive_location.DirectiveLocation.{DirectiveLocation}
 use Rattle.graphql_schema.specs.declared.meta.argument.Argument as declared

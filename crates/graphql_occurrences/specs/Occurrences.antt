@@ -21,8 +21,8 @@ use Rattle.graphql_schema.specs.declared.directive_location.DirectiveLocation.{D
 use Rattle.graphql_schema.specs.declared.directive_location.DirectiveLocation.TheVariants as location
 use Rattle.graphql_schema.specs.declared.meta.MetaType.{MetaType}
 use Rattle.graphql_names.specs.Names.{Bytes}
-use Rattle.graphql_declarations.specs.Lookups.{Declarations}
-use Rattle.graphql_declarations.specs.Lookups.{directive_named}
+use Rattle.graphql_occurrences.specs.DeclaredLookups.{Declarations}
+use Rattle.graphql_occurrences.specs.DeclaredLookups.{directive_named}
 use Rattle.graphql_occurrences.specs.Lookups.{argument_place, bare_place, directive_arguments, field_arguments, field_in, field_place, field_type, item_place, known, location_of, referred, root_of}
 use Rattle.graphql_tree.specs.Documents.{arguments_in, variables_in}
 use Rattle.graphql_occurrences.specs.Parts.{InputPlace, VariablePart, Part, VariableDefined, Condition, AField, ASpread, AnInline, ADirective, Given, ObjectOf, VariableUsed}

@@ -12,10 +12,11 @@ use Rattle.graphql_schema.specs.declared.meta.MetaType.{MetaType}
 use Rattle.graphql_schema.specs.Types.{TypeOf}
 use Rattle.graphql_names.specs.Names.{Bytes}
 
--- where a value stands: the type of the values that are asked for, and whether the place has a default (5.8.5 All Variable Usages Are Allowed)
+-- where a value stands: the type of the values that are asked for, whether the place has a default (5.8.5 All Variable Usages Are Allowed), and whether it is the one field that is given of an input object, which refuses `null` by itself
 pub record InputPlace : Type 0 where
   pub asked : TypeOf
   pub has_default : Bool
+  pub is_only_field : Bool
 
 -- a variable where it stands for a value (2.10 Variables)
 pub record Use : Type 0 where

@@ -3,13 +3,13 @@
 ghost use Rattle.std.specs.Prelude.{◌≡◌, None};
 ghost use Rattle.std.specs.Option.{option_copied, option_map};
 ghost use Rattle.graphql_schema.specs.Types.{reference_to};
-ghost use Rattle.graphql_declarations.specs.Lookups.{declarations_of};
-ghost use Rattle.graphql_declarations.specs.Lookups as spec;
+ghost use Rattle.graphql_occurrences.specs.DeclaredLookups.{declarations_of};
+ghost use Rattle.graphql_occurrences.specs.DeclaredLookups as spec;
 ghost use Rattle.graphql_occurrences.specs.Events.{asked, condition_around, selecting as around_selecting, set_around, top as around_top};
 ghost use Rattle.graphql_occurrences.specs.Lent.{around_of, input_of, literal_of};
 
 use crate::place::InputPlace;
-use graphql_declarations::{SchemaType, TypeLiteral};
+use crate::{SchemaType, TypeLiteral};
 use graphql_schema::{MetaType, SchemaScalar};
 use graphql_text::{Spanning, TextRef};
 

@@ -1,7 +1,7 @@
 //! What a walk over a document enters and leaves.
 
 use crate::around::Around;
-use graphql_declarations::{DeclaredArguments, KnownField};
+use crate::{DeclaredArguments, KnownField};
 use graphql_schema::{DirectiveLocation, DirectiveType, SchemaScalar};
 use graphql_text::{Spanning, Text, TextRef};
 use graphql_tree::{

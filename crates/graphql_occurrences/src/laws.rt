@@ -2,7 +2,7 @@
 
 ghost use Rattle.std.specs.Prelude.{◌≡◌, List};
 ghost use Rattle.std.specs.List.{flat_map};
-ghost use Rattle.graphql_declarations.specs.Lookups.{Declarations};
+ghost use Rattle.graphql_occurrences.specs.DeclaredLookups.{Declarations};
 ghost use Rattle.graphql_tree.specs.declared.document.Definition.{Definition};
 ghost use Rattle.graphql_occurrences.specs.Events.{events};
 ghost use Rattle.graphql_occurrences.specs.Laws.{OccurrencesAreUnlocated};

@@ -2,11 +2,11 @@
 
 ghost use Rattle.std.specs.Prelude.{◌≡◌};
 ghost use Rattle.std.specs.Option.{option_and_then, option_copied, option_map};
-ghost use Rattle.graphql_declarations.specs.Lookups.{declarations_of};
+ghost use Rattle.graphql_occurrences.specs.DeclaredLookups.{declarations_of};
 ghost use Rattle.graphql_occurrences.specs.Lookups as spec;
 ghost use Rattle.graphql_occurrences.specs.Lent.{arguments_lent, input_of, literal_of};
 
-use graphql_declarations::{DeclaredArguments, SchemaType, TypeLiteral};
+use crate::{DeclaredArguments, SchemaType, TypeLiteral};
 use graphql_schema::{Argument, InputObjectMeta, MetaType};
 
 /// Where a value stands: in an argument, in a list, in an input object, or as the default of a
@@ -18,6 +18,10 @@ pub struct InputPlace<'a> {
 
     /// Whether the place has a default, which stands where no value is given.
     pub has_default: bool,
+
+    /// Whether it is the one field that is given of an input object, which refuses `null` by itself: no
+    /// default stands in for `null`.
+    pub is_only_field: bool,
 }
 
 impl<'a> InputPlace<'a> {
@@ -28,6 +32,7 @@ impl<'a> InputPlace<'a> {
         InputPlace {
             asked,
             has_default: false,
+            is_only_field: false,
         }
     }
 }
@@ -39,6 +44,7 @@ fn place_in<'a, S>(argument: &'a Argument<S>) -> InputPlace<'a>
     InputPlace {
         asked: TypeLiteral::of(&argument.arg_type),
         has_default: argument.default_value.is_some(),
+        is_only_field: false,
     }
 }
 
@@ -102,7 +108,13 @@ fn input_object<'a, S, C>(
 fn place_within<'a, S, C>(meta: &'a InputObjectMeta<S, C>, name: &str) -> Option<InputPlace<'a>>
     ensures { option_map input_of result ≡ spec.place_within name.now meta.now }
 {
-    place_in_some(meta.input_fields.get(name))
+    match place_in_some(meta.input_fields.get(name)) {
+        Some(place) => Some(InputPlace {
+            is_only_field: meta.is_one_of(),
+            ..place
+        }),
+        None => None,
+    }
 }
 
 /// The same, where there is one.

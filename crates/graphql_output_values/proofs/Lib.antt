@@ -11,3 +11,4 @@ pub mod PutLaws
 pub mod DistinctKeyLaws
 pub mod LookupLemmas
 pub mod EqualByKeys
+pub mod InputOfOutputLemmas

@@ -12,7 +12,8 @@ use Rattle.graphql_output_values.specs.Objects.{Pair}
 use Rattle.graphql_output_values.specs.Steps.{Step, ListCloses, ObjectCloses, Gap, field_steps, steps}
 use Rattle.graphql_output_values.specs.ValueInduction.{value_ind}
 use Rattle.graphql_output_values.specs.ValueText.{field_text, step_text, value_text}
-use Rattle.graphql_output_values.proofs.StepLemmas.{joined_same, joined_texts, steps-null, steps-scalar, steps-list, steps-object}
+use Rattle.graphql_values.proofs.JoinedParts.{joined_same, joined_texts}
+use Rattle.graphql_output_values.proofs.StepLemmas.{steps-null, steps-scalar, steps-list, steps-object}
 use Rattle.graphql_output_values.proofs.ValueTextLemmas.{value_text-null, value_text-scalar, value_text-list, value_text-object}
 
 module _ {S : Type 0} (answer : S → ScalarAnswer) where

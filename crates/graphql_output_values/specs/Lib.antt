@@ -15,3 +15,4 @@ pub mod ValueText
 pub mod Lookups
 pub mod Laws
 pub mod DistinctLaws
+pub mod InputOfOutput

@@ -4,6 +4,7 @@
 mod clones;
 mod display;
 mod equality;
+mod input_values;
 mod into_value;
 pub mod laws;
 mod lookup;

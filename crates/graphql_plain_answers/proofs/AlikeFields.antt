@@ -6,7 +6,7 @@ use Rattle.graphql_names.specs.Names.{Bytes}
 use Rattle.graphql_written_out.specs.Trees.{Directives, Head, Tree, none, field, inline, height}
 use Rattle.graphql_written_out.specs.Fields.{Found, fields, applies}
 use Rattle.graphql_written_out.specs.Groups.{keys_after, under}
-use Rattle.graphql_evaluation.specs.Evaluation.{highest, sets_below}
+use Rattle.graphql_semantics.specs.Evaluation.{highest, sets_below}
 use Rattle.graphql_plain_answers.specs.AlikeSets.{EachAlike, TreesAlike}
 
 each-append : {A B : Type 0} (Alike : A → B → Type 0)

@@ -2,8 +2,8 @@
 use Rattle.std.proofs.Common.{◌≡◌, refl, sym, ◌∙◌, ap, Bool, true, false, List, [], ◌∷◌, ◌++◌, map, reverse, None, Result, Ok, Err}
 use Rattle.std.proofs.lemmas.List.{map-append}
 use Rattle.graphql_names.specs.Names.{Bytes}
-use Rattle.graphql_type_references.specs.declared.type_modifier.TypeModifier.{TypeModifier}
-use Rattle.graphql_type_references.specs.declared.type_modifier.TypeModifier.TheVariants as modifier
+use Rattle.graphql_names.specs.declared.type_modifier.TypeModifier.{TypeModifier}
+use Rattle.graphql_names.specs.declared.type_modifier.TypeModifier.TheVariants as modifier
 use Rattle.graphql_schema.specs.Types.{TypeOf}
 use Rattle.graphql_output_values.specs.declared.value.Value.{Value}
 use Rattle.graphql_output_values.specs.declared.value.Value.TheVariants as value
@@ -11,10 +11,10 @@ use Rattle.graphql_field_results.specs.declared.execution_error.ExecutionError.{
 use Rattle.graphql_field_results.specs.declared.field_error.FieldError.{FieldError}
 use Rattle.graphql_field_results.specs.declared.resolved.Resolved.{Resolved, out-Resolved}
 use Rattle.graphql_field_results.specs.declared.resolved.Resolved.TheOpen.{Resolved-F}
-use Rattle.graphql_evaluation.specs.Engines.{Engine}
-use Rattle.graphql_evaluation.specs.Outcomes.{Outcome, both, fails, outcome_map, show_place, together}
-use Rattle.graphql_evaluation.specs.Completion.{Members, at_list, at_name, at_required, complete, complete_result, is_required, leaf_if, misfit_error, object_members, own_null, run_if}
-use Rattle.graphql_evaluation.specs.Evaluation.{at_type}
+use Rattle.graphql_semantics.specs.Engines.{Engine}
+use Rattle.graphql_semantics.specs.Outcomes.{Outcome, both, fails, outcome_map, show_place, together}
+use Rattle.graphql_semantics.specs.Completion.{Members, at_list, at_name, at_required, complete, complete_result, is_required, leaf_if, misfit_error, object_members, own_null, run_if}
+use Rattle.graphql_semantics.specs.Evaluation.{at_type}
 use Rattle.graphql_plain_answers.specs.WithoutPlaces.{unlocated_failure, unlocated_outcome}
 
 pub each-image : {X A B : Type 0} (over : A → B) (f g : X → A) → ((x : X) → over (f x) ≡ over (g x))

@@ -9,10 +9,10 @@ use Rattle.graphql_written_out.specs.Fields.{Found}
 use Rattle.graphql_written_out.specs.Groups.{keys, under, groups}
 use Rattle.graphql_field_results.specs.declared.field_error.FieldError.{FieldError}
 use Rattle.graphql_field_results.specs.declared.resolved.Resolved.{Resolved}
-use Rattle.graphql_evaluation.specs.Engines.{Engine}
-use Rattle.graphql_evaluation.specs.Outcomes.{Outcome, outcome_map}
-use Rattle.graphql_evaluation.specs.Completion.{Members, blame_at}
-use Rattle.graphql_evaluation.specs.Evaluation.{Group, Runs, at_declared, evaluate, found_in, group, highest, keyed, run, sets_below}
+use Rattle.graphql_semantics.specs.Engines.{Engine}
+use Rattle.graphql_semantics.specs.Outcomes.{Outcome, outcome_map}
+use Rattle.graphql_semantics.specs.Completion.{Members, blame_at}
+use Rattle.graphql_semantics.specs.Evaluation.{Group, Runs, at_declared, evaluate, found_in, group, highest, keyed, run, sets_below}
 use Rattle.graphql_plain_answers.specs.AlikeSets.{AreAnsweredAlike, AreOverOneSchema, LeaveOutAlike, SetsAlike}
 use Rattle.graphql_plain_answers.specs.Laws.{AlikeGiveTheSame}
 use Rattle.graphql_plain_answers.proofs.AlikeFields.{FoundAlike, Founds, below-alike, found-alike, highest-alike, keys-alike, under-alike}

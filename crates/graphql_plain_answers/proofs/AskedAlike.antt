@@ -23,9 +23,9 @@ use Rattle.graphql_introspection.specs.Given.{includes_deprecated, is_true, name
 use Rattle.graphql_introspection.specs.TypeAnswers.{Unwrapped, apart, of_apart}
 use Rattle.graphql_introspection.specs.declared.part.SchemaPart.{SchemaPart}
 use Rattle.graphql_introspection.specs.declared.part.SchemaPart.TheVariants as part
-use Rattle.graphql_execution.specs.Asked.{Resolves, asked_answer, map_answer, map_nodes, or_asked, own_answer, told_of_itself}
-use Rattle.graphql_execution.specs.declared.asked.Asked.{Asked}
-use Rattle.graphql_execution.specs.declared.asked.Asked.TheVariants as asked
+use Rattle.graphql_execution_walk.specs.Asked.{Resolves, asked_answer, map_answer, map_nodes, or_asked, own_answer, told_of_itself}
+use Rattle.graphql_execution_walk.specs.declared.asked.Asked.{Asked}
+use Rattle.graphql_execution_walk.specs.declared.asked.Asked.TheVariants as asked
 use Rattle.graphql_mutation.specs.Mutations.{Changes, told_first}
 use Rattle.graphql_plain_answers.specs.Lawful.{IsLawful}
 use Rattle.graphql_plain_answers.specs.WithoutPlaces.{unlocated_given}
@@ -121,8 +121,8 @@ module _ {S C : Type 0} (of_text : Bytes → S) (of_bool : Bool → S) (answer :
       (Some (found schema.types (name-alike answer a b same i))) None))
 
   apart-alike : (m : MetaType S C) (wraps : Option Unwrapped) (field : Bytes)
-      → of_apart of_text answer schema.types m wraps field a
-      ≡ of_apart of_text answer schema.types m wraps field b
+      → of_apart of_text of_bool answer schema.types m wraps field a
+      ≡ of_apart of_text of_bool answer schema.types m wraps field b
   apart-alike m None field = rw (deprecated-alike answer a b same) refl
   apart-alike m (Some wraps) field = refl
 

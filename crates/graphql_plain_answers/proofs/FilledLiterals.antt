@@ -13,8 +13,8 @@ use Rattle.graphql_values.proofs.InputValueEquations.{fold_null, fold_scalar, fo
 use Rattle.graphql_values.proofs.InputValueInduction.{value_ind, HoldsOfItems, HoldsOfPairs}
 use Rattle.graphql_values.proofs.SamePlaces.{unlocated_item, unlocated_pair}
 use Rattle.graphql_values.proofs.VariableLemmas.{variables_in_list, variables_in_object}
-use Rattle.graphql_final_variables.specs.Filled.{filled, filled_item, filled_layer, filled_pair, value_or_null}
-use Rattle.graphql_final_variables.proofs.FilledEquations.{filled_list, filled_object}
+use Rattle.graphql_written_out.specs.Filled.{filled, filled_item, filled_layer, filled_pair, value_or_null}
+use Rattle.graphql_written_out.proofs.FilledEquations.{filled_list, filled_object}
 use Rattle.graphql_plain_answers.specs.AgreeingValues.{AgreeOn, Values}
 
 module _ {S : Type 0} where

@@ -5,14 +5,14 @@ use Rattle.graphql_names.specs.Names.{Bytes}
 use Rattle.graphql_scalars.specs.ScalarAnswers.{ScalarAnswer}
 use Rattle.graphql_tree.specs.Definitions.{fragments_listed}
 use Rattle.graphql_tree.specs.Documents.{variables_in}
-use Rattle.graphql_final_variables.specs.FinalValues.{final_value}
+use Rattle.graphql_written_out.specs.FinalValues.{final_value}
 use Rattle.graphql_schema.specs.declared.schema.SchemaType.{SchemaType}
 use Rattle.graphql_written_out.specs.Conditions.{left_out}
 use Rattle.graphql_written_out.specs.Trees.{Directives, Tree}
 use Rattle.graphql_written_out.specs.Written.{written}
-use Rattle.graphql_evaluation.specs.Outcomes.{Outcome}
-use Rattle.graphql_execution.specs.Engines.{Resolves, engine_over}
-use Rattle.graphql_execution.specs.declared.asked.Asked.{Asked}
+use Rattle.graphql_semantics.specs.Outcomes.{Outcome}
+use Rattle.graphql_execution_walk.specs.Engines.{Resolves, engine_over}
+use Rattle.graphql_execution_walk.specs.declared.asked.Asked.{Asked}
 use Rattle.graphql_mutation.specs.Mutations.{Changes, mutation_over}
 use Rattle.graphql_mutation.specs.Serial.{Mutation}
 use Rattle.graphql_moved.specs.UnlocatedTrees.{unlocated_tree}

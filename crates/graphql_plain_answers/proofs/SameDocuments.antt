@@ -11,12 +11,12 @@ use Rattle.graphql_tree.specs.Documents.{variables_in}
 use Rattle.graphql_tree.specs.Unlocated.{unlocated_document, unlocated_operation}
 use Rattle.graphql_tree.specs.declared.document.Definition.{Definition}
 use Rattle.graphql_tree.specs.declared.document.Operation.{Operation}
-use Rattle.graphql_final_variables.specs.FinalValues.{final_value}
+use Rattle.graphql_written_out.specs.FinalValues.{final_value}
 use Rattle.graphql_schema.specs.declared.schema.SchemaType.{SchemaType}
 use Rattle.graphql_written_out.specs.Trees.{Tree, none, field, inline}
 use Rattle.graphql_written_out.specs.Written.{written}
-use Rattle.graphql_execution.specs.Engines.{Resolves, engine_over}
-use Rattle.graphql_execution.specs.declared.asked.Asked.{Asked}
+use Rattle.graphql_execution_walk.specs.Engines.{Resolves, engine_over}
+use Rattle.graphql_execution_walk.specs.declared.asked.Asked.{Asked}
 use Rattle.graphql_mutation.specs.Mutations.{Changes, mutation_over}
 use Rattle.graphql_mutation.specs.Serial.{Mutation}
 use Rattle.graphql_moved.specs.UnlocatedTrees.{unlocated_tree}

@@ -8,9 +8,9 @@ use Rattle.graphql_output_values.specs.declared.value.Value.{Value}
 use Rattle.graphql_written_out.specs.Trees.{Directives, Head, Tree, none, field, inline}
 use Rattle.graphql_written_out.specs.Fields.{Found}
 use Rattle.graphql_written_out.specs.Groups.{keys, under, groups}
-use Rattle.graphql_evaluation.specs.Completion.{Members, blame_at}
-use Rattle.graphql_evaluation.specs.Engines.{Engine}
-use Rattle.graphql_evaluation.specs.Evaluation.{Group, at_type, evaluate, found_in, sets_below}
+use Rattle.graphql_semantics.specs.Completion.{Members, blame_at}
+use Rattle.graphql_semantics.specs.Engines.{Engine}
+use Rattle.graphql_semantics.specs.Evaluation.{Group, at_type, evaluate, found_in, sets_below}
 use Rattle.graphql_mutation.specs.Serial.{Mutation, Run, Step, completed_step, declared_step, mutate, root_group, serially, step_of, unless_null}
 use Rattle.graphql_plain_answers.specs.AlikeMutations.{AlwaysLeaveOutAlike, AreServedAlike, AskOverOneSchema, SetsAreAlike}
 use Rattle.graphql_plain_answers.specs.AlikeSets.{AreAnsweredAlike, EachAlike, LeaveOutAlike, SetsAlike, TreesAlike}

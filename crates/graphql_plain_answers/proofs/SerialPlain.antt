@@ -6,9 +6,9 @@ use Rattle.graphql_schema.specs.Types.{TypeOf}
 use Rattle.graphql_written_out.specs.Trees.{Directives, Tree}
 use Rattle.graphql_written_out.specs.Fields.{Found, fields}
 use Rattle.graphql_written_out.specs.Groups.{keys, under, groups}
-use Rattle.graphql_evaluation.specs.Completion.{blame_at}
-use Rattle.graphql_evaluation.specs.Engines.{Engine}
-use Rattle.graphql_evaluation.specs.Evaluation.{at_type, evaluate, found_in, sets_below}
+use Rattle.graphql_semantics.specs.Completion.{blame_at}
+use Rattle.graphql_semantics.specs.Engines.{Engine}
+use Rattle.graphql_semantics.specs.Evaluation.{at_type, evaluate, found_in, sets_below}
 use Rattle.graphql_mutation.specs.Serial.{Mutation, declared_step, mutate, root_group, serially, step_of, unless_null}
 use Rattle.graphql_plain_tree.specs.Laws.{Fit, plain_found}
 use Rattle.graphql_plain_tree.specs.Plain.{plain}

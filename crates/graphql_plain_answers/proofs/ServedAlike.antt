@@ -8,10 +8,10 @@ use Rattle.graphql_arguments.specs.ArgumentValues.{Given, argument_values}
 use Rattle.graphql_schema.specs.declared.schema.SchemaType.{SchemaType}
 use Rattle.graphql_written_out.specs.Conditions.{left_out}
 use Rattle.graphql_written_out.specs.Trees.{Directives, Head, Tree, none, field, inline}
-use Rattle.graphql_execution.specs.Asked.{asked_answer}
-use Rattle.graphql_execution.specs.Engines.{Resolves, engine_over}
-use Rattle.graphql_execution.specs.FieldDeclarations.{declared_arguments}
-use Rattle.graphql_execution.specs.declared.asked.Asked.{Asked}
+use Rattle.graphql_execution_walk.specs.Asked.{asked_answer}
+use Rattle.graphql_execution_walk.specs.Engines.{Resolves, engine_over}
+use Rattle.graphql_execution_walk.specs.FieldDeclarations.{declared_arguments}
+use Rattle.graphql_execution_walk.specs.declared.asked.Asked.{Asked}
 use Rattle.graphql_mutation.specs.Mutations.{Changes, mutation_over, told_first}
 use Rattle.graphql_mutation.specs.Serial.{Mutation}
 use Rattle.graphql_moved.specs.UnlocatedTrees.{unlocated_head, unlocated_marks, unlocated_tree}

@@ -13,7 +13,7 @@ use Rattle.graphql_values.proofs.UnlocatedVariables.{same_variables}
 use Rattle.graphql_schema.specs.declared.meta.argument.Argument.{Argument as Declared}
 use Rattle.graphql_tree.specs.Arguments.{Argument}
 use Rattle.graphql_tree.specs.Unlocated.{unlocated_argument}
-use Rattle.graphql_final_variables.specs.Filled.{filled}
+use Rattle.graphql_written_out.specs.Filled.{filled}
 use Rattle.graphql_arguments.specs.ArgumentValues.{Given, has_value, written_values, absent_defaults, argument_values}
 use Rattle.graphql_plain_tree.specs.PlainOperations.{variables_given}
 use Rattle.graphql_plain_answers.specs.AgreeingValues.{AgreeOn, Values}

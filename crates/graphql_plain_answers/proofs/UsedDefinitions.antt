@@ -9,7 +9,7 @@ use Rattle.std.proofs.lemmas.Map.Views.{list_any-from_Contains}
 use Rattle.std.proofs.lemmas.Slice.Eq.{bytes_eq-Decides}
 use Rattle.graphql_names.specs.Names.{Bytes, is_named, is_one_of}
 use Rattle.graphql_tree.specs.Variables.{Variable}
-use Rattle.graphql_final_variables.specs.FinalValues.{default_named, default_of, final_value, variable_name}
+use Rattle.graphql_written_out.specs.FinalValues.{default_named, default_of, final_value, variable_name}
 use Rattle.graphql_plain_tree.specs.PlainOperations.{definitions_used, without_directives}
 use Rattle.graphql_plain_answers.specs.AgreeingValues.{Values}
 

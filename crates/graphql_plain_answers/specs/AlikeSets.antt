@@ -3,7 +3,7 @@
 use Rattle.std.specs.Prelude.{◌≡◌, List, [], ◌∷◌}
 use Rattle.graphql_names.specs.Names.{Bytes}
 use Rattle.graphql_written_out.specs.Trees.{Directives, Head, Tree, none, field, inline}
-use Rattle.graphql_evaluation.specs.Engines.{Engine}
+use Rattle.graphql_semantics.specs.Engines.{Engine}
 
 -- by which fields are alike, their sets aside, and which directives are
 module _ {S : Type 0} (Heads : Head S → Head S → Type 0)

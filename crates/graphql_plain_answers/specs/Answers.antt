@@ -3,8 +3,8 @@
 use Rattle.std.specs.Prelude.{◌≡◌, ◌↔◌, List, []}
 use Rattle.graphql_names.specs.Names.{Bytes}
 use Rattle.graphql_written_out.specs.Trees.{Tree}
-use Rattle.graphql_evaluation.specs.Evaluation.{evaluate}
-use Rattle.graphql_evaluation.specs.Outcomes.{Outcome}
+use Rattle.graphql_semantics.specs.Evaluation.{evaluate}
+use Rattle.graphql_semantics.specs.Outcomes.{Outcome}
 use Rattle.graphql_mutation.specs.Serial.{Mutation, mutate}
 use Rattle.graphql_plain_answers.specs.WithoutPlaces.{unlocated_outcome, unlocated_run}
 

@@ -5,8 +5,8 @@ use Rattle.graphql_scalars.specs.ScalarAnswers.{ScalarAnswer}
 use Rattle.graphql_schema.specs.declared.schema.SchemaType.{SchemaType}
 use Rattle.graphql_arguments.specs.ArgumentValues.{Given}
 use Rattle.graphql_arguments.specs.SameArguments.{SameArguments, SameInOrder}
-use Rattle.graphql_execution.specs.Engines.{Resolves}
-use Rattle.graphql_execution.specs.declared.asked.Asked.{Asked}
+use Rattle.graphql_execution_walk.specs.Engines.{Resolves}
+use Rattle.graphql_execution_walk.specs.declared.asked.Asked.{Asked}
 use Rattle.graphql_mutation.specs.Mutations.{Changes, mutation_over}
 use Rattle.graphql_mutation.specs.Serial.{Mutation}
 use Rattle.graphql_plain_answers.specs.AgreeingValues.{Values}

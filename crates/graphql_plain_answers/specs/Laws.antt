@@ -10,12 +10,12 @@ use Rattle.graphql_tree.specs.Unlocated.{unlocated_document, unlocated_operation
 use Rattle.graphql_tree.specs.Variables.{Variable}
 use Rattle.graphql_tree.specs.declared.document.Definition.{Definition}
 use Rattle.graphql_tree.specs.declared.document.Operation.{Operation}
-use Rattle.graphql_final_variables.specs.FinalValues.{final_value}
+use Rattle.graphql_written_out.specs.FinalValues.{final_value}
 use Rattle.graphql_written_out.specs.Trees.{Directives, IsFilled, Tree}
 use Rattle.graphql_written_out.specs.Written.{written}
-use Rattle.graphql_evaluation.specs.Engines.{Engine}
-use Rattle.graphql_evaluation.specs.Evaluation.{evaluate}
-use Rattle.graphql_evaluation.specs.Outcomes.{Outcome}
+use Rattle.graphql_semantics.specs.Engines.{Engine}
+use Rattle.graphql_semantics.specs.Evaluation.{evaluate}
+use Rattle.graphql_semantics.specs.Outcomes.{Outcome}
 use Rattle.graphql_mutation.specs.Serial.{Mutation, mutate}
 use Rattle.graphql_moved.specs.UnlocatedTrees.{unlocated_tree}
 use Rattle.graphql_plain_tree.specs.Laws.{Fit}

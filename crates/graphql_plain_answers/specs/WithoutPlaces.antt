@@ -5,7 +5,7 @@ use Rattle.graphql_values.specs.InputValues.{unlocated}
 use Rattle.graphql_tree.specs.Unlocated.{without_place}
 use Rattle.graphql_arguments.specs.ArgumentValues.{Given}
 use Rattle.graphql_field_results.specs.declared.execution_error.ExecutionError.{ExecutionError}
-use Rattle.graphql_evaluation.specs.Outcomes.{Outcome}
+use Rattle.graphql_semantics.specs.Outcomes.{Outcome}
 use Rattle.graphql_mutation.specs.Serial.{Run}
 
 module _ {S : Type 0} where

@@ -4,7 +4,7 @@ use Rattle.std.specs.List.{Contains}
 use Rattle.std.proofs.lemmas.List.Elements.{Contains-append_left, Contains-append_right, Contains-append_cases}
 use Rattle.graphql_schema.specs.declared.meta.MetaType.{MetaType}
 use Rattle.graphql_written_out.specs.Trees.{Directives, Head, Tree, none, field, inline}
-use Rattle.graphql_evaluation.proofs.Elements.{none-in, only-one, here}
+use Rattle.graphql_semantics.proofs.Elements.{none-in, only-one, here}
 use Rattle.graphql_merging.specs.Members.{Member, Scope, inside, member, members, scope_of}
 use Rattle.graphql_merging.specs.Merging.{Merges, Merging, apart}
 use Rattle.graphql_plain_tree.specs.Plain.{drops_all, plain_set, plain}

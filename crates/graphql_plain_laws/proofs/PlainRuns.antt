@@ -9,10 +9,10 @@ use Rattle.graphql_output_values.specs.declared.value.Value.{Value}
 use Rattle.graphql_written_out.specs.Trees.{Directives, Tree, height}
 use Rattle.graphql_written_out.specs.Fields.{Found, fields}
 use Rattle.graphql_written_out.specs.Groups.{keys_after, keys, under, groups}
-use Rattle.graphql_evaluation.specs.Engines.{Engine}
-use Rattle.graphql_evaluation.specs.Outcomes.{Outcome, outcome_map, together}
-use Rattle.graphql_evaluation.specs.Evaluation.{Group, Runs, answer_of, evaluate, found_in, group, highest, keyed, run, sets_below}
-use Rattle.graphql_evaluation.proofs.Depths.{evaluate-run}
+use Rattle.graphql_semantics.specs.Engines.{Engine}
+use Rattle.graphql_semantics.specs.Outcomes.{Outcome, outcome_map, together}
+use Rattle.graphql_semantics.specs.Evaluation.{Group, Runs, answer_of, evaluate, found_in, group, highest, keyed, run, sets_below}
+use Rattle.graphql_semantics.proofs.Depths.{evaluate-run}
 use Rattle.graphql_plain_tree.specs.Laws.{Fit, plain_found}
 use Rattle.graphql_plain_tree.specs.Plain.{plain}
 use Rattle.graphql_plain_tree.proofs.Heights.{not-higher}

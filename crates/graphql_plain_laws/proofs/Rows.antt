@@ -8,7 +8,7 @@ use Rattle.graphql_values.specs.declared.input_value.InputValue.{InputValue}
 use Rattle.graphql_values.specs.declared.input_value.InputValue.TheVariants as value
 use Rattle.graphql_tree.specs.Variables.{Variable}
 use Rattle.graphql_tree.specs.declared.variable.VariableDefinition.{VariableDefinition}
-use Rattle.graphql_final_variables.specs.FinalValues.{final_value}
+use Rattle.graphql_written_out.specs.FinalValues.{final_value}
 use Rattle.graphql_schema.specs.Types.{reference_to}
 use Rattle.graphql_schema.proofs.Rows.{beings}
 use Rattle.graphql_written_out.specs.Trees.{Directives, Tree}
@@ -16,10 +16,10 @@ use Rattle.graphql_field_results.specs.declared.resolved.Resolved.TheVariants as
 use Rattle.graphql_merging.specs.Members.{members}
 use Rattle.graphql_merging.specs.Merging.{Merging}
 use Rattle.graphql_merging.proofs.Rows.{friends, friends_merge}
-use Rattle.graphql_evaluation.specs.Engines.{Engine}
-use Rattle.graphql_evaluation.specs.Outcomes.{Outcome, gives}
-use Rattle.graphql_evaluation.specs.Completion.{Members, object_members}
-use Rattle.graphql_evaluation.specs.Evaluation.{evaluate}
+use Rattle.graphql_semantics.specs.Engines.{Engine}
+use Rattle.graphql_semantics.specs.Outcomes.{Outcome, gives}
+use Rattle.graphql_semantics.specs.Completion.{Members, object_members}
+use Rattle.graphql_semantics.specs.Evaluation.{evaluate}
 use Rattle.graphql_plain_tree.specs.Plain.{plain}
 use Rattle.graphql_plain_tree.specs.PlainOperations.{plain_by}
 use Rattle.graphql_plain_tree.proofs.Rows.{Scalar, Values, drops, given_x, hero, include_x_of, itself, name_field, name_if_x, name_kept, name_left_out, name_of_false, name_skipped, stand_in, stand_in_fits, truth_of_boolean, truth_of_null, truth_value}

@@ -5,8 +5,8 @@ use Rattle.graphql_schema.specs.declared.meta.MetaType.{MetaType}
 use Rattle.graphql_written_out.specs.Trees.{Directives, Tree}
 use Rattle.graphql_merging.specs.Members.{Scope, members}
 use Rattle.graphql_merging.specs.Merging.{Merging}
-use Rattle.graphql_evaluation.specs.Engines.{Engine}
-use Rattle.graphql_evaluation.specs.Evaluation.{evaluate}
+use Rattle.graphql_semantics.specs.Engines.{Engine}
+use Rattle.graphql_semantics.specs.Evaluation.{evaluate}
 use Rattle.graphql_plain_tree.specs.Laws.{Fit}
 use Rattle.graphql_plain_tree.specs.Plain.{plain}
 

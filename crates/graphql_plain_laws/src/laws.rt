@@ -1,14 +1,14 @@
 //! Laws of plain selection sets: each function's contract is a law, and its body does nothing.
 
-ghost use Rattle.graphql_final_variables.specs.FinalVariables.{value_in};
+ghost use Rattle.graphql_written_out.specs.FinalVariables.{value_in};
 ghost use Rattle.graphql_plain_tree.specs.Laws.{Fit};
 ghost use Rattle.graphql_plain_tree.specs.StandIns.{skip_true};
 ghost use Rattle.graphql_plain_laws.specs.Laws.{PlainGivesTheSame, PlainMerges};
 ghost use Rattle.graphql_written_out.specs.Conditions.{left_out};
 
-use graphql_final_variables::FinalVariables;
 use graphql_plain_tree::laws::stand_in_leaves_out;
 use graphql_values::ScalarValue;
+use graphql_written_out::FinalVariables;
 
 /// A plain selection set merges where the set does, whatever is left out.
 pub fn plain_merges<S: PartialEq, C>()

@@ -2,7 +2,7 @@
 use Rattle.std.specs.Prelude.{Bool, List}
 use Rattle.graphql_text.specs.declared.token.Token.{Token}
 use Rattle.graphql_scalars.specs.ScalarAnswers.{ScalarAnswer}
-use Rattle.graphql_final_variables.specs.FinalVariables.{value_in}
+use Rattle.graphql_written_out.specs.FinalVariables.{value_in}
 use Rattle.graphql_tree.specs.declared.document.Fragment.{Fragment}
 use Rattle.graphql_tree.specs.declared.selection.Selection.{Selection}
 use Rattle.graphql_written_out.specs.Conditions.{left_out}

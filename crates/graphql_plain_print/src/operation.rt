@@ -3,7 +3,7 @@
 ghost use Rattle.std.specs.Prelude.{◌≡◌, ◌≤◌, ◌<◌, ◌++◌, IfOk, OnOk};
 ghost use Rattle.std.specs.Option.{option_map};
 ghost use Rattle.std.specs.String.{string_bytes};
-ghost use Rattle.graphql_final_variables.specs.FinalVariables.{value_in};
+ghost use Rattle.graphql_written_out.specs.FinalVariables.{value_in};
 ghost use Rattle.graphql_written_out.specs.Written.{Settled};
 ghost use Rattle.graphql_tree.specs.Definitions.{fragments_listed};
 ghost use Rattle.graphql_plain_tree.specs.Plain.{size};
@@ -18,12 +18,12 @@ use crate::print_error::PrintError;
 use crate::printing::print_set;
 use crate::variables::push_definitions;
 use crate::words::push_word;
-use graphql_collect::Fragments;
-use graphql_final_variables::{FinalVariables, definitions_of};
+use graphql_collected::Fragments;
 use graphql_lexer::TokenRecords;
 use graphql_text::{Spanning, TextRef};
 use graphql_tree::{Definition, Operation, OperationType};
 use graphql_values::ScalarValue;
+use graphql_written_out::{FinalVariables, definitions_of};
 use std::alloc::{AllocError, Global};
 use std::collections::HashSet;
 

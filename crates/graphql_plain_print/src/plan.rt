@@ -1,8 +1,8 @@
 //! What printing asks of a request.
 
-use graphql_collect::Fragments;
-use graphql_final_variables::FinalVariables;
+use graphql_collected::Fragments;
 use graphql_lexer::TokenRecords;
+use graphql_written_out::FinalVariables;
 
 /// What stays the same while an operation is printed.
 #[derive(Drop)]

@@ -11,7 +11,7 @@ use Rattle.graphql_tree.specs.Documents.{variables_in}
 use Rattle.graphql_tree.specs.Unlocated.{unlocated_operation, without_place}
 use Rattle.graphql_tree.specs.Variables.{Variable}
 use Rattle.graphql_tree.specs.declared.document.Operation.{Operation}
-use Rattle.graphql_final_variables.specs.FinalValues.{variable_name}
+use Rattle.graphql_written_out.specs.FinalValues.{variable_name}
 use Rattle.graphql_schema.specs.declared.meta.MetaType.{MetaType}
 use Rattle.graphql_literal_checks.specs.InputTypes.{refuses_null}
 use Rattle.graphql_rules_document.proofs.ListItems.{contains-map, image-of}

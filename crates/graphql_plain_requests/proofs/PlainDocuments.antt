@@ -14,12 +14,12 @@ use Rattle.graphql_schema.specs.declared.root_node.RootNode.{RootNode}
 use Rattle.graphql_schema.specs.declared.schema.SchemaType.{SchemaType}
 use Rattle.graphql_schema.proofs.RootLemmas.{mutation_is_object, query_is_object}
 use Rattle.graphql_schema.specs.Lookups.{is_object, type_named}
-use Rattle.graphql_declarations.specs.Lookups.{root_of}
+use Rattle.graphql_occurrences.specs.DeclaredLookups.{root_of}
 use Rattle.graphql_written_out.specs.Written.{fragment_meant}
 use Rattle.graphql_visitors.specs.Subjects.{Subject}
 use Rattle.graphql_validation.specs.Valid.{HasNoFault}
 use Rattle.graphql_validation.specs.WellFormed.{IsWellFormed}
-use Rattle.graphql_filled_sets.specs.Laws.{SpelledSetsAreWhole, WrittenSetsAreFilled}
+use Rattle.graphql_plain_validity.specs.Laws.{SpelledSetsAreWhole, WrittenSetsAreFilled}
 use Rattle.graphql_plain_tree.specs.PlainDocuments.{document_of}
 use Rattle.graphql_plain_text.specs.Laws.{IsTextOf, PlainTextIsDocument}
 use Rattle.graphql_requests.specs.Operations.{mutation_root}

@@ -11,7 +11,7 @@ use Rattle.graphql_tree.specs.Documents.{variables_in}
 use Rattle.graphql_tree.specs.Unlocated.{unlocated_document}
 use Rattle.graphql_tree.specs.declared.document.Definition.{Definition}
 use Rattle.graphql_tree.specs.declared.document.Operation.{Operation}
-use Rattle.graphql_final_variables.specs.FinalValues.{final_value}
+use Rattle.graphql_written_out.specs.FinalValues.{final_value}
 use Rattle.graphql_written_out.specs.Trees.{IsFilled}
 use Rattle.graphql_written_out.specs.Written.{written}
 use Rattle.graphql_plain_tree.specs.PlainDocuments.{document_of}

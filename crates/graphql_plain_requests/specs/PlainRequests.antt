@@ -13,7 +13,7 @@ use Rattle.graphql_tree.specs.Documents.{variables_in}
 use Rattle.graphql_tree.specs.declared.document.Definition.{Definition}
 use Rattle.graphql_tree.specs.declared.document.Operation.{Operation}
 use Rattle.graphql_language.specs.Texts.{IsCut}
-use Rattle.graphql_final_variables.specs.FinalValues.{final_value}
+use Rattle.graphql_written_out.specs.FinalValues.{final_value}
 use Rattle.graphql_written_out.specs.Trees.{IsFilled}
 use Rattle.graphql_written_out.specs.Written.{written}
 use Rattle.graphql_lines.specs.declared.request.GraphQLRequest.{GraphQLRequest}

@@ -6,8 +6,8 @@ ghost use Rattle.std.specs.Str.{chars};
 ghost use Rattle.std.specs.String.{string_bytes};
 ghost use Rattle.graphql_tree.specs.Definitions.{fragments_listed};
 ghost use Rattle.graphql_tree.specs.Documents.{variables_in};
-ghost use Rattle.graphql_final_variables.specs.FinalValues.{final_value};
-ghost use Rattle.graphql_final_variables.specs.FinalVariables.{value_in};
+ghost use Rattle.graphql_written_out.specs.FinalValues.{final_value};
+ghost use Rattle.graphql_written_out.specs.FinalVariables.{value_in};
 ghost use Rattle.graphql_plain_print.specs.Faults.{IfTooLarge};
 ghost use Rattle.graphql_written_out.specs.Written.{Settled};
 ghost use Rattle.graphql_lexer.specs.Records.{IsRecorded};
@@ -21,7 +21,6 @@ ghost use Rattle.graphql_plain_requests.specs.StandIns.{TakesStandIn};
 
 use crate::laws::{plain_texts_are_accepted, plain_texts_are_documents};
 use crate::plain_error::PlainError;
-use graphql_final_variables::FinalVariables;
 use graphql_language::TokenRecords;
 use graphql_lines::GraphQLRequest;
 use graphql_plain_print::{PrintError, print_operation};
@@ -32,6 +31,7 @@ use graphql_rule_errors::RuleError;
 use graphql_schema::{RootNode, SchemaScalar};
 use graphql_tree::{Definition, Operation};
 use graphql_values::Variables;
+use graphql_written_out::FinalVariables;
 use std::alloc::Global;
 
 /// The plain text of a request: the operation that it chooses, under its name, as one operation that

@@ -11,3 +11,13 @@ pub mod OperationsAgain
 pub mod PlainDocuments
 pub mod Rows
 pub mod OneLine
+pub mod Parts
+pub mod Words
+pub mod Printed
+pub mod Values
+pub mod ReadBack
+pub mod PrintedWords
+pub mod Types
+pub mod ValueTextEquations
+pub mod WritableLemmas
+pub mod ReadBackRows

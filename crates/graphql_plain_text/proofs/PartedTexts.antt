@@ -14,8 +14,8 @@ use Rattle.graphql_text.specs.Grammar.{Spells, Divides, IsDivided}
 use Rattle.graphql_lexer.proofs.DividedLaws.{source_is_slice}
 use Rattle.graphql_plain_text.proofs.RisingTokens.{same_push}
 use Rattle.graphql_language.specs.Texts.{IsCut}
-use Rattle.graphql_read_back.specs.Parts.{Part, AreBlank, IsClosed, text_of, Fits, AllFit, tokens_of as located_in, up_to, end_of}
-use Rattle.graphql_read_back.proofs.Parts.{parts_are_tokens, closed_tokens_end}
+use Rattle.graphql_plain_text.specs.Parts.{Part, AreBlank, IsClosed, text_of, Fits, AllFit, tokens_of as located_in, up_to, end_of}
+use Rattle.graphql_plain_text.proofs.Parts.{parts_are_tokens, closed_tokens_end}
 use Rattle.graphql_plain_text.specs.Spelt.{IsSpelt, AreSpelt}
 use Rattle.graphql_grammar.specs.Alike.{tokens_of}
 use Rattle.graphql_plain_text.specs.PlainTexts.{spaced, parted_text}

@@ -18,7 +18,7 @@ use Rattle.graphql_tree.specs.Arguments.{Argument}
 use Rattle.graphql_tree.specs.Variables.{Variable}
 use Rattle.graphql_tree.specs.declared.document.OperationType.{OperationType}
 use Rattle.graphql_tree.specs.declared.document.OperationType.TheVariants as operation
-use Rattle.graphql_read_back.proofs.Words.{name_spells}
+use Rattle.graphql_plain_text.proofs.Words.{name_spells}
 use Rattle.graphql_written_out.specs.Trees.{Directives, Tree, none, field, inline, is_empty}
 use Rattle.graphql_plain_tree.specs.PlainOperations.{PlainOperation}
 use Rattle.graphql_plain_text.specs.SpanTokens.{tokens_within}

@@ -5,3 +5,8 @@ pub mod Again
 pub mod Spelt
 pub mod SpelledTrees
 pub mod Laws
+pub mod Parts
+pub mod ReadBackLaws
+pub mod Writable
+pub mod WritableTypes
+pub mod WritableTest

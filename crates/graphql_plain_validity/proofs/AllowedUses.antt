@@ -21,9 +21,9 @@ use Rattle.graphql_schema.specs.Subtypes.{is_subtype}
 use Rattle.graphql_occurrences.specs.Occurrences.{variable_part}
 use Rattle.graphql_occurrences.specs.Parts.{InputPlace, Use, VariablePart}
 use Rattle.graphql_occurrences.specs.Unlocated.{unlocated_variable_part}
-use Rattle.graphql_scopes.specs.Reached.{uses_from}
-use Rattle.graphql_scopes.specs.Scopes.{FragmentScope, OperationScope, fragment_scopes, operation_scope, operation_scopes}
-use Rattle.graphql_rules_document.specs.VariablesInAllowedPosition.{disallowed_variables, has_value, is_allowed, is_value, refuses_null, with_null}
+use Rattle.graphql_rules_document.specs.Reached.{uses_from}
+use Rattle.graphql_rules_document.specs.Scopes.{FragmentScope, OperationScope, fragment_scopes, operation_scope, operation_scopes}
+use Rattle.graphql_rules_document.specs.VariablesInAllowedPosition.{variables_in_allowed_position_faults, has_value, is_allowed, is_value, refuses_null, with_null, without_null}
 use Rattle.graphql_rules_document.proofs.RuleLaws.{uses_allowed}
 use Rattle.graphql_rules_document.proofs.ListItems.{all-from, all-of, only-one}
 use Rattle.graphql_plain_tree.specs.PlainOperations.{PlainOperation, definitions_used, variables_used, without_directives}
@@ -143,9 +143,10 @@ module _ {S C : Type 0} (types : List (MetaType S C)) where
   same-allowed : (v : VariablePart S) (p : InputPlace)
       → is_allowed types (bare v) p ≡ is_allowed types v p
   same-allowed v p =
-      ap (λ b. cond (refuses_null p.asked && not (refuses_null v.type_of.item))
+      ap (λ b. cond p.is_only_field (is_subtype types v.type_of.item (without_null p.asked))
+      (cond (refuses_null p.asked && not (refuses_null v.type_of.item))
       ((b || p.has_default) && is_subtype types v.type_of.item (with_null p.asked))
-      (is_subtype types v.type_of.item p.asked)) (same-default v.default)
+      (is_subtype types v.type_of.item p.asked))) (same-default v.default)
 
   allowed-one : (v : VariablePart S) (at : Option InputPlace)
       → AllowedAt at v ↔ AllowedAt at (bare v)
@@ -177,7 +178,7 @@ module _ {S C : Type 0} (answer : S → ScalarAnswer) (of_bool : Bool → S)
       let Good : List FragmentScope → OperationScope S → Type 0 =
       λ fs o. All (λ u. Allowed types o.defined u.name u.at) (uses_from fs o) in
       of-one answer of_bool document
-      (λ ds. disallowed_variables types (operation_scopes schema ds)
+      (λ ds. variables_in_allowed_position_faults types (operation_scopes schema ds)
       (fragment_scopes schema ds) ≡ []) (λ x is same.
       let p : PlainOperation S = plain_of answer of_bool is in
       let vs : List (Variable S) = variables_in is.operation.item.variable_definitions in

@@ -13,9 +13,9 @@ use Rattle.graphql_occurrences.specs.Lookups.{root_of}
 use Rattle.graphql_occurrences.specs.Occurrences.{occurrences, operation_parts, set_parts, variable_part, variable_parts}
 use Rattle.graphql_occurrences.specs.Parts.{Part, Use, VariableUsed}
 use Rattle.graphql_occurrences.specs.Unlocated.{unlocated_part}
-use Rattle.graphql_scopes.specs.Reached.{uses_from}
-use Rattle.graphql_scopes.specs.Scopes.{FragmentScope, OperationScope, fragment_scopes, operation_scope, operation_scopes}
-use Rattle.graphql_rules_document.specs.NoUndefinedVariables.{undefined_variables}
+use Rattle.graphql_rules_document.specs.Reached.{uses_from}
+use Rattle.graphql_rules_document.specs.Scopes.{FragmentScope, OperationScope, fragment_scopes, operation_scope, operation_scopes}
+use Rattle.graphql_rules_document.specs.NoUndefinedVariables.{no_undefined_variables_faults}
 use Rattle.graphql_rules_document.proofs.RuleLaws.{uses_defined}
 use Rattle.graphql_rules_document.proofs.ListItems.{all-from, all-of, only-one}
 use Rattle.graphql_written_out.specs.Written.{written}
@@ -87,7 +87,7 @@ module _ {S C : Type 0} (answer : S → ScalarAnswer) (of_bool : Bool → S)
       let Good : List FragmentScope → OperationScope S → Type 0 =
       λ fs o. All (λ u. Contains (map (λ v. v.name.item) o.defined) u.name) (uses_from fs o) in
       of-one answer of_bool document
-      (λ ds. undefined_variables (operation_scopes schema ds) (fragment_scopes schema ds) ≡ [])
+      (λ ds. no_undefined_variables_faults (operation_scopes schema ds) (fragment_scopes schema ds) ≡ [])
       (λ x is same.
       let q : PlainOperation S = plain_of answer of_bool is in
       let vs : List (Variable S) = variables_in is.operation.item.variable_definitions in

@@ -11,7 +11,7 @@ use Rattle.graphql_schema.specs.Declarations.{Declarations}
 use Rattle.graphql_occurrences.specs.Occurrences.{occurrences}
 use Rattle.graphql_occurrences.specs.Parts.{Part, VariablePart, FieldPart, DirectivePart, GivenPart, VariableDefined, Condition, AField, ADirective, Given, ObjectOf}
 use Rattle.graphql_occurrences.specs.Unlocated.{unlocated_variable_part}
-use Rattle.graphql_rules_local.specs.Laws.{EachOf}
+use Rattle.graphql_rules.specs.Laws.{EachOf}
 use Rattle.graphql_plain_validity.specs.PlainRequests.{IsPlainDocument}
 use Rattle.graphql_plain_validity.specs.StemmingParts.{Reaches, Stems, skip_at, skip_given}
 use Rattle.graphql_plain_validity.specs.PartKinds.{IsReachedAs, unplaced_directive, unplaced_field, unplaced_given}

@@ -27,3 +27,7 @@ pub mod MergingWithoutPlaces
 pub mod MergingStays
 pub mod PlainValidity
 pub mod ValidTexts
+pub mod FullSets
+pub mod SpelledSets
+pub mod WrittenSets
+pub mod Rows

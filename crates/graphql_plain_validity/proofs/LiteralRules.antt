@@ -22,8 +22,8 @@ use Rattle.graphql_occurrences.specs.Lookups.{argument_named, known}
 use Rattle.graphql_occurrences.specs.Occurrences.{occurrences}
 use Rattle.graphql_occurrences.specs.Parts.{GivenPart, VariablePart}
 use Rattle.graphql_occurrences.specs.Unlocated.{unlocated_variable_part}
-use Rattle.graphql_rules_values.specs.Laws.{ArgumentsFit, DefaultFits}
-use Rattle.graphql_rules_values.proofs.LawLemmas.{arguments_none, defaults_none}
+use Rattle.graphql_rules.specs.Laws.{ArgumentsFit, DefaultFits}
+use Rattle.graphql_rules.proofs.LiteralLaws.{arguments_none, defaults_none}
 use Rattle.graphql_rules_document.proofs.ListItems.{only-one}
 use Rattle.graphql_plain_validity.specs.StemmingParts.{skip_given}
 use Rattle.graphql_plain_validity.specs.PartKinds.{unplaced_given}

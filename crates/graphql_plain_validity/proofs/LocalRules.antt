@@ -19,20 +19,20 @@ use Rattle.graphql_occurrences.specs.Lookups.{argument_named, known}
 use Rattle.graphql_occurrences.specs.Occurrences.{occurrences}
 use Rattle.graphql_occurrences.specs.Parts.{Part, GivenPart}
 use Rattle.graphql_visitors.specs.Subjects.{Subject}
-use Rattle.graphql_rules_local.specs.DisableIntrospection.{introspection_field, introspects}
-use Rattle.graphql_rules_local.specs.FieldsOnCorrectType.{unknown_field}
-use Rattle.graphql_rules_local.specs.FragmentsOnCompositeTypes.{no_composite}
-use Rattle.graphql_rules_local.specs.KnownArgumentNames.{known_argument_names}
-use Rattle.graphql_rules_local.specs.KnownDirectives.{known_directives}
-use Rattle.graphql_rules_local.specs.KnownFragmentNames.{unknown_fragment}
-use Rattle.graphql_rules_local.specs.KnownTypeNames.{unknown_type}
-use Rattle.graphql_rules_local.specs.Laws.{AreDeclared, AreDistinct, AreProvided, IsPlaced, IsSelected}
-use Rattle.graphql_rules_local.specs.ProvidedNonNullArguments.{provided_non_null_arguments}
-use Rattle.graphql_rules_local.specs.ScalarLeafs.{wrong_leaf}
-use Rattle.graphql_rules_local.specs.UniqueArgumentNames.{unique_argument_names}
-use Rattle.graphql_rules_local.specs.UniqueInputFieldNames.{unique_input_field_names}
-use Rattle.graphql_rules_local.specs.VariablesAreInputTypes.{no_input_type}
-use Rattle.graphql_rules_local.proofs.LawLemmas.{arguments_declared, arguments_distinct, arguments_provided, conditions_composite, directives_placed, fields_declared, fields_selected, input_fields_distinct, no_introspection, spreads_known, types_known, variables_input}
+use Rattle.graphql_rules.specs.DisableIntrospection.{disable_introspection_faults, introspects}
+use Rattle.graphql_rules.specs.FieldsOnCorrectType.{fields_on_correct_type_faults}
+use Rattle.graphql_rules.specs.FragmentsOnCompositeTypes.{fragments_on_composite_types_faults}
+use Rattle.graphql_rules.specs.KnownArgumentNames.{known_argument_names_faults}
+use Rattle.graphql_rules.specs.KnownDirectives.{known_directives_faults}
+use Rattle.graphql_rules.specs.KnownFragmentNames.{known_fragment_names_faults}
+use Rattle.graphql_rules.specs.KnownTypeNames.{known_type_names_faults}
+use Rattle.graphql_rules.specs.Laws.{AreDeclared, AreDistinct, AreProvided, IsPlaced, IsSelected}
+use Rattle.graphql_rules.specs.ProvidedNonNullArguments.{provided_non_null_arguments_faults}
+use Rattle.graphql_rules.specs.ScalarLeafs.{scalar_leafs_faults}
+use Rattle.graphql_rules.specs.UniqueArgumentNames.{unique_argument_names_faults}
+use Rattle.graphql_rules.specs.UniqueInputFieldNames.{unique_input_field_names_faults}
+use Rattle.graphql_rules.specs.VariablesAreInputTypes.{variables_are_input_types_faults}
+use Rattle.graphql_rules.proofs.LawLemmas.{arguments_declared, arguments_distinct, arguments_provided, conditions_composite, directives_placed, fields_declared, fields_selected, input_fields_distinct, no_introspection, spreads_known, types_known, variables_input}
 use Rattle.graphql_rules_document.proofs.ListItems.{contains-map, image-of, only-one}
 use Rattle.graphql_plain_validity.specs.StemmingParts.{skip_given}
 use Rattle.graphql_plain_validity.specs.PartKinds.{unplaced_given}
@@ -92,7 +92,7 @@ module _ {S C : Type 0} (answer : S → ScalarAnswer) (of_bool : Bool → S)
   parts = occurrences schema
 
   -- 5.3.1 Field Selections
-  pub declared-fields-stay : StaysSilent answer of_bool schema unknown_field
+  pub declared-fields-stay : StaysSilent answer of_bool schema fields_on_correct_type_faults
   declared-fields-stay document again is e =
       (fields_declared (s again) (parts again)).1
       (fields-stay answer of_bool schema document again is (λ f. IsSome f.declared)
@@ -100,7 +100,7 @@ module _ {S C : Type 0} (answer : S → ScalarAnswer) (of_bool : Bool → S)
       ((fields_declared (s document) (parts document)).0 e))
 
   -- 5.3.3 Leaf Field Selections
-  pub leaves-stay : StaysSilent answer of_bool schema wrong_leaf
+  pub leaves-stay : StaysSilent answer of_bool schema scalar_leafs_faults
   leaves-stay document again is e =
       (fields_selected (s again) (parts again)).1
       (fields-stay answer of_bool schema document again is (IsSelected schema)
@@ -108,7 +108,7 @@ module _ {S C : Type 0} (answer : S → ScalarAnswer) (of_bool : Bool → S)
       ((fields_selected (s document) (parts document)).0 e))
 
   -- 4.2 Schema Introspection
-  pub introspection-stays : StaysSilent answer of_bool schema introspection_field
+  pub introspection-stays : StaysSilent answer of_bool schema disable_introspection_faults
   introspection-stays document again is e =
       (no_introspection (s again) (parts again)).1
       (fields-stay answer of_bool schema document again is (λ f. introspects f.name ≡ false)
@@ -116,7 +116,7 @@ module _ {S C : Type 0} (answer : S → ScalarAnswer) (of_bool : Bool → S)
       ((no_introspection (s document) (parts document)).0 e))
 
   -- 5.5.1.3 Fragments on Composite Types
-  pub conditions-stay-composite : StaysSilent answer of_bool schema no_composite
+  pub conditions-stay-composite : StaysSilent answer of_bool schema fragments_on_composite_types_faults
   conditions-stay-composite document again is e =
       (conditions_composite (s again) (parts again)).1
       (conditions-stay answer of_bool schema document again is
@@ -125,7 +125,7 @@ module _ {S C : Type 0} (answer : S → ScalarAnswer) (of_bool : Bool → S)
       (sym same)) ((conditions_composite (s document) (parts document)).0 e))
 
   -- 5.5.1.2 Fragment Spread Type Existence, 5.8.2 Variables Are Input Types
-  pub types-stay-known : StaysSilent answer of_bool schema unknown_type
+  pub types-stay-known : StaysSilent answer of_bool schema known_type_names_faults
   types-stay-known document again is e =
       let old = (types_known (s document) (parts document)).0 e in
       (types_known (s again) (parts again)).1 (
@@ -137,7 +137,7 @@ module _ {S C : Type 0} (answer : S → ScalarAnswer) (of_bool : Bool → S)
       )
 
   -- 5.8.2 Variables Are Input Types
-  pub variables-stay-input : StaysSilent answer of_bool schema no_input_type
+  pub variables-stay-input : StaysSilent answer of_bool schema variables_are_input_types_faults
   variables-stay-input document again is e =
       (variables_input (s again) (parts again)).1
       (variables-stay answer of_bool schema document again is
@@ -147,7 +147,7 @@ module _ {S C : Type 0} (answer : S → ScalarAnswer) (of_bool : Bool → S)
       ((variables_input (s document) (parts document)).0 e))
 
   -- 5.5.2.1 Fragment Spread Target Defined: no spread is left
-  pub no-spread-is-left : StaysSilent answer of_bool schema unknown_fragment
+  pub no-spread-is-left : StaysSilent answer of_bool schema known_fragment_names_faults
   no-spread-is-left document again is e =
       (spreads_known (s again) (parts again)).1
       (λ x there. absurd
@@ -155,7 +155,7 @@ module _ {S C : Type 0} (answer : S → ScalarAnswer) (of_bool : Bool → S)
       (stems answer of_bool schema document again is _ there)))
 
   -- 5.6.3 Input Object Field Uniqueness
-  pub input-fields-stay-distinct : StaysSilent answer of_bool schema unique_input_field_names
+  pub input-fields-stay-distinct : StaysSilent answer of_bool schema unique_input_field_names_faults
   input-fields-stay-distinct document again is e =
       (input_fields_distinct (s again) (parts again)).1
       (objects-stay answer of_bool schema document again is
@@ -169,7 +169,7 @@ module _ {S C : Type 0} (answer : S → ScalarAnswer) (of_bool : Bool → S)
   one-argument = search rules
 
   -- 5.4.2 Argument Uniqueness
-  pub arguments-stay-distinct : StaysSilent answer of_bool schema unique_argument_names
+  pub arguments-stay-distinct : StaysSilent answer of_bool schema unique_argument_names_faults
   arguments-stay-distinct document again is e =
       (arguments_distinct (s again) (parts again)).1
       (givens-stay answer of_bool schema document again is AreDistinct distinct-respects one-argument
@@ -186,7 +186,7 @@ module _ {S C : Type 0} (answer : S → ScalarAnswer) (of_bool : Bool → S)
 
     -- 5.7 Directives
     pub directives-are-placed : (document again : List (Definition S))
-        → IsPlainDocument answer of_bool document again → IsSilent schema known_directives again
+        → IsPlainDocument answer of_bool document again → IsSilent schema known_directives_faults again
     directives-are-placed document again is =
         (directives_placed (s again) (parts again)).1
         (directives-are answer of_bool schema document again is IsPlaced
@@ -200,7 +200,7 @@ module _ {S C : Type 0} (answer : S → ScalarAnswer) (of_bool : Bool → S)
         (subst (λ ds. IsSome (argument_named ds (codes "if"))) (declares declared is) refl)
 
     -- 5.4.1 Argument Names
-    pub arguments-stay-declared : StaysSilent answer of_bool schema known_argument_names
+    pub arguments-stay-declared : StaysSilent answer of_bool schema known_argument_names_faults
     arguments-stay-declared document again is e =
         (arguments_declared (s again) (parts again)).1
         (givens-stay answer of_bool schema document again is AreDeclared declared-respects skip-declared
@@ -215,7 +215,7 @@ module _ {S C : Type 0} (answer : S → ScalarAnswer) (of_bool : Bool → S)
         subst (λ n. is_one_of given n ≡ true) name refl
 
     -- 5.4.2.1 Required Arguments
-    pub arguments-stay-provided : StaysSilent answer of_bool schema provided_non_null_arguments
+    pub arguments-stay-provided : StaysSilent answer of_bool schema provided_non_null_arguments_faults
     arguments-stay-provided document again is e =
         (arguments_provided (s again) (parts again)).1
         (givens-stay answer of_bool schema document again is AreProvided provided-respects skip-provided

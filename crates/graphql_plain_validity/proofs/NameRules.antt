@@ -2,22 +2,22 @@
 use Rattle.std.proofs.Common.{◌≡◌, refl, Bool, [], ◌∷◌, Some, None}
 use Rattle.graphql_scalars.specs.ScalarAnswers.{ScalarAnswer}
 use Rattle.graphql_schema.specs.Declarations.{Declarations}
-use Rattle.graphql_scopes.specs.Scopes.{OperationScope, operation_scope}
-use Rattle.graphql_rules_document.specs.LoneAnonymousOperation.{anonymous_beside_others}
-use Rattle.graphql_rules_document.specs.UniqueNames.{repeated_operations}
+use Rattle.graphql_rules_document.specs.Scopes.{OperationScope, operation_scope}
+use Rattle.graphql_rules_document.specs.LoneAnonymousOperation.{lone_anonymous_operation_faults}
+use Rattle.graphql_rules_document.specs.UniqueOperationNames.{unique_operation_names_faults}
 use Rattle.graphql_plain_validity.specs.RuleLaws.{HasOneOperation, OneOperationIsLeft}
 use Rattle.graphql_plain_validity.proofs.OneOperation.{of-one}
 
 module _ {S : Type 0} where
-  lone-name : (o : OperationScope S) → repeated_operations (o ∷ []) ≡ []
+  lone-name : (o : OperationScope S) → unique_operation_names_faults (o ∷ []) ≡ []
   lone-name o =
       elim o.name as
-      (λ n. repeated_operations (record o { name = n } ∷ []) ≡ []) [ None ↦ refl | Some n ↦ refl ]
+      (λ n. unique_operation_names_faults (record o { name = n } ∷ []) ≡ []) [ None ↦ refl | Some n ↦ refl ]
 
-  lone-anonymous : (o : OperationScope S) → anonymous_beside_others (o ∷ []) ≡ []
+  lone-anonymous : (o : OperationScope S) → lone_anonymous_operation_faults (o ∷ []) ≡ []
   lone-anonymous o =
       elim o.name as
-      (λ n. anonymous_beside_others (record o { name = n } ∷ []) ≡ []) [
+      (λ n. lone_anonymous_operation_faults (record o { name = n } ∷ []) ≡ []) [
         | None ↦ refl
         | Some n ↦
             refl

@@ -16,7 +16,7 @@ use Rattle.graphql_schema.specs.Declarations.{Declarations}
 use Rattle.graphql_occurrences.specs.Occurrences.{variable_part}
 use Rattle.graphql_occurrences.specs.Parts.{VariablePart}
 use Rattle.graphql_occurrences.specs.Unlocated.{unlocated_variable_part}
-use Rattle.graphql_scopes.specs.Scopes.{operation_scope, operation_scopes}
+use Rattle.graphql_rules_document.specs.Scopes.{operation_scope, operation_scopes}
 use Rattle.graphql_rules_document.proofs.ListItems.{contains-map}
 use Rattle.graphql_plain_tree.specs.PlainDocuments.{definitions_as, operation_as}
 use Rattle.graphql_plain_tree.specs.PlainOperations.{PlainOperation}

@@ -16,7 +16,7 @@ use Rattle.graphql_schema.specs.declared.directive_location.DirectiveLocation.{D
 use Rattle.graphql_schema.specs.declared.directive_location.DirectiveLocation.TheVariants as location
 use Rattle.graphql_schema.specs.declared.meta.MetaType.{MetaType}
 use Rattle.graphql_schema.specs.Declarations.{Declarations}
-use Rattle.graphql_declarations.specs.Lookups.{directive_arguments, directive_named}
+use Rattle.graphql_occurrences.specs.DeclaredLookups.{directive_arguments, directive_named}
 use Rattle.graphql_occurrences.specs.Lookups.{argument_place, field_arguments, field_in}
 use Rattle.graphql_occurrences.specs.Occurrences.{directives_parts, given_parts, selection_parts, set_parts, type_inside, under}
 use Rattle.graphql_occurrences.specs.Parts.{Part, Condition, AField, AnInline, ADirective, Given}

@@ -8,10 +8,10 @@ use Rattle.graphql_values.specs.declared.input_value.InputValue.{InputValue}
 use Rattle.graphql_tree.specs.declared.document.Definition.{Definition}
 use Rattle.graphql_schema.specs.Declarations.{Declarations}
 use Rattle.graphql_schema.specs.Directives.{has_standard_conditions}
-use Rattle.graphql_declarations.specs.Lookups.{root_of}
+use Rattle.graphql_occurrences.specs.DeclaredLookups.{root_of}
 use Rattle.graphql_occurrences.specs.Occurrences.{occurrences}
 use Rattle.graphql_visitors.specs.Subjects.{Subject}
-use Rattle.graphql_rules_local.proofs.LawLemmas.{no_introspection}
+use Rattle.graphql_rules.proofs.LawLemmas.{no_introspection}
 use Rattle.graphql_rules_document.specs.Counted.{FieldTypesAreKnown}
 use Rattle.graphql_validation.specs.Valid.{HasNoFault}
 use Rattle.graphql_plain_validity.specs.PlainRequests.{IsPlainDocument}
@@ -61,15 +61,15 @@ module _ {S C : Type 0} (eq : S → S → Bool) (laws : IsEquivalence eq) (answe
               no-spread-is-left answer of_bool schema document again is h.known_fragment_names;
           possible_fragment_spreads =
               spreads-stay-possible answer of_bool schema document again is h.possible_fragment_spreads;
-          directives = directives-are-placed answer of_bool schema standard document again is;
-          argument_names =
-              arguments-stay-declared answer of_bool schema standard document again is h.argument_names;
-          required_arguments =
-              arguments-stay-provided answer of_bool schema standard document again is h.required_arguments;
-          argument_names_are_unique =
-              arguments-stay-distinct answer of_bool schema document again is h.argument_names_are_unique;
-          input_field_names_are_unique =
-              input-fields-stay-distinct answer of_bool schema document again is h.input_field_names_are_unique;
+          known_directives = directives-are-placed answer of_bool schema standard document again is;
+          known_argument_names =
+              arguments-stay-declared answer of_bool schema standard document again is h.known_argument_names;
+          provided_non_null_arguments =
+              arguments-stay-provided answer of_bool schema standard document again is h.provided_non_null_arguments;
+          unique_argument_names =
+              arguments-stay-distinct answer of_bool schema document again is h.unique_argument_names;
+          unique_input_field_names =
+              input-fields-stay-distinct answer of_bool schema document again is h.unique_input_field_names;
           in_scopes = record {
             unique_operation_names = one.unique_operation_names;
             lone_anonymous_operation = one.lone_anonymous_operation;

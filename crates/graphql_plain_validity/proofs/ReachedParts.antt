@@ -12,8 +12,8 @@ use Rattle.graphql_tree.specs.declared.document.Operation.{Operation}
 use Rattle.graphql_schema.specs.Declarations.{Declarations}
 use Rattle.graphql_occurrences.specs.Occurrences.{definition_parts, fragment_parts, occurrences, operation_parts}
 use Rattle.graphql_occurrences.specs.Parts.{Part, SpreadPart, ASpread}
-use Rattle.graphql_scopes.specs.Reached.{IsReached, at_once, through}
-use Rattle.graphql_scopes.specs.Scopes.{Spread, fragment_scope, fragment_scopes, operation_scope, spread_at}
+use Rattle.graphql_rules_document.specs.Reached.{IsReached, at_once, through}
+use Rattle.graphql_rules_document.specs.Scopes.{Spread, fragment_scope, fragment_scopes, operation_scope, spread_at}
 use Rattle.graphql_written_out.specs.Written.{fragment_meant}
 use Rattle.graphql_rules_document.proofs.ListItems.{contains-map, image-of, nothing-in, only-one}
 use Rattle.graphql_plain_validity.specs.StemmingParts.{Reaches}

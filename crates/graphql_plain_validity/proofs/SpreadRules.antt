@@ -15,9 +15,9 @@ use Rattle.graphql_schema.specs.declared.meta.MetaType.{MetaType}
 use Rattle.graphql_schema.specs.Declarations.{Declarations}
 use Rattle.graphql_occurrences.specs.Occurrences.{occurrences}
 use Rattle.graphql_occurrences.specs.Parts.{InlinePart, SpreadPart, AnInline, ASpread}
-use Rattle.graphql_rules_local.specs.Laws.{MayApply}
-use Rattle.graphql_rules_local.specs.PossibleFragmentSpreads.{impossible_spread}
-use Rattle.graphql_rules_local.proofs.LawLemmas.{spreads_possible}
+use Rattle.graphql_rules.specs.Laws.{MayApply}
+use Rattle.graphql_rules.specs.PossibleFragmentSpreads.{possible_fragment_spreads_faults}
+use Rattle.graphql_rules.proofs.LawLemmas.{spreads_possible}
 use Rattle.graphql_written_out.specs.Written.{fragment_meant}
 use Rattle.graphql_plain_validity.specs.StemmingParts.{StandsForSpread, inline_for}
 use Rattle.graphql_plain_validity.specs.PartKinds.{unplaced_inline}
@@ -74,7 +74,7 @@ module _ {S C : Type 0} (answer : S → ScalarAnswer) (of_bool : Bool → S)
       (same_Some (unplaced f.type_condition.item) n is)
       (subst (λ (g : Fragment S). MayApply schema s.parent g.type_condition.item) p.2 (h p.0 p.1))
 
-  pub spreads-stay-possible : StaysSilent answer of_bool schema impossible_spread
+  pub spreads-stay-possible : StaysSilent answer of_bool schema possible_fragment_spreads_faults
   spreads-stay-possible document again is e =
       let old = (spreads_possible (subject_of schema document) (occurrences schema document)).0 e in
       let o = is.operation in

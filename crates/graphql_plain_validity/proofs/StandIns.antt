@@ -10,8 +10,8 @@ use Rattle.graphql_schema.specs.declared.meta.argument.Argument.{Argument as Dec
 use Rattle.graphql_schema.specs.Declarations.{Declarations}
 use Rattle.graphql_schema.specs.Directives.{IsCondition, directive_named, has_standard_conditions, is_condition, is_condition_only, is_place, required_argument, selections}
 use Rattle.graphql_schema.proofs.DirectivesConditions.{conditions_decide}
-use Rattle.graphql_declarations.specs.Lookups.{directive_arguments}
-use Rattle.graphql_rules_local.specs.Laws.{IsPlaced}
+use Rattle.graphql_occurrences.specs.DeclaredLookups.{directive_arguments}
+use Rattle.graphql_rules.specs.Laws.{IsPlaced}
 use Rattle.graphql_plain_validity.specs.StemmingParts.{skip_at}
 
 both : (a b : Bool) → (a && b) ≡ true → (a ≡ true) × (b ≡ true)

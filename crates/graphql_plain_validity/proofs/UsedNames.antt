@@ -23,7 +23,7 @@ use Rattle.graphql_occurrences.specs.Lookups.{argument_place, bare_place, field_
 use Rattle.graphql_occurrences.specs.Occurrences.{given_parts, placed_parts, set_parts, value_parts, variable_parts}
 use Rattle.graphql_occurrences.specs.Parts.{InputPlace, Part, VariableUsed}
 use Rattle.graphql_occurrences.proofs.OccurrenceEquations.{parts_null, parts_scalar, parts_enum, parts_variable, parts_list, parts_object}
-use Rattle.graphql_scopes.proofs.LeastLemmas.{each_at, each_from, each_in, in_self}
+use Rattle.graphql_rules_document.proofs.LeastLemmas.{each_at, each_from, each_in, in_self}
 use Rattle.graphql_rules_document.proofs.ListItems.{all-of, nothing-in}
 use Rattle.graphql_written_out.specs.Conditions.{left_out}
 use Rattle.graphql_written_out.specs.Trees.{Tree, none, field, inline, IsFilled}

@@ -15,11 +15,11 @@ use Rattle.graphql_occurrences.specs.Lookups.{root_of}
 use Rattle.graphql_occurrences.specs.Occurrences.{occurrences, operation_parts, set_parts, variable_part, variable_parts}
 use Rattle.graphql_occurrences.specs.Parts.{Part, Use, VariablePart, VariableUsed}
 use Rattle.graphql_occurrences.specs.Unlocated.{unlocated_part}
-use Rattle.graphql_scopes.specs.Reached.{uses_from}
-use Rattle.graphql_scopes.specs.Scopes.{OperationScope, fragment_scopes, operation_scope, operation_scopes, use_at}
-use Rattle.graphql_rules_document.specs.NoUnusedVariables.{unused_variables}
+use Rattle.graphql_rules_document.specs.Reached.{uses_from}
+use Rattle.graphql_rules_document.specs.Scopes.{OperationScope, fragment_scopes, operation_scope, operation_scopes, use_at}
+use Rattle.graphql_rules_document.specs.NoUnusedVariables.{no_unused_variables_faults}
 use Rattle.graphql_rules_document.proofs.RuleLaws.{variables_used as all_used}
-use Rattle.graphql_rules_local.proofs.LawLemmas.{fields_declared, types_known}
+use Rattle.graphql_rules.proofs.LawLemmas.{fields_declared, types_known}
 use Rattle.graphql_rules_document.specs.Counted.{AreKnown, FieldTypesAreKnown}
 use Rattle.graphql_rules_document.proofs.CountedSpreads.{known-left, known-right, root-among, value-of}
 use Rattle.graphql_rules_document.proofs.ListItems.{all-from, contains-map, image-of, only-one}
@@ -152,7 +152,7 @@ module _ {S C : Type 0} (schema : Declarations S C) where
         (defined-is-used (variables_used p.set) vs n before) in
         use-named x.0 n
         (from-occurrences x.0 n (subst (λ ds. HasUse (occurrences schema ds) n) x.1 there)) in
-        subst (λ ds. unused_variables (operation_scopes schema ds) (fragment_scopes schema ds) ≡ [])
+        subst (λ ds. no_unused_variables_faults (operation_scopes schema ds) (fragment_scopes schema ds) ≡ [])
         (sym x.1)
         ((all_used (scope ∷ []) []).1
         (all-from Good (scope ∷ [])

@@ -10,8 +10,8 @@ use Rattle.graphql_tree.specs.declared.document.Operation.{Operation}
 use Rattle.graphql_schema.specs.Declarations.{Declarations}
 use Rattle.graphql_occurrences.specs.Occurrences.{fragment_parts, occurrences, operation_parts}
 use Rattle.graphql_occurrences.specs.Parts.{Part, Use, VariableUsed}
-use Rattle.graphql_scopes.specs.Reached.{uses_from}
-use Rattle.graphql_scopes.specs.Scopes.{fragment_scope, fragment_scopes, operation_scope, use_at}
+use Rattle.graphql_rules_document.specs.Reached.{uses_from}
+use Rattle.graphql_rules_document.specs.Scopes.{fragment_scope, fragment_scopes, operation_scope, use_at}
 use Rattle.graphql_rules_document.proofs.RuleLaws.{uses_reached}
 use Rattle.graphql_rules_document.proofs.ListItems.{contains-map, nothing-in, only-one}
 use Rattle.graphql_plain_validity.specs.PlainRequests.{IsPlainDocument}

@@ -18,17 +18,17 @@ use Rattle.graphql_tree.specs.declared.document.Fragment.{Fragment}
 use Rattle.graphql_tree.specs.declared.document.Operation.{Operation}
 use Rattle.graphql_language.specs.Texts.{IsDocument}
 use Rattle.graphql_schema.specs.Declarations.{Declarations}
-use Rattle.graphql_declarations.specs.Lookups.{root_of}
+use Rattle.graphql_occurrences.specs.DeclaredLookups.{root_of}
 use Rattle.graphql_occurrences.specs.Occurrences.{occurrences}
-use Rattle.graphql_scopes.specs.Scopes.{fragment_scopes}
+use Rattle.graphql_rules_document.specs.Scopes.{fragment_scopes}
 use Rattle.graphql_visitors.specs.Subjects.{Subject}
 use Rattle.graphql_rules_document.proofs.CycleLaws.{fragments_end}
-use Rattle.graphql_rules_local.proofs.LawLemmas.{fields_declared, spreads_known, types_known}
+use Rattle.graphql_rules.proofs.LawLemmas.{fields_declared, spreads_known, types_known}
 use Rattle.graphql_rules_document.specs.Counted.{AreKnown, FieldTypesAreKnown, IsSpread}
 use Rattle.graphql_written_out.specs.Written.{fragment_meant, written}
-use Rattle.graphql_filled_sets.specs.Laws.{IsFull}
-use Rattle.graphql_filled_sets.proofs.SpelledSets.{document-whole}
-use Rattle.graphql_filled_sets.proofs.WrittenSets.{written-sets-are-filled}
+use Rattle.graphql_plain_validity.specs.Laws.{IsFull}
+use Rattle.graphql_plain_validity.proofs.SpelledSets.{document-whole}
+use Rattle.graphql_plain_validity.proofs.WrittenSets.{written-sets-are-filled}
 use Rattle.graphql_validation.specs.Valid.{HasNoFault}
 use Rattle.graphql_plain_text.proofs.PlainDocuments.{plain-document}
 use Rattle.graphql_plain_validity.specs.PlainRequests.{IsPlainDocument}

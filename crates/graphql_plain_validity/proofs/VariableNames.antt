@@ -12,8 +12,8 @@ use Rattle.graphql_schema.specs.Declarations.{Declarations}
 use Rattle.graphql_occurrences.specs.Occurrences.{variable_part}
 use Rattle.graphql_occurrences.specs.Parts.{VariablePart}
 use Rattle.graphql_occurrences.specs.Unlocated.{unlocated_variable_part}
-use Rattle.graphql_scopes.specs.Scopes.{OperationScope, operation_scope, operation_scopes}
-use Rattle.graphql_rules_document.specs.UniqueNames.{repeated_variables}
+use Rattle.graphql_rules_document.specs.Scopes.{OperationScope, operation_scope, operation_scopes}
+use Rattle.graphql_rules_document.specs.UniqueVariableNames.{unique_variable_names_faults}
 use Rattle.graphql_rules_document.proofs.RuleLaws.{distinct_variables}
 use Rattle.graphql_rules_document.proofs.ListItems.{all-from, all-of, only-one}
 use Rattle.graphql_plain_tree.specs.PlainOperations.{PlainOperation, definitions_used, variables_used, without_directives}
@@ -70,7 +70,7 @@ module _ {S C : Type 0} (answer : S → ScalarAnswer) (of_bool : Bool → S)
   variable-names-stay document again is e =
       let Apart : OperationScope S → Type 0 =
       λ o. IsDistinct bytes_eq (map (λ v. v.name.item) o.defined) in
-      of-one answer of_bool document (λ ds. repeated_variables (operation_scopes schema ds) ≡ [])
+      of-one answer of_bool document (λ ds. unique_variable_names_faults (operation_scopes schema ds) ≡ [])
       (λ x is same.
       let p : PlainOperation S = plain_of answer of_bool is in
       let vs : List (Variable S) = variables_in is.operation.item.variable_definitions in

@@ -7,17 +7,18 @@ use Rattle.graphql_tree.specs.declared.document.Definition.{Definition}
 use Rattle.graphql_schema.specs.Declarations.{Declarations}
 use Rattle.graphql_schema.specs.Directives.{has_standard_conditions}
 use Rattle.graphql_occurrences.specs.Occurrences.{occurrences}
-use Rattle.graphql_scopes.specs.Scopes.{fragment_scopes, operation_scopes}
+use Rattle.graphql_rules_document.specs.Scopes.{fragment_scopes, operation_scopes}
 use Rattle.graphql_visitors.specs.Rules.{Rule, Tell}
 use Rattle.graphql_visitors.specs.Subjects.{Subject}
-use Rattle.graphql_rules_local.specs.KnownDirectives.{known_directives}
-use Rattle.graphql_rules_local.specs.Laws.{FindsNoFault}
-use Rattle.graphql_rules_values.specs.ArgumentsOfCorrectType.{arguments_of_correct_type}
-use Rattle.graphql_rules_values.specs.DefaultValuesOfCorrectType.{default_values_of_correct_type}
-use Rattle.graphql_rules_document.specs.LoneAnonymousOperation.{anonymous_beside_others}
-use Rattle.graphql_rules_document.specs.NoFragmentCycles.{fragment_cycles}
-use Rattle.graphql_rules_document.specs.NoUnusedFragments.{never_reached}
-use Rattle.graphql_rules_document.specs.UniqueNames.{repeated_fragments, repeated_operations}
+use Rattle.graphql_rules.specs.KnownDirectives.{known_directives_faults}
+use Rattle.graphql_rules.specs.Laws.{FindsNoFault}
+use Rattle.graphql_rules.specs.ArgumentsOfCorrectType.{arguments_of_correct_type_faults}
+use Rattle.graphql_rules.specs.DefaultValuesOfCorrectType.{default_values_of_correct_type_faults}
+use Rattle.graphql_rules_document.specs.LoneAnonymousOperation.{lone_anonymous_operation_faults}
+use Rattle.graphql_rules_document.specs.NoFragmentCycles.{no_fragment_cycles_faults}
+use Rattle.graphql_rules_document.specs.NoUnusedFragments.{no_unused_fragments_faults}
+use Rattle.graphql_rules_document.specs.UniqueFragmentNames.{unique_fragment_names_faults}
+use Rattle.graphql_rules_document.specs.UniqueOperationNames.{unique_operation_names_faults}
 use Rattle.graphql_plain_validity.specs.PlainRequests.{IsPlainDocument}
 use Rattle.graphql_plain_validity.specs.Schemas.{TakesTrue}
 
@@ -32,27 +33,27 @@ module _ {S C : Type 0} (schema : Declarations S C) where
   -- nor do the rules on the names of operations and fragments
   pub record HasOneOperation (document : List (Definition S)) : Type 0 where
     -- 5.2.1.1 Operation Name Uniqueness
-    pub unique_operation_names : repeated_operations (operation_scopes schema document) ≡ []
+    pub unique_operation_names : unique_operation_names_faults (operation_scopes schema document) ≡ []
     -- 5.2.2.1 Lone Anonymous Operation
-    pub lone_anonymous_operation : anonymous_beside_others (operation_scopes schema document) ≡ []
+    pub lone_anonymous_operation : lone_anonymous_operation_faults (operation_scopes schema document) ≡ []
     -- 5.5.1.1 Fragment Name Uniqueness
-    pub unique_fragment_names : repeated_fragments (fragment_scopes schema document) ≡ []
+    pub unique_fragment_names : unique_fragment_names_faults (fragment_scopes schema document) ≡ []
     -- 5.5.1.4 Fragments Must Be Used
     pub no_unused_fragments :
-        never_reached (operation_scopes schema document) (fragment_scopes schema document) ≡ []
+        no_unused_fragments_faults (operation_scopes schema document) (fragment_scopes schema document) ≡ []
     -- 5.5.2.2 Fragment Spreads Must Not Form Cycles
-    pub no_fragment_cycles : fragment_cycles (fragment_scopes schema document) ≡ []
+    pub no_fragment_cycles : no_fragment_cycles_faults (fragment_scopes schema document) ≡ []
 
   -- `answer`: what a scalar answers; `accepts`: what the check of a type accepts
   module _ (answer : S → ScalarAnswer) (accepts : C → InputValue S → Type 0) where
     -- 5.6.1 Values of Correct Type
     abbrev pub ArgumentsConform : List (Definition S) → Type 0
     ArgumentsConform document =
-        Tell (arguments_of_correct_type answer accepts (subject_of document)) (occurrences schema document) []
+        Tell (arguments_of_correct_type_faults answer accepts (subject_of document)) (occurrences schema document) []
 
     abbrev pub DefaultsConform : List (Definition S) → Type 0
     DefaultsConform document =
-        Tell (default_values_of_correct_type answer accepts (subject_of document)) (occurrences schema document) []
+        Tell (default_values_of_correct_type_faults answer accepts (subject_of document)) (occurrences schema document) []
 
 -- `answer`: what a scalar answers; `of_bool`: the scalar of a boolean
 module _ {S C : Type 0} (answer : S → ScalarAnswer) (of_bool : Bool → S)
@@ -72,7 +73,7 @@ module _ {S C : Type 0} (answer : S → ScalarAnswer) (of_bool : Bool → S)
   DirectivesArePlaced =
       has_standard_conditions schema.directives ≡ true
       → (document again : List (Definition S)) → IsPlainDocument answer of_bool document again
-      → IsSilent schema known_directives again
+      → IsSilent schema known_directives_faults again
 
   -- `accepts`: what the check of a type accepts
   module _ (accepts : C → InputValue S → Type 0) where

@@ -12,12 +12,12 @@ use Rattle.graphql_tree.specs.declared.document.Operation.{Operation}
 use Rattle.graphql_schema.specs.declared.directive_location.DirectiveLocation.{DirectiveLocation}
 use Rattle.graphql_schema.specs.declared.directive_location.DirectiveLocation.TheVariants as location
 use Rattle.graphql_schema.specs.Declarations.{Declarations}
-use Rattle.graphql_declarations.specs.Lookups.{directive_arguments, directive_named}
+use Rattle.graphql_occurrences.specs.DeclaredLookups.{directive_arguments, directive_named}
 use Rattle.graphql_occurrences.specs.Occurrences.{fragment_parts, operation_parts}
 use Rattle.graphql_occurrences.specs.Parts.{Part, DirectivePart, GivenPart, InlinePart, SpreadPart, AnInline, ADirective, ASpread, Given}
 use Rattle.graphql_occurrences.specs.Unlocated.{unlocated_part}
-use Rattle.graphql_scopes.specs.Reached.{IsReached}
-use Rattle.graphql_scopes.specs.Scopes.{fragment_scopes, operation_scope}
+use Rattle.graphql_rules_document.specs.Reached.{IsReached}
+use Rattle.graphql_rules_document.specs.Scopes.{fragment_scopes, operation_scope}
 use Rattle.graphql_written_out.specs.Written.{fragment_meant}
 
 module _ {S C : Type 0} where

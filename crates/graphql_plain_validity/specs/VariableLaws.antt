@@ -17,14 +17,14 @@ use Rattle.graphql_tree.specs.declared.document.Definition.{Definition}
 use Rattle.graphql_tree.specs.declared.document.Definition.TheVariants as definition
 use Rattle.graphql_tree.specs.declared.document.Operation.{Operation}
 use Rattle.graphql_schema.specs.Declarations.{Declarations}
-use Rattle.graphql_declarations.specs.Lookups.{root_of}
-use Rattle.graphql_scopes.specs.Scopes.{fragment_scopes, operation_scopes}
-use Rattle.graphql_rules_local.specs.FieldsOnCorrectType.{unknown_field}
-use Rattle.graphql_rules_local.specs.KnownTypeNames.{unknown_type}
-use Rattle.graphql_rules_document.specs.NoUndefinedVariables.{undefined_variables}
-use Rattle.graphql_rules_document.specs.NoUnusedVariables.{unused_variables}
-use Rattle.graphql_rules_document.specs.UniqueNames.{repeated_variables}
-use Rattle.graphql_rules_document.specs.VariablesInAllowedPosition.{disallowed_variables}
+use Rattle.graphql_occurrences.specs.DeclaredLookups.{root_of}
+use Rattle.graphql_rules_document.specs.Scopes.{fragment_scopes, operation_scopes}
+use Rattle.graphql_rules.specs.FieldsOnCorrectType.{fields_on_correct_type_faults}
+use Rattle.graphql_rules.specs.KnownTypeNames.{known_type_names_faults}
+use Rattle.graphql_rules_document.specs.NoUndefinedVariables.{no_undefined_variables_faults}
+use Rattle.graphql_rules_document.specs.NoUnusedVariables.{no_unused_variables_faults}
+use Rattle.graphql_rules_document.specs.UniqueVariableNames.{unique_variable_names_faults}
+use Rattle.graphql_rules_document.specs.VariablesInAllowedPosition.{variables_in_allowed_position_faults}
 use Rattle.graphql_plain_validity.specs.PlainRequests.{IsPlainDocument}
 use Rattle.graphql_plain_validity.specs.RuleLaws.{IsSilent}
 
@@ -49,16 +49,16 @@ module _ {S C : Type 0} (answer : S → ScalarAnswer) (of_bool : Bool → S)
   abbrev pub VariableNamesStayDistinct : Type 0
   VariableNamesStayDistinct =
       (document again : List (Definition S)) → IsPlainDocument answer of_bool document again
-      → repeated_variables (operation_scopes schema document) ≡ []
-      → repeated_variables (operation_scopes schema again) ≡ []
+      → unique_variable_names_faults (operation_scopes schema document) ≡ []
+      → unique_variable_names_faults (operation_scopes schema again) ≡ []
 
   -- 5.8.5 All Variable Usages Are Allowed
   abbrev pub UsesStayAllowed : Type 0
   UsesStayAllowed =
       (document again : List (Definition S)) → IsPlainDocument answer of_bool document again
-      → disallowed_variables schema.types (operation_scopes schema document)
+      → variables_in_allowed_position_faults schema.types (operation_scopes schema document)
       (fragment_scopes schema document) ≡ []
-      → disallowed_variables schema.types (operation_scopes schema again)
+      → variables_in_allowed_position_faults schema.types (operation_scopes schema again)
       (fragment_scopes schema again) ≡ []
 
   -- 5.8.3 All Variable Uses Defined
@@ -66,9 +66,9 @@ module _ {S C : Type 0} (answer : S → ScalarAnswer) (of_bool : Bool → S)
   UsesStayDefined =
       (document again : List (Definition S)) → IsPlainDocument answer of_bool document again
       → DefaultsAreConstant document
-      → undefined_variables (operation_scopes schema document)
+      → no_undefined_variables_faults (operation_scopes schema document)
       (fragment_scopes schema document) ≡ []
-      → undefined_variables (operation_scopes schema again) (fragment_scopes schema again) ≡ []
+      → no_undefined_variables_faults (operation_scopes schema again) (fragment_scopes schema again) ≡ []
 
   -- 5.8.4 All Variables Used: where the types around all fields are known, as they are where the
   -- operation's root is and `FieldsOnCorrectType` and `KnownTypeNames` find no fault
@@ -76,5 +76,5 @@ module _ {S C : Type 0} (answer : S → ScalarAnswer) (of_bool : Bool → S)
   VariablesStayUsed =
       (document again : List (Definition S)) (is : IsPlainDocument answer of_bool document again)
       → IsSome (root_of schema is.operation.item.operation_type)
-      → IsSilent schema unknown_field document → IsSilent schema unknown_type document
-      → unused_variables (operation_scopes schema again) (fragment_scopes schema again) ≡ []
+      → IsSilent schema fields_on_correct_type_faults document → IsSilent schema known_type_names_faults document
+      → no_unused_variables_faults (operation_scopes schema again) (fragment_scopes schema again) ≡ []

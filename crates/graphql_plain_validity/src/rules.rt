@@ -2,18 +2,18 @@
 //! nothing.
 
 ghost use Rattle.graphql_schema.specs.Declarations.{Declarations};
-ghost use Rattle.graphql_rules_local.specs.DisableIntrospection.{introspection_field};
-ghost use Rattle.graphql_rules_local.specs.FieldsOnCorrectType.{unknown_field};
-ghost use Rattle.graphql_rules_local.specs.FragmentsOnCompositeTypes.{no_composite};
-ghost use Rattle.graphql_rules_local.specs.KnownArgumentNames.{known_argument_names};
-ghost use Rattle.graphql_rules_local.specs.KnownFragmentNames.{unknown_fragment};
-ghost use Rattle.graphql_rules_local.specs.KnownTypeNames.{unknown_type};
-ghost use Rattle.graphql_rules_local.specs.PossibleFragmentSpreads.{impossible_spread};
-ghost use Rattle.graphql_rules_local.specs.ProvidedNonNullArguments.{provided_non_null_arguments};
-ghost use Rattle.graphql_rules_local.specs.ScalarLeafs.{wrong_leaf};
-ghost use Rattle.graphql_rules_local.specs.UniqueArgumentNames.{unique_argument_names};
-ghost use Rattle.graphql_rules_local.specs.UniqueInputFieldNames.{unique_input_field_names};
-ghost use Rattle.graphql_rules_local.specs.VariablesAreInputTypes.{no_input_type};
+ghost use Rattle.graphql_rules.specs.DisableIntrospection.{disable_introspection_faults};
+ghost use Rattle.graphql_rules.specs.FieldsOnCorrectType.{fields_on_correct_type_faults};
+ghost use Rattle.graphql_rules.specs.FragmentsOnCompositeTypes.{fragments_on_composite_types_faults};
+ghost use Rattle.graphql_rules.specs.KnownArgumentNames.{known_argument_names_faults};
+ghost use Rattle.graphql_rules.specs.KnownFragmentNames.{known_fragment_names_faults};
+ghost use Rattle.graphql_rules.specs.KnownTypeNames.{known_type_names_faults};
+ghost use Rattle.graphql_rules.specs.PossibleFragmentSpreads.{possible_fragment_spreads_faults};
+ghost use Rattle.graphql_rules.specs.ProvidedNonNullArguments.{provided_non_null_arguments_faults};
+ghost use Rattle.graphql_rules.specs.ScalarLeafs.{scalar_leafs_faults};
+ghost use Rattle.graphql_rules.specs.UniqueArgumentNames.{unique_argument_names_faults};
+ghost use Rattle.graphql_rules.specs.UniqueInputFieldNames.{unique_input_field_names_faults};
+ghost use Rattle.graphql_rules.specs.VariablesAreInputTypes.{variables_are_input_types_faults};
 ghost use Rattle.graphql_plain_validity.specs.RuleLaws.{ArgumentsStayConforming, DefaultsStayConforming, DirectivesArePlaced, OneOperationIsLeft, StaysSilent, StaysSilentBesideSkip};
 
 use graphql_schema::SchemaScalar;
@@ -22,53 +22,53 @@ use graphql_values::ScalarValue;
 /// `FieldsOnCorrectType` finds no fault in a plain document where it finds none in the request's
 /// document: each field is declared (5.3.1 Field Selections).
 pub fn fields_stay_declared<S: ScalarValue, C>()
-    ensures { (schema : Declarations S C) → StaysSilent S.answer S.of_bool schema unknown_field }
+    ensures { (schema : Declarations S C) → StaysSilent S.answer S.of_bool schema fields_on_correct_type_faults }
 {}
 
 /// `ScalarLeafs` likewise: a set that is left out whole keeps a selection (5.3.3 Leaf Field Selections).
 pub fn leaves_stay_without_sets<S: ScalarValue, C>()
-    ensures { (schema : Declarations S C) → StaysSilent S.answer S.of_bool schema wrong_leaf }
+    ensures { (schema : Declarations S C) → StaysSilent S.answer S.of_bool schema scalar_leafs_faults }
 {}
 
 /// `FragmentsOnCompositeTypes` likewise (5.5.1.3 Fragments on Composite Types).
 pub fn conditions_stay_composite<S: ScalarValue, C>()
-    ensures { (schema : Declarations S C) → StaysSilent S.answer S.of_bool schema no_composite }
+    ensures { (schema : Declarations S C) → StaysSilent S.answer S.of_bool schema fragments_on_composite_types_faults }
 {}
 
 /// `KnownTypeNames` likewise (5.5.1.2 Fragment Spread Type Existence, 5.8.2 Variables Are Input Types).
 pub fn named_types_stay_known<S: ScalarValue, C>()
-    ensures { (schema : Declarations S C) → StaysSilent S.answer S.of_bool schema unknown_type }
+    ensures { (schema : Declarations S C) → StaysSilent S.answer S.of_bool schema known_type_names_faults }
 {}
 
 /// `VariablesAreInputTypes` likewise (5.8.2 Variables Are Input Types).
 pub fn variables_stay_of_input_types<S: ScalarValue, C>()
-    ensures { (schema : Declarations S C) → StaysSilent S.answer S.of_bool schema no_input_type }
+    ensures { (schema : Declarations S C) → StaysSilent S.answer S.of_bool schema variables_are_input_types_faults }
 {}
 
 /// `UniqueArgumentNames` likewise (5.4.2 Argument Uniqueness).
 pub fn arguments_stay_distinct<S: ScalarValue, C>()
-    ensures { (schema : Declarations S C) → StaysSilent S.answer S.of_bool schema unique_argument_names }
+    ensures { (schema : Declarations S C) → StaysSilent S.answer S.of_bool schema unique_argument_names_faults }
 {}
 
 /// `UniqueInputFieldNames` likewise (5.6.3 Input Object Field Uniqueness).
 pub fn input_fields_stay_distinct<S: ScalarValue, C>()
-    ensures { (schema : Declarations S C) → StaysSilent S.answer S.of_bool schema unique_input_field_names }
+    ensures { (schema : Declarations S C) → StaysSilent S.answer S.of_bool schema unique_input_field_names_faults }
 {}
 
 /// The rule against introspection likewise (4.2 Schema Introspection).
 pub fn nothing_is_introspected_still<S: ScalarValue, C>()
-    ensures { (schema : Declarations S C) → StaysSilent S.answer S.of_bool schema introspection_field }
+    ensures { (schema : Declarations S C) → StaysSilent S.answer S.of_bool schema disable_introspection_faults }
 {}
 
 /// `KnownFragmentNames` likewise: no spread is left (5.5.2.1 Fragment Spread Target Defined).
 pub fn no_spread_is_left<S: ScalarValue, C>()
-    ensures { (schema : Declarations S C) → StaysSilent S.answer S.of_bool schema unknown_fragment }
+    ensures { (schema : Declarations S C) → StaysSilent S.answer S.of_bool schema known_fragment_names_faults }
 {}
 
 /// `PossibleFragmentSpreads` likewise: an inline fragment that stands for a spread applies where the
 /// spread does (5.5.2.3 Fragment Spread Is Possible).
 pub fn spreads_stay_possible<S: ScalarValue, C>()
-    ensures { (schema : Declarations S C) → StaysSilent S.answer S.of_bool schema impossible_spread }
+    ensures { (schema : Declarations S C) → StaysSilent S.answer S.of_bool schema possible_fragment_spreads_faults }
 {}
 
 /// `KnownDirectives` finds no fault in a plain document, where the schema's `skip` is the standard's: of
@@ -80,12 +80,12 @@ pub fn directives_are_placed<S: ScalarValue, C>()
 /// `KnownArgumentNames` finds no fault in a plain document where it finds none in the request's document,
 /// over the same schemas (5.4.1 Argument Names).
 pub fn arguments_stay_declared<S: ScalarValue, C>()
-    ensures { (schema : Declarations S C) → StaysSilentBesideSkip S.answer S.of_bool schema known_argument_names }
+    ensures { (schema : Declarations S C) → StaysSilentBesideSkip S.answer S.of_bool schema known_argument_names_faults }
 {}
 
 /// `ProvidedNonNullArguments` likewise (5.4.2.1 Required Arguments).
 pub fn arguments_stay_provided<S: ScalarValue, C>()
-    ensures { (schema : Declarations S C) → StaysSilentBesideSkip S.answer S.of_bool schema provided_non_null_arguments }
+    ensures { (schema : Declarations S C) → StaysSilentBesideSkip S.answer S.of_bool schema provided_non_null_arguments_faults }
 {}
 
 /// `ArgumentsOfCorrectType` likewise, where moreover the schema's `Boolean` takes `true` (5.6.1 Values of

@@ -18,7 +18,7 @@ mod value_answers;
 pub use field_value::FieldValue;
 pub use lookups::{is_possible, known_field};
 pub use mutating::set_asked;
-pub use node_answers::{answer, type_of};
+pub use node_answers::{node_answer, type_of};
 pub use record::{Fields, Record};
 pub use records::Records;
 pub use table_node::TableNode;

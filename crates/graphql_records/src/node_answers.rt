@@ -144,7 +144,7 @@ fn record_at<'a>(records: &'a Records, node: &TableNode) -> Option<(&'a Text, &'
 /// integer, cuts a list to so many first items, to none where it is negative: the outermost list
 /// alone, and after `id` has picked, so that what is picked stays whole. An error is want of
 /// memory.
-pub fn answer(
+pub fn node_answer(
     alloc: Global,
     types: &NamedItems<TableType>,
     records: &Records,

@@ -1,8 +1,8 @@
 -- References to types that are made of others (GraphQL October 2021, 2.11 Type References, 3.11
 -- List, 3.12 Non-Null).
 use Rattle.std.specs.Prelude.{◌++◌, ℕ, [], ◌∷◌, Option}
-use Rattle.graphql_type_references.specs.TypeReference.{nullable}
-use Rattle.graphql_type_references.specs.declared.type_modifier.TypeModifier.TheVariants as modifier
+use Rattle.graphql_names.specs.TypeReference.{nullable}
+use Rattle.graphql_names.specs.declared.type_modifier.TypeModifier.TheVariants as modifier
 use Rattle.graphql_schema.specs.Types.{TypeOf}
 
 -- lists of a type, of so many items where that is known, without `null` beside them

@@ -5,8 +5,8 @@ ghost use Rattle.std.specs.Prelude.{Some, codes};
 ghost use Rattle.graphql_schema.specs.Types.{reference_to};
 
 use crate::graphql_type::{GraphQLType, named_type};
+use graphql_names::Type;
 use graphql_text::Text;
-use graphql_type_references::Type;
 use std::alloc::{AllocError, Global};
 use std::marker::PhantomData;
 

@@ -7,8 +7,8 @@ mod containers;
 mod pointers;
 mod scalars;
 
+use graphql_names::Type;
 use graphql_text::Text;
-use graphql_type_references::Type;
 use std::alloc::{AllocError, Global};
 
 /// A type whose values are those of a type of a schema over the scalars `S` (GraphQL October 2021,

@@ -23,7 +23,7 @@ use Rattle.graphql_schema.specs.declared.meta.field.Field as declared
 use Rattle.graphql_schema.specs.declared.meta.MetaType.{MetaType}
 use Rattle.graphql_schema.specs.Declarations.{Declarations}
 use Rattle.graphql_schema.specs.Lookups.{own_name}
-use Rattle.graphql_declarations.specs.Lookups.{field_arguments, field_in, field_type, known, referred, root_of}
+use Rattle.graphql_occurrences.specs.DeclaredLookups.{field_arguments, field_in, field_type, known, referred, root_of}
 use Rattle.graphql_occurrences.specs.Lookups.{location_of}
 use Rattle.graphql_occurrences.specs.Occurrences.{directives_parts, fragment_parts, given_parts, operation_parts, selection_parts, set_parts, under, type_inside, variable_parts}
 use Rattle.graphql_occurrences.specs.Parts.{Part, AField, ASpread, AnInline, Condition}

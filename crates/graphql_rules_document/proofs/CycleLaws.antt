@@ -6,12 +6,12 @@ use Rattle.std.proofs.lemmas.List.{get_or-map, length-map}
 use Rattle.std.proofs.lemmas.List.Elements.{All-contains, Contains-get_or}
 use Rattle.std.proofs.lemmas.List.Sums.{count_by-le-length, sum_by-cons, sum_by-le-sum_by}
 use Rattle.graphql_names.specs.Names.{Bytes, is_one_of}
-use Rattle.graphql_scopes.specs.Reached.{IsReached, at_once, through, names_of, reached}
-use Rattle.graphql_scopes.specs.Scopes.{FragmentScope, Spread}
-use Rattle.graphql_scopes.proofs.LeastLemmas.{IsClosed, each_at, each_from, reached_closed, reached_is, reached_within}
+use Rattle.graphql_rules_document.specs.Reached.{IsReached, at_once, through, names_of, reached}
+use Rattle.graphql_rules_document.specs.Scopes.{FragmentScope, Spread}
+use Rattle.graphql_rules_document.proofs.LeastLemmas.{IsClosed, each_at, each_from, reached_closed, reached_is, reached_within}
 use Rattle.graphql_rule_errors.proofs.NoFaultLemmas.{none_if, none_told}
 use Rattle.graphql_rules_document.specs.Ends.{EndsWithin, IsRanking}
-use Rattle.graphql_rules_document.specs.NoFragmentCycles.{cycle_at, cycles_in, fragment_cycles}
+use Rattle.graphql_rules_document.specs.NoFragmentCycles.{cycle_at, cycles_in, no_fragment_cycles_faults}
 
 -- ---- counts of what passes a test
 
@@ -101,7 +101,7 @@ module _ (fragments : List FragmentScope) where
             h (reached_further f.spreads s (at_once s.name (spreads_name f.spreads s (Contains-get_or f.spreads k d within))) f.name r)),
       )
 
-  pub none_reaches_itself : (fragment_cycles fragments ≡ []) ↔ All ReachesNotItself fragments
+  pub none_reaches_itself : (no_fragment_cycles_faults fragments ≡ []) ↔ All ReachesNotItself fragments
   none_reaches_itself = none_told (cycles_in fragments) ReachesNotItself no_cycle_at fragments
 
   -- ---- ranks
@@ -148,7 +148,7 @@ module _ (fragments : List FragmentScope) where
       f.name r in
       omega (arith, lower)
 
-  pub are_ranked : (fragment_cycles fragments ≡ []) ↔ ((rank : Bytes → ℕ) × IsRanking fragments rank)
+  pub are_ranked : (no_fragment_cycles_faults fragments ≡ []) ↔ ((rank : Bytes → ℕ) × IsRanking fragments rank)
   are_ranked = (λ h. (rank_of, ranked (none_reaches_itself.0 h)), λ r. none_reaches_itself.1 (falls_to r.0 r.1))
 
   -- ---- ends
@@ -187,7 +187,7 @@ module _ (fragments : List FragmentScope) where
       ends_never f there r n
       (reached_within (EndsWithin fragments n) fragments f.spreads (names_all (EndsWithin fragments n) f.spreads (ends_spread n f there ends)) (ends_closed n) f.name r)
 
-  pub fragments_end : (fragment_cycles fragments ≡ []) ↔ ((name : Bytes) → EndsWithin fragments (length fragments) name)
+  pub fragments_end : (no_fragment_cycles_faults fragments ≡ []) ↔ ((name : Bytes) → EndsWithin fragments (length fragments) name)
   fragments_end = (
     λ h name. ends_from rank_of (ranked (none_reaches_itself.0 h)) (length fragments) name (count_by-le-length (reaches name) fragments),
     λ ends. none_reaches_itself.1

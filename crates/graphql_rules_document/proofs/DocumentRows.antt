@@ -1,2 +1,2 @@
 -- What documents of rows are made of, for the crates above.
-pub use Rattle.graphql_scopes.proofs.Rows.{at, put, query, select, spread}
+pub use Rattle.graphql_rules_document.proofs.ScopeRows.{at, put, query, select, spread}

@@ -17,7 +17,7 @@ use Rattle.graphql_schema.proofs.Executables.{has_type_found}
 use Rattle.graphql_schema.specs.Faults.{IsFaultless, has_type, refers, is_composite}
 use Rattle.graphql_schema.specs.Lookups.{input_names, interfaces_of, is_scalar, members_of, output_names, references_of}
 use Rattle.graphql_schema.specs.declared.faults.kind.FaultKind.TheVariants as fault
-use Rattle.graphql_declarations.specs.Lookups.{known, typename_field}
+use Rattle.graphql_occurrences.specs.DeclaredLookups.{known, typename_field}
 use Rattle.graphql_rules_document.specs.Counted.{FieldTypesAreKnown}
 use Rattle.graphql_rules_document.proofs.ListItems.{contains-map}
 

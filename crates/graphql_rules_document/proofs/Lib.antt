@@ -15,3 +15,11 @@ pub mod RuleLaws
 pub mod DocumentRows
 pub mod Rows
 pub mod OnceLemmas
+pub mod GatheredLemmas
+pub mod LeastLemmas
+pub mod NamedLemmas
+pub mod MarkLemmas
+pub mod SearchLemmas
+pub mod UsesLemmas
+pub mod ScopeRows
+pub mod ComponentLemmas

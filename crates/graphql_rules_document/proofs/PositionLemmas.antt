@@ -1,10 +1,15 @@
 -- The wraps of a type, by the outermost one.
-use Rattle.std.proofs.Common.{◌≡◌, ℕ, ◌+◌, ◌-◌, cond, List, [], ◌∷◌, ◌++◌, Option, Some, length, get_or, slice_get, take, refl, sym, ap, ◌∙◌, arith}
+use Rattle.std.proofs.Common.{◌≡◌, ◌&&◌, ℕ, ◌+◌, ◌-◌, Bool, true, false, cond, List, [], ◌∷◌, ◌++◌, Option, Some, length, get_or, reverse, slice_get, take, refl, sym, ap, subst, ◌∙◌, arith}
 use Rattle.std.proofs.Math.Seq.{get_or-append_seam, take-append_seam}
+use Rattle.std.proofs.lemmas.List.{length_push, reverse-append, reverse-reverse}
 use Rattle.std.proofs.lemmas.Option.{slice_get_read}
-use Rattle.graphql_type_references.specs.TypeReference.{is_non_null, nullable, outermost}
-use Rattle.graphql_type_references.specs.declared.type_modifier.TypeModifier.{TypeModifier}
-use Rattle.graphql_type_references.specs.declared.type_modifier.TypeModifier.TheVariants as modifier
+use Rattle.graphql_schema.specs.Subtypes.{is_named_subtype, is_subtype, is_wrapped_subtype}
+use Rattle.graphql_schema.specs.Types.{TypeOf}
+use Rattle.graphql_schema.specs.declared.meta.MetaType.{MetaType}
+use Rattle.graphql_names.specs.TypeReference.{is_non_null, nullable, outermost}
+use Rattle.graphql_names.specs.declared.type_modifier.TypeModifier.{TypeModifier}
+use Rattle.graphql_names.specs.declared.type_modifier.TypeModifier.TheVariants as modifier
+use Rattle.graphql_rules_document.specs.VariablesInAllowedPosition.{refuses_null, with_null, without_null}
 
 module _ (ms within : List TypeModifier) (m : TypeModifier) (are : ms ≡ within ++ m ∷ []) (count : length within + 1 ≡ length ms) where
   last_at : length ms - 1 ≡ length within
@@ -21,3 +26,39 @@ module _ (ms within : List TypeModifier) (m : TypeModifier) (are : ms ≡ within
 
   pub with_list : (size : Option ℕ) → m ≡ modifier.List size → ms ≡ nullable ms
   with_list size is = sym (nullable_is ∙ ap (λ w. cond (is_non_null (Some w)) (take (length ms - 1) ms) ms) is)
+
+-- ---- what is below a type without `null`
+
+never : (b : Bool) → (b && false) ≡ false
+never true = refl
+never false = refl
+
+-- `ws`: the wraps of the other type, with `null`; `named`: whether the names allow it
+module _ (ws : List TypeModifier) (named : Bool) where
+  abbrev Tested : List TypeModifier → List TypeModifier → Type 0
+  Tested ms outermost_first =
+      (is_non_null (outermost ms) && (named && is_wrapped_subtype (reverse (nullable ms)) (reverse ws)))
+      ≡ (named && is_wrapped_subtype outermost_first (modifier.NonNull ∷ reverse ws))
+
+  by_outermost : (rest ms : List TypeModifier) → ms ≡ reverse rest → Tested ms rest
+  by_outermost [] ms is = subst (λ xs. Tested xs []) (sym is) (sym (never named))
+  by_outermost (modifier.List size ∷ rest) ms is =
+      let are : ms ≡ reverse rest ++ modifier.List size ∷ [] = is ∙ reverse-append (modifier.List size ∷ []) rest in
+      let count : length (reverse rest) + 1 ≡ length ms = sym (ap length are ∙ length_push (reverse rest) (modifier.List size)) in
+      ap (λ o. is_non_null o && (named && is_wrapped_subtype (reverse (nullable ms)) (reverse ws))) (outermost_is ms (reverse rest) (modifier.List size) are count)
+      ∙ sym (never named)
+  by_outermost (modifier.NonNull ∷ rest) ms is =
+      let are : ms ≡ reverse rest ++ modifier.NonNull ∷ [] = is ∙ reverse-append (modifier.NonNull ∷ []) rest in
+      let count : length (reverse rest) + 1 ≡ length ms = sym (ap length are ∙ length_push (reverse rest) modifier.NonNull) in
+      ap (λ o. is_non_null o && (named && is_wrapped_subtype (reverse (nullable ms)) (reverse ws))) (outermost_is ms (reverse rest) modifier.NonNull are count)
+      ∙ ap (λ xs. named && is_wrapped_subtype (reverse xs) (reverse ws)) (sym (without_non_null ms (reverse rest) modifier.NonNull are count refl))
+      ∙ ap (λ xs. named && is_wrapped_subtype xs (reverse ws)) (reverse-reverse rest)
+
+-- it has no `null`, and with `null` is below that type with `null`
+pub below_without_null : {S C : Type 0} (types : List (MetaType S C)) (sub super : TypeOf)
+    → (refuses_null sub && is_subtype types (with_null sub) (with_null super)) ≡ is_subtype types sub (without_null super)
+below_without_null types sub super =
+    let named = is_named_subtype types sub.name super.name in
+    let ws = nullable super.modifiers in
+    by_outermost ws named (reverse sub.modifiers) sub.modifiers (sym (reverse-reverse sub.modifiers))
+    ∙ ap (λ xs. named && is_wrapped_subtype (reverse sub.modifiers) xs) (sym (reverse-append ws (modifier.NonNull ∷ [])))

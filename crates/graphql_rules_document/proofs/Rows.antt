@@ -11,19 +11,19 @@ use Rattle.graphql_text.specs.declared.position.SourcePosition.{SourcePosition}
 use Rattle.graphql_values.specs.InputValues.{Placed}
 use Rattle.graphql_values.specs.declared.input_value.InputValue.{InputValue}
 use Rattle.graphql_values.specs.declared.input_value.InputValue.TheVariants as value
-use Rattle.graphql_type_references.specs.declared.type_modifier.TypeModifier.{TypeModifier}
-use Rattle.graphql_type_references.specs.declared.type_modifier.TypeModifier.TheVariants as modifier
+use Rattle.graphql_names.specs.declared.type_modifier.TypeModifier.{TypeModifier}
+use Rattle.graphql_names.specs.declared.type_modifier.TypeModifier.TheVariants as modifier
 use Rattle.graphql_occurrences.specs.Parts.{Use, VariablePart}
-use Rattle.graphql_scopes.specs.Reached.{reached}
-use Rattle.graphql_scopes.specs.Scopes.{FragmentScope, OperationScope, Spread}
+use Rattle.graphql_rules_document.specs.Reached.{reached}
+use Rattle.graphql_rules_document.specs.Scopes.{FragmentScope, OperationScope, Spread}
 use Rattle.graphql_rules_document.specs.Ends.{EndsWithin}
-use Rattle.graphql_rules_document.specs.LoneAnonymousOperation.{anonymous_beside_others}
-use Rattle.graphql_rules_document.specs.NoFragmentCycles.{fragment_cycles}
-use Rattle.graphql_rules_document.specs.NoUndefinedVariables.{undefined_variables}
-use Rattle.graphql_rules_document.specs.NoUnusedFragments.{never_reached}
-use Rattle.graphql_rules_document.specs.NoUnusedVariables.{unused_variables}
+use Rattle.graphql_rules_document.specs.LoneAnonymousOperation.{lone_anonymous_operation_faults}
+use Rattle.graphql_rules_document.specs.NoFragmentCycles.{no_fragment_cycles_faults}
+use Rattle.graphql_rules_document.specs.NoUndefinedVariables.{no_undefined_variables_faults}
+use Rattle.graphql_rules_document.specs.NoUnusedFragments.{no_unused_fragments_faults}
+use Rattle.graphql_rules_document.specs.NoUnusedVariables.{no_unused_variables_faults}
 use Rattle.graphql_rule_errors.specs.Repeats.{Mention, repeats}
-use Rattle.graphql_rules_document.specs.VariablesInAllowedPosition.{disallowed_variables}
+use Rattle.graphql_rules_document.specs.VariablesInAllowedPosition.{variables_in_allowed_position_faults}
 use Rattle.graphql_rule_errors.specs.Places.{Places}
 
 abbrev pub at : ℕ → SourcePosition
@@ -55,7 +55,7 @@ some_fragments =
     ∷ fragment (codes "C") 300 (use_of (codes "y") 310 ∷ []) [] ∷ fragment (codes "E") 400 [] (spread (codes "A") 50 ∷ []) ∷ []
 
 -- `C` and `E` are in no cycle, though `E` leads to one
-pub cycles : fragment_cycles some_fragments ≡ (at 10 ∷ []) ∷ (at 30 ∷ []) ∷ []
+pub cycles : no_fragment_cycles_faults some_fragments ≡ (at 10 ∷ []) ∷ (at 30 ∷ []) ∷ []
 unfolding reached
 cycles = refl
 
@@ -69,27 +69,27 @@ query = record {
   spreads = spread (codes "B") 17 ∷ [];
 }
 
-pub e_is_unused : never_reached (query ∷ []) some_fragments ≡ (at 400 ∷ []) ∷ []
+pub e_is_unused : no_unused_fragments_faults (query ∷ []) some_fragments ≡ (at 400 ∷ []) ∷ []
 unfolding reached
 e_is_unused = refl
 
 -- `$y` is used in a fragment that a fragment spreads
-pub y_is_undefined : undefined_variables (query ∷ []) some_fragments ≡ (at 310 ∷ at 1 ∷ []) ∷ []
+pub y_is_undefined : no_undefined_variables_faults (query ∷ []) some_fragments ≡ (at 310 ∷ at 1 ∷ []) ∷ []
 unfolding reached
 y_is_undefined = refl
 
-pub x_is_used : unused_variables (query ∷ []) some_fragments ≡ []
+pub x_is_used : no_unused_variables_faults (query ∷ []) some_fragments ≡ []
 unfolding reached
 x_is_used = refl
 
-pub x_is_unused : unused_variables (record query { uses = [] } ∷ []) some_fragments ≡ (at 7 ∷ []) ∷ []
+pub x_is_unused : no_unused_variables_faults (record query { uses = [] } ∷ []) some_fragments ≡ (at 7 ∷ []) ∷ []
 unfolding reached
 x_is_unused = refl
 
-pub both_anonymous : anonymous_beside_others (query ∷ query ∷ []) ≡ (at 1 ∷ []) ∷ (at 1 ∷ []) ∷ []
+pub both_anonymous : lone_anonymous_operation_faults (query ∷ query ∷ []) ≡ (at 1 ∷ []) ∷ (at 1 ∷ []) ∷ []
 both_anonymous = refl
 
-pub one_anonymous : anonymous_beside_others (query ∷ []) ≡ []
+pub one_anonymous : lone_anonymous_operation_faults (query ∷ []) ≡ []
 one_anonymous = refl
 
 -- `$x` of `Int` in these wraps, with this default
@@ -100,10 +100,10 @@ int_variable n wraps (Some v) = record { name = put n (codes "x"); type_of = put
 -- the errors where these variables are defined, and `$x` is used where `Int` in these wraps is asked for
 abbrev pub disallowed_among : List (VariablePart ℕ) → List TypeModifier → Bool → Places
 disallowed_among defined wraps has_default =
-    disallowed_variables {C = ℕ} []
+    variables_in_allowed_position_faults {C = ℕ} []
     (record query {
       defined = defined;
-      uses = record { name = codes "x"; place = at 15; at = Some (record { asked = record { name = codes "Int"; modifiers = wraps }; has_default = has_default }) } ∷ [];
+      uses = record { name = codes "x"; place = at 15; at = Some (record { asked = record { name = codes "Int"; modifiers = wraps }; has_default = has_default; is_only_field = false }) } ∷ [];
       spreads = [];
     } ∷ [])
     []
@@ -137,6 +137,25 @@ non_null_is_allowed = refl
 pub first_counts : disallowed_among (int_variable 7 [] None ∷ int_variable 8 (modifier.NonNull ∷ []) None ∷ []) (modifier.NonNull ∷ []) false ≡ (at 7 ∷ at 15 ∷ []) ∷ []
 unfolding reached
 first_counts = refl
+
+-- the errors where `$x` is the one field, of `Int`, that is given of an input object
+abbrev pub disallowed_as_one_field : VariablePart ℕ → Places
+disallowed_as_one_field v =
+    variables_in_allowed_position_faults {C = ℕ} []
+    (record query {
+      defined = v ∷ [];
+      uses = record { name = codes "x"; place = at 15; at = Some (record { asked = record { name = codes "Int"; modifiers = [] }; has_default = false; is_only_field = true }) } ∷ [];
+      spreads = [];
+    } ∷ [])
+    []
+
+pub no_default_helps_the_one_field : disallowed_as_one_field (int_variable 7 [] (Some (value.Scalar 1))) ≡ (at 7 ∷ at 15 ∷ []) ∷ []
+unfolding reached
+no_default_helps_the_one_field = refl
+
+pub non_null_is_the_one_field : disallowed_as_one_field (int_variable 7 (modifier.NonNull ∷ []) None) ≡ []
+unfolding reached
+non_null_is_the_one_field = refl
 
 -- A spreads B, and B nothing
 abbrev pub two_fragments : List FragmentScope

@@ -9,19 +9,21 @@ use Rattle.graphql_text.specs.declared.position.SourcePosition.{SourcePosition}
 use Rattle.graphql_names.specs.Names.{Bytes, is_one_of, named}
 use Rattle.graphql_schema.specs.declared.meta.MetaType.{MetaType}
 use Rattle.graphql_occurrences.specs.Parts.{InputPlace, Use, VariablePart}
-use Rattle.graphql_scopes.specs.Reached.{IsReached, reached, uses_from}
-use Rattle.graphql_scopes.specs.Scopes.{FragmentScope, OperationScope}
-use Rattle.graphql_scopes.proofs.LeastLemmas.{each_at, each_from, each_in, each_weaker, in_self, reached_is}
+use Rattle.graphql_rules_document.specs.Reached.{IsReached, reached, uses_from}
+use Rattle.graphql_rules_document.specs.Scopes.{FragmentScope, OperationScope}
+use Rattle.graphql_rules_document.proofs.LeastLemmas.{each_at, each_from, each_in, each_weaker, in_self, reached_is}
 use Rattle.graphql_rule_errors.specs.Places.{error_if}
 use Rattle.graphql_rule_errors.specs.Repeats.{Mention, repeats}
 use Rattle.graphql_rule_errors.proofs.NoFaultLemmas.{no_error, none_told, none_unless}
 use Rattle.graphql_rule_errors.proofs.RepeatLemmas.{no_repeats, no_repeats_of}
-use Rattle.graphql_rules_document.specs.LoneAnonymousOperation.{anonymous_among, anonymous_beside_others}
-use Rattle.graphql_rules_document.specs.NoUndefinedVariables.{undefined_in, undefined_use, undefined_variables}
-use Rattle.graphql_rules_document.specs.NoUnusedFragments.{never_reached, unused_fragment}
-use Rattle.graphql_rules_document.specs.NoUnusedVariables.{unused_in, unused_variable, unused_variables}
-use Rattle.graphql_rules_document.specs.UniqueNames.{fragment_mention, operation_mention, repeated_fragments, repeated_operations, repeated_variables, variable_mention}
-use Rattle.graphql_rules_document.specs.VariablesInAllowedPosition.{disallowed_at, disallowed_by, disallowed_in, disallowed_use, disallowed_variables, is_allowed}
+use Rattle.graphql_rules_document.specs.LoneAnonymousOperation.{anonymous_among, lone_anonymous_operation_faults}
+use Rattle.graphql_rules_document.specs.NoUndefinedVariables.{undefined_in, undefined_use, no_undefined_variables_faults}
+use Rattle.graphql_rules_document.specs.NoUnusedFragments.{no_unused_fragments_faults, unused_fragment}
+use Rattle.graphql_rules_document.specs.NoUnusedVariables.{unused_in, unused_variable, no_unused_variables_faults}
+use Rattle.graphql_rules_document.specs.UniqueFragmentNames.{fragment_mention, unique_fragment_names_faults}
+use Rattle.graphql_rules_document.specs.UniqueOperationNames.{operation_mention, unique_operation_names_faults}
+use Rattle.graphql_rules_document.specs.UniqueVariableNames.{unique_variable_names_faults, variable_mention}
+use Rattle.graphql_rules_document.specs.VariablesInAllowedPosition.{disallowed_at, disallowed_by, disallowed_in, disallowed_use, variables_in_allowed_position_faults, is_allowed}
 
 stands_among : (names : List Bytes) (name : Bytes) → (is_one_of names name ≡ true) ↔ Contains names name
 stands_among names name = (
@@ -31,7 +33,7 @@ stands_among names name = (
 
 -- ---- names
 
-pub distinct_fragments : (fragments : List FragmentScope) → (repeated_fragments fragments ≡ []) ↔ IsDistinct bytes_eq (map (λ f. f.name) fragments)
+pub distinct_fragments : (fragments : List FragmentScope) → (unique_fragment_names_faults fragments ≡ []) ↔ IsDistinct bytes_eq (map (λ f. f.name) fragments)
 distinct_fragments = no_repeats_of fragment_mention
 
 abbrev names_in : List Mention → List Bytes
@@ -94,14 +96,14 @@ module _ {S : Type 0} where
   names_told [] = refl
   names_told (o ∷ operations) = name_told o.name o.place (flat_map operation_mention operations) ∙ ap (cons_option o.name) (names_told operations)
 
-  pub distinct_operations : (operations : List (OperationScope S)) → (repeated_operations operations ≡ []) ↔ IsDistinct bytes_eq (filter_map (λ o. o.name) operations)
+  pub distinct_operations : (operations : List (OperationScope S)) → (unique_operation_names_faults operations ≡ []) ↔ IsDistinct bytes_eq (filter_map (λ o. o.name) operations)
   distinct_operations operations =
-      subst (λ names. (repeated_operations operations ≡ []) ↔ IsDistinct bytes_eq names) (names_told operations) (no_repeats (flat_map operation_mention operations))
+      subst (λ names. (unique_operation_names_faults operations ≡ []) ↔ IsDistinct bytes_eq names) (names_told operations) (no_repeats (flat_map operation_mention operations))
 
-  pub distinct_variables : (operations : List (OperationScope S)) → (repeated_variables operations ≡ []) ↔ All (λ o. IsDistinct bytes_eq (map (λ v. v.name.item) o.defined)) operations
+  pub distinct_variables : (operations : List (OperationScope S)) → (unique_variable_names_faults operations ≡ []) ↔ All (λ o. IsDistinct bytes_eq (map (λ v. v.name.item) o.defined)) operations
   distinct_variables = none_told (λ o. repeats (map variable_mention o.defined)) (λ o. IsDistinct bytes_eq (map (λ v. v.name.item) o.defined)) (λ o. no_repeats_of variable_mention o.defined)
 
-  pub anonymous_alone : (operations : List (OperationScope S)) → (anonymous_beside_others operations ≡ []) ↔ All (λ o. o.name ≡ None → length operations ≡ 1) operations
+  pub anonymous_alone : (operations : List (OperationScope S)) → (lone_anonymous_operation_faults operations ≡ []) ↔ All (λ o. o.name ≡ None → length operations ≡ 1) operations
   anonymous_alone operations =
       let count = length operations in
       let each = none_told (anonymous_among count) (λ o. o.name ≡ None → count ≤ 1) (λ o. stands_alone o.name count (o.place ∷ [])) operations in (
@@ -112,7 +114,7 @@ module _ {S : Type 0} where
   -- ---- what is reached
 
   pub all_reached : (operations : List (OperationScope S)) (fragments : List FragmentScope)
-      → (never_reached operations fragments ≡ []) ↔ All (λ f. IsReached fragments (flat_map (λ o. o.spreads) operations) f.name) fragments
+      → (no_unused_fragments_faults operations fragments ≡ []) ↔ All (λ f. IsReached fragments (flat_map (λ o. o.spreads) operations) f.name) fragments
   all_reached operations fragments =
       let spreads = flat_map (λ o. o.spreads) operations in
       none_told (unused_fragment (reached fragments spreads)) (λ f. IsReached fragments spreads f.name)
@@ -136,7 +138,7 @@ module _ {S : Type 0} where
   -- ---- variables
 
   pub uses_defined : (operations : List (OperationScope S)) (fragments : List FragmentScope)
-      → (undefined_variables operations fragments ≡ []) ↔ All (λ o. All (λ u. Contains (map (λ v. v.name.item) o.defined) u.name) (uses_from fragments o)) operations
+      → (no_undefined_variables_faults operations fragments ≡ []) ↔ All (λ o. All (λ u. Contains (map (λ v. v.name.item) o.defined) u.name) (uses_from fragments o)) operations
   uses_defined operations fragments =
       none_told (undefined_in fragments) (λ o. All (λ u. Contains (map (λ v. v.name.item) o.defined) u.name) (uses_from fragments o))
       (λ o. let names = map (λ v. v.name.item) o.defined in
@@ -145,7 +147,7 @@ module _ {S : Type 0} where
       operations
 
   pub variables_used : (operations : List (OperationScope S)) (fragments : List FragmentScope)
-      → (unused_variables operations fragments ≡ []) ↔ All (λ o. All (λ v. Contains (map (λ u. u.name) (uses_from fragments o)) v.name.item) o.defined) operations
+      → (no_unused_variables_faults operations fragments ≡ []) ↔ All (λ o. All (λ v. Contains (map (λ u. u.name) (uses_from fragments o)) v.name.item) o.defined) operations
   variables_used operations fragments =
       none_told (unused_in fragments) (λ o. All (λ v. Contains (map (λ u. u.name) (uses_from fragments o)) v.name.item) o.defined)
       (λ o. let names = map (λ u. u.name) (uses_from fragments o) in
@@ -166,7 +168,7 @@ module _ {S C : Type 0} (types : List (MetaType S C)) where
   allowed_by (Some v) u = allowed_at v u u.at
 
   pub uses_allowed : (operations : List (OperationScope S)) (fragments : List FragmentScope)
-      → (disallowed_variables types operations fragments ≡ [])
+      → (variables_in_allowed_position_faults types operations fragments ≡ [])
       ↔ All (λ o. All (λ u. IfSome (named (λ v. v.name.item) o.defined u.name) (λ v. IfSome u.at (λ p. is_allowed types v p ≡ true))) (uses_from fragments o)) operations
   uses_allowed operations fragments =
       none_told (disallowed_in types fragments) (λ o. All (λ u. IfSome (named (λ v. v.name.item) o.defined u.name) (λ v. IfSome u.at (IsAllowedAt v))) (uses_from fragments o))

@@ -14,7 +14,7 @@ use Rattle.graphql_schema.specs.declared.meta.field.Field.{Field}
 use Rattle.graphql_schema.specs.declared.meta.MetaType.{MetaType}
 use Rattle.graphql_schema.specs.Types.{fields_of}
 use Rattle.graphql_schema.specs.Faults.{is_composite}
-use Rattle.graphql_declarations.specs.Lookups.{known, typename_field}
+use Rattle.graphql_occurrences.specs.DeclaredLookups.{known, typename_field}
 use Rattle.graphql_schema.proofs.Rows.{being, beings, beings_schema, friend_of}
 use Rattle.graphql_tree.specs.declared.document.Definition.{Definition}
 use Rattle.graphql_tree.specs.declared.document.Definition.TheVariants as definition

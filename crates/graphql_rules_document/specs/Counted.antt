@@ -6,7 +6,7 @@ use Rattle.graphql_values.specs.InputValues.{Placed}
 use Rattle.graphql_schema.specs.declared.meta.field.Field.{Field}
 use Rattle.graphql_schema.specs.declared.meta.MetaType.{MetaType}
 use Rattle.graphql_schema.specs.Declarations.{Declarations}
-use Rattle.graphql_declarations.specs.Lookups.{field_in, known}
+use Rattle.graphql_occurrences.specs.DeclaredLookups.{field_in, known}
 use Rattle.graphql_occurrences.specs.Parts.{Part, FieldPart, SpreadPart, AField, ASpread, Condition}
 
 module _ {S C : Type 0} where

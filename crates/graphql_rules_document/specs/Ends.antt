@@ -2,7 +2,7 @@
 use Rattle.std.specs.Prelude.{◌≡◌, ◌≢◌, ℕ, zero, suc, ◌<◌, ◌≤◌, List, length}
 use Rattle.std.specs.List.{All}
 use Rattle.graphql_names.specs.Names.{Bytes}
-use Rattle.graphql_scopes.specs.Scopes.{FragmentScope}
+use Rattle.graphql_rules_document.specs.Scopes.{FragmentScope}
 
 module _ (fragments : List FragmentScope) where
   -- what is written out for a spread of this name ends within so many levels: within none where no fragment has the name, else a level behind what its fragments spread

@@ -2,7 +2,7 @@
 use Rattle.std.specs.Prelude.{ℕ, List, [], ◌∷◌, ◌&&◌, not, length, nat_lt}
 use Rattle.std.specs.List.{flat_map}
 use Rattle.std.specs.Option.{is_some}
-use Rattle.graphql_scopes.specs.Scopes.{OperationScope}
+use Rattle.graphql_rules_document.specs.Scopes.{OperationScope}
 use Rattle.graphql_rule_errors.specs.Places.{Places, error_if}
 
 module _ {S : Type 0} where
@@ -10,5 +10,5 @@ module _ {S : Type 0} where
   abbrev pub anonymous_among : ℕ → OperationScope S → Places
   anonymous_among count o = error_if (not (is_some o.name) && nat_lt 1 count) (o.place ∷ [])
 
-  abbrev pub anonymous_beside_others : List (OperationScope S) → Places
-  anonymous_beside_others operations = flat_map (anonymous_among (length operations)) operations
+  abbrev pub lone_anonymous_operation_faults : List (OperationScope S) → Places
+  lone_anonymous_operation_faults operations = flat_map (anonymous_among (length operations)) operations

@@ -2,8 +2,8 @@
 use Rattle.std.specs.Prelude.{List, [], ◌∷◌}
 use Rattle.std.specs.List.{flat_map}
 use Rattle.graphql_names.specs.Names.{is_one_of}
-use Rattle.graphql_scopes.specs.Reached.{reached}
-use Rattle.graphql_scopes.specs.Scopes.{FragmentScope, Spread}
+use Rattle.graphql_rules_document.specs.Reached.{reached}
+use Rattle.graphql_rules_document.specs.Scopes.{FragmentScope, Spread}
 use Rattle.graphql_rule_errors.specs.Places.{Places, error_if}
 
 abbrev pub cycle_at : List FragmentScope → FragmentScope → Spread → Places
@@ -12,5 +12,5 @@ cycle_at fragments f s = error_if (is_one_of (reached fragments (s ∷ [])) f.na
 abbrev pub cycles_in : List FragmentScope → FragmentScope → Places
 cycles_in fragments f = flat_map (cycle_at fragments f) f.spreads
 
-abbrev pub fragment_cycles : List FragmentScope → Places
-fragment_cycles fragments = flat_map (cycles_in fragments) fragments
+abbrev pub no_fragment_cycles_faults : List FragmentScope → Places
+no_fragment_cycles_faults fragments = flat_map (cycles_in fragments) fragments

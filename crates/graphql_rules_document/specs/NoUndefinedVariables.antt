@@ -3,8 +3,8 @@ use Rattle.std.specs.Prelude.{List, [], ◌∷◌, map, not}
 use Rattle.std.specs.List.{flat_map}
 use Rattle.graphql_names.specs.Names.{is_one_of}
 use Rattle.graphql_occurrences.specs.Parts.{Use}
-use Rattle.graphql_scopes.specs.Reached.{uses_from}
-use Rattle.graphql_scopes.specs.Scopes.{FragmentScope, OperationScope}
+use Rattle.graphql_rules_document.specs.Reached.{uses_from}
+use Rattle.graphql_rules_document.specs.Scopes.{FragmentScope, OperationScope}
 use Rattle.graphql_rule_errors.specs.Places.{Places, error_if}
 
 module _ {S : Type 0} where
@@ -14,5 +14,5 @@ module _ {S : Type 0} where
   abbrev pub undefined_in : List FragmentScope → OperationScope S → Places
   undefined_in fragments o = flat_map (undefined_use o) (uses_from fragments o)
 
-  abbrev pub undefined_variables : List (OperationScope S) → List FragmentScope → Places
-  undefined_variables operations fragments = flat_map (undefined_in fragments) operations
+  abbrev pub no_undefined_variables_faults : List (OperationScope S) → List FragmentScope → Places
+  no_undefined_variables_faults operations fragments = flat_map (undefined_in fragments) operations

@@ -3,7 +3,7 @@ use Rattle.std.specs.Prelude.{◌≡◌, Bool, true, false, List, []}
 use Rattle.graphql_schema.specs.declared.meta.MetaType.{MetaType}
 use Rattle.graphql_rule_errors.specs.Places.{Places}
 use Rattle.graphql_rules_document.specs.declared.once.Once.{Once}
-use Rattle.graphql_scopes.specs.Scopes.{FragmentScope, OperationScope, scopes_in}
+use Rattle.graphql_rules_document.specs.Scopes.{FragmentScope, OperationScope, scopes_in}
 use Rattle.graphql_visitors.specs.Runs.{Step}
 use Rattle.graphql_visitors.specs.Subjects.{Subject}
 

@@ -3,8 +3,8 @@
 ghost use Rattle.std.specs.Prelude.{◌≡◌, OnOk, map};
 ghost use Rattle.graphql_text.specs.Memory.{GivesBy};
 ghost use Rattle.graphql_schema.specs.Declarations.{declarations_of};
-ghost use Rattle.graphql_scopes.specs.Lent.{fragment_of, operation_of, scopes_told};
-ghost use Rattle.graphql_scopes.specs.Scopes.{scopes_in};
+ghost use Rattle.graphql_rules_document.specs.Lent.{fragment_of, operation_of, scopes_told};
+ghost use Rattle.graphql_rules_document.specs.Scopes.{scopes_in};
 ghost use Rattle.graphql_rules_document.specs.AllRules as spec;
 ghost use Rattle.graphql_rule_errors.specs.Places.{Reports, places};
 
@@ -17,9 +17,9 @@ use crate::unique_fragment_names::unique_fragment_names;
 use crate::unique_operation_names::unique_operation_names;
 use crate::unique_variable_names::unique_variable_names;
 use crate::variables_in_allowed_position::variables_in_allowed_position;
+use crate::{FragmentIndex, OperationScope, Scopes, scopes_of};
 use graphql_rule_errors::RuleError;
 use graphql_schema::SchemaType;
-use graphql_scopes::{FragmentIndex, OperationScope, Scopes, scopes_of};
 use graphql_text::Items;
 use graphql_tree::Definition;
 use std::alloc::{AllocError, Global};

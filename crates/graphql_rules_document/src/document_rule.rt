@@ -1,8 +1,8 @@
 //! Rules over all operations and fragments of a document.
 
+use crate::{FragmentIndex, OperationScope};
 use graphql_rule_errors::RuleError;
 use graphql_schema::{SchemaScalar, SchemaType};
-use graphql_scopes::{FragmentIndex, OperationScope};
 use graphql_text::Items;
 use std::alloc::{AllocError, Global};
 
@@ -11,7 +11,7 @@ pub trait DocumentRule<S: SchemaScalar> {
     ghost use Rattle.std.specs.Prelude.{OnOk, map};
     ghost use Rattle.graphql_rule_errors.specs.Places.{Reports};
     ghost use Rattle.graphql_rules_document.specs.Once.{ScopeRule};
-    ghost use Rattle.graphql_scopes.specs.Lent.{fragment_of, operation_of};
+    ghost use Rattle.graphql_rules_document.specs.Lent.{fragment_of, operation_of};
 
     /// The places of the errors.
     ghost says: { ScopeRule S S.Check };

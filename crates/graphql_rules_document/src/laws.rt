@@ -1,7 +1,7 @@
-//! Laws of the rules: what holds exactly where a rule finds no fault, which uses are reached, what ends,
-//! and what a rule tells as a visitor. Each function's contract is a law, and its body does nothing.
+//! Laws of the rules: what holds exactly where a rule finds no fault, what is reached, what ends, and
+//! what a rule tells as a visitor. Each function's contract is a law, and its body does nothing.
 
-ghost use Rattle.std.specs.Prelude.{◌≡◌, false, List};
+ghost use Rattle.std.specs.Prelude.{◌≡◌, false, List, ◌↔◌, true};
 ghost use Rattle.graphql_occurrences.specs.Events.{events};
 ghost use Rattle.graphql_rule_errors.specs.Places.{Places};
 ghost use Rattle.graphql_rules_document.specs.Laws.{NoneReachesItself, FragmentsAreRanked, FragmentsEnd, FragmentNamesAreDistinct, OperationNamesAreDistinct, VariableNamesAreDistinct, AnonymousStandsAlone, AllAreReached, UsesAreReached, UsesAreDefined, VariablesAreUsed, UsesAreAllowed};
@@ -9,6 +9,9 @@ ghost use Rattle.graphql_rules_document.specs.Once.{once, said_of};
 ghost use Rattle.graphql_rules_document.specs.declared.once.Once.{Once};
 ghost use Rattle.graphql_visitors.specs.Runs.{Runs, joined};
 ghost use Rattle.graphql_visitors.specs.Subjects.{Subject};
+ghost use Rattle.graphql_names.specs.Names.{Bytes, is_one_of};
+ghost use Rattle.graphql_rules_document.specs.Reached.{IsReached, reached};
+ghost use Rattle.graphql_rules_document.specs.Scopes.{FragmentScope, Spread};
 
 use crate::document_rule::DocumentRule;
 use graphql_schema::SchemaScalar;
@@ -85,4 +88,10 @@ pub fn document_rules_tell_of_documents<S: SchemaScalar, R: DocumentRule<S>>()
     ensures { (subject : Subject S S.Check) → (v w : Once R) → (told : List Places) → v.is_asked ≡ false
         → Runs (once R.says) subject v (events subject.schema subject.document) w told
         → joined told ≡ said_of R.says subject }
+{}
+
+/// The names that are told to be reached are the least set of names that has those that are spread,
+/// and with each name those that the fragments of that name spread.
+pub fn reached_is_least()
+    ensures { (fragments : List FragmentScope) → (from : List Spread) → (name : Bytes) → (is_one_of (reached fragments from) name ≡ true) ↔ IsReached fragments from name }
 {}

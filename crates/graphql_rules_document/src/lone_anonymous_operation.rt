@@ -1,15 +1,15 @@
 //! Anonymous operations (GraphQL October 2021, 5.2.2.1 Lone Anonymous Operation).
 
 ghost use Rattle.std.specs.Prelude.{◌≡◌, OnOk, map, false};
-ghost use Rattle.graphql_scopes.specs.Lent.{operation_of};
-ghost use Rattle.graphql_rules_document.specs.LoneAnonymousOperation.{anonymous_among, anonymous_beside_others};
+ghost use Rattle.graphql_rules_document.specs.Lent.{operation_of};
+ghost use Rattle.graphql_rules_document.specs.LoneAnonymousOperation.{anonymous_among, lone_anonymous_operation_faults};
 ghost use Rattle.graphql_rule_errors.specs.Places.{Reports};
 
 use crate::document_rule::DocumentRule;
 use crate::once::Once;
+use crate::{FragmentIndex, OperationScope};
 use graphql_rule_errors::{RuleError, report};
 use graphql_schema::{SchemaScalar, SchemaType};
-use graphql_scopes::{FragmentIndex, OperationScope};
 use graphql_text::Items;
 use std::alloc::{AllocError, Global};
 
@@ -34,7 +34,7 @@ pub fn lone_anonymous_operation<S>(
     operations: &[OperationScope<'_, '_, S>],
     errors: &mut Items<RuleError>,
 ) -> Result<(), AllocError>
-    ensures { OnOk result (Reports (anonymous_beside_others (map operation_of operations.now)) errors.old errors.new) }
+    ensures { OnOk result (Reports (lone_anonymous_operation_faults (map operation_of operations.now)) errors.old errors.new) }
 {
     let count = operations.len();
     'operations: for operation in operations {
@@ -65,10 +65,10 @@ fn report_anonymous<S>(
 impl<S: SchemaScalar> DocumentRule<S> for LoneAnonymousOperation {
     ghost use Rattle.std.specs.Prelude.{OnOk, map};
     ghost use Rattle.graphql_rule_errors.specs.Places.{Reports};
-    ghost use Rattle.graphql_rules_document.specs.LoneAnonymousOperation.{anonymous_beside_others};
-    ghost use Rattle.graphql_scopes.specs.Lent.{operation_of};
+    ghost use Rattle.graphql_rules_document.specs.LoneAnonymousOperation.{lone_anonymous_operation_faults};
+    ghost use Rattle.graphql_rules_document.specs.Lent.{operation_of};
 
-    ghost says = { λ types operations fragments. anonymous_beside_others operations };
+    ghost says = { λ types operations fragments. lone_anonymous_operation_faults operations };
 
     fn add_errors<'a, 't>(
         &self,
@@ -78,7 +78,7 @@ impl<S: SchemaScalar> DocumentRule<S> for LoneAnonymousOperation {
         index: &FragmentIndex<'_, 'a, 't>,
         errors: &mut Items<RuleError>,
     ) -> Result<(), AllocError>
-        ensures { OnOk result (Reports (anonymous_beside_others (map operation_of operations.now)) errors.old errors.new) }
+        ensures { OnOk result (Reports (lone_anonymous_operation_faults (map operation_of operations.now)) errors.old errors.new) }
     {
         lone_anonymous_operation(alloc, operations, errors)
     }

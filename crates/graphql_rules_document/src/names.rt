@@ -4,10 +4,10 @@ ghost use Rattle.std.specs.Prelude.{◌≡◌, ◌||◌, IfOk, OnOk, map};
 ghost use Rattle.std.specs.Str.{bytes_eq};
 ghost use Rattle.graphql_names.specs.Names.{Bytes, is_one_of};
 ghost use Rattle.graphql_occurrences.specs.Occurrences.{variable_part};
-ghost use Rattle.graphql_scopes.specs.Lent.{use_of};
+ghost use Rattle.graphql_rules_document.specs.Lent.{use_of};
 ghost use Rattle.graphql_rules_document.specs.NameSets.{has_name};
 
-use graphql_scopes::Use;
+use crate::Use;
 use graphql_text::{Spanning, TextRef};
 use graphql_tree::VariableDefinition;
 use std::alloc::{AllocError, Global};

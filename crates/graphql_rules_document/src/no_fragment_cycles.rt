@@ -2,18 +2,18 @@
 //! Cycles).
 
 ghost use Rattle.std.specs.Prelude.{◌≡◌, OnOk, map, slice_get, Some, false};
-ghost use Rattle.graphql_scopes.specs.Components.{IsComponents};
-ghost use Rattle.graphql_scopes.specs.Lent.{fragment_of, spread_of};
-ghost use Rattle.graphql_rules_document.specs.NoFragmentCycles.{cycle_at, cycles_in, fragment_cycles};
+ghost use Rattle.graphql_rules_document.specs.Components.{IsComponents};
+ghost use Rattle.graphql_rules_document.specs.Lent.{fragment_of, spread_of};
+ghost use Rattle.graphql_rules_document.specs.NoFragmentCycles.{cycle_at, cycles_in, no_fragment_cycles_faults};
 ghost use Rattle.graphql_rule_errors.specs.Places.{Reports};
 
 use crate::document_rule::DocumentRule;
 use crate::once::Once;
-use graphql_rule_errors::{RuleError, report};
-use graphql_schema::{SchemaScalar, SchemaType};
-use graphql_scopes::{
+use crate::{
     FragmentComponents, FragmentIndex, FragmentScope, OperationScope, ReachedFragments, Spread,
 };
+use graphql_rule_errors::{RuleError, report};
+use graphql_schema::{SchemaScalar, SchemaType};
 use graphql_text::Items;
 use std::alloc::{AllocError, Global};
 
@@ -39,7 +39,7 @@ pub fn no_fragment_cycles(
     index: &FragmentIndex<'_, '_, '_>,
     errors: &mut Items<RuleError>,
 ) -> Result<(), AllocError>
-    ensures { OnOk result (Reports (fragment_cycles (map fragment_of index.now.fragments.now)) errors.old errors.new) }
+    ensures { OnOk result (Reports (no_fragment_cycles_faults (map fragment_of index.now.fragments.now)) errors.old errors.new) }
 {
     let components = FragmentComponents::new(alloc, index)?;
     let mut search = ReachedFragments::new(alloc);
@@ -102,10 +102,10 @@ fn report_cycle(
 impl<S: SchemaScalar> DocumentRule<S> for NoFragmentCycles {
     ghost use Rattle.std.specs.Prelude.{OnOk, map};
     ghost use Rattle.graphql_rule_errors.specs.Places.{Reports};
-    ghost use Rattle.graphql_rules_document.specs.NoFragmentCycles.{fragment_cycles};
-    ghost use Rattle.graphql_scopes.specs.Lent.{fragment_of};
+    ghost use Rattle.graphql_rules_document.specs.NoFragmentCycles.{no_fragment_cycles_faults};
+    ghost use Rattle.graphql_rules_document.specs.Lent.{fragment_of};
 
-    ghost says = { λ types operations fragments. fragment_cycles fragments };
+    ghost says = { λ types operations fragments. no_fragment_cycles_faults fragments };
 
     fn add_errors<'a, 't>(
         &self,
@@ -115,7 +115,7 @@ impl<S: SchemaScalar> DocumentRule<S> for NoFragmentCycles {
         index: &FragmentIndex<'_, 'a, 't>,
         errors: &mut Items<RuleError>,
     ) -> Result<(), AllocError>
-        ensures { OnOk result (Reports (fragment_cycles (map fragment_of index.now.fragments.now)) errors.old errors.new) }
+        ensures { OnOk result (Reports (no_fragment_cycles_faults (map fragment_of index.now.fragments.now)) errors.old errors.new) }
     {
         no_fragment_cycles(alloc, index, errors)
     }

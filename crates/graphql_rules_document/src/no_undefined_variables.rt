@@ -5,7 +5,7 @@ ghost use Rattle.std.specs.Prelude.{◌≡◌, ◌∷◌, [], OnOk, map, not, fa
 ghost use Rattle.std.specs.List.{flat_map};
 ghost use Rattle.graphql_names.specs.Names.{Bytes, is_one_of};
 ghost use Rattle.graphql_occurrences.specs.Occurrences.{variable_part};
-ghost use Rattle.graphql_scopes.specs.Lent.{fragment_of, operation_of, use_of};
+ghost use Rattle.graphql_rules_document.specs.Lent.{fragment_of, operation_of, use_of};
 ghost use Rattle.graphql_rules_document.specs.NameSets.{has_name};
 ghost use Rattle.graphql_rules_document.specs.NoUndefinedVariables as spec;
 ghost use Rattle.graphql_rule_errors.specs.Places.{Reports, error_if};
@@ -13,9 +13,9 @@ ghost use Rattle.graphql_rule_errors.specs.Places.{Reports, error_if};
 use crate::document_rule::DocumentRule;
 use crate::names::defined_names;
 use crate::once::Once;
+use crate::{FragmentIndex, OperationScope, ReachedFragments, Use};
 use graphql_rule_errors::{RuleError, report};
 use graphql_schema::{SchemaScalar, SchemaType};
-use graphql_scopes::{FragmentIndex, OperationScope, ReachedFragments, Use};
 use graphql_text::Items;
 use std::alloc::{AllocError, Global};
 use std::collections::HashSet;
@@ -44,7 +44,7 @@ pub fn no_undefined_variables<'a, 't, S>(
     index: &FragmentIndex<'_, 'a, 't>,
     errors: &mut Items<RuleError>,
 ) -> Result<(), AllocError>
-    ensures { OnOk result (Reports (spec.undefined_variables (map operation_of operations.now) (map fragment_of index.now.fragments.now)) errors.old errors.new) }
+    ensures { OnOk result (Reports (spec.no_undefined_variables_faults (map operation_of operations.now) (map fragment_of index.now.fragments.now)) errors.old errors.new) }
 {
     let mut reached = ReachedFragments::new(alloc);
     'operations: for operation in operations {
@@ -114,10 +114,10 @@ fn message_of(alloc: Global, name: &str, operation: Option<&str>) -> Result<Stri
 impl<S: SchemaScalar> DocumentRule<S> for NoUndefinedVariables {
     ghost use Rattle.std.specs.Prelude.{OnOk, map};
     ghost use Rattle.graphql_rule_errors.specs.Places.{Reports};
-    ghost use Rattle.graphql_rules_document.specs.NoUndefinedVariables.{undefined_variables};
-    ghost use Rattle.graphql_scopes.specs.Lent.{fragment_of, operation_of};
+    ghost use Rattle.graphql_rules_document.specs.NoUndefinedVariables.{no_undefined_variables_faults};
+    ghost use Rattle.graphql_rules_document.specs.Lent.{fragment_of, operation_of};
 
-    ghost says = { λ types operations fragments. undefined_variables operations fragments };
+    ghost says = { λ types operations fragments. no_undefined_variables_faults operations fragments };
 
     fn add_errors<'a, 't>(
         &self,
@@ -129,7 +129,7 @@ impl<S: SchemaScalar> DocumentRule<S> for NoUndefinedVariables {
     ) -> Result<(), AllocError>
         ensures { let held = map operation_of operations.now in
             let fragments = map fragment_of index.now.fragments.now in
-            OnOk result (Reports (undefined_variables held fragments) errors.old errors.new) }
+            OnOk result (Reports (no_undefined_variables_faults held fragments) errors.old errors.new) }
     {
         no_undefined_variables(alloc, operations, index, errors)
     }

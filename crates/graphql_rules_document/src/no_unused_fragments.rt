@@ -4,15 +4,15 @@ ghost use Rattle.std.specs.Prelude.{◌≡◌, ◌∷◌, [], List, OnOk, map, n
 ghost use Rattle.std.specs.List.{flat_map};
 ghost use Rattle.graphql_text.specs.Memory.{GivesBy};
 ghost use Rattle.graphql_names.specs.Names.{Bytes, is_one_of};
-ghost use Rattle.graphql_scopes.specs.Lent.{fragment_of, operation_of, spread_of};
-ghost use Rattle.graphql_rules_document.specs.NoUnusedFragments.{never_reached, unused_fragment};
+ghost use Rattle.graphql_rules_document.specs.Lent.{fragment_of, operation_of, spread_of};
+ghost use Rattle.graphql_rules_document.specs.NoUnusedFragments.{no_unused_fragments_faults, unused_fragment};
 ghost use Rattle.graphql_rule_errors.specs.Places.{Reports, error_if};
 
 use crate::document_rule::DocumentRule;
 use crate::once::Once;
+use crate::{FragmentIndex, FragmentScope, OperationScope, ReachedFragments, Spread};
 use graphql_rule_errors::{RuleError, report};
 use graphql_schema::{SchemaScalar, SchemaType};
-use graphql_scopes::{FragmentIndex, FragmentScope, OperationScope, ReachedFragments, Spread};
 use graphql_text::Items;
 use std::alloc::{AllocError, Global};
 
@@ -37,7 +37,7 @@ pub fn no_unused_fragments<'a, 't, S>(
     index: &FragmentIndex<'_, 'a, 't>,
     errors: &mut Items<RuleError>,
 ) -> Result<(), AllocError>
-    ensures { OnOk result (Reports (never_reached (map operation_of operations.now) (map fragment_of index.now.fragments.now)) errors.old errors.new) }
+    ensures { OnOk result (Reports (no_unused_fragments_faults (map operation_of operations.now) (map fragment_of index.now.fragments.now)) errors.old errors.new) }
 {
     let spreads = all_spreads(alloc, operations)?;
     let mut reached = ReachedFragments::new(alloc);
@@ -94,10 +94,10 @@ fn report_unused(
 impl<S: SchemaScalar> DocumentRule<S> for NoUnusedFragments {
     ghost use Rattle.std.specs.Prelude.{OnOk, map};
     ghost use Rattle.graphql_rule_errors.specs.Places.{Reports};
-    ghost use Rattle.graphql_rules_document.specs.NoUnusedFragments.{never_reached};
-    ghost use Rattle.graphql_scopes.specs.Lent.{fragment_of, operation_of};
+    ghost use Rattle.graphql_rules_document.specs.NoUnusedFragments.{no_unused_fragments_faults};
+    ghost use Rattle.graphql_rules_document.specs.Lent.{fragment_of, operation_of};
 
-    ghost says = { λ types operations fragments. never_reached operations fragments };
+    ghost says = { λ types operations fragments. no_unused_fragments_faults operations fragments };
 
     fn add_errors<'a, 't>(
         &self,
@@ -109,7 +109,7 @@ impl<S: SchemaScalar> DocumentRule<S> for NoUnusedFragments {
     ) -> Result<(), AllocError>
         ensures { let held = map operation_of operations.now in
             let fragments = map fragment_of index.now.fragments.now in
-            OnOk result (Reports (never_reached held fragments) errors.old errors.new) }
+            OnOk result (Reports (no_unused_fragments_faults held fragments) errors.old errors.new) }
     {
         no_unused_fragments(alloc, operations, index, errors)
     }

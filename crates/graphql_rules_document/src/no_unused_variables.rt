@@ -4,7 +4,7 @@ ghost use Rattle.std.specs.Prelude.{◌≡◌, ◌∷◌, [], List, OnOk, map, n
 ghost use Rattle.std.specs.List.{flat_map};
 ghost use Rattle.graphql_names.specs.Names.{Bytes, is_one_of};
 ghost use Rattle.graphql_occurrences.specs.Occurrences.{variable_part};
-ghost use Rattle.graphql_scopes.specs.Lent.{fragment_of, operation_of};
+ghost use Rattle.graphql_rules_document.specs.Lent.{fragment_of, operation_of};
 ghost use Rattle.graphql_rules_document.specs.NameSets.{has_name};
 ghost use Rattle.graphql_rules_document.specs.NoUnusedVariables as spec;
 ghost use Rattle.graphql_rule_errors.specs.Places.{Reports, error_if};
@@ -12,9 +12,9 @@ ghost use Rattle.graphql_rule_errors.specs.Places.{Reports, error_if};
 use crate::document_rule::DocumentRule;
 use crate::names::used_names;
 use crate::once::Once;
+use crate::{FragmentIndex, OperationScope, ReachedFragments};
 use graphql_rule_errors::{RuleError, report};
 use graphql_schema::{SchemaScalar, SchemaType};
-use graphql_scopes::{FragmentIndex, OperationScope, ReachedFragments};
 use graphql_text::{Items, Spanning, TextRef};
 use graphql_tree::VariableDefinition;
 use std::alloc::{AllocError, Global};
@@ -43,7 +43,7 @@ pub fn no_unused_variables<'a, 't, S>(
     index: &FragmentIndex<'_, 'a, 't>,
     errors: &mut Items<RuleError>,
 ) -> Result<(), AllocError>
-    ensures { OnOk result (Reports (spec.unused_variables (map operation_of operations.now) (map fragment_of index.now.fragments.now)) errors.old errors.new) }
+    ensures { OnOk result (Reports (spec.no_unused_variables_faults (map operation_of operations.now) (map fragment_of index.now.fragments.now)) errors.old errors.new) }
 {
     let mut reached = ReachedFragments::new(alloc);
     'operations: for operation in operations {
@@ -103,10 +103,10 @@ fn report_variable(
 impl<S: SchemaScalar> DocumentRule<S> for NoUnusedVariables {
     ghost use Rattle.std.specs.Prelude.{OnOk, map};
     ghost use Rattle.graphql_rule_errors.specs.Places.{Reports};
-    ghost use Rattle.graphql_rules_document.specs.NoUnusedVariables.{unused_variables};
-    ghost use Rattle.graphql_scopes.specs.Lent.{fragment_of, operation_of};
+    ghost use Rattle.graphql_rules_document.specs.NoUnusedVariables.{no_unused_variables_faults};
+    ghost use Rattle.graphql_rules_document.specs.Lent.{fragment_of, operation_of};
 
-    ghost says = { λ types operations fragments. unused_variables operations fragments };
+    ghost says = { λ types operations fragments. no_unused_variables_faults operations fragments };
 
     fn add_errors<'a, 't>(
         &self,
@@ -118,7 +118,7 @@ impl<S: SchemaScalar> DocumentRule<S> for NoUnusedVariables {
     ) -> Result<(), AllocError>
         ensures { let held = map operation_of operations.now in
             let fragments = map fragment_of index.now.fragments.now in
-            OnOk result (Reports (unused_variables held fragments) errors.old errors.new) }
+            OnOk result (Reports (no_unused_variables_faults held fragments) errors.old errors.new) }
     {
         no_unused_variables(alloc, operations, index, errors)
     }

@@ -9,10 +9,10 @@ ghost use Rattle.graphql_visitors.specs.Reports.{Reports};
 ghost use Rattle.graphql_visitors.specs.Subjects.{Subject, subject_of};
 
 use crate::document_rule::DocumentRule;
+use crate::{FragmentIndex, scopes_of};
 use graphql_occurrences::Event;
 use graphql_rule_errors::RuleError;
 use graphql_schema::{SchemaScalar, SchemaType};
-use graphql_scopes::{FragmentIndex, scopes_of};
 use graphql_text::Items;
 use graphql_tree::Definition;
 use graphql_visitors::{ValidatorContext, Visitor};

@@ -5,14 +5,14 @@ ghost use Rattle.std.specs.Prelude.{◌≡◌, OnOk, false, map};
 ghost use Rattle.graphql_text.specs.Memory.{GivesBy};
 ghost use Rattle.graphql_rule_errors.specs.Places.{Reports};
 ghost use Rattle.graphql_rule_errors.specs.Repeats.{mention_lent};
-ghost use Rattle.graphql_rules_document.specs.UniqueNames.{fragment_mention, repeated_fragments};
-ghost use Rattle.graphql_scopes.specs.Lent.{fragment_of};
+ghost use Rattle.graphql_rules_document.specs.UniqueFragmentNames.{fragment_mention, unique_fragment_names_faults};
+ghost use Rattle.graphql_rules_document.specs.Lent.{fragment_of};
 
 use crate::document_rule::DocumentRule;
 use crate::once::Once;
+use crate::{FragmentIndex, FragmentScope, OperationScope};
 use graphql_rule_errors::{LentMention, RuleError, report_repeats};
 use graphql_schema::{SchemaScalar, SchemaType};
-use graphql_scopes::{FragmentIndex, FragmentScope, OperationScope};
 use graphql_text::Items;
 use std::alloc::{AllocError, Global};
 
@@ -36,7 +36,7 @@ pub fn unique_fragment_names(
     fragments: &[FragmentScope<'_, '_>],
     errors: &mut Items<RuleError>,
 ) -> Result<(), AllocError>
-    ensures { OnOk result (Reports (repeated_fragments (map fragment_of fragments.now)) errors.old errors.new) }
+    ensures { OnOk result (Reports (unique_fragment_names_faults (map fragment_of fragments.now)) errors.old errors.new) }
 {
     let mentions = fragment_names(alloc, fragments)?;
     report_repeats(alloc, errors, "fragment", mentions.as_slice())
@@ -62,10 +62,10 @@ fn fragment_names<'a, 't>(
 impl<S: SchemaScalar> DocumentRule<S> for UniqueFragmentNames {
     ghost use Rattle.std.specs.Prelude.{OnOk, map};
     ghost use Rattle.graphql_rule_errors.specs.Places.{Reports};
-    ghost use Rattle.graphql_rules_document.specs.UniqueNames.{repeated_fragments};
-    ghost use Rattle.graphql_scopes.specs.Lent.{fragment_of};
+    ghost use Rattle.graphql_rules_document.specs.UniqueFragmentNames.{unique_fragment_names_faults};
+    ghost use Rattle.graphql_rules_document.specs.Lent.{fragment_of};
 
-    ghost says = { λ types operations fragments. repeated_fragments fragments };
+    ghost says = { λ types operations fragments. unique_fragment_names_faults fragments };
 
     fn add_errors<'a, 't>(
         &self,
@@ -75,7 +75,7 @@ impl<S: SchemaScalar> DocumentRule<S> for UniqueFragmentNames {
         index: &FragmentIndex<'_, 'a, 't>,
         errors: &mut Items<RuleError>,
     ) -> Result<(), AllocError>
-        ensures { OnOk result (Reports (repeated_fragments (map fragment_of index.now.fragments.now)) errors.old errors.new) }
+        ensures { OnOk result (Reports (unique_fragment_names_faults (map fragment_of index.now.fragments.now)) errors.old errors.new) }
     {
         unique_fragment_names(alloc, index.fragments(), errors)
     }

@@ -6,14 +6,14 @@ ghost use Rattle.std.specs.List.{flat_map};
 ghost use Rattle.graphql_text.specs.Memory.{GivesBy};
 ghost use Rattle.graphql_rule_errors.specs.Places.{Reports};
 ghost use Rattle.graphql_rule_errors.specs.Repeats.{mention_lent};
-ghost use Rattle.graphql_rules_document.specs.UniqueNames.{operation_mention, repeated_operations};
-ghost use Rattle.graphql_scopes.specs.Lent.{operation_of};
+ghost use Rattle.graphql_rules_document.specs.UniqueOperationNames.{operation_mention, unique_operation_names_faults};
+ghost use Rattle.graphql_rules_document.specs.Lent.{operation_of};
 
 use crate::document_rule::DocumentRule;
 use crate::once::Once;
+use crate::{FragmentIndex, OperationScope};
 use graphql_rule_errors::{LentMention, RuleError, report_repeats};
 use graphql_schema::{SchemaScalar, SchemaType};
-use graphql_scopes::{FragmentIndex, OperationScope};
 use graphql_text::Items;
 use std::alloc::{AllocError, Global};
 
@@ -37,7 +37,7 @@ pub fn unique_operation_names<S>(
     operations: &[OperationScope<'_, '_, S>],
     errors: &mut Items<RuleError>,
 ) -> Result<(), AllocError>
-    ensures { OnOk result (Reports (repeated_operations (map operation_of operations.now)) errors.old errors.new) }
+    ensures { OnOk result (Reports (unique_operation_names_faults (map operation_of operations.now)) errors.old errors.new) }
 {
     let mentions = operation_names(alloc, operations)?;
     report_repeats(alloc, errors, "operation", mentions.as_slice())
@@ -77,10 +77,10 @@ fn add_name<'a, 't, S>(
 impl<S: SchemaScalar> DocumentRule<S> for UniqueOperationNames {
     ghost use Rattle.std.specs.Prelude.{OnOk, map};
     ghost use Rattle.graphql_rule_errors.specs.Places.{Reports};
-    ghost use Rattle.graphql_rules_document.specs.UniqueNames.{repeated_operations};
-    ghost use Rattle.graphql_scopes.specs.Lent.{operation_of};
+    ghost use Rattle.graphql_rules_document.specs.UniqueOperationNames.{unique_operation_names_faults};
+    ghost use Rattle.graphql_rules_document.specs.Lent.{operation_of};
 
-    ghost says = { λ types operations fragments. repeated_operations operations };
+    ghost says = { λ types operations fragments. unique_operation_names_faults operations };
 
     fn add_errors<'a, 't>(
         &self,
@@ -90,7 +90,7 @@ impl<S: SchemaScalar> DocumentRule<S> for UniqueOperationNames {
         index: &FragmentIndex<'_, 'a, 't>,
         errors: &mut Items<RuleError>,
     ) -> Result<(), AllocError>
-        ensures { OnOk result (Reports (repeated_operations (map operation_of operations.now)) errors.old errors.new) }
+        ensures { OnOk result (Reports (unique_operation_names_faults (map operation_of operations.now)) errors.old errors.new) }
     {
         unique_operation_names(alloc, operations, errors)
     }

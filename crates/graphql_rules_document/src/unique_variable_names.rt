@@ -5,14 +5,14 @@ ghost use Rattle.std.specs.Prelude.{◌≡◌, OnOk, false, map};
 ghost use Rattle.graphql_occurrences.specs.Occurrences.{variable_part};
 ghost use Rattle.graphql_rule_errors.specs.Places.{Reports};
 ghost use Rattle.graphql_rule_errors.specs.Repeats.{repeats};
-ghost use Rattle.graphql_rules_document.specs.UniqueNames.{repeated_variables, variable_mention};
-ghost use Rattle.graphql_scopes.specs.Lent.{operation_of};
+ghost use Rattle.graphql_rules_document.specs.UniqueVariableNames.{unique_variable_names_faults, variable_mention};
+ghost use Rattle.graphql_rules_document.specs.Lent.{operation_of};
 
 use crate::document_rule::DocumentRule;
 use crate::once::Once;
+use crate::{FragmentIndex, OperationScope};
 use graphql_rule_errors::{RuleError, report_repeats};
 use graphql_schema::{SchemaScalar, SchemaType};
-use graphql_scopes::{FragmentIndex, OperationScope};
 use graphql_text::{Items, Spanning, TextRef};
 use graphql_tree::VariableDefinition;
 use std::alloc::{AllocError, Global};
@@ -37,7 +37,7 @@ pub fn unique_variable_names<S>(
     operations: &[OperationScope<'_, '_, S>],
     errors: &mut Items<RuleError>,
 ) -> Result<(), AllocError>
-    ensures { OnOk result (Reports (repeated_variables (map operation_of operations.now)) errors.old errors.new) }
+    ensures { OnOk result (Reports (unique_variable_names_faults (map operation_of operations.now)) errors.old errors.new) }
 {
     'operations: for operation in operations {
         report_variables(alloc, operation.defined, errors)?;
@@ -60,10 +60,10 @@ fn report_variables<'t, S>(
 impl<S: SchemaScalar> DocumentRule<S> for UniqueVariableNames {
     ghost use Rattle.std.specs.Prelude.{OnOk, map};
     ghost use Rattle.graphql_rule_errors.specs.Places.{Reports};
-    ghost use Rattle.graphql_rules_document.specs.UniqueNames.{repeated_variables};
-    ghost use Rattle.graphql_scopes.specs.Lent.{operation_of};
+    ghost use Rattle.graphql_rules_document.specs.UniqueVariableNames.{unique_variable_names_faults};
+    ghost use Rattle.graphql_rules_document.specs.Lent.{operation_of};
 
-    ghost says = { λ types operations fragments. repeated_variables operations };
+    ghost says = { λ types operations fragments. unique_variable_names_faults operations };
 
     fn add_errors<'a, 't>(
         &self,
@@ -73,7 +73,7 @@ impl<S: SchemaScalar> DocumentRule<S> for UniqueVariableNames {
         index: &FragmentIndex<'_, 'a, 't>,
         errors: &mut Items<RuleError>,
     ) -> Result<(), AllocError>
-        ensures { OnOk result (Reports (repeated_variables (map operation_of operations.now)) errors.old errors.new) }
+        ensures { OnOk result (Reports (unique_variable_names_faults (map operation_of operations.now)) errors.old errors.new) }
     {
         unique_variable_names(alloc, operations, errors)
     }

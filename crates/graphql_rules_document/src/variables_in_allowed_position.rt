@@ -3,10 +3,11 @@
 ghost use Rattle.std.specs.Prelude.{◌≡◌, ◌∷◌, [], OnOk, map, not, false};
 ghost use Rattle.std.specs.List.{flat_map};
 ghost use Rattle.std.specs.Option.{option_map};
+ghost use Rattle.graphql_text.specs.Memory.{Gives};
 ghost use Rattle.graphql_schema.specs.Subtypes.{is_subtype};
 ghost use Rattle.graphql_occurrences.specs.Lent.{input_of, literal_of};
 ghost use Rattle.graphql_occurrences.specs.Occurrences.{variable_part};
-ghost use Rattle.graphql_scopes.specs.Lent.{fragment_of, operation_of, use_of};
+ghost use Rattle.graphql_rules_document.specs.Lent.{fragment_of, operation_of, use_of};
 ghost use Rattle.graphql_rules_document.specs.FirstVariables.{variable_at};
 ghost use Rattle.graphql_rule_errors.specs.Places.{Reports, error_if};
 ghost use Rattle.graphql_rules_document.specs.VariablesInAllowedPosition as spec;
@@ -14,12 +15,12 @@ ghost use Rattle.graphql_rules_document.specs.VariablesInAllowedPosition as spec
 use crate::document_rule::DocumentRule;
 use crate::first_variables::{Variable, first_variables};
 use crate::once::Once;
+use crate::{FragmentIndex, OperationScope, ReachedFragments, Use};
+use graphql_names::{BorrowedType, Type, TypeModifier};
 use graphql_occurrences::{InputPlace, TypeLiteral};
 use graphql_rule_errors::{RuleError, report};
 use graphql_schema::{SchemaScalar, SchemaType};
-use graphql_scopes::{FragmentIndex, OperationScope, ReachedFragments, Use};
 use graphql_text::{Items, Spanning, TextRef};
-use graphql_type_references::{BorrowedType, Type, TypeModifier};
 use graphql_values::InputValue;
 use std::alloc::{AllocError, Global};
 use std::collections::HashMap;
@@ -41,9 +42,11 @@ pub fn factory() -> Once<VariablesInAllowedPosition>
 /// Adds an error for each operation and each use of one of its variables that it reaches, where a
 /// value of the variable's type need not be one of the type that is asked for: where the variable is
 /// defined, and where it is used. Where the type that is asked for has no `null` and the variable's
-/// has, a default of the variable that is not `null`, or one of the place, stands in for it. Nothing is
-/// said where it is not known which type is asked for. Takes time in proportion to the operations
-/// times the fragments, and to what each operation reaches. An error of the call is want of memory.
+/// has, a default of the variable that is not `null`, or one of the place, stands in for it; but at the
+/// one field that is given of an input object no default helps, and its type is asked for without
+/// `null`. Nothing is said where it is not known which type is asked for. Takes time in proportion to
+/// the operations times the fragments, and to what each operation reaches. An error of the call is want
+/// of memory.
 pub fn variables_in_allowed_position<'a, 't, S, C>(
     alloc: Global,
     schema: &SchemaType<S, C>,
@@ -51,7 +54,7 @@ pub fn variables_in_allowed_position<'a, 't, S, C>(
     index: &FragmentIndex<'_, 'a, 't>,
     errors: &mut Items<RuleError>,
 ) -> Result<(), AllocError>
-    ensures { OnOk result (Reports (spec.disallowed_variables schema.now.types (map operation_of operations.now) (map fragment_of index.now.fragments.now)) errors.old errors.new) }
+    ensures { OnOk result (Reports (spec.variables_in_allowed_position_faults schema.now.types (map operation_of operations.now) (map fragment_of index.now.fragments.now)) errors.old errors.new) }
 {
     let mut reached = ReachedFragments::new(alloc);
     'operations: for operation in operations {
@@ -126,7 +129,7 @@ fn report_at<'t, S, C>(
     if is_allowed(schema, variable, place) {
         return Ok(());
     }
-    let message = message_of(alloc, variable, place.asked)?;
+    let message = message_of(alloc, variable, place)?;
     report(alloc, errors, message, &[variable.0.span.start, used.place])
 }
 
@@ -138,8 +141,11 @@ fn is_allowed<'t, S, C>(
 ) -> bool
     ensures { result ≡ spec.is_allowed schema.now.types (variable_part variable.now) (input_of place.entry) }
 {
-    let defined = &variable.1.var_type.item;
-    if refuses_null(place.asked) && !defined.is_non_null() {
+    let defined = TypeLiteral::of_document(&variable.1.var_type.item);
+    if place.is_only_field {
+        return is_below_without_null(schema, defined, place.asked);
+    }
+    if refuses_null(place.asked) && !refuses_null(defined) {
         (has_value(&variable.1.default_value) || place.has_default)
             && is_below(schema, defined, with_null(place.asked))
     } else {
@@ -163,12 +169,24 @@ fn has_value<S>(default: &Option<Spanning<InputValue<S>>>) -> bool
 /// Whether each value of a variable's type is one of the type that is asked for.
 fn is_below<S, C>(
     schema: &SchemaType<S, C>,
-    defined: &Type<TextRef<'_>>,
+    defined: TypeLiteral<'_>,
     asked: TypeLiteral<'_>,
 ) -> bool
-    ensures { result ≡ is_subtype schema.now.types defined.now (literal_of asked.entry) }
+    ensures { result ≡ is_subtype schema.now.types (literal_of defined.entry) (literal_of asked.entry) }
 {
-    schema.is_subtype(defined, &borrowed(asked))
+    schema.is_subtype(&borrowed(defined), &borrowed(asked))
+}
+
+/// The same where the type is asked for without `null`: the variable's type has no `null` either, and
+/// with `null` it is below the other with `null`.
+fn is_below_without_null<S, C>(
+    schema: &SchemaType<S, C>,
+    defined: TypeLiteral<'_>,
+    asked: TypeLiteral<'_>,
+) -> bool
+    ensures { result ≡ is_subtype schema.now.types (literal_of defined.entry) (spec.without_null (literal_of asked.entry)) }
+{
+    refuses_null(defined) && is_below(schema, with_null(defined), with_null(asked))
 }
 
 /// Whether `null` is no value of the type.
@@ -203,15 +221,33 @@ fn borrowed<'a>(literal: TypeLiteral<'a>) -> BorrowedType<'a>
     }
 }
 
-/// What is said of a variable where this type is asked for.
+/// The type that is asked for at a place: without `null` at the one field of an input object. An error is
+/// want of memory.
+fn expected_at<'a>(alloc: Global, place: InputPlace<'a>) -> Result<Type<TextRef<'a>>, AllocError>
+    ensures { Gives result (spec.expected_at (input_of place.entry)) }
+{
+    let mut modifiers = Items::new(alloc);
+    modifiers.extend_from_slice(place.asked.modifiers)?;
+    let asked = Type {
+        name: TextRef::new(place.asked.name),
+        modifiers,
+    };
+    if place.is_only_field {
+        asked.nullable().wrap_non_null()
+    } else {
+        Ok(asked)
+    }
+}
+
+/// What is said of a variable at this place. An error is want of memory.
 fn message_of<S>(
     alloc: Global,
     variable: &Variable<'_, S>,
-    asked: TypeLiteral<'_>,
+    place: InputPlace<'_>,
 ) -> Result<String, AllocError> {
     let name = variable.0.item.as_str();
     let defined = &variable.1.var_type.item;
-    let expected = borrowed(asked);
+    let expected = expected_at(alloc, place)?;
     format!(in alloc;
         "Variable \"${name}\" of type \"{defined}\" used in position expecting type \"{expected}\""
     )
@@ -220,10 +256,10 @@ fn message_of<S>(
 impl<S: SchemaScalar> DocumentRule<S> for VariablesInAllowedPosition {
     ghost use Rattle.std.specs.Prelude.{OnOk, map};
     ghost use Rattle.graphql_rule_errors.specs.Places.{Reports};
-    ghost use Rattle.graphql_rules_document.specs.VariablesInAllowedPosition.{disallowed_variables};
-    ghost use Rattle.graphql_scopes.specs.Lent.{fragment_of, operation_of};
+    ghost use Rattle.graphql_rules_document.specs.VariablesInAllowedPosition.{variables_in_allowed_position_faults};
+    ghost use Rattle.graphql_rules_document.specs.Lent.{fragment_of, operation_of};
 
-    ghost says = { λ types operations fragments. disallowed_variables types operations fragments };
+    ghost says = { λ types operations fragments. variables_in_allowed_position_faults types operations fragments };
 
     fn add_errors<'a, 't>(
         &self,
@@ -235,7 +271,7 @@ impl<S: SchemaScalar> DocumentRule<S> for VariablesInAllowedPosition {
     ) -> Result<(), AllocError>
         ensures { let held = map operation_of operations.now in
             let fragments = map fragment_of index.now.fragments.now in
-            OnOk result (Reports (disallowed_variables schema.now.types held fragments) errors.old errors.new) }
+            OnOk result (Reports (variables_in_allowed_position_faults schema.now.types held fragments) errors.old errors.new) }
     {
         variables_in_allowed_position(alloc, schema, operations, index, errors)
     }

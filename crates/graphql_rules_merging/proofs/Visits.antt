@@ -10,8 +10,8 @@ use Rattle.graphql_visitors.specs.Reports.{Adds, ReportsBy}
 use Rattle.graphql_visitors.specs.Runs.{Runs, joined}
 use Rattle.graphql_visitors.specs.Subjects.{Subject, subject_of}
 use Rattle.graphql_visitors.specs.declared.context.ValidatorContext.{ValidatorContext}
-use Rattle.graphql_rules_merging.specs.Visitor.{CountedBy, IsCounted, RuleTold, ToldBy, asks_once}
-use Rattle.graphql_rules_merging.specs.declared.visitor.OverlappingFieldsCanBeMerged.{OverlappingFieldsCanBeMerged}
+use Rattle.graphql_rules_merging.specs.OverlappingFieldsCanBeMerged.{CountedBy, IsCounted, RuleTold, ToldBy, asks_once}
+use Rattle.graphql_rules_merging.specs.declared.overlapping_fields_can_be_merged.OverlappingFieldsCanBeMerged.{OverlappingFieldsCanBeMerged}
 
 -- errors that are added are reported, where this holds of their places
 pub reported_by : {S C : Type 0} (P : Places → Type 0) (errors : List RuleError) (a b : ValidatorContext S C) → P (places errors) → Adds errors a b → ReportsBy P a b

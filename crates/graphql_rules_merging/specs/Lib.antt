@@ -4,5 +4,5 @@ pub mod Agenda
 pub mod Counted
 pub mod Comparing
 pub mod Finished
-pub mod Visitor
+pub mod OverlappingFieldsCanBeMerged
 pub mod Classes

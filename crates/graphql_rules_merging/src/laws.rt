@@ -3,8 +3,8 @@
 ghost use Rattle.std.specs.Prelude.{◌≡◌, false, List};
 ghost use Rattle.graphql_occurrences.specs.Events.{events};
 ghost use Rattle.graphql_rule_errors.specs.Places.{Places};
-ghost use Rattle.graphql_rules_merging.specs.Visitor.{IsCounted, RuleTold, asks_once};
-ghost use Rattle.graphql_rules_merging.specs.declared.visitor.OverlappingFieldsCanBeMerged.{OverlappingFieldsCanBeMerged};
+ghost use Rattle.graphql_rules_merging.specs.OverlappingFieldsCanBeMerged.{IsCounted, RuleTold, asks_once};
+ghost use Rattle.graphql_rules_merging.specs.declared.overlapping_fields_can_be_merged.OverlappingFieldsCanBeMerged.{OverlappingFieldsCanBeMerged};
 ghost use Rattle.graphql_visitors.specs.Runs.{Runs, joined};
 ghost use Rattle.graphql_visitors.specs.Subjects.{Subject};
 

@@ -11,13 +11,9 @@ mod finish;
 pub mod laws;
 mod numbers;
 mod order;
-mod overlapping_fields;
+pub mod overlapping_fields_can_be_merged;
 mod progress;
 mod queue;
 mod sets;
-pub mod visitor;
 
-pub use overlapping_fields::{
-    overlapping_fields_by_pairs, overlapping_fields_can_be_merged, overlapping_fields_counted,
-};
-pub use visitor::{OverlappingFieldsCanBeMerged, report_overlapping_fields};
+pub use overlapping_fields_can_be_merged::OverlappingFieldsCanBeMerged;

@@ -1,10 +1,9 @@
 -- What is made of the sample's types: in each schema `Boolean` is the scalar of the given check.
-use Rattle.std.proofs.Common.{◌≡◌, List, Result, Ok, Err, Some, IfOk, codes, subst, refl, arith}
+use Rattle.std.proofs.Common.{◌≡◌, List, ◌∷◌, Result, Ok, Err, Some, IfOk, codes, subst, refl, arith}
 use Rattle.std.proofs.lemmas.List.Sorted.{Contains-permutation}
 use Rattle.graphql_names.specs.Names.{Bytes}
 use Rattle.graphql_names.proofs.NameMaps.{in_is_found}
 use Rattle.graphql_scalars.specs.declared.default_scalar.DefaultScalarValue.{DefaultScalarValue}
-use Rattle.graphql_schema.specs.declared.introspection_checks.IntrospectionChecks.{IntrospectionChecks}
 use Rattle.graphql_schema.specs.declared.meta.MetaType.{MetaType}
 use Rattle.graphql_schema.specs.declared.schema.SchemaType.{SchemaType}
 use Rattle.graphql_schema.specs.Schemas.{IsSchemaOf, Makes}
@@ -12,21 +11,27 @@ use Rattle.graphql_schema.specs.Completed.{completed}
 use Rattle.graphql_schema.specs.Faults.{Roots}
 use Rattle.graphql_schema.specs.Lookups.{own_name, type_named}
 use Rattle.graphql_schema.specs.declared.error.SchemaError.{SchemaError}
-use Rattle.graphql_sample.specs.SampleTypes.{scalar, types, roots}
+use Rattle.graphql_sample.specs.SampleTypes.{scalar, roots}
 
+-- `others`: the types behind the scalars
 module _ {C : Type 0} (of_text : Bytes → DefaultScalarValue) (int string boolean id : C)
-    (introspection : IntrospectionChecks C) where
+    (others : List (MetaType DefaultScalarValue C)) where
+  abbrev all_types : List (MetaType DefaultScalarValue C)
+  all_types =
+      scalar (codes "Int") int ∷ scalar (codes "String") string
+      ∷ scalar (codes "Boolean") boolean ∷ scalar (codes "ID") id ∷ others
+
   abbrev pub IsFound : SchemaType DefaultScalarValue C → Type 0
   IsFound schema = type_named schema.types (codes "Boolean") ≡ Some (scalar (codes "Boolean") boolean)
 
-  boolean_found : (schema : SchemaType DefaultScalarValue C) → IsSchemaOf of_text (types int string boolean id introspection) roots schema → IsFound schema
+  boolean_found : (schema : SchemaType DefaultScalarValue C) → IsSchemaOf of_text all_types roots schema → IsFound schema
   boolean_found schema made =
       let wanted = scalar (codes "Boolean") boolean in
-      let all = completed (types int string boolean id introspection) roots.query in
+      let all = completed all_types roots.query in
       in_is_found own_name schema.types wanted schema.by_name (Contains-permutation all schema.types wanted made.types (2, omega arith, refl))
 
   pub boolean_in : (metadata : List (MetaType DefaultScalarValue C)) (result : Result (SchemaType DefaultScalarValue C) SchemaError)
-      → metadata ≡ types int string boolean id introspection → Makes of_text metadata roots result → IfOk result IsFound
+      → metadata ≡ all_types → Makes of_text metadata roots result → IfOk result IsFound
   boolean_in metadata (Ok schema) same made = boolean_found schema (subst (λ m. IsSchemaOf of_text m roots schema) same made.1)
   boolean_in metadata (Err e) same made = tt
 

@@ -1,5 +1,6 @@
 -- The records of the sample, and what its resolver answers from records (GraphQL October 2021, 6.4.2 Value Resolution) and changes in them (6.2.2 Mutation).
-use Rattle.std.specs.Prelude.{◌∷◌, ◌+◌, ◌-◌, ◌^◌, min, ℕ, [], List, Option, Some, None, Ok, codes, position, slice_get, slice_set, if◌then◌else◌}
+use Rattle.std.specs.Prelude.{◌∷◌, ◌+◌, ◌-◌, ◌^◌, ◌||◌, min, ℕ, Bool, false, [], List, Option, Some, None, Ok, codes, position, slice_get, slice_set, if◌then◌else◌}
+use Rattle.std.specs.List.{find}
 use Rattle.std.specs.Option.{option_and_then, option_map_or}
 use Rattle.std.specs.Str.{bytes_eq}
 use Rattle.graphql_names.specs.Names.{Bytes}
@@ -45,19 +46,11 @@ abbrev pub type_name : SampleNode → Bytes
 type_name node.Root = codes "Query"
 type_name (node.Human place) = codes "Human"
 
-abbrev pub of_root : List SampleRecord → Bytes → Answer
-of_root records field = if bytes_eq field (codes "hero") then human_of records (codes "h1") else resolved.Null
-
 abbrev pub of_human : List SampleRecord → SampleRecord → Bytes → Answer
 of_human records r field =
     if bytes_eq field (codes "id") then word r.id else
     if bytes_eq field (codes "name") then option_map_or word r.name resolved.Null else
     if bytes_eq field (codes "friend") then option_map_or (human_of records) r.friend resolved.Null else resolved.Null
-
--- what a node answers for a field: null for a field that it lacks, and at a place beyond the records
-abbrev pub answer : List SampleRecord → SampleNode → Bytes → Answer
-answer records node.Root field = of_root records field
-answer records (node.Human place) field = option_map_or (λ r. of_human records r field) (slice_get records place) resolved.Null
 
 -- the text that a scalar is, if it is one
 abbrev pub text_of_scalar : DefaultScalarValue → Option Bytes
@@ -80,6 +73,47 @@ text_of v = text_layer (out-InputValue DefaultScalarValue v)
 -- the text that the argument of a name is: none where it is absent, or is no text
 abbrev pub text_given : Given DefaultScalarValue → Bytes → Option Bytes
 text_given given name = option_and_then text_of (value_named given name)
+
+abbrev pub field_layer : Bytes → InputValue-F DefaultScalarValue (InputValue DefaultScalarValue) → Option Bytes
+field_layer name (InputValue-F.Object pairs) = option_and_then (λ p. text_of p.1.item) (find (λ p. bytes_eq p.0.item name) pairs)
+field_layer name _ = None
+
+-- the text that the field of a name of an object is, the first where several have it: none where it is absent, or is no text
+abbrev pub text_within : Bytes → InputValue DefaultScalarValue → Option Bytes
+text_within name v = field_layer name (out-InputValue DefaultScalarValue v)
+
+-- the same of the object that an argument is
+abbrev pub text_given_in : Given DefaultScalarValue → Bytes → Bytes → Option Bytes
+text_given_in given argument name = option_and_then (text_within name) (value_named given argument)
+
+-- both are known, and the same
+abbrev pub are_same : Option Bytes → Option Bytes → Bool
+are_same (Some a) (Some b) = bytes_eq a b
+are_same _ _ = false
+
+-- the human has this id, or this name
+abbrev pub fits : Option Bytes → Option Bytes → SampleRecord → Bool
+fits id name r = are_same id (Some r.id) || are_same name r.name
+
+abbrev pub place_found : List SampleRecord → Option Bytes → Option Bytes → Option ℕ
+place_found records id name = position (fits id name) records
+
+-- `find`: the first human who has the id or the name that the argument `by` is of, null where there is none
+abbrev pub found_by : List SampleRecord → Option Bytes → Option Bytes → Answer
+found_by records id name = option_map_or (λ place. resolved.Node (node.Human place)) (place_found records id name) resolved.Null
+
+abbrev pub found : List SampleRecord → Given DefaultScalarValue → Answer
+found records given = found_by records (text_given_in given (codes "by") (codes "id")) (text_given_in given (codes "by") (codes "name"))
+
+abbrev pub of_root : List SampleRecord → Bytes → Given DefaultScalarValue → Answer
+of_root records field given =
+    if bytes_eq field (codes "hero") then human_of records (codes "h1") else
+    if bytes_eq field (codes "find") then found records given else resolved.Null
+
+-- what a node answers for a field: null for a field that it lacks, and at a place beyond the records
+abbrev pub answer : List SampleRecord → SampleNode → Bytes → Given DefaultScalarValue → Answer
+answer records node.Root field given = of_root records field given
+answer records (node.Human place) field given = option_map_or (λ r. of_human records r field) (slice_get records place) resolved.Null
 
 -- the same human, of this name
 abbrev pub named : Option Bytes → SampleRecord → SampleRecord

@@ -1,11 +1,11 @@
 -- The types of the schema of the sample (GraphQL October 2021, 3.4 Types).
-use Rattle.std.specs.Prelude.{◌++◌, ◌∷◌, [], List, Some, None, codes, map}
+use Rattle.std.specs.Prelude.{◌++◌, ◌∷◌, [], true, List, Some, None, codes, map}
 use Rattle.std.specs.Borrow.{Bor}
 use Rattle.graphql_names.specs.Names.{Bytes}
 use Rattle.graphql_scalars.specs.declared.default_scalar.DefaultScalarValue.{DefaultScalarValue}
 use Rattle.graphql_scalars.specs.declared.default_scalar.DefaultScalarValue.TheVariants as scalar_value
-use Rattle.graphql_type_references.specs.declared.type_modifier.TypeModifier.{TypeModifier}
-use Rattle.graphql_type_references.specs.declared.type_modifier.TypeModifier.TheVariants as modifier
+use Rattle.graphql_names.specs.declared.type_modifier.TypeModifier.{TypeModifier}
+use Rattle.graphql_names.specs.declared.type_modifier.TypeModifier.TheVariants as modifier
 use Rattle.graphql_introspection.specs.Metadata.{introspection_types}
 use Rattle.graphql_schema.specs.declared.introspection_checks.IntrospectionChecks.{IntrospectionChecks}
 use Rattle.graphql_schema.specs.declared.meta.argument.Argument.{Argument}
@@ -49,6 +49,14 @@ field_of row = field row.0.now row.1.now row.2.now (map argument_of row.3.now)
 abbrev pub query : List (Field DefaultScalarValue)
 query = field (codes "hero") (codes "Human") nullable [] ∷ []
 
+-- `hero: Human`, `find(by: By!): Human`
+abbrev pub query_by : List (Field DefaultScalarValue)
+query_by = field (codes "hero") (codes "Human") nullable [] ∷ field (codes "find") (codes "Human") nullable (argument (codes "by") (codes "By") non_null ∷ []) ∷ []
+
+-- `id: String`, `name: String`
+abbrev pub by_fields : List (Argument DefaultScalarValue)
+by_fields = argument (codes "id") (codes "String") nullable ∷ argument (codes "name") (codes "String") nullable ∷ []
+
 -- `id: String!`, `name: String!`, `friend: Human`
 abbrev pub human : List (Field DefaultScalarValue)
 human =
@@ -63,14 +71,25 @@ module _ {C : Type 0} where
   abbrev pub scalar : Bytes → C → MetaType DefaultScalarValue C
   scalar name check = meta.Scalar (record { name = name; description = None; specified_by_url = None; check = check })
 
-  -- with the types of introspection; of the checks of `Int`, `String`, `Boolean` and `ID`, and of theirs
-  abbrev pub types : C → C → C → C → IntrospectionChecks C → List (MetaType DefaultScalarValue C)
-  types int string boolean id introspection =
+  -- of the fields of the query root; with the types of introspection; of the checks of `Int`, `String`, `Boolean` and `ID`, and of theirs
+  abbrev pub types_of : List (Field DefaultScalarValue) → C → C → C → C → IntrospectionChecks C → List (MetaType DefaultScalarValue C)
+  types_of root int string boolean id introspection =
       (scalar (codes "Int") int ∷ scalar (codes "String") string
       ∷ scalar (codes "Boolean") boolean ∷ scalar (codes "ID") id
-      ∷ meta.Object (object (codes "Query") query) ∷ meta.Object (object (codes "Human") human)
+      ∷ meta.Object (object (codes "Query") root) ∷ meta.Object (object (codes "Human") human)
       ∷ meta.Object (object (codes "Mutation") mutation) ∷ [])
       ++ introspection_types scalar_value.Boolean introspection
+
+  abbrev pub types : C → C → C → C → IntrospectionChecks C → List (MetaType DefaultScalarValue C)
+  types = types_of query
+
+  -- `input By @oneOf { id: String, name: String }`
+  abbrev pub by_type : C → MetaType DefaultScalarValue C
+  by_type check = meta.InputObject (record { name = codes "By"; description = None; input_fields = by_fields; check = check; exactly_one = true })
+
+  -- with `find`, and the check of `By`
+  abbrev pub types_by : C → C → C → C → IntrospectionChecks C → C → List (MetaType DefaultScalarValue C)
+  types_by int string boolean id introspection by = types_of query_by int string boolean id introspection ++ by_type by ∷ []
 
 -- the roots: `Query` and `Mutation` (3.3.1 Root Operation Types)
 abbrev pub roots : Roots

@@ -2,6 +2,7 @@
 //! Schema, 6.2.2 Mutation, 6.4.2 Value Resolution).
 #![tactic(auto)]
 
+mod given;
 mod records;
 mod renaming;
 mod resolver;
@@ -9,4 +10,4 @@ mod schema;
 
 pub use records::{SampleRecord, SampleRecords, sample_records};
 pub use resolver::{SampleNode, SampleResolver};
-pub use schema::schema_s;
+pub use schema::{schema_by, schema_s};

@@ -6,23 +6,14 @@ ghost use Rattle.graphql_text.specs.Memory.{Gives};
 ghost use Rattle.graphql_arguments.specs.GivenValues.{arguments_told};
 ghost use Rattle.graphql_sample.specs.Sample as spec;
 
+use crate::given::text_given;
 use crate::records::SampleRecord;
 use crate::resolver::{Answer, SampleNode, place_of};
 use graphql_arguments::Arguments;
 use graphql_field_results::Resolved;
 use graphql_text::{Items, Text};
-use graphql_values::{DefaultScalarValue, InputValue};
+use graphql_values::DefaultScalarValue;
 use std::alloc::AllocError;
-
-/// The text that the argument of this name is, if it is one.
-fn text_given<'a>(arguments: &'a Arguments<'_, DefaultScalarValue>, name: &str) -> Option<&'a Text>
-    ensures { option_copied result ≡ spec.text_given (arguments_told arguments.now) name.now }
-{
-    match arguments.get_input_value(name) {
-        Some(InputValue::Scalar(DefaultScalarValue::String(text))) => Some(text),
-        _ => None,
-    }
-}
 
 /// A copy of the text, if there is one. An error is want of memory.
 fn copy_of(text: Option<&Text>) -> Result<Option<Text>, AllocError>

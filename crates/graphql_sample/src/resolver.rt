@@ -1,13 +1,16 @@
 //! The resolver of the sample.
 
 ghost use Rattle.std.specs.Prelude.{◌≡◌, Ok};
-ghost use Rattle.graphql_execution.specs.Answered.{Answered};
+ghost use Rattle.std.specs.Option.{option_copied};
+ghost use Rattle.graphql_arguments.specs.GivenValues.{arguments_told};
+ghost use Rattle.graphql_execution_walk.specs.Answered.{Answered};
 ghost use Rattle.graphql_sample.specs.Sample as spec;
 
+use crate::given::text_given_in;
 use crate::records::{SampleRecord, SampleRecords};
 use crate::renaming::rename;
 use graphql_arguments::Arguments;
-use graphql_execution::{Executor, GraphQLValue};
+use graphql_execution_walk::{Executor, GraphQLValue};
 use graphql_field_results::{FieldResult, Resolved};
 use graphql_mutation::GraphQLMutationValue;
 use graphql_text::Text;
@@ -77,12 +80,60 @@ fn of_human(
     }
 }
 
+/// Whether both are known, and the same.
+fn are_same(one: Option<&Text>, other: Option<&Text>) -> bool
+    ensures { result ≡ spec.are_same (option_copied one.entry) (option_copied other.entry) }
+{
+    match (one, other) {
+        (Some(one), Some(other)) => one.is(other.as_str()),
+        _ => false,
+    }
+}
+
+/// Whether the human has this `id`, or this name.
+fn fits(id: Option<&Text>, name: Option<&Text>, human: &SampleRecord) -> bool
+    ensures { result ≡ spec.fits (option_copied id.entry) (option_copied name.entry) human.now }
+{
+    are_same(id, Some(&human.id)) || are_same(name, human.name.as_ref())
+}
+
+/// The place of the first human who has this `id` or this name.
+fn place_found(records: &[SampleRecord], id: Option<&Text>, name: Option<&Text>) -> Option<usize>
+    ensures { result ≡ spec.place_found records.now (option_copied id.entry) (option_copied name.entry) }
+{
+    records.iter().position(|record| fits(id, name, record))
+}
+
+/// The first human who has this `id` or this name, `Null` where there is none.
+fn found_by(records: &[SampleRecord], id: Option<&Text>, name: Option<&Text>) -> Answer
+    ensures { result ≡ spec.found_by records.now (option_copied id.entry) (option_copied name.entry) }
+{
+    match place_found(records, id, name) {
+        Some(place) => Resolved::Node(SampleNode::Human(place)),
+        None => Resolved::Null,
+    }
+}
+
+/// The first human who has the `id` or the name that the argument `by` is of, `Null` where there is none.
+fn found(records: &[SampleRecord], arguments: &Arguments<'_, DefaultScalarValue>) -> Answer
+    ensures { result ≡ spec.found records.now (arguments_told arguments.now) }
+{
+    let id = text_given_in(arguments, "by", "id");
+    let name = text_given_in(arguments, "by", "name");
+    found_by(records, id, name)
+}
+
 /// What the root answers for a field.
-fn of_root(records: &[SampleRecord], field: &str) -> Answer
-    ensures { result ≡ spec.of_root records.now field.now }
+fn of_root(
+    records: &[SampleRecord],
+    field: &str,
+    arguments: &Arguments<'_, DefaultScalarValue>,
+) -> Answer
+    ensures { result ≡ spec.of_root records.now field.now (arguments_told arguments.now) }
 {
     match field {
         "hero" => human_of(records, "h1"),
+        "find" => found(records, arguments),
         _ => Resolved::Null,
     }
 }
@@ -92,7 +143,9 @@ impl GraphQLValue<DefaultScalarValue> for SampleResolver {
 
     type Node = SampleNode;
 
-    ghost use Rattle.std.specs.Prelude.{refl, Ok};
+    ghost use Rattle.std.specs.Prelude.{Ok};
+    ghost use Rattle.std.proofs.Common.{ap};
+    ghost use Rattle.graphql_sample.specs.SameTexts.{answered-alike};
     ghost use Rattle.graphql_sample.specs.Sample as spec;
     ghost use Rattle.graphql_sample.specs.declared.resolver.SampleNode.TheVariants as node;
 
@@ -100,9 +153,9 @@ impl GraphQLValue<DefaultScalarValue> for SampleResolver {
 
     ghost type_of = { λ _ _ n. spec.type_name n };
 
-    ghost answer = { λ _ context n field _. Ok (spec.answer context.records n field) };
+    ghost answer = { λ _ context n field given. Ok (spec.answer context.records n field given) };
 
-    ghost respects = { λ _ _ _ _ _ _ _. refl };
+    ghost respects = { λ _ context n field a b same. ap Ok (answered-alike context.records a b same n field) };
 
     ghost tells_distinct_keys = { λ _ _ _ _ _. record { beside = tt } };
 
@@ -130,12 +183,12 @@ impl GraphQLValue<DefaultScalarValue> for SampleResolver {
         &self,
         node: &SampleNode,
         field: &str,
-        _arguments: &Arguments<'_, DefaultScalarValue>,
+        arguments: &Arguments<'_, DefaultScalarValue>,
         executor: &Executor<'_, '_, '_, SampleRecords, DefaultScalarValue>,
     ) -> FieldResult<Answer, DefaultScalarValue> {
         let records = executor.context.records.as_slice();
         match node {
-            SampleNode::Root => Ok(of_root(records, field)),
+            SampleNode::Root => Ok(of_root(records, field, arguments)),
             SampleNode::Human(place) => match records.get(*place) {
                 Some(human) => of_human(executor.alloc, records, human, field),
                 None => Ok(Resolved::Null),

@@ -7,14 +7,13 @@ ghost use Rattle.graphql_schema.specs.Lookups.{type_named};
 ghost use Rattle.graphql_sample.specs.SampleTypes as spec;
 
 use graphql_introspection::{introspection_metadata, type_reference};
-use graphql_names::NamedItems;
+use graphql_names::{NamedItems, TypeModifier};
 use graphql_schema::scalar_checks::StandardChecks;
 use graphql_schema::{
-    Argument, DeprecationStatus, Field, MetaType, ObjectMeta, ScalarMeta, SchemaError, SchemaType,
-    TypeCheck,
+    Argument, DeprecationStatus, Field, InputObjectMeta, MetaType, ObjectMeta, ScalarMeta,
+    SchemaError, SchemaType, TypeCheck,
 };
 use graphql_text::{Items, Text};
-use graphql_type_references::TypeModifier;
 use graphql_values::{DefaultScalarValue, ScalarValue};
 use std::alloc::{AllocError, Global};
 
@@ -40,6 +39,15 @@ const NO_ARGUMENTS: &[ArgumentRow] = &[];
 const RENAME: &[ArgumentRow] = &[("id", "String", NON_NULL), ("name", "String", NON_NULL)];
 
 const QUERY: &[FieldRow] = &[("hero", "Human", NULLABLE, NO_ARGUMENTS)];
+
+const FIND: &[ArgumentRow] = &[("by", "By", NON_NULL)];
+
+const QUERY_BY: &[FieldRow] = &[
+    ("hero", "Human", NULLABLE, NO_ARGUMENTS),
+    ("find", "Human", NULLABLE, FIND),
+];
+
+const BY: &[ArgumentRow] = &[("id", "String", NULLABLE), ("name", "String", NULLABLE)];
 
 const HUMAN: &[FieldRow] = &[
     ("id", "String", NON_NULL, NO_ARGUMENTS),
@@ -108,16 +116,21 @@ fn scalar(alloc: Global, name: &str, check: TypeCheck) -> Result<Meta, AllocErro
     Ok(ScalarMeta::new(name, check).into_meta())
 }
 
-/// The types of the sample, with those of introspection. An error is want of memory.
-fn metadata(alloc: Global, checks: StandardChecks) -> Result<Items<Meta>, AllocError>
-    ensures { Gives result (spec.types checks.int checks.string checks.boolean checks.id checks.introspection) }
+/// The types of the sample, with these fields of the query root, and with those of introspection. An
+/// error is want of memory.
+fn metadata(
+    alloc: Global,
+    checks: StandardChecks,
+    query: &[FieldRow],
+) -> Result<Items<Meta>, AllocError>
+    ensures { Gives result (spec.types_of (map spec.field_of query.now) checks.int checks.string checks.boolean checks.id checks.introspection) }
 {
     let mut types = Items::new(alloc);
     types.push(scalar(alloc, "Int", checks.int)?)?;
     types.push(scalar(alloc, "String", checks.string)?)?;
     types.push(scalar(alloc, "Boolean", checks.boolean)?)?;
     types.push(scalar(alloc, "ID", checks.id)?)?;
-    types.push(object(alloc, "Query", QUERY)?.into_meta())?;
+    types.push(object(alloc, "Query", query)?.into_meta())?;
     types.push(object(alloc, "Human", HUMAN)?.into_meta())?;
     types.push(object(alloc, "Mutation", MUTATION)?.into_meta())?;
     let mut told = introspection_metadata(alloc, checks.introspection)?;
@@ -136,6 +149,47 @@ pub fn schema_s(
         Makes ⟦<DefaultScalarValue as ScalarValue>⟧.of_text types spec.roots result }
     ensures boolean { IfOk result (λ schema. type_named schema.types (codes "Boolean") ≡ Some (spec.scalar (codes "Boolean") checks.boolean)) }
 {
-    let types = metadata(alloc, checks)?;
+    let types = metadata(alloc, checks, QUERY)?;
+    SchemaType::new(alloc, types, "Query", Some("Mutation"), None)
+}
+
+/// The input object `By`, of which exactly one field is given, of this check. An error is want of memory.
+fn by_type(alloc: Global, check: TypeCheck) -> Result<Meta, AllocError>
+    ensures { Gives result (spec.by_type check) }
+{
+    let fields = arguments(alloc, BY)?;
+    let name = Text::from_str(alloc, "By")?;
+    Ok(
+        InputObjectMeta::new(name, fields, check)
+            .one_of()
+            .into_meta(),
+    )
+}
+
+/// The types of the sample with `find` and `By`. An error is want of memory.
+fn metadata_by(
+    alloc: Global,
+    checks: StandardChecks,
+    by: TypeCheck,
+) -> Result<Items<Meta>, AllocError>
+    ensures { Gives result (spec.types_by checks.int checks.string checks.boolean checks.id checks.introspection by) }
+{
+    let mut types = metadata(alloc, checks, QUERY_BY)?;
+    types.push(by_type(alloc, by)?)?;
+    Ok(types)
+}
+
+/// The same with `find(by: By!): Human` in `Query`, and with `input By @oneOf { id: String, name: String }`,
+/// which has the check that is given for it.
+pub fn schema_by(
+    alloc: Global,
+    checks: StandardChecks,
+    by: TypeCheck,
+) -> Result<SchemaType<DefaultScalarValue>, SchemaError>
+    ensures made { let types = spec.types_by checks.int checks.string checks.boolean checks.id checks.introspection by in
+        Makes ⟦<DefaultScalarValue as ScalarValue>⟧.of_text types spec.roots result }
+    ensures boolean { IfOk result (λ schema. type_named schema.types (codes "Boolean") ≡ Some (spec.scalar (codes "Boolean") checks.boolean)) }
+{
+    let types = metadata_by(alloc, checks, by)?;
     SchemaType::new(alloc, types, "Query", Some("Mutation"), None)
 }

@@ -18,7 +18,7 @@ use Rattle.graphql_schema.specs.declared.faults.kind.FaultKind.TheVariants as fa
 use Rattle.graphql_schema.specs.declared.faults.demand.Demand.{Demand}
 use Rattle.graphql_schema.specs.declared.faults.demand.Demand.TheVariants as demand
 use Rattle.graphql_schema.specs.Lookups.{own_name, type_named, is_object, is_scalar, is_interface, is_input_object}
-use Rattle.graphql_schema.specs.Faults.{Roots, root_names, order, error_of, refusal_of, has_fault, has_type, refers, is_composite, scopes_of, IsAbsent, IsFirstFault}
+use Rattle.graphql_schema.specs.Faults.{Roots, root_names, order, error_of, refusal_of, has_fault, has_type, refers, is_bad_one_of, is_composite, scopes_of, IsAbsent, IsFirstFault}
 use Rattle.graphql_schema.specs.Demands.{is_unmet, asked_of, misses, is_referred}
 
 -- what holds of the kinds in the order holds of each kind
@@ -30,6 +30,7 @@ of_each_kind P all fault.NotOutputType = all 3 fault.DuplicateName (omega arith)
 of_each_kind P all fault.NotInputType = all 4 fault.DuplicateName (omega arith)
 of_each_kind P all fault.BadRoot = all 5 fault.DuplicateName (omega arith)
 of_each_kind P all fault.BadMember = all 6 fault.DuplicateName (omega arith)
+of_each_kind P all fault.BadOneOf = all 7 fault.DuplicateName (omega arith)
 
 module _ {S C : Type 0} (types : List (MetaType S C)) (roots : Roots) where
   -- a fault that was found, of the kind at a place of the order, where none stands before that place
@@ -110,6 +111,7 @@ module _ {S C : Type 0} (types : List (MetaType S C)) (roots : Roots) where
     sought fault.NotInputType name = is_referred demand.Input types name
     sought fault.BadRoot name = misses demand.Object types (root_names roots) name
     sought fault.BadMember name = is_referred demand.Object types name || is_referred demand.Interface types name
+    sought fault.BadOneOf name = has_type is_bad_one_of types name
 
     fault-sought : (kind : FaultKind) (name : Bytes) → has_fault types roots kind name ≡ sought kind name
     fault-sought fault.DuplicateName name = ap (λ b. b || sought fault.DuplicateName name) (stands_once own_name types ordered name)
@@ -119,6 +121,7 @@ module _ {S C : Type 0} (types : List (MetaType S C)) (roots : Roots) where
     fault-sought fault.NotInputType name = reference demand.Input name
     fault-sought fault.BadRoot name = missing demand.Object (root_names roots) name
     fault-sought fault.BadMember name = either (reference demand.Object name) (reference demand.Interface name)
+    fault-sought fault.BadOneOf name = refl
 
     -- a name that was looked for is one at which a fault stands
     pub found : (kind at : FaultKind) (name : Option (Bor Bytes)) → kind ≡ at → Finds (sought at) name → Finds (has_fault types roots kind) name

@@ -1,8 +1,10 @@
 -- What is wrong with the types of a schema, in the order in which it is told (GraphQL October 2021, 3.3 Schema, 3.4.2 Input and Output Types, 3.6 to 3.10).
 use Rattle.std.specs.Prelude.{◌≡◌, ◌++◌, ◌&&◌, ◌||◌, not, ℕ, List, [], ◌∷◌, map, take, slice_get, All, Bool, true, false, Option, Some, codes}
-use Rattle.std.specs.List.{list_any}
-use Rattle.std.specs.Option.{option_to_list}
+use Rattle.std.specs.List.{list_all, list_any}
+use Rattle.std.specs.Option.{is_some, option_to_list}
 use Rattle.graphql_text.specs.Memory.{UnlessMemory}
+use Rattle.graphql_names.specs.TypeReference.{is_non_null, outermost}
+use Rattle.graphql_schema.specs.declared.meta.argument.Argument.{Argument}
 use Rattle.graphql_schema.specs.declared.meta.MetaType.{MetaType}
 use Rattle.graphql_schema.specs.declared.meta.MetaType.TheVariants as meta
 use Rattle.graphql_schema.specs.Types.{fields_of, input_fields_of, arguments_of, values_of}
@@ -32,7 +34,7 @@ root_names roots = roots.query ∷ option_to_list roots.mutation ++ option_to_li
 -- the kinds of faults, in the order in which they are told
 abbrev pub order : List FaultKind
 order =
-    fault.DuplicateName ∷ fault.MissingBuiltin ∷ fault.UnknownType ∷ fault.NotOutputType ∷ fault.NotInputType ∷ fault.BadRoot ∷ fault.BadMember ∷ []
+    fault.DuplicateName ∷ fault.MissingBuiltin ∷ fault.UnknownType ∷ fault.NotOutputType ∷ fault.NotInputType ∷ fault.BadRoot ∷ fault.BadMember ∷ fault.BadOneOf ∷ []
 
 -- what tells a fault of a kind at a name
 abbrev pub error_of : FaultKind → Bytes → SchemaError
@@ -43,6 +45,11 @@ error_of fault.NotOutputType name = error.NotOutputType name
 error_of fault.NotInputType name = error.NotInputType name
 error_of fault.BadRoot name = error.BadRoot name
 error_of fault.BadMember name = error.BadMember name
+error_of fault.BadOneOf name = error.BadOneOf name
+
+-- what a field has to be of an input object of which exactly one field is given (September 2025, 3.10.1 OneOf Input Objects): null is among its values, and it has no default
+abbrev pub is_nullable_without_default : {S : Type 0} → Argument S → Bool
+is_nullable_without_default field = not (is_non_null (outermost field.arg_type.modifiers)) && not (is_some field.default_value)
 
 module _ {S C : Type 0} where
   -- the lists of names of one type in which no name may stand twice: its fields, its values, its input fields, and the arguments of each field
@@ -57,6 +64,11 @@ module _ {S C : Type 0} where
   is_composite (meta.Interface m) = true
   is_composite (meta.Union m) = true
   is_composite _ = false
+
+  -- an input object of which exactly one field is given has a field that is non-null or has a default
+  abbrev pub is_bad_one_of : MetaType S C → Bool
+  is_bad_one_of (meta.InputObject m) = m.exactly_one && not (list_all is_nullable_without_default m.input_fields)
+  is_bad_one_of _ = false
 
   -- one of the types has this name and passes the test
   abbrev pub has_type : (MetaType S C → Bool) → List (MetaType S C) → Bytes → Bool
@@ -78,6 +90,7 @@ module _ {S C : Type 0} where
   has_fault types roots fault.BadRoot name = is_one_of (root_names roots) name && not (has_type is_object types name)
   has_fault types roots fault.BadMember name =
       refers members_of types name && not (has_type is_object types name) || refers interfaces_of types name && not (has_type is_interface types name)
+  has_fault types roots fault.BadOneOf name = has_type is_bad_one_of types name
 
   -- no fault of the kind stands
   abbrev pub IsAbsent : List (MetaType S C) → Roots → FaultKind → Type 0

@@ -1,10 +1,10 @@
 -- What a schema says of its types (GraphQL October 2021, 3.4 Types).
 use Rattle.std.specs.Prelude.{◌++◌, List, [], ◌∷◌, Option, Some, None, unwrap_or}
-use Rattle.graphql_text.specs.Memory.{Text}
-use Rattle.graphql_type_references.specs.TypeReference.{nullable}
-use Rattle.graphql_type_references.specs.declared.type_modifier.TypeModifier.{TypeModifier}
-use Rattle.graphql_type_references.specs.declared.type_modifier.TypeModifier.TheVariants as modifier
-use Rattle.graphql_type_references.specs.declared.type_reference.«Type».{«Type»}
+use Rattle.graphql_text.specs.declared.text.Text.{Text}
+use Rattle.graphql_names.specs.TypeReference.{nullable}
+use Rattle.graphql_names.specs.declared.type_modifier.TypeModifier.{TypeModifier}
+use Rattle.graphql_names.specs.declared.type_modifier.TypeModifier.TheVariants as modifier
+use Rattle.graphql_names.specs.declared.type_reference.«Type».{«Type»}
 use Rattle.graphql_schema.specs.declared.meta.argument.Argument.{Argument}
 use Rattle.graphql_schema.specs.declared.meta.enum_value.EnumValue.{EnumValue}
 use Rattle.graphql_schema.specs.declared.meta.field.Field.{Field}

@@ -42,6 +42,11 @@ pub enum SchemaError {
     #[error("Type \"{0}\" is no object among a union's members, or no interface among those listed")]
     BadMember(Text),
 
+    /// The input object of this name, of which exactly one field is given, has a field that is non-null or
+    /// has a default.
+    #[error("Input object \"{0}\", of which exactly one field is given, has a field that is non-null or has a default")]
+    BadOneOf(Text),
+
     /// Memory ran out. It says nothing about the metadata.
     #[error("Out of memory")]
     Memory,

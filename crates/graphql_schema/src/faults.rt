@@ -8,6 +8,7 @@ mod demand;
 mod duplicates;
 mod kind;
 mod named_types;
+mod one_of;
 mod parts;
 mod references;
 
@@ -20,6 +21,7 @@ use graphql_text::Text;
 pub use kind::FaultKind;
 use kind::{KINDS, error_of};
 use named_types::{bad_root, missing_builtin};
+use one_of::bad_one_of;
 use references::{bad_member, unmet_reference};
 use std::alloc::{AllocError, Global};
 
@@ -66,5 +68,6 @@ fn faulty_name<'a, S, C>(
         FaultKind::NotInputType => Ok(unmet_reference(Demand::Input, types)),
         FaultKind::BadRoot => Ok(bad_root(types, query, mutation, subscription)),
         FaultKind::BadMember => Ok(bad_member(types)),
+        FaultKind::BadOneOf => Ok(bad_one_of(all)),
     }
 }

@@ -6,8 +6,8 @@ ghost use Rattle.graphql_schema.specs.Completed.{schema_field, type_field, name_
 ghost use Rattle.graphql_schema.specs.declared.meta.deprecation.DeprecationStatus.TheVariants as status;
 
 use crate::{Argument, DeprecationStatus, Field, MetaType, ObjectMeta};
+use graphql_names::Type;
 use graphql_text::{Items, Text};
-use graphql_type_references::Type;
 use std::alloc::{AllocError, Global};
 
 /// The named metadata, with the fields of introspection at the query root (GraphQL October 2021, 4.2

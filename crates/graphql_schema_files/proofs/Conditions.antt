@@ -10,8 +10,8 @@ use Rattle.graphql_schema.specs.StandardDirectives.{directive_named, standard_di
 use Rattle.graphql_schema.specs.declared.root_node.RootNode.{RootNode}
 use Rattle.graphql_schema.specs.declared.schema.SchemaType.{SchemaType}
 use Rattle.graphql_schema.specs.Faults.{Roots}
-use Rattle.graphql_drafted_types.specs.DraftedTypes.{S}
-use Rattle.graphql_drafted_types.specs.SpelledTexts.{Value}
+use Rattle.graphql_schema_files.specs.DraftedTypes.{S}
+use Rattle.graphql_schema_files.specs.SpelledTexts.{Value}
 use Rattle.graphql_schema_files.specs.SchemaFiles.{ReadsData}
 use Rattle.graphql_schema_files.specs.declared.schema_file_error.SchemaFileError.{SchemaFileError}
 use Rattle.graphql_schema_files.proofs.Readings.{root_read}

@@ -10,9 +10,9 @@ use Rattle.graphql_schema.specs.Completed.{completed}
 use Rattle.graphql_schema.specs.Faults.{Roots, TellsFirst}
 use Rattle.graphql_schema.specs.declared.error.SchemaError.{SchemaError}
 use Rattle.graphql_schema.specs.declared.error.SchemaError.TheVariants as error
-use Rattle.graphql_schema_drafts.specs.declared.drafts.SchemaDraft.{SchemaDraft}
-use Rattle.graphql_drafted_types.specs.DraftedTypes.{S}
-use Rattle.graphql_drafted_types.specs.SpelledTexts.{Value}
+use Rattle.graphql_schema_files.specs.declared.drafts.SchemaDraft.{SchemaDraft}
+use Rattle.graphql_schema_files.specs.DraftedTypes.{S}
+use Rattle.graphql_schema_files.specs.SpelledTexts.{Value}
 use Rattle.graphql_schema_files.specs.Refusals.{refusal_of}
 use Rattle.graphql_schema_files.specs.SchemaFiles.{DefaultsConform, IsMemory, Judges, MakesRoot, MakingDue, roots_of}
 use Rattle.graphql_schema_files.specs.declared.schema_file_error.SchemaFileError.{SchemaFileError}
@@ -28,6 +28,7 @@ other_refusal (error.NotOutputType name) other = refl
 other_refusal (error.NotInputType name) other = refl
 other_refusal (error.BadRoot name) other = refl
 other_refusal (error.BadMember name) other = refl
+other_refusal (error.BadOneOf name) other = refl
 
 module _ {C : Type 0} (accepts : C → Value → Type 0) (types : List (MetaType S C)) (file : SchemaDraft) where
   abbrev Tells : SchemaError → Type 0
@@ -45,6 +46,7 @@ module _ {C : Type 0} (accepts : C → Value → Type 0) (types : List (MetaType
   fault_due (error.NotInputType name) told = λ other. told (λ is. cc)
   fault_due (error.BadRoot name) told = λ other. told (λ is. cc)
   fault_due (error.BadMember name) told = λ other. told (λ is. cc)
+  fault_due (error.BadOneOf name) told = λ other. told (λ is. cc)
 
   -- where the types have a fault
   pub faulty : (named : Roots) (e : SchemaError) (told : SchemaFileError) → named ≡ roots_of file → told ≡ refusal_of e → Makes scalar.String types named (Err e) → Due told

@@ -8,11 +8,11 @@ use Rattle.graphql_schema.specs.declared.meta.MetaType.{MetaType}
 use Rattle.graphql_scalars.specs.DefaultScalar.{answer}
 use Rattle.graphql_schema.specs.declared.root_node.RootNode.{RootNode}
 use Rattle.graphql_schema.specs.declared.schema.SchemaType.{SchemaType}
-use Rattle.graphql_schema_drafts.specs.Shapes.{schema_of}
-use Rattle.graphql_schema_drafts.specs.declared.drafts.SchemaDraft.{SchemaDraft}
-use Rattle.graphql_drafted_types.specs.DraftedTypes.{AddsTypes, S, TypeIsSound, TypeMeans}
-use Rattle.graphql_drafted_types.specs.SpelledTexts.{Value}
-use Rattle.graphql_schema_drafts.specs.declared.drafts.TypeDraft.{TypeDraft}
+use Rattle.graphql_schema_files.specs.Shapes.{schema_of}
+use Rattle.graphql_schema_files.specs.declared.drafts.SchemaDraft.{SchemaDraft}
+use Rattle.graphql_schema_files.specs.DraftedTypes.{AddsTypes, S, TypeIsSound, TypeMeans}
+use Rattle.graphql_schema_files.specs.SpelledTexts.{Value}
+use Rattle.graphql_schema_files.specs.declared.drafts.TypeDraft.{TypeDraft}
 use Rattle.graphql_schema_files.specs.Conforming.{DraftConforms}
 use Rattle.graphql_schema_files.specs.Refusals.{fault_of}
 use Rattle.graphql_schema_files.specs.SchemaFiles.{HasDefaults, HasTypes, IsDue, IsNamed, IsRoot, IsSchemaOf, Judges, MakesRoot, MakingDue, ReadsData, ReadsDraft, ReadsShape}

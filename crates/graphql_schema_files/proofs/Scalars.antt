@@ -12,8 +12,8 @@ use Rattle.graphql_schema.specs.Schemas.{IsSchemaOf}
 use Rattle.graphql_schema.specs.Completed.{completed}
 use Rattle.graphql_schema.specs.Faults.{Roots}
 use Rattle.graphql_schema.specs.Lookups.{own_name}
-use Rattle.graphql_drafted_types.specs.DraftedTypes.{S}
-use Rattle.graphql_drafted_types.specs.SpelledTexts.{Value}
+use Rattle.graphql_schema_files.specs.DraftedTypes.{S}
+use Rattle.graphql_schema_files.specs.SpelledTexts.{Value}
 use Rattle.graphql_schema_files.specs.Builtin.{HasScalars, builtin_types, scalar}
 use Rattle.graphql_schema_files.specs.SchemaFiles.{ReadsData}
 use Rattle.graphql_schema_files.specs.declared.schema_file_error.SchemaFileError.{SchemaFileError}

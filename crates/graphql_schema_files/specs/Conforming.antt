@@ -3,8 +3,8 @@ use Rattle.std.specs.Prelude.{List}
 use Rattle.graphql_scalars.specs.ScalarAnswers.{ScalarAnswer}
 use Rattle.graphql_values.specs.declared.input_value.InputValue.{InputValue}
 use Rattle.graphql_schema.specs.declared.meta.MetaType.{MetaType}
-use Rattle.graphql_schema_drafts.specs.declared.drafts.TypeDraft.{TypeDraft}
-use Rattle.graphql_defaults.specs.Conforming.{NamedConforms}
+use Rattle.graphql_schema_files.specs.declared.drafts.TypeDraft.{TypeDraft}
+use Rattle.graphql_literal_checks.specs.Defaults.{NamedConforms}
 
 -- by what a scalar answers, what the checks of types accept, and the types of a schema: each default in the type that the draft declares conforms
 abbrev pub DraftConforms : {S C : Type 0} → (S → ScalarAnswer) → (C → InputValue S → Type 0) → List (MetaType S C) → TypeDraft → Type 0

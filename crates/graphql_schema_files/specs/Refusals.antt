@@ -16,6 +16,7 @@ refusal_of (error.NotOutputType name) = fault.Schema (error.NotOutputType name)
 refusal_of (error.NotInputType name) = fault.Schema (error.NotInputType name)
 refusal_of (error.BadRoot name) = fault.Schema (error.BadRoot name)
 refusal_of (error.BadMember name) = fault.Schema (error.BadMember name)
+refusal_of (error.BadOneOf name) = fault.Schema (error.BadOneOf name)
 
 -- the same of the refusal of JSON
 abbrev pub fault_of : LineRefusal → SchemaFileError

@@ -14,11 +14,11 @@ use Rattle.graphql_schema.specs.declared.schema.SchemaType.{SchemaType}
 use Rattle.graphql_schema.specs.Schemas.{Makes, roots_named}
 use Rattle.graphql_schema.specs.Completed.{completed}
 use Rattle.graphql_schema.specs.Faults.{Roots, TellsFirst}
-use Rattle.graphql_schema_drafts.specs.declared.drafts.SchemaDraft.{SchemaDraft}
-use Rattle.graphql_schema_drafts.specs.NamedDrafts.{type_is_named}
-use Rattle.graphql_schema_drafts.specs.Shapes.{schema_of}
-use Rattle.graphql_drafted_types.specs.DraftedTypes.{S, TypeHasDefaults, TypeHasTypes, TypeMeans}
-use Rattle.graphql_drafted_types.specs.SpelledTexts.{Value}
+use Rattle.graphql_schema_files.specs.declared.drafts.SchemaDraft.{SchemaDraft}
+use Rattle.graphql_schema_files.specs.NamedDrafts.{type_is_named}
+use Rattle.graphql_schema_files.specs.Shapes.{schema_of}
+use Rattle.graphql_schema_files.specs.DraftedTypes.{S, TypeHasDefaults, TypeHasTypes, TypeMeans}
+use Rattle.graphql_schema_files.specs.SpelledTexts.{Value}
 use Rattle.graphql_schema_files.specs.Conforming.{DraftConforms}
 use Rattle.graphql_schema_files.specs.declared.schema_file_error.SchemaFileError.{SchemaFileError}
 use Rattle.graphql_schema_files.specs.declared.schema_file_error.SchemaFileError.TheVariants as fault

@@ -4,9 +4,9 @@ ghost use Rattle.std.specs.Prelude.{◌↔◌, IfOk, IsTrue};
 ghost use Rattle.std.specs.List.{All};
 ghost use Rattle.graphql_schema_files.specs.Conforming as spec;
 
-use graphql_defaults::type_defaults_conform;
+use crate::TypeDraft;
+use graphql_literal_checks::type_defaults_conform;
 use graphql_schema::{SchemaScalar, SchemaType};
-use graphql_schema_drafts::TypeDraft;
 use std::alloc::{AllocError, Global};
 
 /// Whether the defaults in the type that a draft declares conform. An error is want of memory.

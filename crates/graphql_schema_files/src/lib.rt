@@ -1,11 +1,25 @@
 //! The file that has a schema: JSON that declares objects, interfaces and unions, with the names of the
-//! roots. Or the first fault of such a file.
+//! roots; or the first fault of such a file. Drafts are what stands in the JSON, the texts of names,
+//! types and defaults among it; the metadata of the types that they describe are made once these texts
+//! are read.
 #![tactic(auto)]
 
 mod builtin;
 mod conforming;
+mod drafts;
+mod metadata;
+mod named;
 mod reading;
 mod schema_file_error;
+mod shapes;
+mod texts;
+mod typed;
 
+pub use drafts::{ArgumentDraft, DraftKind, FieldDraft, SchemaDraft, TypeDraft};
+pub use metadata::add_types;
+pub use named::are_named;
 pub use reading::SchemaFile;
 pub use schema_file_error::SchemaFileError;
+pub use shapes::schema_of;
+pub use texts::{literal_of_text, type_of_text};
+pub use typed::have_types;

@@ -1,1 +1,5 @@
+pub mod DefinitionLaws
+pub mod DefinitionParts
+pub mod DefinitionReadings
 pub mod Described
+pub mod WholeTexts

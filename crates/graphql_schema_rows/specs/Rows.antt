@@ -11,8 +11,8 @@ use Rattle.graphql_schema.specs.declared.meta.argument.Argument.{Argument}
 use Rattle.graphql_schema.specs.declared.meta.deprecation.DeprecationStatus.TheVariants as status
 use Rattle.graphql_schema.specs.declared.meta.enum_value.EnumValue.{EnumValue}
 use Rattle.graphql_schema.specs.declared.meta.field.Field.{Field}
-use Rattle.graphql_definition_syntax.specs.Definitions.{Arguments, Fields}
-use Rattle.graphql_definition_syntax.specs.Texts.{IsRefused, IsText}
+use Rattle.graphql_schema_rows.specs.Definitions.{Arguments, Fields}
+use Rattle.graphql_schema_rows.specs.Texts.{IsRefused, IsText}
 use Rattle.graphql_schema_rows.specs.declared.row_fault.RowFault.{RowFault}
 use Rattle.graphql_schema_rows.specs.declared.row_fault.RowFault.TheVariants as fault
 

@@ -1,5 +1,5 @@
 -- The types that rows of text make, and why there is none (GraphQL October 2021, 3.4 Types).
-use Rattle.std.specs.Prelude.{◌≡◌, ◌⊎◌, Bool, List, ◌∷◌, ◌++◌, None, map}
+use Rattle.std.specs.Prelude.{◌≡◌, ◌⊎◌, Bool, true, false, List, ◌∷◌, ◌++◌, None, map}
 use Rattle.std.specs.Borrow.{Bor}
 use Rattle.std.specs.List.{AllZip}
 use Rattle.graphql_names.specs.Names.{Bytes}
@@ -22,6 +22,7 @@ row_name (row.Interface name interfaces rows) = name.now
 row_name (row.Union name members) = name.now
 row_name (row.Enum name values) = name.now
 row_name (row.InputObject name rows) = name.now
+row_name (row.OneOf name rows) = name.now
 
 abbrev pub row_names : {C : Type 0} → List (CheckedRow C) → List Bytes
 row_names rows = map (λ it. row_name it.row) rows
@@ -40,7 +41,11 @@ module _ {S C : Type 0} where
   enumeration check name values = meta.Enum (record { name = name; description = None; values = values; check = check })
 
   abbrev pub input_object : C → Bytes → List (Argument S) → MetaType S C
-  input_object check name fields = meta.InputObject (record { name = name; description = None; input_fields = fields; check = check })
+  input_object check name fields = meta.InputObject (record { name = name; description = None; input_fields = fields; check = check; exactly_one = false })
+
+  -- of which exactly one field is given
+  abbrev pub one_of : C → Bytes → List (Argument S) → MetaType S C
+  one_of check name fields = meta.InputObject (record { name = name; description = None; input_fields = fields; check = check; exactly_one = true })
 
   -- a type of this name, of what its rows mean, and of the names that it lists
   pub record IsOf {A : Type 0} (Means : Bor Bytes → A → Type 0) (make : Bytes → List A → List Bytes → MetaType S C)
@@ -81,6 +86,7 @@ module _ {S : Type 0} (reads : Reading S) (of_bool : Bool → S) where
     IsType (row.Union name members) check m = IsMade NameMeans union_type name members.now m
     IsType (row.Enum name values) check m = IsMade ValueMeans (enumeration check) name values.now m
     IsType (row.InputObject name rows) check m = IsMade (ArgumentMeans reads of_bool) (input_object check) name rows.now m
+    IsType (row.OneOf name rows) check m = IsMade (ArgumentMeans reads of_bool) (one_of check) name rows.now m
 
     abbrev pub IsTypeOf : CheckedRow C → MetaType S C → Type 0
     IsTypeOf it m = IsType it.row it.check m
@@ -91,6 +97,7 @@ module _ {S : Type 0} (reads : Reading S) (of_bool : Bool → S) where
   IsRefused (row.Union name members) e = Refuses RefusesName name members.now e
   IsRefused (row.Enum name values) e = Refuses RefusesValue name values.now e
   IsRefused (row.InputObject name rows) e = Refuses (RefusesArgument reads of_bool name.now) name rows.now e
+  IsRefused (row.OneOf name rows) e = Refuses (RefusesArgument reads of_bool name.now) name rows.now e
 
   -- the rows before this one are types, and it is refused
   pub record IsFirstRefused {C : Type 0} (rows : List (CheckedRow C)) (e : RowFault) : Type 0 where

@@ -8,7 +8,7 @@ ghost use Rattle.graphql_schema_rows.specs.Rows as spec;
 ghost use Rattle.graphql_schema_rows.specs.declared.row_fault.RowFault.TheVariants.{BadRow};
 
 use crate::row_fault::RowFault;
-use graphql_definition_syntax::{argument_of_text, field_of_text};
+use crate::{argument_of_text, field_of_text};
 use graphql_names::Name;
 use graphql_scalars::ScalarValue;
 use graphql_schema::{Argument, EnumValue, Field};

@@ -7,7 +7,7 @@ ghost use Rattle.graphql_schema_rows.specs.Rows as row_specs;
 ghost use Rattle.graphql_schema_rows.specs.Types as spec;
 
 use crate::row_fault::RowFault;
-use crate::types::{enumeration, input_object, interface, object, union_type};
+use crate::types::{enumeration, input_object, interface, object, one_of, union_type};
 use graphql_scalars::ScalarValue;
 use graphql_schema::MetaType;
 use graphql_text::Items;
@@ -31,6 +31,9 @@ pub enum TypeRow<'a> {
 
     /// An input object: its name, and a row for each field, as `first: Int = 10`.
     InputObject(&'a str, &'a [&'a str]),
+
+    /// An input object of which exactly one field is given, in the same way: `input By @oneOf { .. }`.
+    OneOf(&'a str, &'a [&'a str]),
 }
 
 impl<'a> TypeRow<'a> {
@@ -41,7 +44,7 @@ impl<'a> TypeRow<'a> {
         match self {
             TypeRow::Object(name, _, _) | TypeRow::Interface(name, _, _) => *name,
             TypeRow::Union(name, _) | TypeRow::Enum(name, _) => *name,
-            TypeRow::InputObject(name, _) => *name,
+            TypeRow::InputObject(name, _) | TypeRow::OneOf(name, _) => *name,
         }
     }
 }
@@ -76,6 +79,7 @@ pub fn type_of_row<S: ScalarValue + Drop, C: Drop>(
         TypeRow::Union(name, members) => union_type(alloc, name, members),
         TypeRow::Enum(name, values) => enumeration(alloc, name, values, check),
         TypeRow::InputObject(name, fields) => input_object(alloc, name, fields, check),
+        TypeRow::OneOf(name, fields) => one_of(alloc, name, fields, check),
     }
 }
 
@@ -105,7 +109,7 @@ pub fn names_of_rows<'a, C>(
     ensures { IfOk result (λ names. map (λ name. name.now) names ≡ spec.row_names rows.now) }
 {
     let mut names = Items::with_capacity(alloc, rows.len())?;
-    'rows: for checked in rows {
+    'names: for checked in rows {
         names.push(checked.row.name())?;
     }
     Ok(names)

@@ -111,3 +111,24 @@ pub fn input_object<S: ScalarValue + Drop, C: Drop>(
     let fields = NamedItems::from_items(arguments_of(alloc, name, rows)?)?;
     Ok(InputObjectMeta::new(own, fields, check).into_meta())
 }
+
+/// The same, of which exactly one field is given, and not `null`, as `input By @oneOf { .. }` says it:
+/// so each row has to be a field with `null` and without a default, which a schema asks
+/// (`SchemaError::BadOneOf`). Errors are those of [`input_object`].
+pub fn one_of<S: ScalarValue + Drop, C: Drop>(
+    alloc: Global,
+    name: &str,
+    rows: &[&str],
+    check: C,
+) -> Result<MetaType<S, C>, RowFault>
+    ensures { Answers (spec.IsMade (row_specs.ArgumentMeans S.reads S.of_bool) (spec.one_of check) name.entry rows.now)
+        (spec.Refuses (row_specs.RefusesArgument S.reads S.of_bool name.now) name.entry rows.now) row_specs.IsMemory result }
+{
+    let own = name_of(alloc, &name)?;
+    let fields = NamedItems::from_items(arguments_of(alloc, name, rows)?)?;
+    Ok(
+        InputObjectMeta::new(own, fields, check)
+            .one_of()
+            .into_meta(),
+    )
+}

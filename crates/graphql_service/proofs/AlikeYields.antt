@@ -11,8 +11,8 @@ use Rattle.graphql_tree.specs.declared.document.Definition.{Definition}
 use Rattle.graphql_tree.specs.declared.document.Operation.{Operation}
 use Rattle.graphql_schema.specs.declared.schema.SchemaType.{SchemaType}
 use Rattle.graphql_field_results.specs.declared.execution_error.ExecutionError.{ExecutionError}
-use Rattle.graphql_evaluation.specs.Completion.{Members}
-use Rattle.graphql_evaluation.specs.Outcomes.{Outcome}
+use Rattle.graphql_semantics.specs.Completion.{Members}
+use Rattle.graphql_semantics.specs.Outcomes.{Outcome}
 use Rattle.graphql_mutation.specs.Serial.{Run}
 use Rattle.graphql_plain_answers.specs.WithoutPlaces.{unlocated_failure, unlocated_outcome, unlocated_run}
 use Rattle.graphql_requests.specs.Operations.{mutation_root}

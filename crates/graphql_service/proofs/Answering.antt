@@ -14,7 +14,7 @@ use Rattle.graphql_mutation.specs.Serial.{Mutation, root_groups}
 use Rattle.graphql_written_out.specs.Trees.{Tree}
 use Rattle.graphql_executor.specs.Answered.{Asking, IsAnswered, IsBrokenOff, IsRefused, LeftUnanswered, asking}
 use Rattle.graphql_written_out.specs.Written.{written}
-use Rattle.graphql_execution.specs.declared.asked.Asked.TheVariants as asked
+use Rattle.graphql_execution_walk.specs.declared.asked.Asked.TheVariants as asked
 use Rattle.graphql_tree.specs.Definitions.{fragments_listed}
 use Rattle.graphql_executor.specs.Executed.{IsBegunAt, what_is_asked, run_at}
 use Rattle.graphql_executor.specs.Resolvers.{Resolver}

@@ -17,13 +17,13 @@ use Rattle.graphql_field_results.specs.Answered.{TellsInDistinctKeys}
 use Rattle.graphql_field_results.specs.declared.execution_error.ExecutionError.{ExecutionError}
 use Rattle.graphql_field_results.specs.declared.field_error.FieldError.{FieldError}
 use Rattle.graphql_field_results.specs.declared.resolved.Resolved.{Resolved}
-use Rattle.graphql_evaluation.specs.Completion.{Members, object_members}
-use Rattle.graphql_evaluation.specs.Laws.{AnswersTellDistinctKeys, DataHaveDistinctKeys, FailuresTellDistinctKeys, TellsDistinctKeys}
+use Rattle.graphql_semantics.specs.Completion.{Members, object_members}
+use Rattle.graphql_semantics.specs.Laws.{AnswersTellDistinctKeys, DataHaveDistinctKeys, FailuresTellDistinctKeys, TellsDistinctKeys}
 use Rattle.graphql_introspection.specs.Nodes.{Answer}
-use Rattle.graphql_execution.specs.Asked.{AskedAnswer, map_answer, or_asked, own_answer, told_of_itself}
-use Rattle.graphql_execution.specs.Engines.{Resolves, engine_over}
-use Rattle.graphql_execution.specs.declared.asked.Asked.{Asked}
-use Rattle.graphql_execution.specs.declared.asked.Asked.TheVariants as asked
+use Rattle.graphql_execution_walk.specs.Asked.{AskedAnswer, map_answer, or_asked, own_answer, told_of_itself}
+use Rattle.graphql_execution_walk.specs.Engines.{Resolves, engine_over}
+use Rattle.graphql_execution_walk.specs.declared.asked.Asked.{Asked}
+use Rattle.graphql_execution_walk.specs.declared.asked.Asked.TheVariants as asked
 use Rattle.graphql_mutation.specs.Laws.{HasDistinctRun, RunsHaveDistinctKeys, StepsTellDistinctKeys}
 use Rattle.graphql_mutation.specs.Mutations.{Changes, mutation_over}
 use Rattle.graphql_mutation.specs.Serial.{Mutation, Run}

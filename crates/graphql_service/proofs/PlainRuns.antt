@@ -2,8 +2,8 @@
 use Rattle.std.proofs.Common.{◌≡◌, [], Option, Some, None}
 use Rattle.graphql_names.specs.Names.{Bytes}
 use Rattle.graphql_tree.specs.Documents.{variables_in}
-use Rattle.graphql_final_variables.specs.FinalValues.{final_value}
-use Rattle.graphql_execution.specs.declared.asked.Asked.TheVariants as asked
+use Rattle.graphql_written_out.specs.FinalValues.{final_value}
+use Rattle.graphql_execution_walk.specs.declared.asked.Asked.TheVariants as asked
 use Rattle.graphql_plain_answers.specs.Laws.{PlainDocumentIsPlain, PlainDocumentsAnswerAlike}
 use Rattle.graphql_plain_answers.specs.WithoutPlaces.{unlocated_run}
 use Rattle.graphql_requests.specs.Scalars.{Scalars}

@@ -9,7 +9,7 @@ use Rattle.graphql_tree.specs.declared.document.Definition.{Definition}
 use Rattle.graphql_tree.specs.declared.document.Operation.{Operation}
 use Rattle.graphql_schema.specs.Declarations.{declarations_of}
 use Rattle.graphql_schema.specs.declared.root_node.RootNode.{RootNode}
-use Rattle.graphql_execution.specs.declared.asked.Asked.TheVariants as asked
+use Rattle.graphql_execution_walk.specs.declared.asked.Asked.TheVariants as asked
 use Rattle.graphql_plain_answers.specs.Lawful.{IsLawful}
 use Rattle.graphql_plain_answers.specs.WithoutPlaces.{unlocated_run}
 use Rattle.graphql_plain_requests.specs.PlainRequests.{asked_at}
@@ -17,9 +17,9 @@ use Rattle.graphql_requests.specs.Asked.{OneIsExecuted}
 use Rattle.graphql_requests.specs.Scalars.{Scalars}
 use Rattle.graphql_executor.specs.Executed.{Yields, runs}
 use Rattle.graphql_executor.specs.Resolvers.{Resolver}
-use Rattle.graphql_normal_form.specs.Laws.{AreValidAlike}
-use Rattle.graphql_normal_form.specs.Laws.{SameTokensAreAskedAlike}
-use Rattle.graphql_normal_form.proofs.AskedAlike.{executed-again}
+use Rattle.graphql_plain_requests.specs.Laws.{AreValidAlike}
+use Rattle.graphql_plain_requests.specs.Laws.{SameTokensAreAskedAlike}
+use Rattle.graphql_plain_requests.proofs.AskedAlike.{executed-again}
 use Rattle.graphql_service.specs.TokenLaws.{SameTokensSameAnswer}
 use Rattle.graphql_plain_answers.specs.Laws.{SameDocumentsAnswerAlike}
 use Rattle.graphql_service.proofs.AlikeYields.{yield-alike}

@@ -15,10 +15,10 @@ use Rattle.graphql_schema.specs.Lookups.{own_name}
 use Rattle.graphql_schema.specs.declared.meta.MetaType.{MetaType}
 use Rattle.graphql_schema.specs.declared.root_node.RootNode.{RootNode}
 use Rattle.graphql_written_out.specs.Written.{written}
-use Rattle.graphql_evaluation.specs.Evaluation.{evaluate}
-use Rattle.graphql_execution.specs.Engines.{engine_over}
-use Rattle.graphql_execution.specs.FieldDeclarations.{is_possible_named}
-use Rattle.graphql_execution.specs.declared.asked.Asked.{Asked}
+use Rattle.graphql_semantics.specs.Evaluation.{evaluate}
+use Rattle.graphql_execution_walk.specs.Engines.{engine_over}
+use Rattle.graphql_execution_walk.specs.FieldDeclarations.{is_possible_named}
+use Rattle.graphql_execution_walk.specs.declared.asked.Asked.{Asked}
 use Rattle.graphql_requests.specs.Operations.{chosen}
 use Rattle.graphql_requests.specs.Scalars.{Scalars}
 use Rattle.graphql_validation.specs.AllRules.{IsValid}

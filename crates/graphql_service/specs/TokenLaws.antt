@@ -14,7 +14,7 @@ use Rattle.graphql_requests.specs.Asked.{Asking}
 use Rattle.graphql_requests.specs.Scalars.{Scalars}
 use Rattle.graphql_executor.specs.Answered.{IsAnswered}
 use Rattle.graphql_executor.specs.Resolvers.{Resolver}
-use Rattle.graphql_normal_form.specs.Laws.{AreAskedAlike}
+use Rattle.graphql_plain_requests.specs.Laws.{AreAskedAlike}
 
 -- by what scalars mean, two requests, and what a resolver answers
 module _ {S C N X : Type 0} (s : Scalars S C) (a b : Asking S C) (r : Resolver S N X) where

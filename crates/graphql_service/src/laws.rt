@@ -5,19 +5,18 @@
 
 ghost use Rattle.std.specs.Prelude.{◌⊎◌};
 ghost use Rattle.graphql_names.specs.Names.{Bytes};
-ghost use Rattle.graphql_normal_form.specs.Laws.{PlainRequestsStay};
+ghost use Rattle.graphql_plain_requests.specs.Laws.{PlainRequestsStay};
 ghost use Rattle.graphql_service.specs.TokenLaws.{SameTokensSameAnswer};
 ghost use Rattle.graphql_service.specs.JoinLaws.{JoinOfTwoSets, PartsOfQueriesJoin};
 ghost use Rattle.graphql_service.specs.MeaningLaws.{PlainIsAnsweredToo, PlainMeansTheSame};
 ghost use Rattle.graphql_service.specs.Answers.{IsAnswer, answerer_of};
 ghost use Rattle.graphql_service.specs.FittingLines.{IsFittingLine, IsRefusalLine};
-ghost use Rattle.graphql_service.specs.Laws.{IsLineOfDistinctKeys};
+ghost use Rattle.graphql_service.specs.Laws.{DataHaveDistinctKeys, IsLineOfDistinctKeys};
 ghost use Rattle.graphql_service.specs.declared.service.Service.{Service};
 
 use crate::service::Service;
 use graphql_answers::laws::answers_have_distinct_keys;
-use graphql_evaluation::laws::{data_have_distinct_keys, failures_tell_distinct_keys};
-use graphql_execution::Asked;
+use graphql_execution_walk::Asked;
 use graphql_executor::laws::answers_fit;
 pub use graphql_executor::laws::{
     answers_are_one, executable_requests_are_not_refused, one_operation_is_executed,
@@ -28,9 +27,9 @@ use graphql_field_results::ExecutionError;
 pub use graphql_joins::laws::default_scalars_answer_alike;
 use graphql_joins::laws::{parts_join, queries_stand};
 use graphql_mutation::laws::runs_have_distinct_keys;
-use graphql_normal_form::laws::plain_requests_stay;
 use graphql_plain_answers::laws::resolvers_are_lawful;
 pub use graphql_plain_answers::laws::{fields_of_plain, plain_gives_the_same};
+use graphql_plain_requests::laws::plain_requests_stay;
 pub use graphql_plain_requests::laws::{
     arguments_stay_conforming, arguments_stay_declared, arguments_stay_distinct,
     arguments_stay_provided, conditions_stay_composite, defaults_stay_conforming,
@@ -43,6 +42,7 @@ pub use graphql_plain_requests::laws::{
 };
 use graphql_rule_errors::RuleError;
 use graphql_schema::{RootNode, SchemaScalar};
+use graphql_semantics::laws::{data_have_distinct_keys, failures_tell_distinct_keys};
 
 /// Each object in an answer line has distinct keys, however deep (GraphQL October 2021, 7.2.2 Serialized
 /// Map Ordering).
@@ -55,6 +55,20 @@ where
         IsAnswer a line old answered new → IsLineOfDistinctKeys answered }
 {
     answers_have_distinct_keys::<S>();
+    data_have_distinct_keys::<S, Asked<'d, S, R::Node>>();
+    failures_tell_distinct_keys::<S, Asked<'d, S, R::Node>>();
+    runs_have_distinct_keys::<S, Asked<'d, S, R::Node>, R::Context>();
+}
+
+/// Each object in the data that a request is answered has distinct keys, however deep, as calls ask it that join
+/// data (GraphQL October 2021, 7.2.2 Serialized Map Ordering).
+pub fn answered_data_have_distinct_keys<'d, S: SchemaScalar + 'd, R: GraphQLMutationValue<S>>(
+    resolver: &R,
+)
+where
+    R::Node: 'd,
+    ensures { DataHaveDistinctKeys ⟦<S as Meaning>⟧.meaning (⟦<R as Resolving<S>>⟧.resolving resolver.now) }
+{
     data_have_distinct_keys::<S, Asked<'d, S, R::Node>>();
     failures_tell_distinct_keys::<S, Asked<'d, S, R::Node>>();
     runs_have_distinct_keys::<S, Asked<'d, S, R::Node>, R::Context>();

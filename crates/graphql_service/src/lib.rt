@@ -18,9 +18,9 @@ pub use graphql_executor::{
     Nullable, Resolved, Resolving, execute_sync, execute_validated_query, get_operation,
     introspect, introspection_metadata,
 };
+pub use graphql_json::{text_to_json, value_to_json};
 pub use graphql_lines::{
-    GraphQLRequest, LineRefusal, json_of_line, request_from_line, request_in, text_to_json,
-    value_to_json, variables_from_json,
+    GraphQLRequest, LineRefusal, json_of_line, request_from_line, request_in, variables_from_json,
 };
 pub use graphql_plain_requests::{
     PlainError, boolean_takes_true, operation_name_of, plain_request,

@@ -7,12 +7,13 @@ ghost use Rattle.graphql_service.specs.Yields.{PlainOperationsYieldAlike, PlainR
 
 use graphql_executor::Resolving;
 use graphql_mutation::GraphQLMutationValue;
-use graphql_normal_form::laws::{same_tokens_are_asked_alike, valid_alike};
 use graphql_plain_answers::laws::{
     plain_document_is_plain, plain_documents_answer_alike, resolvers_are_lawful,
     same_documents_answer_alike,
 };
-use graphql_plain_requests::laws::{plain_texts_are_accepted, plain_texts_are_documents};
+use graphql_plain_requests::laws::{
+    plain_texts_are_accepted, plain_texts_are_documents, same_tokens_are_asked_alike, valid_alike,
+};
 use graphql_requests::Meaning;
 use graphql_requests::laws::one_operation_is_executed;
 use graphql_schema::{RootNode, SchemaScalar};

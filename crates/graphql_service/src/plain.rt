@@ -3,7 +3,7 @@
 ghost use Rattle.std.specs.Prelude.{◌≡◌, [], IfErr, IfOk, OnErr, OnOk, string_bytes};
 ghost use Rattle.graphql_answers.specs.Lines.{IsLine};
 ghost use Rattle.graphql_lines.specs.Request.{HoldsRequest, Request};
-ghost use Rattle.graphql_lines.specs.Writing.{KeepsFront};
+ghost use Rattle.graphql_json.specs.Writing.{KeepsFront};
 ghost use Rattle.graphql_names.specs.Names.{Bytes};
 ghost use Rattle.graphql_service.specs.PlainRequests.{HasNoPlainText, IsAcceptedAgain, IsDocumentAgain, IsPlainTextWithin, TakesStandIn, asked_of};
 ghost use Rattle.graphql_service.specs.Answers.{Appends, Asks, answerer_of};

@@ -96,7 +96,7 @@ impl<S: SchemaScalar + Drop, R: GraphQLMutationValue<S>> Service<S, R, R::Contex
     ghost use Rattle.std.specs.Prelude.{[], OnErr, OnOk};
     ghost use Rattle.graphql_answers.specs.Lines.{IsLine};
     ghost use Rattle.graphql_lines.specs.Request.{HoldsRequest, Request};
-    ghost use Rattle.graphql_lines.specs.Writing.{KeepsFront};
+    ghost use Rattle.graphql_json.specs.Writing.{KeepsFront};
     ghost use Rattle.graphql_names.specs.Names.{Bytes};
     ghost use Rattle.graphql_service.specs.Answers.{Appends, Asks, IsAnswer, LeavesBroken, answerer_of};
     ghost use Rattle.graphql_service.specs.Laws.{IsLineOfDistinctKeys};

@@ -3,7 +3,7 @@ use Rattle.std.proofs.Common.{◌≡◌, ◌≢◌, ◌⊎◌, inl, inr, refl, s
 use Rattle.std.specs.Prelude.{unwrap_or}
 use Rattle.std.proofs.lemmas.Bool.{false≢true}
 use Rattle.graphql_names.specs.Names.{Bytes}
-use Rattle.graphql_type_references.specs.declared.type_modifier.TypeModifier.{TypeModifier}
+use Rattle.graphql_names.specs.declared.type_modifier.TypeModifier.{TypeModifier}
 use Rattle.graphql_output_values.specs.declared.value.Value.{Value, out-Value}
 use Rattle.graphql_output_values.specs.declared.value.Value.TheOpen.{Value-F}
 use Rattle.graphql_output_values.specs.declared.value.Value.TheVariants as value
@@ -12,13 +12,13 @@ use Rattle.graphql_tree.specs.Definitions.{fragments_listed}
 use Rattle.graphql_written_out.specs.Trees.{Tree}
 use Rattle.graphql_written_out.specs.Fields.{Found}
 use Rattle.graphql_written_out.specs.Written.{written}
-use Rattle.graphql_evaluation.specs.Completion.{Members, is_required, object_members}
-use Rattle.graphql_evaluation.specs.Engines.{Engine}
-use Rattle.graphql_evaluation.specs.Evaluation.{Group}
-use Rattle.graphql_evaluation.specs.Fitting.{Holds, leaf, object, list, required, Fits, holds, null, FieldFits, declared, undeclared, MembersFit, no_members, more_members}
-use Rattle.graphql_execution.specs.Engines.{engine_over}
-use Rattle.graphql_execution.specs.FieldDeclarations.{declared_type}
-use Rattle.graphql_execution.specs.declared.asked.Asked.TheVariants as asked
+use Rattle.graphql_semantics.specs.Completion.{Members, is_required, object_members}
+use Rattle.graphql_semantics.specs.Engines.{Engine}
+use Rattle.graphql_semantics.specs.Evaluation.{Group}
+use Rattle.graphql_semantics.specs.Fitting.{Holds, leaf, object, list, required, Fits, holds, null, FieldFits, declared, undeclared, MembersFit, no_members, more_members}
+use Rattle.graphql_execution_walk.specs.Engines.{engine_over}
+use Rattle.graphql_execution_walk.specs.FieldDeclarations.{declared_type}
+use Rattle.graphql_execution_walk.specs.declared.asked.Asked.TheVariants as asked
 use Rattle.graphql_mutation.specs.Fitting as runs
 use Rattle.graphql_mutation.specs.Fitting.{RootFits, RunFits, no_groups, more_groups}
 use Rattle.graphql_mutation.specs.Serial.{Mutation, root_group, root_groups}

@@ -6,7 +6,7 @@ use Rattle.graphql_scalars.specs.declared.default_scalar.DefaultScalarValue.{Def
 use Rattle.graphql_scalars.specs.declared.default_scalar.DefaultScalarValue.TheVariants as scalar
 use Rattle.graphql_values.specs.declared.input_value.InputValue.{InputValue}
 use Rattle.graphql_arguments.specs.ArgumentValues.{Given, value_named}
-use Rattle.graphql_evaluation.specs.Completion.{reason}
+use Rattle.graphql_semantics.specs.Completion.{reason}
 use Rattle.graphql_field_results.specs.declared.field_error.FieldError.{FieldError}
 use Rattle.graphql_field_results.specs.declared.resolved.Resolved.{Resolved}
 use Rattle.graphql_field_results.specs.declared.resolved.Resolved.TheVariants as resolved

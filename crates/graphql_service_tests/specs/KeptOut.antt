@@ -7,13 +7,13 @@ use Rattle.graphql_output_values.specs.declared.value.Value.TheVariants as value
 use Rattle.graphql_schema.specs.Types.{TypeOf}
 use Rattle.graphql_tree.specs.Definitions.{fragments_listed}
 use Rattle.graphql_tree.specs.Documents.{variables_in}
-use Rattle.graphql_final_variables.specs.FinalValues.{final_value}
+use Rattle.graphql_written_out.specs.FinalValues.{final_value}
 use Rattle.graphql_written_out.specs.Fields.{Found}
 use Rattle.graphql_written_out.specs.Written.{written}
-use Rattle.graphql_evaluation.specs.Completion.{Members, is_required, object_members}
-use Rattle.graphql_evaluation.specs.Evaluation.{Group}
-use Rattle.graphql_execution.specs.FieldDeclarations.{declared_type}
-use Rattle.graphql_execution.specs.declared.asked.Asked.{Asked}
+use Rattle.graphql_semantics.specs.Completion.{Members, is_required, object_members}
+use Rattle.graphql_semantics.specs.Evaluation.{Group}
+use Rattle.graphql_execution_walk.specs.FieldDeclarations.{declared_type}
+use Rattle.graphql_execution_walk.specs.declared.asked.Asked.{Asked}
 use Rattle.graphql_mutation.specs.Mutations.{mutation_over}
 use Rattle.graphql_mutation.specs.Serial.{Mutation, root_groups}
 use Rattle.graphql_service.specs.Answers.{Answerer, asked_by, given}

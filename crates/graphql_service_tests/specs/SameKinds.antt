@@ -8,7 +8,7 @@ use Rattle.graphql_values.specs.declared.input_value.InputValue.{InputValue}
 use Rattle.graphql_values.specs.declared.input_value.InputValue.TheVariants as value
 use Rattle.graphql_arguments.specs.ArgumentValues.{Given, value_named}
 use Rattle.graphql_arguments.specs.SameArguments.{SameGiven}
-use Rattle.graphql_execution.specs.Answered.{SameArguments}
+use Rattle.graphql_execution_walk.specs.Answered.{SameArguments}
 use Rattle.graphql_service_tests.specs.Beings.{answer, given_kind, kind_or_absent, of_root_by}
 use Rattle.graphql_service_tests.specs.Kinds.{kind, kind_layer}
 use Rattle.graphql_service_tests.specs.declared.executor.beings.Being.{Being}

@@ -10,6 +10,8 @@ pub mod asked_again;
 #[cfg(test)]
 mod files;
 #[cfg(test)]
+mod finding;
+#[cfg(test)]
 pub mod in_parts;
 #[cfg(test)]
 mod introspected;

@@ -13,7 +13,7 @@ use Rattle.graphql_tree.specs.declared.selection.Selection.TheOpen.{Selection-F}
 use Rattle.graphql_schema.specs.declared.meta.MetaType.{MetaType}
 use Rattle.graphql_schema.specs.Declarations.{Declarations}
 use Rattle.graphql_schema.specs.Lookups.{type_named}
-use Rattle.graphql_declarations.specs.Lookups.{root_of}
+use Rattle.graphql_occurrences.specs.DeclaredLookups.{root_of}
 use Rattle.graphql_written_out.specs.Written.{listed, fragment_meant, condition_of}
 use Rattle.graphql_merging.specs.Members.{Scope, inside, scope_of}
 

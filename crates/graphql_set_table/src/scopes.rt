@@ -9,7 +9,7 @@ ghost use Rattle.graphql_set_table.specs.SetsAt.{definition_set, own_set};
 ghost use Rattle.graphql_set_table.specs.Reading.{set_at};
 
 use crate::open_set::OpenSet;
-use graphql_declarations::{field_of, root_of, type_of_field};
+use graphql_occurrences::{field_of, root_of, type_of_field};
 use graphql_schema::{MetaType, SchemaType};
 use graphql_text::Spanning;
 use graphql_tree::{Definition, Field, InlineFragment, Selection};

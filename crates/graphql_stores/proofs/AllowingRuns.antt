@@ -3,7 +3,7 @@ use Rattle.std.proofs.Common.{◌≡◌, ℕ, List, ◌++◌, Option, Result, Ok
 use Rattle.std.specs.Prelude.{IfErr}
 use Rattle.std.specs.declared.cmp.Ordering.{Ordering}
 use Rattle.graphql_names.specs.Names.{Bytes}
-use Rattle.graphql_allowed_queries.specs.declared.allowed_queries.AllowedQueries.{AllowedQueries}
+use Rattle.graphql_stores.specs.declared.allowed_queries.AllowedQueries.{AllowedQueries}
 use Rattle.graphql_field_results.specs.declared.execution_error.ExecutionError.{ExecutionError}
 use Rattle.graphql_rule_errors.specs.declared.rule_error.RuleError.{RuleError}
 use Rattle.graphql_schema.specs.declared.root_node.RootNode.{RootNode}

@@ -12,8 +12,8 @@ use Rattle.graphql_schema.specs.declared.root_node.RootNode.{RootNode}
 use Rattle.graphql_executor.specs.Answered.{IsAnswered}
 use Rattle.graphql_executor.specs.Requests.{Scalars}
 use Rattle.graphql_executor.specs.Resolvers.{Resolver}
-use Rattle.graphql_kept_texts.specs.Keeping.{IsKept, KeepsAtMost, KeepsNothing}
-use Rattle.graphql_kept_texts.specs.declared.kept_texts.KeptTexts.{KeptTexts}
+use Rattle.graphql_stores.specs.Keeping.{IsKept, KeepsAtMost, KeepsNothing}
+use Rattle.graphql_stores.specs.declared.kept_texts.KeptTexts.{KeptTexts}
 use Rattle.graphql_lines.specs.Request.{request_of}
 use Rattle.graphql_answers.specs.Lines.{ValuesAreLines, line_of}
 use Rattle.graphql_answers.specs.Responses.{response_of}

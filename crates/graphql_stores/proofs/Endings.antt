@@ -10,7 +10,7 @@ use Rattle.graphql_output_values.specs.Objects.{Pair}
 use Rattle.graphql_output_values.specs.Values.{map_scalars}
 use Rattle.graphql_output_values.specs.ValueEquations.{on_value, fold_list, fold_object, fold_fields}
 use Rattle.graphql_output_values.specs.declared.value.Value.TheVariants as value
-use Rattle.graphql_lines.specs.Json.{fields_layer, joined, json, json_layer, json_text, member_json}
+use Rattle.graphql_json.specs.Json.{fields_layer, joined, json, json_layer, json_text, member_json}
 use Rattle.graphql_answers.specs.Lines.{line_of}
 use Rattle.graphql_answers.specs.Responses.{errors_of, field_error_of, object_of, request_error_of}
 use Rattle.graphql_service.specs.Answers.{Answerer, executed_to, no_request, not_executed}

@@ -10,3 +10,6 @@ mod Shared
 mod LeftContexts
 mod CachedAnswers
 mod CachedRuns
+mod Adding
+pub mod ReadLines
+pub mod TakenLines

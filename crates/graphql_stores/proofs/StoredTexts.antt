@@ -1,6 +1,6 @@
 -- What is stored is allowed, however it is spelled, and stands for the requests that are allowed.
 use Rattle.graphql_executor.specs.Resolvers.{Resolver}
-use Rattle.graphql_normal_form.specs.Laws.{PlainRequestsStay, SameTokensAreAskedAlike}
+use Rattle.graphql_plain_requests.specs.Laws.{PlainRequestsStay, SameTokensAreAskedAlike}
 use Rattle.graphql_requests.specs.Scalars.{Scalars}
 use Rattle.graphql_schema.specs.declared.root_node.RootNode.{RootNode}
 use Rattle.graphql_service.specs.MeaningLaws.{PlainIsAnsweredToo, PlainMeansTheSame}

@@ -1,8 +1,8 @@
 -- What a line asks for is allowed, or it is not, or the line is refused first.
 use Rattle.std.proofs.Common.{◌≡◌, sym, subst, ◌∙◌, ap, inl, inr, ℕ, true, false}
 use Rattle.graphql_names.specs.Names.{Bytes}
-use Rattle.graphql_allowed_queries.specs.Stores.{is_allowed}
-use Rattle.graphql_allowed_queries.specs.declared.allowed_queries.AllowedQueries.{AllowedQueries}
+use Rattle.graphql_stores.specs.Stores.{is_allowed}
+use Rattle.graphql_stores.specs.declared.allowed_queries.AllowedQueries.{AllowedQueries}
 use Rattle.graphql_executor.specs.Requests.{GraphQLError}
 use Rattle.graphql_lines.specs.Request.{Request}
 use Rattle.graphql_plain_requests.specs.Laws.{PlainAreNotRefused, PlainTextsAreOne}

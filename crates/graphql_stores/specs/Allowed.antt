@@ -1,8 +1,8 @@
 -- Requests that a store allows (GraphQL October 2021, 6.1 Executing Requests).
 use Rattle.std.specs.Prelude.{◌≡◌, true, ℕ}
 use Rattle.graphql_names.specs.Names.{Bytes}
-use Rattle.graphql_allowed_queries.specs.Stores.{is_allowed}
-use Rattle.graphql_allowed_queries.specs.declared.allowed_queries.AllowedQueries.{AllowedQueries}
+use Rattle.graphql_stores.specs.Stores.{is_allowed}
+use Rattle.graphql_stores.specs.declared.allowed_queries.AllowedQueries.{AllowedQueries}
 use Rattle.graphql_requests.specs.Asked.{Asking}
 use Rattle.graphql_requests.specs.Scalars.{Scalars}
 use Rattle.graphql_plain_requests.specs.PlainRequests.{IsPlainTextWithin}

@@ -4,8 +4,8 @@ use Rattle.std.specs.Prelude.{◌≡◌, ◌↔◌, true, ℕ, List, [], Option}
 use Rattle.std.specs.declared.cmp.Ordering.{Ordering}
 use Rattle.std.specs.Str.{chars, IsUtf8}
 use Rattle.graphql_names.specs.Names.{Bytes}
-use Rattle.graphql_allowed_queries.specs.Stores.{is_allowed}
-use Rattle.graphql_allowed_queries.specs.declared.allowed_queries.AllowedQueries.{AllowedQueries}
+use Rattle.graphql_stores.specs.Stores.{is_allowed}
+use Rattle.graphql_stores.specs.declared.allowed_queries.AllowedQueries.{AllowedQueries}
 use Rattle.graphql_values.specs.declared.input_value.InputValue.{InputValue}
 use Rattle.graphql_output_values.specs.declared.value.Value.{Value}
 use Rattle.graphql_field_results.specs.declared.execution_error.ExecutionError.{ExecutionError}

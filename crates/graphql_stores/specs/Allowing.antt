@@ -2,8 +2,8 @@
 -- 6.1 Executing Requests).
 use Rattle.std.specs.Prelude.{◌≡◌, ◌⊎◌, true, false, ℕ, Bool, List, [], codes}
 use Rattle.graphql_names.specs.Names.{Bytes}
-use Rattle.graphql_allowed_queries.specs.Stores.{is_allowed}
-use Rattle.graphql_allowed_queries.specs.declared.allowed_queries.AllowedQueries.{AllowedQueries}
+use Rattle.graphql_stores.specs.Stores.{is_allowed}
+use Rattle.graphql_stores.specs.declared.allowed_queries.AllowedQueries.{AllowedQueries}
 use Rattle.graphql_answers.specs.Lines.{IsLine, line_of}
 use Rattle.graphql_answers.specs.Responses.{refusal_of}
 use Rattle.graphql_lines.specs.Request.{Request}

@@ -9,3 +9,8 @@ pub mod StoredAnswers
 pub mod Laws
 pub mod Caching
 pub mod CachedLines
+pub mod Texts
+pub mod Keeping
+pub mod Told
+pub mod Stores
+pub mod FaultTexts

@@ -7,8 +7,8 @@ use Rattle.graphql_lines.specs.Request.{Request, request_of}
 use Rattle.graphql_answers.specs.Lines.{line_of}
 use Rattle.graphql_answers.specs.Responses.{response_of}
 use Rattle.graphql_service.specs.Answers.{Answerer, IsAnswer, asked_by}
-use Rattle.graphql_kept_texts.specs.Keeping.{IsKept}
-use Rattle.graphql_kept_texts.specs.declared.kept_texts.KeptTexts.{KeptTexts}
+use Rattle.graphql_stores.specs.Keeping.{IsKept}
+use Rattle.graphql_stores.specs.declared.kept_texts.KeptTexts.{KeptTexts}
 
 -- by what a service answers, on a context
 module _ {S C N X : Type 0} (a : Answerer S C N X) (context : X) where

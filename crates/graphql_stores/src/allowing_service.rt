@@ -2,14 +2,14 @@
 
 ghost use Rattle.std.specs.Prelude.{◌≡◌, ◌++◌, [], IfOk, OnErr, OnOk};
 ghost use Rattle.graphql_answers.specs.Lines.{IsLine};
-ghost use Rattle.graphql_lines.specs.Writing.{KeepsFront};
+ghost use Rattle.graphql_json.specs.Writing.{KeepsFront};
 ghost use Rattle.graphql_service.specs.Answers.{Appends, answerer_of};
 ghost use Rattle.graphql_service.specs.Laws.{IsLineOfDistinctKeys};
 ghost use Rattle.graphql_stores.specs.Allowing.{AnswersIfAllowed, BreaksIfAllowed, IsAnswerIfAllowed, Passes, not_allowed_line};
 ghost use Rattle.graphql_stores.specs.AllowingLines.{KeepsParts};
 
+use crate::AllowedQueries;
 use crate::asked::{Asked, asked_of_line};
-use graphql_allowed_queries::AllowedQueries;
 use graphql_answers::laws::{answers_have_distinct_keys, values_are_lines};
 use graphql_answers::refusal_to_json;
 use graphql_executor::{Meaning, Resolving};
@@ -149,7 +149,7 @@ fn append_not_allowed(out: &mut Vec<u8>) -> Result<(), AllocError>
 
 /// Writes the answer line that a query is not allowed, at the end of `out`. An error is want of memory: then
 /// `out` may hold a part of it, behind what it held.
-#[tactic(auto, using(graphql_lines::proofs::Fronts::fronts))]
+#[tactic(auto, using(graphql_json::proofs::Fronts::fronts))]
 fn push_not_allowed(out: &mut Vec<u8>) -> Result<(), AllocError>
     ensures written { OnOk result (out.new.items ≡ out.old.items ++ not_allowed_line) }
     ensures front { KeepsFront out.old.items out.new.items }

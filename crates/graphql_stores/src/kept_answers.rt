@@ -1,10 +1,10 @@
 //! Answers that are kept, by lines and by plain texts.
 
 ghost use Rattle.std.specs.Prelude.{◌≡◌, ◌≤◌, ◌&&◌, ◌++◌, not, drop, length, IfSome, OnErr, OnOk};
-ghost use Rattle.graphql_kept_texts.specs.Keeping.{IsKept, KeepsAtMost, KeepsNothing};
+ghost use Rattle.graphql_stores.specs.Keeping.{IsKept, KeepsAtMost, KeepsNothing};
 ghost use Rattle.graphql_stores.specs.AnswerEnds.{begins_with_data, ends_with_list};
 
-use graphql_kept_texts::KeptTexts;
+use crate::KeptTexts;
 use std::alloc::{AllocError, Global};
 use std::str;
 

@@ -1,7 +1,7 @@
 //! Laws of what a store allows, and of answers that are kept: each function's contract is a law, and its body
 //! asks for the laws below it.
 
-ghost use Rattle.graphql_allowed_queries.specs.declared.allowed_queries.AllowedQueries.{AllowedQueries};
+ghost use Rattle.graphql_stores.specs.declared.allowed_queries.AllowedQueries.{AllowedQueries};
 ghost use Rattle.graphql_names.specs.Names.{Bytes};
 ghost use Rattle.graphql_service.specs.Answers.{answerer_of};
 ghost use Rattle.graphql_service.specs.declared.service.Service.{Service};
@@ -11,7 +11,7 @@ ghost use Rattle.graphql_stores.specs.Laws.{AnswersAreShared, AnswersShowErrors,
 
 use graphql_executor::{Meaning, Resolving};
 use graphql_field_results::ExecutionError;
-use graphql_normal_form::laws::same_tokens_are_asked_alike;
+use graphql_plain_requests::laws::same_tokens_are_asked_alike;
 use graphql_rule_errors::RuleError;
 use graphql_scalars::ScalarValue;
 use graphql_schema::{RootNode, SchemaScalar};

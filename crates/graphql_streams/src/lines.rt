@@ -67,7 +67,7 @@ fn line_end(bytes: &[u8]) -> Option<usize>
 }
 
 /// Answers a line behind the answers that wait, unless it is empty. An error is want of memory.
-fn answer<E: LineEngine>(
+fn answer_line<E: LineEngine>(
     alloc: Global,
     engine: &mut E,
     line: &[u8],
@@ -106,10 +106,10 @@ pub fn end_line<E: LineEngine>(
 {
     let Buffers { line, answers } = buffers;
     if line.is_empty() {
-        return answer(alloc, engine, bytes, answers);
+        return answer_line(alloc, engine, bytes, answers);
     }
     keep(line, bytes, limit)?;
-    answer(alloc, engine, line.as_slice(), answers)?;
+    answer_line(alloc, engine, line.as_slice(), answers)?;
     line.clear();
     Ok(())
 }

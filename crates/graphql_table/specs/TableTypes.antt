@@ -1,6 +1,6 @@
 -- What a table keeps of a schema's types (GraphQL October 2021, 3.4 Types).
 use Rattle.std.specs.Prelude.{◌&&◌, not, List, map}
-use Rattle.graphql_type_references.specs.TypeReference.{has_list}
+use Rattle.graphql_names.specs.TypeReference.{has_list}
 use Rattle.graphql_names.specs.Names.{passes}
 use Rattle.graphql_schema.specs.Types.{fields_of, own_name}
 use Rattle.graphql_schema.specs.declared.meta.field.Field.{Field}

@@ -12,7 +12,7 @@ use graphql_field_results::{FieldResult, Resolved};
 use graphql_mutation::{Executor, GraphQLMutationValue, GraphQLValue};
 use graphql_names::NamedItems;
 use graphql_records::{
-    Answer, Records, TableNode, TableType, answer, known_field, set_asked, type_of,
+    Answer, Records, TableNode, TableType, known_field, node_answer, set_asked, type_of,
 };
 use graphql_scalars::DefaultScalarValue;
 use graphql_schema::SchemaType;
@@ -113,7 +113,7 @@ impl GraphQLValue<DefaultScalarValue> for TableResolver {
         executor: &Executor<'_, '_, '_, Records, DefaultScalarValue>,
     ) -> FieldResult<Answer, DefaultScalarValue> {
         let records = executor.context;
-        Ok(answer(executor.alloc, &self.types, records, node, field, arguments)?)
+        Ok(node_answer(executor.alloc, &self.types, records, node, field, arguments)?)
     }
 }
 

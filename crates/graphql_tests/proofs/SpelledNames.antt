@@ -5,12 +5,12 @@ use Rattle.graphql_text.specs.declared.token.Token.{Token}
 use Rattle.graphql_text.specs.declared.token.Token.TheVariants.{Name, EndOfFile}
 use Rattle.graphql_grammar.specs.Input.{At, Fault, peek}
 use Rattle.graphql_grammar.proofs.Leaves.{behind_next}
-use Rattle.graphql_parser.specs.Leaves.{Leaves, ListsLeaveRest}
-use Rattle.graphql_parser.specs.Lists.{Function, Item, AnyItems, Delimited}
-use Rattle.graphql_parser.specs.Parser.{State, Calls, NextName}
-use Rattle.graphql_parser.specs.SpelledLists.{InFront, ListOf, ListsAreSpelled}
-use Rattle.graphql_parser.proofs.Leaves.{fresh_call, stopped}
-use Rattle.graphql_parser.proofs.NextTokens.{answered, token_read}
+use Rattle.graphql_language.specs.Leaves.{Leaves, ListsLeaveRest}
+use Rattle.graphql_language.specs.Lists.{Function, Item, AnyItems, Delimited}
+use Rattle.graphql_language.specs.Parser.{State, Calls, NextName}
+use Rattle.graphql_language.specs.SpelledLists.{InFront, ListOf, ListsAreSpelled}
+use Rattle.graphql_language.proofs.Leaves.{fresh_call, stopped}
+use Rattle.graphql_language.proofs.NextTokens.{answered, token_read}
 use Rattle.graphql_tests.specs.SpelledNames.{NameAt}
 
 name_in_front : (s t : State) (name : At (List ℕ)) → Calls NextName s (Ok name) t → InFront NameAt s.input name t.input

@@ -9,3 +9,5 @@ pub mod Strings
 pub mod Tokens
 pub mod Grammar
 pub mod Refusals
+pub mod formers
+pub mod Lending

@@ -12,7 +12,7 @@ use Rattle.graphql_text.specs.declared.class.Class.{Class}
 use Rattle.graphql_text.specs.declared.class.Class.TheVariants as class
 use Rattle.graphql_text.specs.Characters.{is_blank, continues_name}
 use Rattle.graphql_text.specs.Position.{step, origin}
-pub use Rattle.graphql_items.specs.Memory.{◌>>=◌}
+pub use Rattle.graphql_text.specs.Memory.{◌>>=◌}
 
 -- a place in a text, and the characters from there on
 pub record Place : Type 0 where

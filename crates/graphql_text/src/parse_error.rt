@@ -2,9 +2,9 @@
 
 ghost use Rattle.std.specs.Prelude.{◌≡◌, IfOk, Some};
 
+use crate::Text;
 use crate::spanning::Spanning;
 use crate::token::{LexerError, Token};
-use graphql_items::Text;
 use std::alloc::{AllocError, AllocFailed, Global};
 use std::error::Error;
 use std::fmt;

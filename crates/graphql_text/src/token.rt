@@ -2,9 +2,9 @@
 
 ghost use Rattle.std.specs.Prelude.{◌≡◌, Some};
 
+use crate::Text;
 use crate::spanning::Spanning;
 use crate::text_ref::TextRef;
-use graphql_items::Text;
 use std::alloc::{AllocError, AllocFailed};
 use std::error::Error;
 use std::fmt;

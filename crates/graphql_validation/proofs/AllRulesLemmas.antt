@@ -21,8 +21,8 @@ use Rattle.graphql_merging.specs.Merging.{Merging}
 use Rattle.graphql_merging.specs.Sets.{Set, document_sets, members_of}
 use Rattle.graphql_tree.specs.Definitions.{fragments_listed}
 use Rattle.graphql_merging.specs.Told.{Names}
-use Rattle.graphql_rules_local.proofs.LawLemmas.{no_introspection}
-use Rattle.graphql_rules_merging.specs.Visitor.{MergingTold}
+use Rattle.graphql_rules.proofs.LawLemmas.{no_introspection}
+use Rattle.graphql_rules_merging.specs.OverlappingFieldsCanBeMerged.{MergingTold}
 use Rattle.graphql_rules_document.specs.SettledLaws.{EndingFragmentsAreSettled}
 use Rattle.graphql_validation.proofs.ValidLemmas.{first_none, first_permuted, first_then}
 use Rattle.graphql_validation.specs.AllRules.{AllRules, of_first_stage, of_merging, FieldsMerge, IsValid, IsValidAt, RequestTold}

@@ -11,7 +11,7 @@ use Rattle.graphql_rule_errors.proofs.ReportLemmas.{reports_none}
 use Rattle.graphql_rule_errors.specs.Places as of_errors
 use Rattle.graphql_rule_errors.specs.Places.{Places, places}
 use Rattle.graphql_rule_errors.specs.declared.rule_error.RuleError.{RuleError}
-use Rattle.graphql_rules_local.specs.DisableIntrospection.{introspection_field}
+use Rattle.graphql_rules.specs.DisableIntrospection.{disable_introspection_faults}
 use Rattle.graphql_visitors.proofs.RunLemmas.{reported_none}
 use Rattle.graphql_visitors.specs.Reports.{Reports}
 use Rattle.graphql_visitors.specs.Rules.{told_at}
@@ -31,7 +31,7 @@ module _ {S C : Type 0} where
 
   -- where it is, its errors stand in the context for as long as it tells more
   module _ (e : Event S) (v w : Introspection) (a b c d : ValidatorContext S C) (held : List RuleError)
-      (out : b ≡ record a { errors = v.errors }) (kept : held ≡ a.errors) (told : Reports (told_at introspection_field (subject_of b) (seen_in b e)) b c)
+      (out : b ≡ record a { errors = v.errors }) (kept : held ≡ a.errors) (told : Reports (told_at disable_introspection_faults (subject_of b) (seen_in b e)) b c)
       (back : d ≡ record c { errors = held }) (is_asked : v.is_asked ≡ true) (same : w.is_asked ≡ v.is_asked) (own : w.errors ≡ c.errors) where
     as_it_was : d ≡ record a { errors = d.errors; failed = d.failed }
     as_it_was =
@@ -49,7 +49,7 @@ module _ {S C : Type 0} where
             (
               refl,
               same,
-              ap places own ∙ r.errors.at ∙ ap {A = ValidatorContext S C} (λ x. places x.errors ++ told_at introspection_field (subject_of x) (seen_in x e)) out
+              ap places own ∙ r.errors.at ∙ ap {A = ValidatorContext S C} (λ x. places x.errors ++ told_at disable_introspection_faults (subject_of x) (seen_in x e)) out
                   ∙ ap (λ q. places v.errors ++ asked_at q (subject_of a) (seen_in a e)) (sym is_asked),
             ),
             record {
@@ -61,11 +61,11 @@ module _ {S C : Type 0} where
 
   module _ (subject : Subject S C) where
     asked_over : Bool → List (Seen S C) → Places
-    asked_over q es = cond q (flat_map (introspection_field subject) (flat_map parts_of es)) []
+    asked_over q es = cond q (flat_map (disable_introspection_faults subject) (flat_map parts_of es)) []
 
     asked_more : (q : Bool) (e : Seen S C) (es : List (Seen S C)) → asked_at q subject e ++ asked_over q es ≡ asked_over q (e ∷ es)
     unfolding asked_over
-    asked_more true e es = sym (flat_map-append (introspection_field subject) (parts_of e) (flat_map parts_of es))
+    asked_more true e es = sym (flat_map-append (disable_introspection_faults subject) (parts_of e) (flat_map parts_of es))
     asked_more false e es = refl
 
     none_over : (q : Bool) → [] ≡ asked_over q []
@@ -94,7 +94,7 @@ module _ {S C : Type 0} where
 
     over_document : (q : Bool) → asked_over q (events subject.schema subject.document) ≡ asked_places q subject
     unfolding asked_over
-    over_document true = ap (flat_map (introspection_field subject)) (events_told subject.schema subject.document)
+    over_document true = ap (flat_map (disable_introspection_faults subject)) (events_told subject.schema subject.document)
     over_document false = refl
 
     -- and keeps what it tells of them

@@ -7,7 +7,7 @@ use Rattle.graphql_values.specs.declared.input_value.InputValue.{InputValue}
 use Rattle.graphql_scalars.specs.ScalarAnswers.{ScalarAnswer}
 use Rattle.graphql_rule_errors.specs.Places.{Places, places}
 use Rattle.graphql_rule_errors.specs.declared.rule_error.RuleError.{RuleError}
-use Rattle.graphql_scopes.specs.Scopes.{Scopes}
+use Rattle.graphql_rules_document.specs.Scopes.{Scopes}
 use Rattle.graphql_visitors.proofs.RunLemmas.{as_before_after, reported_after}
 use Rattle.graphql_visitors.specs.Reports.{Reported, Reports, ReportsBy}
 use Rattle.graphql_visitors.specs.Subjects.{subject_of}

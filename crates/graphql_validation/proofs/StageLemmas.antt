@@ -15,24 +15,24 @@ use Rattle.graphql_visitors.specs.Runs.{Step, Runs, joined}
 use Rattle.graphql_visitors.specs.Subjects.{Subject}
 use Rattle.graphql_visitors.specs.declared.multi.MultiVisitorCons.{MultiVisitorCons}
 use Rattle.graphql_visitors.specs.declared.multi.MultiVisitorNil.{MultiVisitorNil}
-use Rattle.graphql_rules_local.specs.FieldsOnCorrectType.{unknown_field}
-use Rattle.graphql_rules_local.specs.FragmentsOnCompositeTypes.{no_composite}
-use Rattle.graphql_rules_local.specs.KnownArgumentNames.{known_argument_names}
-use Rattle.graphql_rules_local.specs.KnownDirectives.{known_directives}
-use Rattle.graphql_rules_local.specs.KnownFragmentNames.{unknown_fragment}
-use Rattle.graphql_rules_local.specs.KnownTypeNames.{unknown_type}
-use Rattle.graphql_rules_local.proofs.SpreadLemmas.{spreads_told}
-use Rattle.graphql_rules_local.specs.PossibleFragmentSpreads.{impossible_spread}
-use Rattle.graphql_rules_local.specs.PossibleVisitor.{by_names}
-use Rattle.graphql_rules_local.specs.declared.possible_fragment_spreads.PossibleFragmentSpreads.{PossibleFragmentSpreads}
+use Rattle.graphql_rules.specs.FieldsOnCorrectType.{fields_on_correct_type_faults}
+use Rattle.graphql_rules.specs.FragmentsOnCompositeTypes.{fragments_on_composite_types_faults}
+use Rattle.graphql_rules.specs.KnownArgumentNames.{known_argument_names_faults}
+use Rattle.graphql_rules.specs.KnownDirectives.{known_directives_faults}
+use Rattle.graphql_rules.specs.KnownFragmentNames.{known_fragment_names_faults}
+use Rattle.graphql_rules.specs.KnownTypeNames.{known_type_names_faults}
+use Rattle.graphql_rules.proofs.SpreadLemmas.{spreads_told}
+use Rattle.graphql_rules.specs.PossibleFragmentSpreads.{possible_fragment_spreads_faults}
+use Rattle.graphql_rules.specs.PossibleVisitor.{by_names}
+use Rattle.graphql_rules.specs.declared.possible_fragment_spreads.PossibleFragmentSpreads.{PossibleFragmentSpreads}
 use Rattle.graphql_schema.specs.Declarations.{declarations_of}
-use Rattle.graphql_rules_local.specs.ProvidedNonNullArguments.{provided_non_null_arguments}
-use Rattle.graphql_rules_local.specs.ScalarLeafs.{wrong_leaf}
-use Rattle.graphql_rules_local.specs.UniqueArgumentNames.{unique_argument_names}
-use Rattle.graphql_rules_local.specs.UniqueInputFieldNames.{unique_input_field_names}
-use Rattle.graphql_rules_local.specs.VariablesAreInputTypes.{no_input_type}
-use Rattle.graphql_rules_values.specs.ArgumentsOfCorrectType.{arguments_of_correct_type}
-use Rattle.graphql_rules_values.specs.DefaultValuesOfCorrectType.{default_values_of_correct_type}
+use Rattle.graphql_rules.specs.ProvidedNonNullArguments.{provided_non_null_arguments_faults}
+use Rattle.graphql_rules.specs.ScalarLeafs.{scalar_leafs_faults}
+use Rattle.graphql_rules.specs.UniqueArgumentNames.{unique_argument_names_faults}
+use Rattle.graphql_rules.specs.UniqueInputFieldNames.{unique_input_field_names_faults}
+use Rattle.graphql_rules.specs.VariablesAreInputTypes.{variables_are_input_types_faults}
+use Rattle.graphql_rules.specs.ArgumentsOfCorrectType.{arguments_of_correct_type_faults}
+use Rattle.graphql_rules.specs.DefaultValuesOfCorrectType.{default_values_of_correct_type_faults}
 use Rattle.graphql_validation.proofs.ApartLemmas.{apart_silent, kept_of_document}
 use Rattle.graphql_validation.specs.Apart.{keeps_apart, asked_places}
 use Rattle.graphql_validation.specs.declared.introspection.Introspection.{Introspection}
@@ -71,8 +71,8 @@ module _ {S C : Type 0} (subject : Subject S C) where
   IsMadeFor v = declarations_of v.overlaps.schema.now ≡ subject.schema
 
   -- the rule that keeps its answers before other visitors
-  tells_spreads : {B : Type 0} (others : Step B S C) (Made : B → Type 0) (told : Places) → Tells others Made told → Tells (both by_names others) (λ v. IsMadeFor v.first × Made v.second) (places_of subject impossible_spread ++ told)
-  tells_spreads others Made told rest = tells_before by_names others IsMadeFor Made (places_of subject impossible_spread) told (spreads_told subject) rest
+  tells_spreads : {B : Type 0} (others : Step B S C) (Made : B → Type 0) (told : Places) → Tells others Made told → Tells (both by_names others) (λ v. IsMadeFor v.first × Made v.second) (places_of subject possible_fragment_spreads_faults ++ told)
+  tells_spreads others Made told rest = tells_before by_names others IsMadeFor Made (places_of subject possible_fragment_spreads_faults) told (spreads_told subject) rest
 
   module _ {A B : Type 0} (Says : Relation S C) (others : Step B S C) where
     -- a rule that asks checks before other visitors
@@ -96,9 +96,9 @@ module _ {S C : Type 0} (subject : Subject S C) where
 
     abbrev local_step : Step LocalVisitors S C
     local_step =
-        both (local {V = A1} unknown_field) (both (local {V = A2} wrong_leaf) (both (local {V = A3} no_composite) (both (local {V = A4} unknown_type) (both (local {V = A5} no_input_type)
-        (both (local {V = A6} unknown_fragment) (both by_names (both (local {V = A8} known_directives) (both (local {V = A9} known_argument_names)
-        (both (local {V = A10} provided_non_null_arguments) (both (local {V = A11} unique_argument_names) (both (local {V = A12} unique_input_field_names) silent)))))))))))
+        both (local {V = A1} fields_on_correct_type_faults) (both (local {V = A2} scalar_leafs_faults) (both (local {V = A3} fragments_on_composite_types_faults) (both (local {V = A4} known_type_names_faults) (both (local {V = A5} variables_are_input_types_faults)
+        (both (local {V = A6} known_fragment_names_faults) (both by_names (both (local {V = A8} known_directives_faults) (both (local {V = A9} known_argument_names_faults)
+        (both (local {V = A10} provided_non_null_arguments_faults) (both (local {V = A11} unique_argument_names_faults) (both (local {V = A12} unique_input_field_names_faults) silent)))))))))))
 
     -- that of the rule that keeps its answers
     abbrev pub spreads_among : LocalVisitors → PossibleFragmentSpreads S C
@@ -106,19 +106,19 @@ module _ {S C : Type 0} (subject : Subject S C) where
 
     tells_locals : (v w : LocalVisitors) (ts : List Places) → IsMadeFor (spreads_among v) → Runs local_step subject v document_events w ts → IsPermutation (local_places subject) (joined ts)
     tells_locals v w ts made runs =
-        (tells_rule unknown_field _ _ _ (tells_rule wrong_leaf _ _ _ (tells_rule no_composite _ _ _ (tells_rule unknown_type _ _ _ (tells_rule no_input_type _ _ _
-        (tells_rule unknown_fragment _ _ _ (tells_spreads _ _ _ (tells_rule known_directives _ _ _ (tells_rule known_argument_names _ _ _
-        (tells_rule provided_non_null_arguments _ _ _ (tells_rule unique_argument_names _ _ _ (tells_rule unique_input_field_names _ _ _ tells_none)))))))))))).all v w ts
+        (tells_rule fields_on_correct_type_faults _ _ _ (tells_rule scalar_leafs_faults _ _ _ (tells_rule fragments_on_composite_types_faults _ _ _ (tells_rule known_type_names_faults _ _ _ (tells_rule variables_are_input_types_faults _ _ _
+        (tells_rule known_fragment_names_faults _ _ _ (tells_spreads _ _ _ (tells_rule known_directives_faults _ _ _ (tells_rule known_argument_names_faults _ _ _
+        (tells_rule provided_non_null_arguments_faults _ _ _ (tells_rule unique_argument_names_faults _ _ _ (tells_rule unique_input_field_names_faults _ _ _ tells_none)))))))))))).all v w ts
         (tt, (tt, (tt, (tt, (tt, (tt, (made, (tt, (tt, (tt, (tt, (tt, tt)))))))))))) runs
 
     module _ (A B : Type 0) (answer : S → ScalarAnswer) (accepts : C → InputValue S → Type 0) where
       abbrev first_step : Step (MultiVisitorCons A (MultiVisitorCons B LocalVisitors)) S C
-      first_step = both (locally {V = A} (arguments_of_correct_type answer accepts)) (both (locally {V = B} (default_values_of_correct_type answer accepts)) local_step)
+      first_step = both (locally {V = A} (arguments_of_correct_type_faults answer accepts)) (both (locally {V = B} (default_values_of_correct_type_faults answer accepts)) local_step)
 
       pub parts_told : (v w : MultiVisitorCons A (MultiVisitorCons B LocalVisitors)) (ts : List Places) → IsMadeFor (spreads_among v.second.second) → Runs first_step subject v document_events w ts → PartsTold answer accepts subject (joined ts)
       parts_told v w ts made runs =
-          let one = asks_before (arguments_of_correct_type answer accepts) (both (locally {V = B} (default_values_of_correct_type answer accepts)) local_step) v w ts runs in
-          let two = asks_before (default_values_of_correct_type answer accepts) local_step v.second w.second one.1 one.3 in
+          let one = asks_before (arguments_of_correct_type_faults answer accepts) (both (locally {V = B} (default_values_of_correct_type_faults answer accepts)) local_step) v w ts runs in
+          let two = asks_before (default_values_of_correct_type_faults answer accepts) local_step v.second w.second one.1 one.3 in
           record {
             arguments = one.0;
             arguments_told = one.2;

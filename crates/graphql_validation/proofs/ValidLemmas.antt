@@ -9,7 +9,7 @@ use Rattle.graphql_rule_errors.proofs.NoFaultLemmas.{append_none}
 use Rattle.graphql_rule_errors.specs.Places.{Places}
 use Rattle.graphql_visitors.specs.Subjects.{Subject}
 use Rattle.graphql_rules_document.specs.AllRules.{document_places, fragment_places, operation_places, variable_places}
-use Rattle.graphql_rules_values.proofs.LawLemmas.{arguments_one, defaults_one}
+use Rattle.graphql_rules.proofs.LiteralLaws.{arguments_one, defaults_one}
 use Rattle.graphql_validation.specs.FirstStage.{ArgumentsTold, DefaultsTold, FirstStage, PartsTold, local_places, parts, scopes}
 use Rattle.graphql_validation.specs.Valid.{HasNoFault, HasNoFaultInScopes}
 
@@ -113,17 +113,17 @@ module _ {S C : Type 0} (answer : S → ScalarAnswer) (accepts : C → InputValu
         variables_are_input_types = (append_none _ _ l5).0;
         known_fragment_names = (append_none _ _ l6).0;
         possible_fragment_spreads = (append_none _ _ l7).0;
-        directives = (append_none _ _ l8).0;
-        argument_names = (append_none _ _ l9).0;
-        required_arguments = (append_none _ _ l10).0;
-        argument_names_are_unique = (append_none _ _ l11).0;
-        input_field_names_are_unique = (append_none _ _ l12).0;
+        known_directives = (append_none _ _ l8).0;
+        known_argument_names = (append_none _ _ l9).0;
+        provided_non_null_arguments = (append_none _ _ l10).0;
+        unique_argument_names = (append_none _ _ l11).0;
+        unique_input_field_names = (append_none _ _ l12).0;
         in_scopes = scopes_none ((append_none h.of_parts of_scopes all).1);
       }
 
   locals_then : HasNoFault answer accepts subject → local_places subject ≡ []
   locals_then h = λ i.
-      h.fields_on_correct_type i ++ (h.scalar_leafs i ++ (h.fragments_on_composite_types i ++ (h.known_type_names i ++ (h.variables_are_input_types i ++ (h.known_fragment_names i ++ (h.possible_fragment_spreads i ++ (h.directives i ++ (h.argument_names i ++ (h.required_arguments i ++ (h.argument_names_are_unique i ++ (h.input_field_names_are_unique i ++ [])))))))))))
+      h.fields_on_correct_type i ++ (h.scalar_leafs i ++ (h.fragments_on_composite_types i ++ (h.known_type_names i ++ (h.variables_are_input_types i ++ (h.known_fragment_names i ++ (h.possible_fragment_spreads i ++ (h.known_directives i ++ (h.known_argument_names i ++ (h.provided_non_null_arguments i ++ (h.unique_argument_names i ++ (h.unique_input_field_names i ++ [])))))))))))
 
   pub first_then : (told : Places) → FirstStage answer accepts subject told → HasNoFault answer accepts subject → told ≡ []
   first_then told h k =

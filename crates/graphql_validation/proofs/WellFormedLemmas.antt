@@ -3,7 +3,7 @@ use Rattle.graphql_values.specs.declared.input_value.InputValue.{InputValue}
 use Rattle.graphql_scalars.specs.ScalarAnswers.{ScalarAnswer}
 use Rattle.graphql_rules_document.proofs.CycleLaws.{fragments_end}
 use Rattle.graphql_rules_document.proofs.RuleLaws.{distinct_fragments, distinct_operations, distinct_variables}
-use Rattle.graphql_rules_local.proofs.LawLemmas.{arguments_distinct, fields_declared_and_selected, spreads_known, types_known_as}
+use Rattle.graphql_rules.proofs.LawLemmas.{arguments_distinct, fields_declared_and_selected, spreads_known, types_known_as}
 use Rattle.graphql_visitors.specs.Subjects.{Subject}
 use Rattle.graphql_validation.specs.FirstStage.{parts, scopes}
 use Rattle.graphql_validation.specs.Valid.{HasNoFault}
@@ -17,7 +17,7 @@ module _ {S C : Type 0} (answer : S → ScalarAnswer) (accepts : C → InputValu
         operation_names = (distinct_operations (scopes subject).operations).0 h.in_scopes.unique_operation_names;
         fragment_names = (distinct_fragments (scopes subject).fragments).0 h.in_scopes.unique_fragment_names;
         variable_names = (distinct_variables (scopes subject).operations).0 h.in_scopes.unique_variable_names;
-        argument_names = (arguments_distinct subject (parts subject)).0 h.argument_names_are_unique;
+        argument_names = (arguments_distinct subject (parts subject)).0 h.unique_argument_names;
         spreads = (spreads_known subject (parts subject)).0 h.known_fragment_names;
         fragments_end = (fragments_end (scopes subject).fragments).0 h.in_scopes.no_fragment_cycles;
         variable_types = types.0;

@@ -8,9 +8,9 @@ use Rattle.graphql_rule_errors.specs.Places.{Places}
 use Rattle.graphql_visitors.specs.Subjects.{Subject}
 use Rattle.graphql_merging.specs.Merging.{Merging}
 use Rattle.graphql_merging.specs.Sets.{document_sets, members_of}
-use Rattle.graphql_rules_local.specs.DisableIntrospection.{introspects}
-use Rattle.graphql_rules_local.specs.Laws.{EachOf}
-use Rattle.graphql_rules_merging.specs.Visitor.{MergingTold}
+use Rattle.graphql_rules.specs.DisableIntrospection.{introspects}
+use Rattle.graphql_rules.specs.Laws.{EachOf}
+use Rattle.graphql_rules_merging.specs.OverlappingFieldsCanBeMerged.{MergingTold}
 use Rattle.graphql_validation.specs.FirstStage.{FirstStage, introspection_places, parts}
 use Rattle.graphql_validation.specs.Valid.{HasNoFault}
 

@@ -2,7 +2,7 @@
 use Rattle.std.specs.Prelude.{◌≡◌, ◌++◌, Bool, [], if◌then◌else◌}
 use Rattle.graphql_occurrences.specs.Nodes.{Seen}
 use Rattle.graphql_rule_errors.specs.Places.{Places, places}
-use Rattle.graphql_rules_local.specs.DisableIntrospection.{introspection_field}
+use Rattle.graphql_rules.specs.DisableIntrospection.{disable_introspection_faults}
 use Rattle.graphql_visitors.specs.Rules.{told_at}
 use Rattle.graphql_visitors.specs.Runs.{Step}
 use Rattle.graphql_visitors.specs.Subjects.{Subject}
@@ -12,7 +12,7 @@ use Rattle.graphql_validation.specs.declared.introspection.Introspection.{Intros
 module _ {S C : Type 0} where
   -- what it tells at an event, where it is asked
   abbrev pub asked_at : Bool → Subject S C → Seen S C → Places
-  asked_at is_asked subject e = if is_asked then told_at introspection_field subject e else []
+  asked_at is_asked subject e = if is_asked then told_at disable_introspection_faults subject e else []
 
   -- at an event it reports nothing, and keeps what it tells
   abbrev pub keeps_apart : Step Introspection S C

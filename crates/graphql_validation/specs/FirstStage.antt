@@ -6,31 +6,31 @@ use Rattle.graphql_scalars.specs.ScalarAnswers.{ScalarAnswer}
 use Rattle.graphql_occurrences.specs.Occurrences.{occurrences}
 use Rattle.graphql_occurrences.specs.Parts.{Part}
 use Rattle.graphql_rule_errors.specs.Places.{Places}
-use Rattle.graphql_scopes.specs.Scopes.{Scopes, scopes_in}
+use Rattle.graphql_rules_document.specs.Scopes.{Scopes, scopes_in}
 use Rattle.graphql_visitors.specs.Rules.{Rule, Tell}
 use Rattle.graphql_visitors.specs.Subjects.{Subject}
-use Rattle.graphql_rules_local.specs.DisableIntrospection.{introspection_field}
-use Rattle.graphql_rules_local.specs.FieldsOnCorrectType.{unknown_field}
-use Rattle.graphql_rules_local.specs.FragmentsOnCompositeTypes.{no_composite}
-use Rattle.graphql_rules_local.specs.KnownArgumentNames.{known_argument_names}
-use Rattle.graphql_rules_local.specs.KnownDirectives.{known_directives}
-use Rattle.graphql_rules_local.specs.KnownFragmentNames.{unknown_fragment}
-use Rattle.graphql_rules_local.specs.KnownTypeNames.{unknown_type}
-use Rattle.graphql_rules_local.specs.PossibleFragmentSpreads.{impossible_spread}
-use Rattle.graphql_rules_local.specs.ProvidedNonNullArguments.{provided_non_null_arguments}
-use Rattle.graphql_rules_local.specs.ScalarLeafs.{wrong_leaf}
-use Rattle.graphql_rules_local.specs.UniqueArgumentNames.{unique_argument_names}
-use Rattle.graphql_rules_local.specs.UniqueInputFieldNames.{unique_input_field_names}
-use Rattle.graphql_rules_local.specs.VariablesAreInputTypes.{no_input_type}
-use Rattle.graphql_rules_values.specs.ArgumentsOfCorrectType.{arguments_of_correct_type}
-use Rattle.graphql_rules_values.specs.DefaultValuesOfCorrectType.{default_values_of_correct_type}
+use Rattle.graphql_rules.specs.DisableIntrospection.{disable_introspection_faults}
+use Rattle.graphql_rules.specs.FieldsOnCorrectType.{fields_on_correct_type_faults}
+use Rattle.graphql_rules.specs.FragmentsOnCompositeTypes.{fragments_on_composite_types_faults}
+use Rattle.graphql_rules.specs.KnownArgumentNames.{known_argument_names_faults}
+use Rattle.graphql_rules.specs.KnownDirectives.{known_directives_faults}
+use Rattle.graphql_rules.specs.KnownFragmentNames.{known_fragment_names_faults}
+use Rattle.graphql_rules.specs.KnownTypeNames.{known_type_names_faults}
+use Rattle.graphql_rules.specs.PossibleFragmentSpreads.{possible_fragment_spreads_faults}
+use Rattle.graphql_rules.specs.ProvidedNonNullArguments.{provided_non_null_arguments_faults}
+use Rattle.graphql_rules.specs.ScalarLeafs.{scalar_leafs_faults}
+use Rattle.graphql_rules.specs.UniqueArgumentNames.{unique_argument_names_faults}
+use Rattle.graphql_rules.specs.UniqueInputFieldNames.{unique_input_field_names_faults}
+use Rattle.graphql_rules.specs.VariablesAreInputTypes.{variables_are_input_types_faults}
+use Rattle.graphql_rules.specs.ArgumentsOfCorrectType.{arguments_of_correct_type_faults}
+use Rattle.graphql_rules.specs.DefaultValuesOfCorrectType.{default_values_of_correct_type_faults}
 use Rattle.graphql_rules_document.specs.AllRules.{document_places}
 
 -- the rules that look at one part at a time, and ask no check
 abbrev pub local_rules : {S C : Type 0} → List (Rule S C)
 local_rules =
-    unknown_field ∷ wrong_leaf ∷ no_composite ∷ unknown_type ∷ no_input_type ∷ unknown_fragment ∷ impossible_spread ∷ known_directives ∷ known_argument_names ∷ provided_non_null_arguments
-    ∷ unique_argument_names ∷ unique_input_field_names ∷ []
+    fields_on_correct_type_faults ∷ scalar_leafs_faults ∷ fragments_on_composite_types_faults ∷ known_type_names_faults ∷ variables_are_input_types_faults ∷ known_fragment_names_faults ∷ possible_fragment_spreads_faults ∷ known_directives_faults ∷ known_argument_names_faults ∷ provided_non_null_arguments_faults
+    ∷ unique_argument_names_faults ∷ unique_input_field_names_faults ∷ []
 
 module _ {S C : Type 0} (subject : Subject S C) where
   abbrev pub parts : List (Part S C)
@@ -47,14 +47,14 @@ module _ {S C : Type 0} (subject : Subject S C) where
   local_places = flat_map places_of local_rules
 
   abbrev pub introspection_places : Places
-  introspection_places = places_of introspection_field
+  introspection_places = places_of disable_introspection_faults
 
 module _ {S C : Type 0} (answer : S → ScalarAnswer) (accepts : C → InputValue S → Type 0) (subject : Subject S C) where
   abbrev pub ArgumentsTold : Places → Type 0
-  ArgumentsTold = Tell (arguments_of_correct_type answer accepts subject) (parts subject)
+  ArgumentsTold = Tell (arguments_of_correct_type_faults answer accepts subject) (parts subject)
 
   abbrev pub DefaultsTold : Places → Type 0
-  DefaultsTold = Tell (default_values_of_correct_type answer accepts subject) (parts subject)
+  DefaultsTold = Tell (default_values_of_correct_type_faults answer accepts subject) (parts subject)
 
   -- what the rules tell that look at one part at a time, in some order
   pub record PartsTold (told : Places) : Type 0 where

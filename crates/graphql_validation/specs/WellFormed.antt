@@ -6,10 +6,10 @@ use Rattle.std.specs.Str.{bytes_eq}
 use Rattle.graphql_names.specs.Names.{Bytes}
 use Rattle.graphql_tree.specs.Definitions.{fragment_named}
 use Rattle.graphql_occurrences.specs.Parts.{AField, ASpread, Condition, Given, VariableDefined}
-use Rattle.graphql_scopes.specs.Scopes.{FragmentScope, OperationScope}
+use Rattle.graphql_rules_document.specs.Scopes.{FragmentScope, OperationScope}
 use Rattle.graphql_schema.specs.Faults.{is_composite}
 use Rattle.graphql_visitors.specs.Subjects.{Subject}
-use Rattle.graphql_rules_local.specs.Laws.{AreDistinct, EachOf, IsDeclaredField, IsKnownAs}
+use Rattle.graphql_rules.specs.Laws.{AreDistinct, EachOf, IsDeclaredField, IsKnownAs}
 use Rattle.graphql_rules_document.specs.Ends.{EndsWithin}
 use Rattle.graphql_validation.specs.FirstStage.{parts, scopes}
 

@@ -12,7 +12,7 @@ ghost use Rattle.graphql_visitors.specs.Subjects.{subject_of};
 
 use crate::first_stage::{first_stage_errors, stage_errors};
 use graphql_rule_errors::RuleError;
-use graphql_rules_merging::overlapping_fields_can_be_merged;
+use graphql_rules_merging::overlapping_fields_can_be_merged::overlapping_fields_can_be_merged;
 use graphql_schema::{RootNode, SchemaScalar, SchemaType};
 use graphql_text::Items;
 use graphql_tree::Definition;

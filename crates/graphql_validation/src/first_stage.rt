@@ -6,7 +6,7 @@ ghost use Rattle.graphql_rule_errors.specs.Places.{places};
 ghost use Rattle.graphql_rule_errors.specs.declared.rule_error.RuleError.{RuleError};
 ghost use Rattle.graphql_rules_document.specs.AllRules.{document_places};
 ghost use Rattle.graphql_schema.specs.Declarations.{declarations_of};
-ghost use Rattle.graphql_scopes.specs.Lent.{scopes_told};
+ghost use Rattle.graphql_rules_document.specs.Lent.{scopes_told};
 ghost use Rattle.graphql_validation.specs.Apart.{asked_places};
 ghost use Rattle.graphql_validation.specs.FirstStage.{FirstStage, PartsTold, introspection_places, scopes as scopes_held};
 ghost use Rattle.graphql_validation.specs.Valid.{HasNoFault};
@@ -17,16 +17,14 @@ use crate::introspection::Introspection;
 use crate::one_walk::visit_and_gather;
 use graphql_document_walk::visit;
 use graphql_rule_errors::RuleError;
-use graphql_rules_document::scope_errors;
-use graphql_rules_local::{
-    disable_introspection, fields_on_correct_type, fragments_on_composite_types,
-    known_argument_names, known_directives, known_fragment_names, known_type_names,
-    possible_fragment_spreads, provided_non_null_arguments, scalar_leafs, unique_argument_names,
-    unique_input_field_names, variables_are_input_types,
+use graphql_rules::{
+    arguments_of_correct_type, default_values_of_correct_type, disable_introspection,
+    fields_on_correct_type, fragments_on_composite_types, known_argument_names, known_directives,
+    known_fragment_names, known_type_names, possible_fragment_spreads, provided_non_null_arguments,
+    scalar_leafs, unique_argument_names, unique_input_field_names, variables_are_input_types,
 };
-use graphql_rules_values::{arguments_of_correct_type, default_values_of_correct_type};
+use graphql_rules_document::{Scopes, scope_errors};
 use graphql_schema::{SchemaScalar, SchemaType};
-use graphql_scopes::Scopes;
 use graphql_text::Items;
 use graphql_tree::Definition;
 use graphql_visitors::{MultiVisitorNil, ValidatorContext};

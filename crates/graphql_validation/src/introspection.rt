@@ -4,7 +4,7 @@ ghost use Rattle.std.specs.Prelude.{◌≡◌, []};
 
 use graphql_occurrences::Event;
 use graphql_rule_errors::RuleError;
-use graphql_rules_local::DisableIntrospection;
+use graphql_rules::DisableIntrospection;
 use graphql_schema::SchemaScalar;
 use graphql_text::Items;
 use graphql_visitors::{LocalRule, ValidatorContext, Visitor};

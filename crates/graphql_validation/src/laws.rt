@@ -10,46 +10,39 @@ ghost use Rattle.graphql_validation.specs.Valid.{HasNoFault};
 ghost use Rattle.graphql_validation.specs.WellFormed.{IsWellFormed};
 ghost use Rattle.graphql_visitors.specs.Subjects.{Subject};
 
-pub use graphql_merged_fields::laws::{
-    chosen_members_are_collected, one_field_for_a_key, one_field_of_an_object, one_object_type,
-    own_sets_merge,
-};
 pub use graphql_merging::laws::{
-    direct_conflicts_are_right, fields_agree_with_themselves, merging_is_agreement,
-    merging_is_mutual,
+    chosen_members_are_collected, direct_conflicts_are_right, fields_agree_with_themselves,
+    merging_is_agreement, merging_is_mutual, one_field_for_a_key, one_field_of_an_object,
+    one_object_type, own_sets_merge,
 };
 pub use graphql_occurrences::laws::events_tell_occurrences;
 pub use graphql_rule_errors::laws::{
     distinct_names_have_no_repeats, errors_stand_by_places_and_messages,
 };
+pub use graphql_rules::laws::{
+    arguments_are_declared, arguments_are_distinct, arguments_are_provided,
+    conditions_are_composite, declared_arguments_conform, defaults_conform, directives_may_stand,
+    fields_are_declared, fields_are_declared_and_fit, input_fields_are_distinct,
+    leaves_have_no_sets, named_types_are_known, named_types_are_of_their_kinds,
+    nothing_is_introspected, possible_spreads_tell_of_occurrences, spread_fragments_are_known,
+    spreads_are_possible, told_of_arguments_is_determined, told_of_defaults_is_determined,
+    variables_are_of_input_types,
+};
 pub use graphql_rules_document::laws::{
     defined_uses_have_definitions, document_rules_tell_of_documents,
     fragments_without_cycles_are_ranked, fragments_without_cycles_end,
     fragments_without_cycles_never_reach_themselves, lone_anonymous_operation_stands_alone,
-    reached_uses_stand_in_what_is_reached, unique_fragments_have_distinct_names,
+    reached_is_least, reached_uses_stand_in_what_is_reached, unique_fragments_have_distinct_names,
     unique_operations_have_distinct_names, unique_variables_have_distinct_names,
     used_fragments_are_reached, used_variables_have_uses, uses_in_allowed_position_are_allowed,
 };
 pub use graphql_rules_document::settled::{ending_fragments_are_settled, field_types_are_known};
-pub use graphql_rules_local::laws::{
-    arguments_are_declared, arguments_are_distinct, arguments_are_provided,
-    conditions_are_composite, directives_may_stand, fields_are_declared,
-    fields_are_declared_and_fit, input_fields_are_distinct, leaves_have_no_sets,
-    named_types_are_known, named_types_are_of_their_kinds, nothing_is_introspected,
-    possible_spreads_tell_of_occurrences, spread_fragments_are_known, spreads_are_possible,
-    variables_are_of_input_types,
-};
 pub use graphql_rules_merging::laws::visitor_tells_of_document;
-pub use graphql_rules_values::laws::{
-    declared_arguments_conform, defaults_conform, told_of_arguments_is_determined,
-    told_of_defaults_is_determined,
-};
 pub use graphql_schema::laws::{
     overlap_is_symmetric, possible_is_below, subtype_is_reflexive, subtype_is_transitive,
     wrapped_subtype_decides,
 };
 use graphql_schema::{SchemaScalar, SchemaType};
-pub use graphql_scopes::laws::reached_is_least;
 pub use graphql_variable_checks::laws::{
     accepted_variables_are_not_told, definitions_of_distinct_names_are_found,
     final_values_are_given_or_defaults, given_values_conform, non_null_variables_have_values,

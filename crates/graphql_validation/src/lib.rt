@@ -36,7 +36,6 @@ pub mod rules;
 pub use all_rules::{request_errors, root_node_errors, validation_errors, visit_all_rules};
 pub use first_stage::{first_stage_errors, visit_first_stage, visit_introspection_rule};
 pub use graphql_document_walk::{Walk, visit};
-pub use graphql_final_variables::FinalVariables;
 pub use graphql_literal_checks::{Source, validate_literal_value, validate_value};
 pub use graphql_names::NamedItems;
 pub use graphql_occurrences::{
@@ -54,3 +53,4 @@ pub use graphql_visitors::{
     Local, LocalRule, MultiVisitorCons, MultiVisitorNil, Relational, RelationalRule,
     ValidatorContext, Visitor,
 };
+pub use graphql_written_out::FinalVariables;

@@ -3,15 +3,15 @@
 ghost use Rattle.std.specs.Prelude.{◌≡◌, false, fold};
 ghost use Rattle.graphql_occurrences.specs.Events.{events};
 ghost use Rattle.graphql_document_walk.specs.Pending.{ahead};
-ghost use Rattle.graphql_scopes.specs.Gathered.{gathered, with_event};
-ghost use Rattle.graphql_scopes.specs.Lent.{scopes_told};
-ghost use Rattle.graphql_scopes.specs.Scopes.{scopes_in};
+ghost use Rattle.graphql_rules_document.specs.Gathered.{gathered, with_event};
+ghost use Rattle.graphql_rules_document.specs.Lent.{scopes_told};
+ghost use Rattle.graphql_rules_document.specs.Scopes.{scopes_in};
 ghost use Rattle.graphql_visitors.specs.Runs.{Visited};
 ghost use Rattle.graphql_visitors.specs.Subjects.{subject_of};
 
 use graphql_document_walk::Walk;
+use graphql_rules_document::{Gathering, Scopes};
 use graphql_schema::SchemaScalar;
-use graphql_scopes::{Gathering, Scopes};
 use graphql_visitors::{ValidatorContext, Visitor};
 
 /// The visitor steps over every event of the context's document, as `visit` says, and what operations

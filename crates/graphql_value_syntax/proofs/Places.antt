@@ -5,7 +5,7 @@ use Rattle.graphql_text.specs.declared.token.ScalarToken.{ScalarToken}
 use Rattle.graphql_text.specs.declared.parse_error.ParseError.{ParseError}
 use Rattle.graphql_values.specs.declared.input_value.InputValue.{InputValue}
 use Rattle.graphql_values.specs.declared.input_value.InputValue.TheVariants as v
-use Rattle.graphql_type_references.specs.declared.type_modifier.TypeModifier.TheVariants as m
+use Rattle.graphql_names.specs.declared.type_modifier.TypeModifier.TheVariants as m
 use Rattle.graphql_values.specs.InputValues.{unplaced, unlocated}
 use Rattle.graphql_values.proofs.InputValueEquations.{unlocated_list, unlocated_object}
 use Rattle.graphql_grammar.specs.declared.kind.Kind.{Kind}

@@ -2,7 +2,7 @@
 use Rattle.std.proofs.Common.{ℕ, zero, suc, Bool, true, false, [], ◌∷◌}
 use Rattle.graphql_values.specs.declared.input_value.InputValue.{InputValue}
 use Rattle.graphql_values.specs.declared.input_value.InputValue.TheVariants as v
-use Rattle.graphql_type_references.specs.declared.type_modifier.TypeModifier.TheVariants as m
+use Rattle.graphql_names.specs.declared.type_modifier.TypeModifier.TheVariants as m
 use Rattle.graphql_grammar.specs.declared.kind.Kind.TheVariants as k
 use Rattle.graphql_grammar.specs.Kinds.{only, names}
 use Rattle.graphql_grammar.specs.Input.{At, Parser}

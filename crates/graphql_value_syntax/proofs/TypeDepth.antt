@@ -1,6 +1,6 @@
 -- The parser of type references calls itself, and the count of levels decides nothing.
 use Rattle.std.proofs.Common.{◌≡◌, ℕ, suc, true, refl, arith}
-use Rattle.graphql_type_references.specs.declared.type_modifier.TypeModifier.TheVariants as m
+use Rattle.graphql_names.specs.declared.type_modifier.TypeModifier.TheVariants as m
 use Rattle.graphql_grammar.specs.declared.kind.Kind.TheVariants as k
 use Rattle.graphql_grammar.specs.Kinds.{only, names}
 use Rattle.graphql_grammar.specs.Input.{At, Input, Parser}

@@ -4,7 +4,7 @@ use Rattle.std.proofs.lemmas.List.{append-nil}
 use Rattle.std.specs.Prelude.{codes}
 use Rattle.graphql_text.specs.declared.position.Span.{Span}
 use Rattle.graphql_text.specs.declared.token.Token.TheVariants as t
-use Rattle.graphql_type_references.specs.declared.type_modifier.TypeModifier.TheVariants as m
+use Rattle.graphql_names.specs.declared.type_modifier.TypeModifier.TheVariants as m
 use Rattle.graphql_grammar.specs.declared.kind.Kind.TheVariants as k
 use Rattle.graphql_grammar.specs.Kinds.{Kinds, only, either, no_kind, names}
 use Rattle.graphql_grammar.specs.Input.{At, Located, Fault, ◌>>=◌, pure, peek, peek_kind, next}

@@ -1,8 +1,8 @@
 -- How type references are read (GraphQL October 2021, 2.11 Type References).
 use Rattle.std.specs.Prelude.{ℕ, zero, suc, List, [], ◌∷◌, ◌++◌, None}
-use Rattle.graphql_type_references.specs.declared.type_modifier.TypeModifier.{TypeModifier}
-use Rattle.graphql_type_references.specs.declared.type_modifier.TypeModifier.TheVariants as m
-use Rattle.graphql_type_references.specs.declared.type_reference.Type as types
+use Rattle.graphql_names.specs.declared.type_modifier.TypeModifier.{TypeModifier}
+use Rattle.graphql_names.specs.declared.type_modifier.TypeModifier.TheVariants as m
+use Rattle.graphql_names.specs.declared.type_reference.Type as types
 use Rattle.graphql_grammar.specs.declared.kind.Kind.TheVariants as k
 use Rattle.graphql_grammar.specs.Kinds.{only}
 use Rattle.graphql_grammar.specs.Input.{At, Parser, ◌>>=◌, ◌>>◌, pure, refuse, left}

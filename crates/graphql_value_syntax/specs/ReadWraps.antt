@@ -1,7 +1,7 @@
 -- A type reference, as it is read without going down: opening brackets, a name, and what wraps it (GraphQL October 2021, 2.11 Type References).
 use Rattle.std.specs.Prelude.{ℕ, zero, suc, List, None}
-use Rattle.graphql_type_references.specs.declared.type_modifier.TypeModifier.{TypeModifier}
-use Rattle.graphql_type_references.specs.declared.type_modifier.TypeModifier.TheVariants as m
+use Rattle.graphql_names.specs.declared.type_modifier.TypeModifier.{TypeModifier}
+use Rattle.graphql_names.specs.declared.type_modifier.TypeModifier.TheVariants as m
 use Rattle.graphql_grammar.specs.declared.kind.Kind.TheVariants as k
 use Rattle.graphql_grammar.specs.Kinds.{only}
 use Rattle.graphql_grammar.specs.Input.{Parser, ◌>>=◌, ◌>>◌, pure}

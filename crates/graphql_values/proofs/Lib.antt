@@ -13,9 +13,9 @@ pub mod SameObjectLaws
 pub mod InputValueTextLemmas
 pub mod PendingLemmas
 pub mod StepLemmas
-pub mod InputOfOutputLemmas
 pub mod PartsLemmas
 pub mod VariableLaws
 pub mod CountEquations
 pub mod SamePlaces
 pub mod UnlocatedVariables
+pub mod JoinedParts

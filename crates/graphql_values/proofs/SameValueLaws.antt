@@ -1,7 +1,7 @@
 -- Being the same value is an equivalence, where the scalars' equality is one.
 use Rattle.std.proofs.Common.{◌≡◌, Bool, true, List, length, get_or, ap, sym, subst, refl, ◌∙◌, arith}
 use Rattle.std.specs.Cmp.{IsEquivalence}
-use Rattle.graphql_text.specs.Memory.{Text}
+use Rattle.graphql_text.specs.declared.text.Text.{Text}
 use Rattle.graphql_values.specs.declared.input_value.InputValue.{InputValue, out-InputValue, roll-InputValue, roll-out-InputValue}
 use Rattle.graphql_values.specs.declared.input_value.InputValue.TheOpen.{InputValue-F}
 use Rattle.graphql_values.specs.declared.input_value.InputValue.TheVariants as value

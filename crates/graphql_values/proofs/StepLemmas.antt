@@ -3,8 +3,8 @@ use Rattle.std.proofs.Common.{◌≡◌, ℕ, List, [], ◌∷◌, ◌++◌, get
 use Rattle.std.specs.Prelude.{codes}
 use Rattle.std.specs.List.{All, flat_map, join_by}
 use Rattle.std.proofs.lemmas.Grind.{flat_map-append}
-use Rattle.graphql_output_values.proofs.StepLemmas.{joined_map, joined_same, joined_texts}
-use Rattle.graphql_text.specs.Memory.{Text}
+use Rattle.graphql_values.proofs.JoinedParts.{joined_map, joined_same, joined_texts}
+use Rattle.graphql_text.specs.declared.text.Text.{Text}
 use Rattle.graphql_scalars.specs.ScalarAnswers.{ScalarAnswer}
 use Rattle.graphql_scalars.specs.ScalarText.{scalar_text}
 use Rattle.graphql_values.specs.declared.input_value.InputValue.{InputValue}

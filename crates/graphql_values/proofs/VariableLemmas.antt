@@ -10,7 +10,7 @@ use Rattle.graphql_values.specs.declared.input_value.InputValue.TheVariants as v
 use Rattle.graphql_values.specs.InputValues.{Placed, Pair}
 use Rattle.graphql_values.specs.Variables.{variables_in, variables_layer, each_given, given_item, given_pair, constant_layer, constant_of, constant_item, constant_pair}
 use Rattle.graphql_values.proofs.InputValueEquations.{on_item, on_value, fold_list, fold_object}
-use Rattle.graphql_text.specs.Memory.{Text}
+use Rattle.graphql_text.specs.declared.text.Text.{Text}
 
 module _ {S : Type 0} where
   pub variables_in_list : (xs : List (Placed (InputValue S))) → variables_in (value.List xs) ≡ flat_map (λ (x : Placed (InputValue S)). variables_in x.item) xs

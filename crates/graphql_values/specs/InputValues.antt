@@ -1,6 +1,6 @@
 -- Input values without their places (GraphQL October 2021, 2.9 Input Values).
 use Rattle.std.specs.Prelude.{map}
-use Rattle.graphql_text.specs.Memory.{Text}
+use Rattle.graphql_text.specs.declared.text.Text.{Text}
 use Rattle.graphql_text.specs.declared.position.Span.{Span}
 use Rattle.graphql_text.specs.declared.spanning.Spanning.{Spanning}
 use Rattle.graphql_text.specs.Position.{origin}

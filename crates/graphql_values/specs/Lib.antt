@@ -11,6 +11,5 @@ pub mod ConversionLaws
 pub mod SameValue
 pub mod Comparing
 pub mod Laws
-pub mod InputOfOutput
 pub mod Parts
 pub mod Counts

@@ -1,7 +1,7 @@
 -- What a list or an input object holds (GraphQL October 2021, 2.9.7 List Value, 2.9.8 Input Object Values).
 use Rattle.std.specs.Prelude.{List, [], ◌∷◌, if◌then◌else◌, fold}
 use Rattle.std.specs.Str.{bytes_eq}
-use Rattle.graphql_text.specs.Memory.{Text}
+use Rattle.graphql_text.specs.declared.text.Text.{Text}
 use Rattle.graphql_values.specs.InputValues.{Pair}
 
 -- the fields with one more: a name that is there keeps its place and takes the value, and a new name goes last

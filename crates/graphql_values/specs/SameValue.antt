@@ -2,7 +2,7 @@
 use Rattle.std.specs.Prelude.{◌≡◌, ◌≢◌, List, [], ◌∷◌, map, Bool, true}
 use Rattle.std.specs.List.{AllPairs, filter}
 use Rattle.std.specs.Str.{bytes_eq}
-use Rattle.graphql_text.specs.Memory.{Text}
+use Rattle.graphql_text.specs.declared.text.Text.{Text}
 use Rattle.graphql_values.specs.declared.input_value.InputValue.{InputValue}
 use Rattle.graphql_values.specs.declared.input_value.InputValue.TheVariants as value
 use Rattle.graphql_values.specs.InputValues.{Placed, Pair}

@@ -1,7 +1,7 @@
 -- The steps of an input value: what a walk over it tells, from its start to its end (GraphQL October 2021, 2.9 Input Values).
 use Rattle.std.specs.Prelude.{List, [], ◌∷◌, ◌++◌}
 use Rattle.std.specs.List.{join_by}
-use Rattle.graphql_text.specs.Memory.{Text}
+use Rattle.graphql_text.specs.declared.text.Text.{Text}
 use Rattle.graphql_values.specs.declared.input_value.InputValue.{InputValue, fold-InputValue}
 use Rattle.graphql_values.specs.declared.input_value.InputValue.TheOpen.{InputValue-F}
 use Rattle.graphql_values.specs.InputValues.{Placed, Pair}

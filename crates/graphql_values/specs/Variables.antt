@@ -2,7 +2,7 @@
 use Rattle.std.specs.Prelude.{List, [], ◌∷◌, Option, Some}
 use Rattle.std.specs.List.{flat_map, Contains}
 use Rattle.std.specs.Option.{option_map, option_and_then}
-use Rattle.graphql_text.specs.Memory.{Text}
+use Rattle.graphql_text.specs.declared.text.Text.{Text}
 use Rattle.graphql_values.specs.declared.input_value.InputValue.{InputValue, fold-InputValue}
 use Rattle.graphql_values.specs.declared.input_value.InputValue.TheOpen.{InputValue-F}
 use Rattle.graphql_values.specs.declared.input_value.InputValue.TheVariants as value

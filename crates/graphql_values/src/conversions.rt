@@ -9,7 +9,6 @@ mod optional;
 mod pointers;
 mod scalars;
 mod to_input_value;
-mod values;
 
 pub use arrays::FromInputValueArrayError;
 pub use from_input_value::FromInputValue;

@@ -9,7 +9,8 @@ pub use conversions::{
     FromInputValue, FromInputValueArrayError, FromInputValueVecError, IntoInputValue, ToInputValue,
     no_scalar,
 };
-pub use graphql_names::{Name, NameParseError, Named, NamedItems};
+pub use graphql_names::{
+    BorrowedType, Name, NameParseError, Named, NamedItems, Type, TypeModifier, TypeModifiers,
+};
 pub use graphql_scalars::{DefaultScalarValue, ParseScalarResult, ParseScalarValue, ScalarValue};
-pub use graphql_type_references::{BorrowedType, Type, TypeModifier, TypeModifiers};
-pub use input_value::{InputValue, Variables};
+pub use input_value::{InputValue, Variables, push_unlocated, push_unlocated_field};

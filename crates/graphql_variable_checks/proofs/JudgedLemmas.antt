@@ -7,7 +7,7 @@ use Rattle.graphql_scalars.specs.ScalarAnswers.{ScalarAnswer}
 use Rattle.graphql_schema.specs.Lookups.{type_named}
 use Rattle.graphql_tree.specs.Variables.{Variable}
 use Rattle.graphql_values.specs.declared.input_value.InputValue.{InputValue}
-use Rattle.graphql_final_variables.specs.FinalValues.{variable_name}
+use Rattle.graphql_written_out.specs.FinalValues.{variable_name}
 use Rattle.graphql_variable_checks.specs.Accepted.{FitsVariable, IsAccepted, IsKnown, variable_type}
 
 copied_is_some : {A : Type 0} (o : Option (Bor A)) → is_some (option_copied o) ≡ is_some o

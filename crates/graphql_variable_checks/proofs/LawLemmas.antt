@@ -14,7 +14,7 @@ use Rattle.graphql_names.proofs.NameMaps.{found_is_in}
 use Rattle.graphql_scalars.specs.ScalarAnswers.{ScalarAnswer}
 use Rattle.graphql_values.specs.InputValues.{Placed}
 use Rattle.graphql_values.specs.declared.input_value.InputValue.{InputValue}
-use Rattle.graphql_final_variables.specs.FinalValues.{default_named, default_of, variable_name}
+use Rattle.graphql_written_out.specs.FinalValues.{default_named, default_of, variable_name}
 use Rattle.graphql_variable_checks.specs.Accepted.{FitsVariable, may_be_absent, variable_type}
 use Rattle.graphql_variable_checks.specs.Laws.{DistinctNamesAreFound, GivenValuesConform, NonNullHaveValues, ValuesAreGivenOrDefaults}
 use Rattle.graphql_variable_checks.proofs.RefusalLemmas.{told_none}

@@ -5,7 +5,7 @@ use Rattle.std.specs.List.{IsDistinct}
 use Rattle.std.specs.Option.{IsSome}
 use Rattle.std.specs.Str.{bytes_eq}
 use Rattle.std.proofs.lemmas.Bool.{false≢true}
-use Rattle.graphql_final_variables.specs.FinalValues.{definition_named, final_value, variable_name}
+use Rattle.graphql_written_out.specs.FinalValues.{definition_named, final_value, variable_name}
 use Rattle.graphql_literal_checks.specs.Conforms.{Conforms, scalar, list, null, no_items, more_items}
 use Rattle.graphql_literal_checks.specs.declared.source.Source.TheVariants.{Sent}
 use Rattle.graphql_literal_checks.proofs.ConformsLemmas.{null_of}

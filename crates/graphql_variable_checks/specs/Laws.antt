@@ -3,7 +3,7 @@ use Rattle.std.specs.Prelude.{◌≡◌, ◌↔◌, true, List, [], map, Option,
 use Rattle.std.specs.List.{Contains, IsDistinct}
 use Rattle.std.specs.Option.{ForSome, IsSome}
 use Rattle.std.specs.Str.{bytes_eq}
-use Rattle.graphql_final_variables.specs.FinalValues.{default_of, definition_named, final_value, variable_name}
+use Rattle.graphql_written_out.specs.FinalValues.{default_of, definition_named, final_value, variable_name}
 use Rattle.graphql_literal_checks.specs.Conforms.{Conforms}
 use Rattle.graphql_literal_checks.specs.InputTypes.{refuses_null}
 use Rattle.graphql_literal_checks.specs.declared.source.Source.TheVariants.{Sent}

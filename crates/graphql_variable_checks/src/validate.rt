@@ -9,13 +9,13 @@ ghost use Rattle.graphql_rule_errors.specs.Places.{places};
 ghost use Rattle.graphql_tree.specs.Documents.{variables_in};
 ghost use Rattle.graphql_variable_checks.specs.Accepted as spec;
 
-use graphql_final_variables::{Variable, definitions_of};
 use graphql_literal_checks::{Source, validate_value};
 use graphql_rule_errors::{RuleError, report};
 use graphql_schema::{SchemaScalar, SchemaType};
 use graphql_text::{Items, Spanning, TextRef};
 use graphql_tree::Operation;
 use graphql_values::{InputValue, Type, Variables};
+use graphql_written_out::{Variable, definitions_of};
 use std::alloc::{AllocError, Global};
 
 /// The errors of the values that a request gives for the variables of an operation (GraphQL October

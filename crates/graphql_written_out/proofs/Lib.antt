@@ -1,2 +1,4 @@
 pub mod WrittenEquations
 pub mod Layers
+pub mod FilledEquations
+pub mod FilledLaws

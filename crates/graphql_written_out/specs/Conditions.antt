@@ -3,14 +3,14 @@ use Rattle.std.specs.Prelude.{Bool, true, false, not, Option, Some, None, codes,
 use Rattle.std.specs.List.{list_any}
 use Rattle.std.specs.Option.{option_and_then, option_map}
 use Rattle.std.specs.Str.{bytes_eq}
-use Rattle.graphql_text.specs.Memory.{Text}
+use Rattle.graphql_text.specs.declared.text.Text.{Text}
 use Rattle.graphql_scalars.specs.ScalarAnswers.{ScalarAnswer, as_bool}
 use Rattle.graphql_values.specs.declared.input_value.InputValue.{InputValue, out-InputValue}
 use Rattle.graphql_values.specs.declared.input_value.InputValue.TheOpen.{InputValue-F}
 use Rattle.graphql_tree.specs.Arguments.{value_of}
 use Rattle.graphql_tree.specs.Documents.{arguments_in}
 use Rattle.graphql_tree.specs.declared.directive.Directive.{Directive}
-use Rattle.graphql_final_variables.specs.Filled.{filled}
+use Rattle.graphql_written_out.specs.Filled.{filled}
 use Rattle.graphql_written_out.specs.Trees.{Directives}
 
 abbrev pub is_true : Option Bool → Bool

@@ -4,3 +4,8 @@ pub mod Conditions
 pub mod Fields
 pub mod Groups
 pub mod Repeats
+pub mod FinalValues
+pub mod FinalVariables
+pub mod Filled
+pub mod Told
+pub mod Laws

@@ -1,11 +1,11 @@
 //! Which selections are left out.
 
 ghost use Rattle.std.specs.Prelude.{◌≡◌};
-ghost use Rattle.graphql_final_variables.specs.FinalVariables.{value_in};
+ghost use Rattle.graphql_written_out.specs.FinalVariables.{value_in};
 ghost use Rattle.graphql_written_out.specs.Conditions as spec;
 ghost use Rattle.graphql_written_out.specs.Written.{listed};
 
-use graphql_final_variables::{ArgumentValue, FinalVariables};
+use crate::{ArgumentValue, FinalVariables};
 use graphql_text::{Items, Spanning};
 use graphql_tree::Directive;
 use graphql_values::{InputValue, ScalarValue};

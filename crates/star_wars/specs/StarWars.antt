@@ -1,11 +1,12 @@
 -- What Star Wars answers.
 use Rattle.std.specs.Prelude.{ℕ, List, Option, Some, None, codes, map, option_map, position, slice_get, if◌then◌else◌}
 use Rattle.std.specs.Borrow.{Bor}
-use Rattle.std.specs.Option.{option_and_then, option_map_or, option_or}
+use Rattle.std.specs.Option.{option_map_or, option_or}
+use Rattle.std.specs.Result.{result_ok}
 use Rattle.std.specs.Str.{bytes_eq}
-use Rattle.graphql_embedding.specs.Answers as answers
-use Rattle.graphql_embedding.specs.Answers.{Answer, Bytes}
-use Rattle.graphql_embedding.specs.Given.{Leaves, word}
+use Rattle.graphql_resolvers.specs.Answers as answers
+use Rattle.graphql_resolvers.specs.Answers.{Answer, Bytes, ◌>>=◌}
+use Rattle.graphql_resolvers.specs.Given.{Inputs, word, word_or_null}
 use Rattle.star_wars.specs.declared.data.Character.{Character}
 use Rattle.star_wars.specs.declared.data.Droid.{Droid}
 use Rattle.star_wars.specs.declared.data.Galaxy.{Galaxy}
@@ -40,11 +41,14 @@ hero_of galaxy None = galaxy.hero
 abbrev pub friend : Galaxy → Bor Bytes → Answer Node
 friend galaxy id = answers.node_or_null (character_of galaxy id.now)
 
-abbrev pub of_query : Galaxy → Bytes → Leaves → Answer Node
+abbrev pub of_query : Galaxy → Bytes → Inputs → Answer Node
 of_query galaxy field given =
-    if bytes_eq field (codes "hero") then answers.node (hero_of galaxy (word given (codes "episode"))) else
-    if bytes_eq field (codes "human") then answers.node_or_null (option_and_then (human_of galaxy) (word given (codes "id"))) else
-    if bytes_eq field (codes "droid") then answers.node_or_null (option_and_then (droid_of galaxy) (word given (codes "id"))) else answers.null
+    if bytes_eq field (codes "hero")
+    then (word_or_null given (codes "episode") >>= (λ episode. answers.node (hero_of galaxy episode))) else
+    if bytes_eq field (codes "human")
+    then (word given (codes "id") >>= (λ id. answers.node_or_null (human_of galaxy id))) else
+    if bytes_eq field (codes "droid")
+    then (word given (codes "id") >>= (λ id. answers.node_or_null (droid_of galaxy id))) else answers.null
 
 abbrev pub of_character : Galaxy → Character → Bytes → Answer Node
 of_character galaxy c field =
@@ -56,22 +60,22 @@ of_character galaxy c field =
 
 abbrev pub of_human : Galaxy → Human → Bytes → Answer Node
 of_human galaxy h field =
-    if bytes_eq field (codes "homePlanet") then answers.text_or_null (option_map (λ p. p.now) h.home_planet) else of_character galaxy h.character field
+    if bytes_eq field (codes "homePlanet")
+    then answers.text_or_null (option_map (λ p. p.now) h.home_planet) else of_character galaxy h.character field
 
 abbrev pub of_droid : Galaxy → Droid → Bytes → Answer Node
 of_droid galaxy d field =
-    if bytes_eq field (codes "primaryFunction") then answers.text d.primary_function.now else of_character galaxy d.character field
+    if bytes_eq field (codes "primaryFunction")
+    then answers.text d.primary_function.now else of_character galaxy d.character field
 
-abbrev pub answer : Galaxy → Node → Bytes → Leaves → Answer Node
+abbrev pub answer : Galaxy → Node → Bytes → Inputs → Answer Node
 answer galaxy node.Query field given = of_query galaxy field given
-answer galaxy (node.Human place) field given = option_map_or (λ h. of_human galaxy h field) (slice_get galaxy.humans.now place) answers.null
-answer galaxy (node.Droid place) field given = option_map_or (λ d. of_droid galaxy d field) (slice_get galaxy.droids.now place) answers.null
+answer galaxy (node.Human place) field given =
+    option_map_or (λ h. of_human galaxy h field) (slice_get galaxy.humans.now place) answers.null
+answer galaxy (node.Droid place) field given =
+    option_map_or (λ d. of_droid galaxy d field) (slice_get galaxy.droids.now place) answers.null
 
 -- ---- mutations
-
--- the character that is chosen
-abbrev pub chosen : Galaxy → Leaves → Option Node
-chosen galaxy given = option_and_then (character_of galaxy) (word given (codes "id"))
 
 abbrev pub answer_of : Option Node → Answer Node
 answer_of (Some hero) = answers.node hero
@@ -81,8 +85,13 @@ abbrev pub after_of : Galaxy → Option Node → Galaxy
 after_of galaxy (Some hero) = record galaxy { hero = hero }
 after_of galaxy None = galaxy
 
-abbrev pub change_answer : Galaxy → Bytes → Leaves → Answer Node
-change_answer galaxy field given = if bytes_eq field (codes "chooseHero") then answer_of (chosen galaxy given) else answers.null
+abbrev pub change_answer : Galaxy → Bytes → Inputs → Answer Node
+change_answer galaxy field given =
+    if bytes_eq field (codes "chooseHero")
+    then (word given (codes "id") >>= (λ id. answer_of (character_of galaxy id))) else answers.null
 
-abbrev pub change_after : Galaxy → Bytes → Leaves → Galaxy
-change_after galaxy field given = if bytes_eq field (codes "chooseHero") then after_of galaxy (chosen galaxy given) else galaxy
+abbrev pub change_after : Galaxy → Bytes → Inputs → Galaxy
+change_after galaxy field given =
+    if bytes_eq field (codes "chooseHero")
+    then option_map_or (λ id. after_of galaxy (character_of galaxy id)) (result_ok (word given (codes "id"))) galaxy
+    else galaxy

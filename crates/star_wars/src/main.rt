@@ -1,5 +1,5 @@
 //! Answers GraphQL request lines over the Star Wars schema of graphql-js's tests.
-#![tactic(auto)]
+#![tactic(auto, using(graphql_resolvers::proofs::ToldAnswers::asked_fails))]
 
 mod data;
 mod resolver;

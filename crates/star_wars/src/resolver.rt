@@ -2,13 +2,13 @@
 
 ghost use Rattle.std.specs.Option.{option_map};
 ghost use Rattle.std.specs.Prelude.{◌≡◌};
-ghost use Rattle.graphql_embedding.specs.Answers as answers;
-ghost use Rattle.graphql_embedding.specs.Answers.{Answers};
-ghost use Rattle.graphql_embedding.specs.Given.{given_to};
+ghost use Rattle.graphql_resolvers.specs.Answers as answers;
+ghost use Rattle.graphql_resolvers.specs.Answers.{Answers};
+ghost use Rattle.graphql_resolvers.specs.Given.{given_to};
 ghost use Rattle.star_wars.specs.StarWars as spec;
 
 use crate::data::{Character, Droid, Galaxy, Human, Node};
-use graphql_embedding::{
+use graphql_resolvers::{
     Answer, Given, MutationResolver, Resolver, each, fails, node, node_or_null, null, text,
     text_or_null, texts,
 };
@@ -85,21 +85,13 @@ fn friends(alloc: Global, galaxy: &Galaxy, ids: &[&str]) -> Answer<Node>
     )
 }
 
-/// The character of the id that is given.
-fn chosen(galaxy: &Galaxy, given: &Given<'_>) -> Option<Node>
-    ensures { result ≡ spec.chosen galaxy.now (given_to given.now) }
-{
-    given.word("id").and_then(|id| character_of(galaxy, id))
-}
-
 fn of_query(galaxy: &Galaxy, field: &str, given: &Given<'_>) -> Answer<Node>
     ensures { Answers (spec.of_query galaxy.now field.now (given_to given.now)) result }
 {
-    let id = given.word("id");
     match field {
-        "hero" => node(hero_of(galaxy, given.word("episode"))),
-        "human" => node_or_null(id.and_then(|id| human_of(galaxy, id))),
-        "droid" => node_or_null(id.and_then(|id| droid_of(galaxy, id))),
+        "hero" => node(hero_of(galaxy, given.word_or_null("episode")?)),
+        "human" => node_or_null(human_of(galaxy, given.word("id")?)),
+        "droid" => node_or_null(droid_of(galaxy, given.word("id")?)),
         _ => null(),
     }
 }
@@ -204,7 +196,7 @@ impl MutationResolver for StarWars {
         if field != "chooseHero" {
             return null();
         }
-        match chosen(context, given) {
+        match character_of(context, given.word("id")?) {
             Some(hero) => {
                 context.hero = hero;
                 node(hero)

@@ -13,8 +13,7 @@ ghost use Rattle.graphql_document_walk.specs.Pending.{Adds, Opens, OpensAny};
 
 use super::selections::directives_in;
 use super::tasks::{Part, Side, Task, add, tell};
-use graphql_declarations::{TypeLiteral, root_of};
-use graphql_occurrences::{Around, InputPlace, Node};
+use graphql_occurrences::{Around, InputPlace, Node, TypeLiteral, root_of};
 use graphql_schema::{DirectiveLocation, MetaType, SchemaType};
 use graphql_text::{Items, Spanning, TextRef};
 use graphql_tree::{

@@ -8,8 +8,9 @@ ghost use Rattle.graphql_occurrences.specs.Lent.{around_of};
 ghost use Rattle.graphql_document_walk.specs.Pending.{Adds, Opens, OpensAny};
 
 use super::tasks::{Part, Side, Task, add, tell};
-use graphql_declarations::{arguments_of_field, declared_by_directive, field_of, type_of_field};
-use graphql_occurrences::{Around, Node, Owner};
+use graphql_occurrences::{
+    Around, Node, Owner, arguments_of_field, declared_by_directive, field_of, type_of_field,
+};
 use graphql_schema::{DirectiveLocation, SchemaType};
 use graphql_text::{Items, Spanning};
 use graphql_tree::{Directive, Field, FragmentSpread, InlineFragment, Selection, arguments_in};

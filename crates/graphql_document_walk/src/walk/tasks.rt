@@ -7,8 +7,7 @@ ghost use Rattle.graphql_occurrences.specs.Lent.{around_of, event_of, node_of};
 ghost use Rattle.graphql_document_walk.specs.Pending.{Adds, Opens, part_events, told};
 ghost use Rattle.graphql_document_walk.specs.Siblings as spec;
 
-use graphql_declarations::DeclaredArguments;
-use graphql_occurrences::{Around, Event, Node, Owner};
+use graphql_occurrences::{Around, DeclaredArguments, Event, Node, Owner};
 use graphql_schema::{DirectiveLocation, SchemaScalar, SchemaType};
 use graphql_text::{Items, Spanning, Text, TextRef};
 use graphql_tree::{Definition, Directive, Selection, VariableDefinition};

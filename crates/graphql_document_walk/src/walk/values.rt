@@ -8,8 +8,9 @@ ghost use Rattle.graphql_occurrences.specs.Lent.{arguments_lent, around_of, owne
 ghost use Rattle.graphql_document_walk.specs.Pending.{Adds, Opens, OpensAny};
 
 use super::tasks::{Part, Side, Task, add, tell};
-use graphql_declarations::DeclaredArguments;
-use graphql_occurrences::{Around, Node, Owner, place_of_argument, place_of_field, place_of_items};
+use graphql_occurrences::{
+    Around, DeclaredArguments, Node, Owner, place_of_argument, place_of_field, place_of_items,
+};
 use graphql_schema::SchemaType;
 use graphql_text::{Items, Spanning, Text, TextRef};
 use graphql_values::InputValue;

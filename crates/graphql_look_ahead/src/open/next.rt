@@ -1,11 +1,11 @@
 //! What comes first in a list.
 
 ghost use Rattle.std.specs.Prelude.{◌≡◌, MatchOption};
-ghost use Rattle.graphql_collect.specs.Requests.{drops_in, fragments_in};
+ghost use Rattle.graphql_collected.specs.Requests.{drops_in, fragments_in};
 ghost use Rattle.graphql_look_ahead.specs.Open.{IsMet, IsNext, IsUnknown, rest_of};
 
 use super::{Met, Open};
-use graphql_collect::Request;
+use graphql_collected::Request;
 use graphql_schema::SchemaScalar;
 use graphql_tree::Selection;
 

@@ -1,7 +1,7 @@
 //! The turns of a search.
 
 ghost use Rattle.std.specs.Prelude.{◌≡◌, ◌∷◌, None, IfOk, IfSome, reverse};
-ghost use Rattle.graphql_collect.specs.Requests.{drops_in, fragments_in};
+ghost use Rattle.graphql_collected.specs.Requests.{drops_in, fragments_in};
 ghost use Rattle.graphql_written_out.specs.Written.{Settled};
 ghost use Rattle.graphql_look_ahead.specs.FirstChild.{AllLack, IsFirst, IsSearch, Turns};
 ghost use Rattle.graphql_look_ahead.specs.Selections.{selections_of};
@@ -13,7 +13,7 @@ use crate::applies::Applies;
 use crate::open::{Met, Open};
 use crate::selected::Selected;
 use crate::selection::{LookAheadSelection, Source, set_of};
-use graphql_collect::{Request, drops};
+use graphql_collected::{Request, drops};
 use graphql_schema::SchemaScalar;
 use graphql_text::{Items, TextRef};
 use graphql_tree::Selection;

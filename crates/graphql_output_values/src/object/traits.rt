@@ -3,7 +3,7 @@ ghost use Rattle.std.specs.Slice.Iter.{iter_rest, iter_steps};
 ghost use Rattle.std.specs.Iterator.Runs.{EveryRun, ItemsMapTo, ItemsAre};
 ghost use Rattle.std.specs.Vec.Iter.{into_iter_items, into_iter_len, into_iter_steps};
 ghost use Rattle.std.specs.declared.alloc.Global.{Global};
-ghost use Rattle.graphql_text.specs.Memory.{Text};
+ghost use Rattle.graphql_text.specs.declared.text.Text.{Text};
 ghost use Rattle.graphql_output_values.specs.declared.value.Value.{Value};
 ghost use Rattle.graphql_output_values.specs.Objects.{with_fields};
 

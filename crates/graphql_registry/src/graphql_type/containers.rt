@@ -7,8 +7,8 @@ ghost use Rattle.graphql_registry.specs.TypeReferences.{list_of, with_null};
 
 use super::GraphQLType;
 use graphql_input_types::Nullable;
+use graphql_names::Type;
 use graphql_text::Text;
-use graphql_type_references::Type;
 use std::alloc::{AllocError, Global};
 
 /// The same type with `null` (GraphQL October 2021, 3.12 Non-Null: a type is nullable where it is

@@ -1,8 +1,8 @@
 //! Pointers: a type behind one is the type itself.
 
 use super::GraphQLType;
+use graphql_names::Type;
 use graphql_text::Text;
-use graphql_type_references::Type;
 use std::alloc::{AllocError, Global};
 use std::rc::Rc;
 

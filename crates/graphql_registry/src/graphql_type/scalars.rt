@@ -8,8 +8,8 @@ ghost use Rattle.graphql_schema.specs.Types.{reference_to};
 
 use super::{GraphQLType, named_type};
 use graphql_input_types::ID;
+use graphql_names::Type;
 use graphql_text::Text;
-use graphql_type_references::Type;
 use std::alloc::{AllocError, Global};
 
 /// The scalar `Boolean` (GraphQL October 2021, 3.5.4 Boolean).

@@ -1,6 +1,6 @@
 //! The metadata of types, from what they are made of.
 
-ghost use Rattle.std.specs.Prelude.{None, [], ◌++◌, ◌∷◌};
+ghost use Rattle.std.specs.Prelude.{false, None, [], ◌++◌, ◌∷◌};
 ghost use Rattle.graphql_text.specs.Memory.{Gives};
 ghost use Rattle.graphql_registry.specs.Registries.{field_of, typename_field};
 
@@ -158,6 +158,7 @@ impl<S, C> Registry<S, C> {
           description = None;
           input_fields = input_fields;
           check = check;
+          exactly_one = false;
         }) }
     {
         let input_fields = NamedItems::from_items(input_fields)?;

@@ -6,9 +6,9 @@ ghost use Rattle.graphql_registry.specs.Registries.{argument_of, field_of};
 
 use super::Registry;
 use crate::graphql_type::GraphQLType;
+use graphql_names::Type;
 use graphql_schema::{Argument, DeprecationStatus, Field};
 use graphql_text::Text;
-use graphql_type_references::Type;
 use graphql_values::{FromInputValue, ToInputValue};
 use std::alloc::{AllocError, Global};
 

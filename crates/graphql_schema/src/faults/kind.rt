@@ -30,10 +30,13 @@ pub enum FaultKind {
 
     /// A member of a union is no object, or a listed interface is none.
     BadMember,
+
+    /// An input object of which exactly one field is given has a field that is non-null or has a default.
+    BadOneOf,
 }
 
 /// The kinds in the order in which faults are told.
-pub(super) const KINDS: [FaultKind; 7] = [
+pub(super) const KINDS: [FaultKind; 8] = [
     FaultKind::DuplicateName,
     FaultKind::MissingBuiltin,
     FaultKind::UnknownType,
@@ -41,6 +44,7 @@ pub(super) const KINDS: [FaultKind; 7] = [
     FaultKind::NotInputType,
     FaultKind::BadRoot,
     FaultKind::BadMember,
+    FaultKind::BadOneOf,
 ];
 
 /// The error that tells a fault of this kind at this name.
@@ -55,5 +59,6 @@ pub(super) fn error_of(kind: FaultKind, name: Text) -> SchemaError
         FaultKind::NotInputType => SchemaError::NotInputType(name),
         FaultKind::BadRoot => SchemaError::BadRoot(name),
         FaultKind::BadMember => SchemaError::BadMember(name),
+        FaultKind::BadOneOf => SchemaError::BadOneOf(name),
     }
 }

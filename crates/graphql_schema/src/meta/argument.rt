@@ -4,8 +4,8 @@ ghost use Rattle.std.specs.Prelude.{◌≡◌, Some, None};
 ghost use Rattle.graphql_schema.specs.Names.{is_reserved};
 
 use super::names::is_reserved;
+use graphql_names::Type;
 use graphql_text::Text;
-use graphql_type_references::Type;
 use graphql_values::{InputValue, ScalarValue};
 use std::alloc::AllocError;
 

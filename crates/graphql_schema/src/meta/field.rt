@@ -8,8 +8,8 @@ ghost use Rattle.graphql_schema.specs.declared.meta.deprecation.DeprecationStatu
 
 use super::names::is_reserved;
 use super::{Argument, DeprecationStatus};
+use graphql_names::Type;
 use graphql_text::Text;
-use graphql_type_references::Type;
 use graphql_values::{NamedItems, ScalarValue};
 use std::alloc::{AllocError, Global};
 

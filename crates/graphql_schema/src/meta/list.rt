@@ -4,8 +4,8 @@ ghost use Rattle.std.specs.Prelude.{◌≡◌};
 ghost use Rattle.graphql_schema.specs.declared.meta.MetaType.TheVariants as meta;
 
 use super::MetaType;
+use graphql_names::Type;
 use graphql_text::Text;
-use graphql_type_references::Type;
 use std::alloc::AllocError;
 
 /// Lists of a type (GraphQL October 2021, 3.11 List).

@@ -2,12 +2,12 @@
 
 ghost use Rattle.std.specs.Prelude.{◌≡◌, [], ◌∷◌};
 ghost use Rattle.graphql_text.specs.Memory.{Gives};
-ghost use Rattle.graphql_type_references.specs.declared.type_modifier.TypeModifier.TheVariants as modifier;
+ghost use Rattle.graphql_names.specs.declared.type_modifier.TypeModifier.TheVariants as modifier;
 ghost use Rattle.graphql_schema.specs.Types.{type_of};
 
 use super::MetaType;
+use graphql_names::Type;
 use graphql_text::Text;
-use graphql_type_references::Type;
 use std::alloc::{AllocError, Global};
 
 impl<S, C> MetaType<S, C> {

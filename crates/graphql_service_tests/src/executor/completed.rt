@@ -1,15 +1,15 @@
 //! What answers come to that a resolver completes itself.
 
 ghost use Rattle.std.specs.Prelude.{Ok};
-ghost use Rattle.graphql_collect.specs.Requests.{fragments_in};
+ghost use Rattle.graphql_collected.specs.Requests.{fragments_in};
 ghost use Rattle.graphql_written_out.specs.Written.{Settled};
 ghost use Rattle.graphql_field_results.specs.declared.resolved.Resolved.TheVariants as resolved;
-ghost use Rattle.graphql_execution.specs.Answered.{Answered};
+ghost use Rattle.graphql_execution_walk.specs.Answered.{Answered};
 
 use crate::executor::beings::{Answer, Being, null_if};
 use crate::executor::kennel::Kennel;
 use crate::executor::told::errors_told;
-use graphql_execution::{Executor, declared_type};
+use graphql_execution_walk::{Executor, declared_type};
 use graphql_field_results::{ExecutionError, FieldFault, FieldResult, Resolved};
 use graphql_output_values::Value;
 use graphql_text::{Items, SourcePosition, TextRef};

@@ -3,7 +3,7 @@
 ghost use Rattle.std.specs.Prelude.{◌≡◌};
 
 use graphql_arguments::Arguments;
-use graphql_execution::{Executor, GraphQLValue};
+use graphql_execution_walk::{Executor, GraphQLValue};
 use graphql_field_results::{FieldFault, FieldResult, Resolved};
 use graphql_mutation::GraphQLMutationValue;
 use graphql_values::DefaultScalarValue;

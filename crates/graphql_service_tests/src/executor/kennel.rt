@@ -4,7 +4,7 @@ ghost use Rattle.std.specs.Prelude.{◌≡◌};
 
 use crate::executor::beings::{Answer, Being, of_being, own_name, type_name};
 use graphql_arguments::Arguments;
-use graphql_execution::{Executor, GraphQLValue};
+use graphql_execution_walk::{Executor, GraphQLValue};
 use graphql_field_results::FieldResult;
 use graphql_values::DefaultScalarValue;
 

@@ -7,14 +7,13 @@ ghost use Rattle.graphql_schema.specs.ScalarChecks.{IsInt, IsString, IsBoolean};
 
 use crate::executor::answered::{Asked, ask};
 use graphql_executor::{IntrospectionChecks, introspection_metadata};
-use graphql_names::NamedItems;
+use graphql_names::{NamedItems, Type, TypeModifier};
 use graphql_schema::scalar_checks::{boolean_check, int_check, string_check};
 use graphql_schema::{
     Argument, DeprecationStatus, Field, InputObjectMeta, InterfaceMeta, MetaType, ObjectMeta,
     RootNode, ScalarMeta, SchemaType, TypeCheck, UnionMeta,
 };
 use graphql_text::{Items, Text};
-use graphql_type_references::{Type, TypeModifier};
 use graphql_values::{DefaultScalarValue, InputValue};
 use std::alloc::Global;
 use std::process::Abort;

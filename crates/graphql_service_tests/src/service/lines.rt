@@ -5,12 +5,13 @@ ghost use Rattle.graphql_scalars.specs.DefaultScalar.{answer};
 ghost use Rattle.graphql_scalars.specs.declared.default_scalar.DefaultScalarValue.TheVariants as scalar;
 ghost use Rattle.graphql_output_values.specs.declared.value.Value.TheVariants as value;
 ghost use Rattle.graphql_values.specs.Variables.{variables_in};
-ghost use Rattle.graphql_lines.specs.Json.{json};
-ghost use Rattle.graphql_lines.specs.Laws.{data_of_value};
+ghost use Rattle.graphql_json.specs.Json.{json};
+ghost use Rattle.graphql_json.specs.Laws.{data_of_value};
 ghost use Rattle.graphql_lines.specs.Variables.{input_of};
 ghost use Rattle.graphql_service_tests.specs.Samples as spec;
 
 use graphql_file_service::service::{request_from_line, value_to_json};
+use graphql_json::laws as json_laws;
 use graphql_lines::{GraphQLRequest, laws};
 use graphql_output_values::{DefaultScalarValue, Object, Value};
 use graphql_text::{Items, Text};
@@ -121,8 +122,8 @@ fn list_is_read_back()
     ensures read { read (json answer (value.Object spec.sample)) ≡ Some spec.sample_data }
     ensures under { get (codes "c") (data_of_value answer (value.Object spec.sample)) ≡ Some spec.list_data }
 {
-    laws::json_reads_back::<DefaultScalarValue>();
-    laws::keys_keep_values::<DefaultScalarValue>();
+    json_laws::json_reads_back::<DefaultScalarValue>();
+    json_laws::keys_keep_values::<DefaultScalarValue>();
 }
 
 /// No input value stands for `["$x",2147483648]`, and in the one for `["$x"]` stands no variable.

@@ -1,14 +1,13 @@
 //! Schemas that make no service.
 
 use graphql_file_service::service::{Service, ServiceFault, StandardChecks};
-use graphql_names::NamedItems;
+use graphql_names::{NamedItems, Type, TypeModifier};
 use graphql_sample::{SampleRecords, SampleResolver, sample_records};
 use graphql_schema::{
     Argument, DeprecationStatus, DirectiveLocation, DirectiveType, Field, InterfaceMeta, MetaType,
     ObjectMeta, RootNode, ScalarMeta, SchemaType, TypeCheck,
 };
 use graphql_text::{Items, Text};
-use graphql_type_references::{Type, TypeModifier};
 use graphql_values::DefaultScalarValue;
 use std::alloc::Global;
 use std::process::Abort;

@@ -17,7 +17,7 @@ use graphql_file_service::service::scalar_checks::{
     boolean_check, id_check, int_check, string_check,
 };
 use graphql_file_service::service::{Service, ServiceFault, StandardChecks};
-use graphql_sample::{SampleRecords, SampleResolver, sample_records, schema_s};
+use graphql_sample::{SampleRecords, SampleResolver, sample_records, schema_by, schema_s};
 use graphql_schema::{IntrospectionChecks, RootNode, SchemaType, TypeCheck};
 use graphql_values::{DefaultScalarValue, InputValue};
 use std::alloc::{AllocError, Global};
@@ -55,6 +55,15 @@ pub enum Asked<'a> {
 
     /// What a line with a chain of fragments is told of its plain text.
     Chain(plain::Chain),
+
+    /// What lines are answered over the schema with `find`, to which exactly one field is given.
+    Finding(&'a [Row<'a>]),
+
+    /// What a line is told of its plain text over that schema.
+    PlainFinding(plain::Row<'a>),
+
+    /// That requests and their plain texts are answered alike over that schema.
+    AlikeFinding(&'a [alike::Row<'a>]),
 
     /// That requests and their plain texts are answered alike, and leave the same records.
     Alike(&'a [alike::Row<'a>]),
@@ -173,8 +182,28 @@ fn with_texts(checks: StandardChecks) -> StandardChecks {
     }
 }
 
+/// What is asserted of a schema without `find` in the place of what is asserted of the one with it.
+fn of_any(asked: Asked<'_>) -> Option<Asked<'_>> {
+    match asked {
+        Asked::Finding(rows) => Some(Asked::Lines(65_536, rows)),
+        Asked::PlainFinding(row) => Some(Asked::Plain(row)),
+        Asked::AlikeFinding(rows) => Some(Asked::Alike(rows)),
+        _ => None,
+    }
+}
+
 /// Asserts of services over a schema with these checks.
-fn with_checks(rt: &impl Abort, alloc: Global, checks: StandardChecks, asked: Asked<'_>) {
+fn with_checks(
+    rt: &impl Abort,
+    alloc: Global,
+    checks: StandardChecks,
+    by: TypeCheck,
+    asked: Asked<'_>,
+) {
+    if let Some(asked) = of_any(asked) {
+        let schema = schema_by(alloc, checks, by).expect(rt, "a schema");
+        return with_schema(rt, alloc, schema, asked);
+    }
     if let Asked::Unkept = asked {
         let schema = unkept(rt, alloc, checks);
         return is_refused(rt, alloc, schema, ServiceFault::NotExecutable);
@@ -232,6 +261,13 @@ pub fn over(rt: &impl Abort, alloc: Global, asked: Asked<'_>) {
         { Ok(()) },
     )
     .expect(rt, "memory"));
+    let by = TypeCheck::new(Box::new(
+        alloc,
+        |_value: &Value|
+            ensures { result ≡ Ok tt }
+        { Ok(()) },
+    )
+    .expect(rt, "memory"));
     let introspection = IntrospectionChecks {
         type_kind,
         directive_location,
@@ -251,5 +287,5 @@ pub fn over(rt: &impl Abort, alloc: Global, asked: Asked<'_>) {
     if let Asked::Files(schema, records, wanted) = asked {
         return is_told(rt, alloc, served(alloc, (schema, records), checks), wanted);
     }
-    with_checks(rt, alloc, checks, asked);
+    with_checks(rt, alloc, checks, by, asked);
 }

@@ -5,16 +5,15 @@ ghost use Rattle.std.specs.Prelude.{◌≡◌};
 use crate::service::schemas::{alone, text, with};
 use crate::service::wide_scalar::{AnyScalar, WideScalar};
 use graphql_arguments::Arguments;
-use graphql_execution::{Executor, GraphQLValue};
+use graphql_execution_walk::{Executor, GraphQLValue};
 use graphql_field_results::{FieldResult, Resolved};
 use graphql_file_service::service::Service;
 use graphql_mutation::WithoutMutations;
-use graphql_names::NamedItems;
+use graphql_names::{NamedItems, Type};
 use graphql_schema::{
     Argument, DeprecationStatus, Field, MetaType, ObjectMeta, RootNode, ScalarMeta, SchemaType,
 };
 use graphql_text::{Items, Text};
-use graphql_type_references::Type;
 use std::alloc::Global;
 use std::process::Abort;
 

@@ -1,6 +1,6 @@
 use crate::told::check;
+use graphql_names::{BorrowedType, Type};
 use graphql_text::TextRef;
-use graphql_type_references::{BorrowedType, Type};
 use std::alloc::{AllocError, Global};
 
 type Named = Type<TextRef<'static>>;

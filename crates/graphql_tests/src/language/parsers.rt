@@ -1,9 +1,9 @@
 ghost use Rattle.std.specs.Prelude.{◌≡◌, ◌<◌, IfOk, None, OnOk};
 ghost use Rattle.graphql_text.specs.declared.token.Token.TheVariants as token;
 ghost use Rattle.graphql_grammar.specs.Input.{left};
-ghost use Rattle.graphql_parser.specs.Leaves.{Leaves};
-ghost use Rattle.graphql_parser.specs.Parser.{Calls, NextName};
-ghost use Rattle.graphql_parser.specs.SpelledLists.{InFront, ListOf};
+ghost use Rattle.graphql_language.specs.Leaves.{Leaves};
+ghost use Rattle.graphql_language.specs.Parser.{Calls, NextName};
+ghost use Rattle.graphql_language.specs.SpelledLists.{InFront, ListOf};
 ghost use Rattle.graphql_tests.specs.SpelledNames.{NameAt};
 
 use crate::language::told::check;

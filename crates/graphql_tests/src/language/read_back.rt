@@ -1,9 +1,9 @@
 use crate::language::told::check;
 use graphql_grammar::Fault;
 use graphql_language::{Parser, parse_type, parse_value_literal};
-use graphql_read_back::{is_writable, read_back};
+use graphql_names::Type;
+use graphql_plain_text::{is_writable, read_back};
 use graphql_text::{Items, Spanning, Text, TextRef, Token};
-use graphql_type_references::Type;
 use graphql_values::InputValue;
 use std::alloc::{AllocError, Global};
 

@@ -3,17 +3,16 @@
 ghost use Rattle.std.specs.Prelude.{◌≡◌, [], ◌∷◌, None, Some, IfOk, OnErr, OnOk, codes};
 ghost use Rattle.std.specs.BTreeMap.{IsUnchanged};
 ghost use Rattle.graphql_text.specs.Memory.{Gives};
-ghost use Rattle.graphql_type_references.specs.TypeReference.{written};
+ghost use Rattle.graphql_names.specs.TypeReference.{written};
 ghost use Rattle.graphql_schema.specs.declared.meta.MetaType.TheVariants as meta;
 ghost use Rattle.graphql_schema.specs.Types.{own_name};
 ghost use Rattle.graphql_registry.specs.Registries.{Registers};
 ghost use Rattle.graphql_tests.specs.RegistryRows.{object_a};
 
-use graphql_names::Name;
+use graphql_names::{Name, Type};
 use graphql_registry::{GraphQLType, Registry};
 use graphql_schema::{MetaType, ObjectMeta};
 use graphql_text::{Items, Text};
-use graphql_type_references::Type;
 use graphql_values::DefaultScalarValue;
 use std::alloc::{AllocError, Global};
 use std::collections::BTreeMap;

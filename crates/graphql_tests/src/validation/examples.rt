@@ -1,9 +1,8 @@
 ghost use Rattle.std.specs.Prelude.{IsTrue};
 
-use graphql_names::Named;
+use graphql_names::{Named, Type, TypeModifier};
 use graphql_scalars::CheckError;
 use graphql_text::{Items, Text};
-use graphql_type_references::{Type, TypeModifier};
 use graphql_validation::{
     Argument, Check, DeprecationStatus, DirectiveLocation, EnumMeta, EnumValue, Field,
     InputObjectMeta, InterfaceMeta, MetaType, NamedItems, ObjectMeta, ScalarMeta, SchemaType,

@@ -14,6 +14,7 @@ const QUERY: TypeLiteral<'static> = TypeLiteral {
 const PLACE: InputPlace<'static> = InputPlace {
     asked: QUERY,
     has_default: true,
+    is_only_field: false,
 };
 
 /// Whether `Query` is what is selected, what it is selected of, and what a value is asked for as.

@@ -1,5 +1,5 @@
 use crate::validation::examples::{Meta, Verdict, any_value, text};
-use graphql_type_references::TypeModifier;
+use graphql_names::TypeModifier;
 use graphql_validation::{ScalarMeta, TypeType};
 use graphql_values::DefaultScalarValue;
 use std::alloc::Global;

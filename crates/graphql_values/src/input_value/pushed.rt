@@ -20,10 +20,7 @@ pub(super) fn push_at<T: Drop>(
 }
 
 /// Adds an item that stands in no text. An error is want of memory.
-pub(crate) fn push_unlocated<T: Drop>(
-    items: &mut Items<Spanning<T>>,
-    item: T,
-) -> Result<(), AllocError>
+pub fn push_unlocated<T: Drop>(items: &mut Items<Spanning<T>>, item: T) -> Result<(), AllocError>
     ensures { OnOk result (items.new ≡ items.old ++ unplaced item ∷ []) }
 {
     items.push(Spanning::unlocated(item))?;
@@ -48,7 +45,7 @@ pub(super) fn push_field<T: Drop>(
 }
 
 /// Adds a field of this name that stands in no text. An error is want of memory.
-pub(crate) fn push_unlocated_field<T: Drop>(
+pub fn push_unlocated_field<T: Drop>(
     fields: &mut Items<(Spanning<Text>, Spanning<T>)>,
     name: &Text,
     item: T,

@@ -38,7 +38,7 @@ impl<S: ScalarValue + Drop> InputValue<S> {
     /// The value with each variable's value in its stead (GraphQL October 2021, 6.4.1 Coercing Field
     /// Arguments), everything else at its place; `None` where a variable has no value in `variables`.
     /// A variable's value is copied wherever the variable stands; `ArgumentValue` of
-    /// `graphql_final_variables` reads a literal and copies none. Takes stack for each level that the
+    /// `graphql_written_out` reads a literal and copies none. Takes stack for each level that the
     /// value nests. An error is want of memory.
     pub fn into_const(
         self,

@@ -1,5 +1,5 @@
 use Rattle.std.proofs.Common.{◌≡◌, ◌++◌, [], OnOk, codes, map, subst, sym, rules}
-use Rattle.graphql_lines.specs.Json.{joined}
+use Rattle.graphql_json.specs.Json.{joined}
 use Rattle.graphql_names.specs.Names.{Bytes}
 use Rattle.graphql_answers.specs.Texts.{request_error_text}
 use Rattle.graphql_answers.proofs.Parts.{three_parts}

@@ -1,5 +1,5 @@
 use Rattle.std.proofs.Common.{◌≡◌, ◌++◌, OnOk, codes, rules}
-use Rattle.graphql_lines.specs.Json.{json_text}
+use Rattle.graphql_json.specs.Json.{json_text}
 use Rattle.graphql_answers.specs.Texts.{locations_text}
 use Rattle.graphql_answers.proofs.Parts.{four_parts}
 use Rattle.graphql_answers.proofs.refusals.push_request_error.Goals as goal

@@ -1,6 +1,6 @@
 use Rattle.std.proofs.Common.{◌≡◌, ◌++◌, [], map}
-use Rattle.graphql_lines.specs.Json.{joined}
-use Rattle.graphql_lines.specs.Writing.{KeepsFront}
+use Rattle.graphql_json.specs.Json.{joined}
+use Rattle.graphql_json.specs.Writing.{KeepsFront}
 use Rattle.graphql_answers.specs.Texts.{request_error_text}
 use Rattle.graphql_answers.proofs.Parts.{left_of}
 use Rattle.graphql_answers.proofs.refusals.push_request_errors.Given as goal

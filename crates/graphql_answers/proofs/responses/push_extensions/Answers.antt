@@ -1,5 +1,5 @@
 use Rattle.std.proofs.Common.{◌≡◌, ◌++◌, OnOk, codes, subst}
-use Rattle.graphql_lines.specs.Json.{json}
+use Rattle.graphql_json.specs.Json.{json}
 use Rattle.graphql_names.specs.Names.{Bytes}
 use Rattle.graphql_answers.proofs.Parts.{two_parts}
 use Rattle.graphql_answers.proofs.Written.{some_extensions}

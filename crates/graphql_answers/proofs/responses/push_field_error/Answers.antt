@@ -1,5 +1,5 @@
 use Rattle.std.proofs.Common.{◌≡◌, ◌++◌, OnOk, codes, ap, ◌∙◌, rules}
-use Rattle.graphql_lines.specs.Json.{json_text}
+use Rattle.graphql_json.specs.Json.{json_text}
 use Rattle.graphql_answers.specs.Texts.{where_text, extensions_text}
 use Rattle.graphql_answers.proofs.Parts.{five_parts}
 use Rattle.graphql_answers.proofs.responses.push_field_error.Goals as goal

@@ -1,5 +1,5 @@
 use Rattle.std.proofs.Common.{◌++◌, [], map}
-use Rattle.graphql_lines.specs.Json.{joined}
+use Rattle.graphql_json.specs.Json.{joined}
 use Rattle.graphql_answers.specs.Texts.{field_error_text}
 use Rattle.graphql_answers.proofs.Parts.{one_more, front_more}
 use Rattle.graphql_answers.proofs.responses.push_field_errors.Goals as goal

@@ -1,6 +1,6 @@
 use Rattle.std.proofs.Common.{◌≡◌, ◌++◌, [], map}
-use Rattle.graphql_lines.specs.Json.{json_text, joined}
-use Rattle.graphql_lines.specs.Writing.{KeepsFront}
+use Rattle.graphql_json.specs.Json.{json_text, joined}
+use Rattle.graphql_json.specs.Writing.{KeepsFront}
 use Rattle.graphql_answers.proofs.Parts.{left_of}
 use Rattle.graphql_answers.proofs.responses.push_path.Given as goal
 

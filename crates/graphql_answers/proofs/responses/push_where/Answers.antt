@@ -1,5 +1,5 @@
 use Rattle.std.proofs.Common.{◌≡◌, ◌++◌, [], OnOk, codes, map, ap, ◌∙◌, rules}
-use Rattle.graphql_lines.specs.Json.{joined, json_text}
+use Rattle.graphql_json.specs.Json.{joined, json_text}
 use Rattle.graphql_answers.specs.Texts.{location_text}
 use Rattle.graphql_answers.proofs.Parts.{five_parts}
 use Rattle.graphql_answers.proofs.responses.push_where.Goals as goal

@@ -1,5 +1,5 @@
 use Rattle.std.proofs.Common.{◌≡◌, ◌++◌, OnOk, codes, subst, sym, rules}
-use Rattle.graphql_lines.specs.Json.{json}
+use Rattle.graphql_json.specs.Json.{json}
 use Rattle.graphql_names.specs.Names.{Bytes}
 use Rattle.graphql_answers.specs.Texts.{errors_text}
 use Rattle.graphql_answers.proofs.Parts.{four_parts}

@@ -1,6 +1,6 @@
 use Rattle.std.proofs.Common.{ap, sym, ◌∙◌}
 use Rattle.std.specs.Option.{option_map}
-use Rattle.graphql_final_variables.specs.FinalVariables.{value_in}
+use Rattle.graphql_written_out.specs.FinalVariables.{value_in}
 use Rattle.graphql_arguments.specs.ArgumentValues.{filled_argument}
 use Rattle.graphql_arguments.specs.GivenValues.{pair_told, values_told}
 use Rattle.graphql_arguments.proofs.Filtering.{found_viewed, missed_more}

@@ -1,5 +1,5 @@
 use Rattle.std.proofs.Common.{◌≡◌, take}
-use Rattle.graphql_final_variables.specs.FinalVariables.{value_in}
+use Rattle.graphql_written_out.specs.FinalVariables.{value_in}
 use Rattle.graphql_arguments.specs.ArgumentValues.{written_values}
 use Rattle.graphql_arguments.specs.GivenValues.{values_told}
 use Rattle.graphql_arguments.proofs.filling.written_values.Given as goal

@@ -1,5 +1,5 @@
 use Rattle.std.proofs.Common.{sym, ◌∙◌}
-use Rattle.graphql_final_variables.specs.FinalVariables.{value_in}
+use Rattle.graphql_written_out.specs.FinalVariables.{value_in}
 use Rattle.graphql_arguments.proofs.WholeValues.{stays_whole}
 use Rattle.graphql_arguments.proofs.given.whole_value.Goals as goal
 

@@ -1,6 +1,6 @@
 use Rattle.std.proofs.Common.{Some, None, ap, sym, ◌∙◌}
-use Rattle.graphql_final_variables.specs.Filled.{filled_item, filled_pair}
-use Rattle.graphql_final_variables.specs.FinalVariables.{value_in}
+use Rattle.graphql_written_out.specs.Filled.{filled_item, filled_pair}
+use Rattle.graphql_written_out.specs.FinalVariables.{value_in}
 use Rattle.graphql_arguments.proofs.Filtering.{found_more, missed_more}
 use Rattle.graphql_arguments.proofs.Making.{mapped_more, list_made, object_made, item_made, pair_made}
 use Rattle.graphql_arguments.proofs.made_value.+made.Goals as goal

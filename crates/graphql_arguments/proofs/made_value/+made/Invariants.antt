@@ -1,7 +1,7 @@
 use Rattle.std.proofs.Common.{◌≡◌, map, take}
 use Rattle.std.specs.List.{filter_map}
-use Rattle.graphql_final_variables.specs.Filled.{filled_item, filled_pair}
-use Rattle.graphql_final_variables.specs.FinalVariables.{value_in}
+use Rattle.graphql_written_out.specs.Filled.{filled_item, filled_pair}
+use Rattle.graphql_written_out.specs.FinalVariables.{value_in}
 use Rattle.graphql_arguments.proofs.made_value.+made.Given as goal
 
 abbrev pub invariant-made_items-loop-part : goal.invariant-made_items-loop-part

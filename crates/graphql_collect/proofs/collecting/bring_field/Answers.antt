@@ -1,5 +1,5 @@
 use Rattle.std.proofs.Common.{sym, ◌∙◌, inl}
-use Rattle.graphql_collect.specs.Requests.{drops_in, is_below_in, fragments_in}
+use Rattle.graphql_collected.specs.Requests.{drops_in, is_below_in, fragments_in}
 use Rattle.graphql_written_out.proofs.Layers.{out-Field, in-Field}
 use Rattle.graphql_collect.proofs.SizeLaws.{size-Field}
 use Rattle.graphql_collect.proofs.collecting.bring_field.Goals as goal

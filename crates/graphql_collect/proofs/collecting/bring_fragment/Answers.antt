@@ -3,7 +3,7 @@ use Rattle.std.specs.List.{list_any}
 use Rattle.std.specs.Str.{bytes_eq}
 use Rattle.graphql_collect.proofs.SizeLaws.{left-enter}
 use Rattle.graphql_written_out.specs.Written.{fragment_meant}
-use Rattle.graphql_collect.specs.Requests.{fragments_in}
+use Rattle.graphql_collected.specs.Requests.{fragments_in}
 use Rattle.graphql_collect.specs.Sizes.{size, turns}
 use Rattle.graphql_collect.proofs.Bringing.{bring-out, bring-unknown, bring-other, bring-entered, bring-fragment}
 use Rattle.graphql_collect.proofs.collecting.bring_fragment.Goals as goal

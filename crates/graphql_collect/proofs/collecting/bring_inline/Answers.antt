@@ -1,5 +1,5 @@
 use Rattle.std.proofs.Common.{rules, sym, ◌∙◌, inl}
-use Rattle.graphql_collect.specs.Requests.{drops_in, is_below_in, fragments_in}
+use Rattle.graphql_collected.specs.Requests.{drops_in, is_below_in, fragments_in}
 use Rattle.graphql_written_out.proofs.Layers.{out-Inline, other-Inline, in-Inline, height-of-Inline}
 use Rattle.graphql_collect.proofs.SizeLaws.{size-Inline, turns-Inline}
 use Rattle.graphql_collect.proofs.collecting.bring_inline.Goals as goal

@@ -1,7 +1,7 @@
 use Rattle.std.proofs.Common.{arith, ap, ◌≡◌, ◌+◌, []}
 use Rattle.std.specs.List.{sum_by}
 use Rattle.graphql_collect.specs.OpenSets.{rests}
-use Rattle.graphql_collect.specs.Requests.{fields_in, written_in}
+use Rattle.graphql_collected.specs.Requests.{fields_in, written_in}
 use Rattle.graphql_collect.specs.Collecting.{state}
 use Rattle.graphql_collect.specs.Sizes.{size, size_open, turns}
 use Rattle.graphql_collect.proofs.SizeLaws.{open-push}

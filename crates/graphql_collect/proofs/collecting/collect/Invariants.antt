@@ -1,6 +1,6 @@
 use Rattle.std.proofs.Common.{◌+◌, ◌≤◌, length}
 use Rattle.graphql_collect.specs.Sizes.{left_in, size, size_open, turns_ahead}
-use Rattle.graphql_collect.specs.Requests.{fields_in, fragments_in, written_in}
+use Rattle.graphql_collected.specs.Requests.{fields_in, fragments_in, written_in}
 use Rattle.graphql_collect.specs.Collecting.{LeadsIn, state, trees_in}
 use Rattle.graphql_collect.proofs.collecting.collect.Given as goal
 

@@ -1,7 +1,7 @@
 use Rattle.std.proofs.Common.{arith, refl, ap, ◌≡◌, ◌∙◌, ◌+◌, ◌≤◌, List, ◌++◌, ◌∷◌, [], length, length-append}
 use Rattle.graphql_names.specs.Names.{Bytes}
 use Rattle.graphql_written_out.specs.Written.{one}
-use Rattle.graphql_collect.specs.Requests.{fragments_in, written_in}
+use Rattle.graphql_collected.specs.Requests.{fragments_in, written_in}
 use Rattle.graphql_collect.specs.Collecting.{Enters, trees_in}
 use Rattle.graphql_collect.specs.Sizes.{left_by, left_in, size, turns}
 use Rattle.graphql_collect.proofs.SizeLaws.{inserted, open-push, some-turns}

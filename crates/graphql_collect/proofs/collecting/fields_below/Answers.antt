@@ -1,5 +1,5 @@
 use Rattle.std.proofs.Common.{ℕ, rules, arith, ap, ◌≡◌, ◌<◌, length, List, []}
-use Rattle.graphql_collect.specs.Requests.{fragments_in}
+use Rattle.graphql_collected.specs.Requests.{fragments_in}
 use Rattle.graphql_collect.specs.Sizes.{left_in}
 use Rattle.graphql_collect.proofs.SizeLaws.{below-more}
 use Rattle.graphql_collect.proofs.CollectingLaws.{begins, ends, complete-first, complete-now, more-below}

@@ -1,7 +1,7 @@
 use Rattle.std.proofs.Common.{◌+◌, ◌≤◌, length, map, take, []}
 use Rattle.graphql_collect.specs.Sizes.{left_in, size_below}
 use Rattle.std.specs.List.{flat_map}
-use Rattle.graphql_collect.specs.Requests.{fields_in, fragments_in}
+use Rattle.graphql_collected.specs.Requests.{fields_in, fragments_in}
 use Rattle.graphql_collect.specs.Collecting.{WalkedIn, below_in}
 use Rattle.graphql_collect.proofs.collecting.fields_below.Given as goal
 

@@ -1,6 +1,6 @@
 use Rattle.std.proofs.Common.{rules, arith, ◌≡◌, ◌++◌, [], ◌∷◌, Some, None, get_or, map, sym}
 use Rattle.serde_json.specs.View.{view}
-use Rattle.graphql_json_parts.proofs.EachTurns.{each_stops}
+use Rattle.graphql_json.proofs.EachTurns.{each_stops}
 use Rattle.graphql_data_files.specs.Drafts.{draft_of}
 use Rattle.graphql_data_files.specs.LentDrafts.{draft_told}
 use Rattle.graphql_data_files.proofs.DraftTurns.{draft_turn}

@@ -1,7 +1,7 @@
 use Rattle.std.proofs.Common.{◌≡◌, map, drop}
 use Rattle.serde_json.specs.View.{items_view}
-use Rattle.graphql_json_parts.specs.Parts.{each}
-use Rattle.graphql_json_parts.proofs.EachTurns.{from}
+use Rattle.graphql_json.specs.Parts.{each}
+use Rattle.graphql_json.proofs.EachTurns.{from}
 use Rattle.graphql_data_files.specs.Drafts.{draft_of}
 use Rattle.graphql_data_files.specs.LentDrafts.{draft_told}
 use Rattle.graphql_data_files.proofs.drafts.drafts_of.Given as goal

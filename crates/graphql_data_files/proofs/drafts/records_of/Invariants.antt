@@ -1,5 +1,5 @@
 use Rattle.std.proofs.Common.{◌≡◌, map, drop}
-use Rattle.graphql_json_parts.proofs.EachTurns.{from}
+use Rattle.graphql_json.proofs.EachTurns.{from}
 use Rattle.graphql_data_files.specs.Drafts.{records_of}
 use Rattle.graphql_data_files.specs.LentDrafts.{draft_told}
 use Rattle.graphql_data_files.proofs.drafts.records_of.Given as goal

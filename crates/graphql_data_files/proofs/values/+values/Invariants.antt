@@ -1,6 +1,6 @@
 use Rattle.std.proofs.Common.{◌≡◌, drop}
 use Rattle.serde_json.specs.View.{items_view}
-use Rattle.graphql_json_parts.proofs.EachTurns.{from}
+use Rattle.graphql_json.proofs.EachTurns.{from}
 use Rattle.graphql_data_files.specs.FileValues.{values_of}
 use Rattle.graphql_data_files.proofs.values.+values.Given as goal
 

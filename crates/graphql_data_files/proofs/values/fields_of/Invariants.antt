@@ -1,6 +1,6 @@
 use Rattle.std.proofs.Common.{◌≡◌}
 use Rattle.serde_json.specs.View.{members_view}
-use Rattle.graphql_json_parts.proofs.EachTurns.{from}
+use Rattle.graphql_json.proofs.EachTurns.{from}
 use Rattle.graphql_data_files.specs.FileValues.{fields_of}
 use Rattle.graphql_data_files.proofs.values.fields_of.Given as goal
 

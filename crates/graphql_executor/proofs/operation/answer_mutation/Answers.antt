@@ -1,5 +1,5 @@
 use Rattle.std.proofs.Common.{ap, sym, subst}
-use Rattle.graphql_collect.specs.Requests.{fragments_in}
+use Rattle.graphql_collected.specs.Requests.{fragments_in}
 use Rattle.graphql_written_out.specs.Written.{Settled}
 use Rattle.graphql_executor.proofs.Running.{mutation-begun, mutation-responds, on_err}
 use Rattle.graphql_executor.proofs.operation.answer_mutation.Goals as goal

@@ -1,8 +1,8 @@
 use Rattle.std.proofs.Common.{[], ◌∷◌, option_map, sym, subst}
 use Rattle.graphql_tree.specs.Definitions.{fragments_listed}
-use Rattle.graphql_final_variables.specs.FinalVariables.{value_in}
+use Rattle.graphql_written_out.specs.FinalVariables.{value_in}
 use Rattle.graphql_written_out.specs.Written.{Settled, written}
-use Rattle.graphql_execution.specs.declared.asked.Asked.TheVariants as asked
+use Rattle.graphql_execution_walk.specs.declared.asked.Asked.TheVariants as asked
 use Rattle.graphql_mutation.specs.Mutations.{mutation_over}
 use Rattle.graphql_executor.proofs.Running.{begun-at-once, on_err, over-document}
 use Rattle.graphql_executor.proofs.operation.answer_over.Goals as goal

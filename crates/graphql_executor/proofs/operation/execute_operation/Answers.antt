@@ -2,10 +2,10 @@ use Rattle.std.proofs.Common.{[], ◌∷◌, option_map}
 use Rattle.std.specs.HashMap.{get_by_text}
 use Rattle.graphql_tree.specs.Documents.{variables_in}
 use Rattle.graphql_tree.specs.Definitions.{fragments_listed}
-use Rattle.graphql_final_variables.specs.FinalValues.{final_value}
-use Rattle.graphql_final_variables.specs.FinalVariables.{value_in}
+use Rattle.graphql_written_out.specs.FinalValues.{final_value}
+use Rattle.graphql_written_out.specs.FinalVariables.{value_in}
 use Rattle.graphql_written_out.specs.Written.{written}
-use Rattle.graphql_execution.specs.declared.asked.Asked.TheVariants as asked
+use Rattle.graphql_execution_walk.specs.declared.asked.Asked.TheVariants as asked
 use Rattle.graphql_mutation.specs.Mutations.{mutation_over}
 use Rattle.graphql_executor.proofs.Running.{begun-at-once, on_err, values-begun, values-respond}
 use Rattle.graphql_executor.proofs.operation.execute_operation.Goals as goal

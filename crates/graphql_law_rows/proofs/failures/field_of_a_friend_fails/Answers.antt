@@ -1,6 +1,6 @@
 use Rattle.std.proofs.Common.{refl, true, [], ◌∷◌, codes}
 use Rattle.std.proofs.lemmas.List.Elements.{All-head}
-use Rattle.graphql_evaluation.specs.Failing.{IsAt}
+use Rattle.graphql_semantics.specs.Failing.{IsAt}
 use Rattle.graphql_law_rows.specs.SampleFailures.{refusing, nick_set, path, failure}
 use Rattle.graphql_law_rows.proofs.failures.field_of_a_friend_fails.Goals as goal
 

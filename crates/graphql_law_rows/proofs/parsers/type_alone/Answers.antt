@@ -1,4 +1,4 @@
-use Rattle.graphql_parser.specs.Literals.{NextType}
+use Rattle.graphql_language.specs.Literals.{NextType}
 use Rattle.graphql_law_rows.proofs.Parsed.{answered_alone}
 use Rattle.graphql_law_rows.proofs.parsers.type_alone.Goals as goal
 

@@ -24,22 +24,22 @@ returns g c = λ subject.
         parts_keep = record {
           fields_declared = declared.0 h.fields_on_correct_type;
           sets_fit = selected.0 h.scalar_leafs;
-          arguments_declared = argument_names.0 h.argument_names;
-          arguments_distinct = distinct.0 h.argument_names_are_unique;
-          arguments_provided = provided.0 h.required_arguments;
+          arguments_declared = argument_names.0 h.known_argument_names;
+          arguments_distinct = distinct.0 h.unique_argument_names;
+          arguments_provided = provided.0 h.provided_non_null_arguments;
           conditions_known = (known.0 h.known_type_names).1;
           conditions_composite = composite.0 h.fragments_on_composite_types;
           spreads_known = spreads.0 h.known_fragment_names;
           spreads_possible = (possible.0 h.possible_fragment_spreads).0;
           inlines_possible = (possible.0 h.possible_fragment_spreads).1;
-          directives_placed = placed.0 h.directives;
+          directives_placed = placed.0 h.known_directives;
           variable_types_known = (known.0 h.known_type_names).0;
           variable_types_input = input.0 h.variables_are_input_types;
         };
         values_keep = record {
           arguments_fit = arguments.0 h.arguments_of_correct_type;
           defaults_fit = defaults.0 h.default_values_of_correct_type;
-          input_fields_distinct = input_fields.0 h.input_field_names_are_unique;
+          input_fields_distinct = input_fields.0 h.unique_input_field_names;
         };
       },
       λ k. record {
@@ -52,11 +52,11 @@ returns g c = λ subject.
         variables_are_input_types = input.1 k.parts_keep.variable_types_input;
         known_fragment_names = spreads.1 k.parts_keep.spreads_known;
         possible_fragment_spreads = possible.1 (k.parts_keep.spreads_possible, k.parts_keep.inlines_possible);
-        directives = placed.1 k.parts_keep.directives_placed;
-        argument_names = argument_names.1 k.parts_keep.arguments_declared;
-        required_arguments = provided.1 k.parts_keep.arguments_provided;
-        argument_names_are_unique = distinct.1 k.parts_keep.arguments_distinct;
-        input_field_names_are_unique = input_fields.1 k.values_keep.input_fields_distinct;
+        known_directives = placed.1 k.parts_keep.directives_placed;
+        known_argument_names = argument_names.1 k.parts_keep.arguments_declared;
+        provided_non_null_arguments = provided.1 k.parts_keep.arguments_provided;
+        unique_argument_names = distinct.1 k.parts_keep.arguments_distinct;
+        unique_input_field_names = input_fields.1 k.values_keep.input_fields_distinct;
         in_scopes = in_scopes.1 k.scopes_keep;
       },
     )

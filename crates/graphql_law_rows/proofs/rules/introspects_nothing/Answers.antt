@@ -1,7 +1,7 @@
 use Rattle.std.proofs.Common.{◌≡◌, ℕ, false, Ok, sym, subst}
 use Rattle.graphql_occurrences.specs.Parts.{AField}
-use Rattle.graphql_rules_local.specs.DisableIntrospection.{introspects}
-use Rattle.graphql_rules_local.specs.Laws.{EachOf}
+use Rattle.graphql_rules.specs.DisableIntrospection.{introspects}
+use Rattle.graphql_rules.specs.Laws.{EachOf}
 use Rattle.graphql_schema.specs.Declarations.{declarations_of}
 use Rattle.graphql_validation.specs.FirstStage.{introspection_places, parts}
 use Rattle.graphql_visitors.specs.Subjects.{Subject, subject_of}

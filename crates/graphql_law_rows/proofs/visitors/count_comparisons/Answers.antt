@@ -1,5 +1,5 @@
 use Rattle.std.proofs.Common.{subst, sym}
-use Rattle.graphql_rules_merging.specs.Visitor.{IsCounted}
+use Rattle.graphql_rules_merging.specs.OverlappingFieldsCanBeMerged.{IsCounted}
 use Rattle.graphql_visitors.specs.Subjects.{subject_of}
 use Rattle.graphql_law_rows.proofs.visitors.count_comparisons.Goals as goal
 

@@ -1,5 +1,5 @@
 use Rattle.graphql_occurrences.specs.Events.{events}
-use Rattle.graphql_rules_values.specs.ArgumentsOfCorrectType.{arguments_of_correct_type}
+use Rattle.graphql_rules.specs.ArgumentsOfCorrectType.{arguments_of_correct_type_faults}
 use Rattle.graphql_validation.proofs.WalkLemmas.{reports_visited}
 use Rattle.graphql_validation.specs.FirstStage.{ArgumentsTold, parts}
 use Rattle.graphql_visitors.specs.Rules.{locally}
@@ -13,7 +13,7 @@ returns g c =
     let subject = subject_of c.args.context.now in
     let answer = g.S.ScalarValue.answer in
     let accepts = g.S.Check.Check.accepts in
-    reports_visited (locally (arguments_of_correct_type answer accepts)) (IsOnlyTold (ArgumentsTold answer accepts subject))
+    reports_visited (locally (arguments_of_correct_type_faults answer accepts)) (IsOnlyTold (ArgumentsTold answer accepts subject))
     (events subject.schema subject.document)
     c.factory-rule.result c.visit.new.visitor c.args.context.now c.visit.new.context
     c.visit.ensures.visited c.visit.ensures.around

@@ -1,7 +1,7 @@
 use Rattle.std.proofs.Common.{◌≡◌, ◌∙◌}
 use Rattle.graphql_occurrences.specs.Events.{events}
-use Rattle.graphql_rules_local.specs.PossibleFragmentSpreads.{impossible_spread}
-use Rattle.graphql_rules_local.specs.PossibleVisitor.{by_names}
+use Rattle.graphql_rules.specs.PossibleFragmentSpreads.{possible_fragment_spreads_faults}
+use Rattle.graphql_rules.specs.PossibleVisitor.{by_names}
 use Rattle.graphql_schema.specs.Declarations.{declarations_of}
 use Rattle.graphql_validation.proofs.ReportedLemmas.{reports_exactly}
 use Rattle.graphql_validation.proofs.WalkLemmas.{reports_visited}
@@ -12,7 +12,7 @@ use Rattle.graphql_law_rows.proofs.visitors.report_impossible_spreads.Goals as g
 pub returns : goal.returns
 returns g c =
     let subject = subject_of c.args.context.now in
-    let told = places_of subject impossible_spread in
+    let told = places_of subject possible_fragment_spreads_faults in
     let same : c.factory-rule.result.overlaps.schema ≡ c.args.context.now.schema = c.factory-rule.ensures ∙ c.schema.ensures in
     reports_exactly told c.args.context.now c.visit.new.context
     (reports_visited by_names (λ ts. ts ≡ told) (events subject.schema subject.document)

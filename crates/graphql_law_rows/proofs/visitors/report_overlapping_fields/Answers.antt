@@ -1,5 +1,5 @@
 use Rattle.graphql_occurrences.specs.Events.{events}
-use Rattle.graphql_rules_merging.specs.Visitor.{RuleTold, asks_once}
+use Rattle.graphql_rules_merging.specs.OverlappingFieldsCanBeMerged.{RuleTold, asks_once}
 use Rattle.graphql_validation.proofs.WalkLemmas.{reports_visited}
 use Rattle.graphql_visitors.specs.Subjects.{subject_of}
 use Rattle.graphql_law_rows.proofs.visitors.report_overlapping_fields.Goals as goal

@@ -1,8 +1,8 @@
 use Rattle.std.proofs.Common.{◌++◌}
 use Rattle.std.specs.Prelude.{IsPermutation}
 use Rattle.graphql_occurrences.specs.Events.{events}
-use Rattle.graphql_rules_local.specs.FieldsOnCorrectType.{unknown_field}
-use Rattle.graphql_rules_local.specs.KnownFragmentNames.{unknown_fragment}
+use Rattle.graphql_rules.specs.FieldsOnCorrectType.{fields_on_correct_type_faults}
+use Rattle.graphql_rules.specs.KnownFragmentNames.{known_fragment_names_faults}
 use Rattle.graphql_validation.proofs.WalkLemmas.{reports_visited}
 use Rattle.graphql_validation.specs.FirstStage.{places_of}
 use Rattle.graphql_visitors.specs.Rules.{both, local, silent}
@@ -15,11 +15,11 @@ pub returns : goal.returns
 returns g c =
     let subject = subject_of c.args.context.now in
     let document_events = events subject.schema subject.document in
-    let fields = places_of subject unknown_field in
-    let fragments = places_of subject unknown_fragment in
+    let fields = places_of subject fields_on_correct_type_faults in
+    let fragments = places_of subject known_fragment_names_faults in
     let v = c.with-rules.result in
     let w = c.visit.new.visitor in
-    reports_visited (both (local unknown_field) (both (local unknown_fragment) silent)) (IsPermutation (fields ++ fragments))
+    reports_visited (both (local fields_on_correct_type_faults) (both (local known_fragment_names_faults) silent)) (IsPermutation (fields ++ fragments))
     document_events v w c.args.context.now c.visit.new.context c.visit.ensures.visited c.visit.ensures.around
     (λ ts runs.
     let split = c.one_pass_is_separate_passes-2.ensures subject v w document_events ts runs in

@@ -1,6 +1,6 @@
 use Rattle.std.proofs.Common.{◌≡◌}
 use Rattle.graphql_occurrences.specs.Events.{events}
-use Rattle.graphql_rules_document.specs.NoUnusedFragments.{never_reached}
+use Rattle.graphql_rules_document.specs.NoUnusedFragments.{no_unused_fragments_faults}
 use Rattle.graphql_rules_document.specs.Once.{ScopeRule, once, said_of}
 use Rattle.graphql_validation.proofs.ReportedLemmas.{reports_exactly}
 use Rattle.graphql_validation.proofs.WalkLemmas.{reports_visited}
@@ -10,7 +10,7 @@ use Rattle.graphql_law_rows.proofs.visitors.report_unused_fragments.Goals as goa
 pub returns : goal.returns
 returns g c =
     let subject = subject_of c.args.context.now in
-    let unused : ScopeRule g.row.S.Denot g.row.S-Check.Denot = (λ types operations fragments. never_reached operations fragments) in
+    let unused : ScopeRule g.row.S.Denot g.row.S-Check.Denot = (λ types operations fragments. no_unused_fragments_faults operations fragments) in
     let told = said_of unused subject in
     reports_exactly told c.args.context.now c.visit.new.context
     (reports_visited (once unused) (λ ts. ts ≡ told) (events subject.schema subject.document)

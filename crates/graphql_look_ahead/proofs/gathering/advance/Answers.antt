@@ -1,5 +1,5 @@
 use Rattle.std.proofs.Common.{sym, ap, ◌∙◌, ◌∷◌, map}
-use Rattle.graphql_collect.specs.Requests.{drops_in, fragments_in}
+use Rattle.graphql_collected.specs.Requests.{drops_in, fragments_in}
 use Rattle.graphql_written_out.specs.Written.{condition_of}
 use Rattle.graphql_look_ahead.specs.Applies.{bound, only_of}
 use Rattle.graphql_look_ahead.specs.Open.{opened, rest_of}

@@ -1,5 +1,5 @@
 use Rattle.std.proofs.Common.{rules, ap, map, ◌≡◌, []}
-use Rattle.graphql_collect.specs.Requests.{drops_in, fragments_in}
+use Rattle.graphql_collected.specs.Requests.{drops_in, fragments_in}
 use Rattle.graphql_look_ahead.specs.Open.{open_set, opened}
 use Rattle.graphql_look_ahead.specs.Told.{looked_at, within}
 use Rattle.graphql_look_ahead.proofs.OpenLemmas.{opened-push, steps-pop, steps-whole}

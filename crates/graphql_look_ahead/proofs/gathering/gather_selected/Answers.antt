@@ -1,5 +1,5 @@
 use Rattle.std.proofs.Common.{arith, ap, sym, map}
-use Rattle.graphql_collect.specs.Requests.{drops_in, fragments_in}
+use Rattle.graphql_collected.specs.Requests.{drops_in, fragments_in}
 use Rattle.graphql_look_ahead.specs.Selections.{below_collected, selections_of}
 use Rattle.graphql_look_ahead.specs.Told.{looked_at, within}
 use Rattle.graphql_look_ahead.proofs.OpenLemmas.{adds-all, adds-each, adds-none}

@@ -1,6 +1,6 @@
 use Rattle.std.proofs.Common.{map, take}
 use Rattle.std.specs.List.{flat_map}
-use Rattle.graphql_collect.specs.Requests.{drops_in, fragments_in}
+use Rattle.graphql_collected.specs.Requests.{drops_in, fragments_in}
 use Rattle.graphql_look_ahead.specs.Open.{Adds}
 use Rattle.graphql_look_ahead.specs.Selections.{below_collected}
 use Rattle.graphql_look_ahead.specs.Told.{looked_at, within}

@@ -1,11 +1,11 @@
 use Rattle.std.proofs.Common.{◌≡◌, ◌∙◌, ap, slice_get, subst, sym, Some, ◌∷◌, [], ◌⊎◌}
 use Rattle.std.specs.Prelude.{IfOk, OnErr}
 use Rattle.graphql_collect.specs.Grouped.{all_found}
-use Rattle.graphql_collect.specs.Requests.{fragments_in}
-use Rattle.graphql_declarations.specs.Lent.{literal_of}
+use Rattle.graphql_collected.specs.Requests.{fragments_in}
+use Rattle.graphql_occurrences.specs.DeclaredLent.{literal_of}
 use Rattle.graphql_written_out.specs.Written.{Settled}
-use Rattle.graphql_evaluation.specs.Evaluation.{sets_below}
-use Rattle.graphql_execution.specs.Sets.{sets_in}
+use Rattle.graphql_semantics.specs.Evaluation.{sets_below}
+use Rattle.graphql_execution_walk.specs.Sets.{sets_in}
 use Rattle.graphql_mutation.specs.Mutations.{mutation_of}
 use Rattle.graphql_mutation.specs.Runs.{HasRun}
 use Rattle.graphql_mutation.specs.Serial.{Run}

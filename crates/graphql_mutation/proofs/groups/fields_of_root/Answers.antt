@@ -3,7 +3,7 @@ use Rattle.std.specs.Prelude.{IfOk}
 use Rattle.std.specs.List.{flat_map}
 use Rattle.std.proofs.lemmas.Simd.{map-map}
 use Rattle.graphql_collect.specs.Grouped.{all_found}
-use Rattle.graphql_collect.specs.Requests.{fields_in, found_at, fragments_in}
+use Rattle.graphql_collected.specs.Requests.{fields_in, found_at, fragments_in}
 use Rattle.graphql_written_out.specs.Fields.{Found}
 use Rattle.graphql_written_out.specs.Repeats.{Repeats}
 use Rattle.graphql_mutation.proofs.groups.fields_of_root.Goals as goal

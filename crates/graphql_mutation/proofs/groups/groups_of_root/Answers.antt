@@ -1,5 +1,5 @@
 use Rattle.graphql_collect.specs.Grouped.{all_found}
-use Rattle.graphql_collect.specs.Requests.{fragments_in}
+use Rattle.graphql_collected.specs.Requests.{fragments_in}
 use Rattle.graphql_mutation.proofs.groups.groups_of_root.Goals as goal
 
 pub returns : goal.returns

@@ -1,5 +1,5 @@
 use Rattle.std.proofs.Common.{subst, sym}
-use Rattle.graphql_collect.specs.Requests.{fragments_in}
+use Rattle.graphql_collected.specs.Requests.{fragments_in}
 use Rattle.graphql_written_out.specs.Written.{Settled, head_of}
 use Rattle.graphql_mutation.specs.Mutations.{mutation_of}
 use Rattle.graphql_mutation.specs.Serial.{step_of}

@@ -1,8 +1,8 @@
 use Rattle.std.proofs.Common.{refl, take_all, ◌+◌, ◌++◌, ◌∷◌, []}
-use Rattle.graphql_collect.specs.Requests.{fragments_in}
-use Rattle.graphql_evaluation.specs.Evaluation.{found_in}
-use Rattle.graphql_execution.specs.Sets.{AreGroups, sets_in}
-use Rattle.graphql_execution.proofs.EngineParts.{engine-found}
+use Rattle.graphql_collected.specs.Requests.{fragments_in}
+use Rattle.graphql_semantics.specs.Evaluation.{found_in}
+use Rattle.graphql_execution_walk.specs.Sets.{AreGroups, sets_in}
+use Rattle.graphql_execution_walk.proofs.EngineParts.{engine-found}
 use Rattle.graphql_mutation.specs.Mutations.{mutation_of}
 use Rattle.graphql_mutation.specs.Serial.{root_groups}
 use Rattle.graphql_mutation.proofs.RunLemmas.{on_err}

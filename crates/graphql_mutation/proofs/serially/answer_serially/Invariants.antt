@@ -1,6 +1,6 @@
 use Rattle.std.proofs.Common.{map, take}
 use Rattle.graphql_collect.specs.Grouped.{group_found}
-use Rattle.graphql_collect.specs.Requests.{fragments_in}
+use Rattle.graphql_collected.specs.Requests.{fragments_in}
 use Rattle.graphql_mutation.specs.Mutations.{mutation_of}
 use Rattle.graphql_mutation.proofs.SerialSteps.{SoFar}
 use Rattle.graphql_mutation.proofs.serially.answer_serially.Given as goal

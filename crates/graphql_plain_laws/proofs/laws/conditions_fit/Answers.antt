@@ -1,4 +1,4 @@
-use Rattle.graphql_final_variables.specs.FinalVariables.{value_in}
+use Rattle.graphql_written_out.specs.FinalVariables.{value_in}
 use Rattle.graphql_plain_laws.proofs.laws.conditions_fit.Goals as goal
 
 pub returns : goal.returns

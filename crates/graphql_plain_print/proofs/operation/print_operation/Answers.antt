@@ -1,6 +1,6 @@
 use Rattle.std.proofs.Common.{◌≡◌, ◌≤◌, ◌<◌, ◌++◌, sym, ◌∙◌, ap, subst}
 use Rattle.std.specs.String.{string_bytes}
-use Rattle.graphql_final_variables.specs.FinalVariables.{value_in}
+use Rattle.graphql_written_out.specs.FinalVariables.{value_in}
 use Rattle.graphql_written_out.specs.Written.{Settled, written}
 use Rattle.graphql_tree.specs.Definitions.{fragments_listed}
 use Rattle.graphql_plain_tree.specs.Plain.{size}

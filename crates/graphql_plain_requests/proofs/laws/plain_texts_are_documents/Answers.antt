@@ -1,6 +1,6 @@
 use Rattle.std.proofs.Common.{subst}
 use Rattle.graphql_schema.specs.Declarations.{declarations_of}
-use Rattle.graphql_filled_sets.specs.Laws.{WrittenSetsAreFilled}
+use Rattle.graphql_plain_validity.specs.Laws.{WrittenSetsAreFilled}
 use Rattle.graphql_plain_requests.proofs.PlainDocuments.{plain-texts-are-documents}
 use Rattle.graphql_plain_requests.proofs.laws.plain_texts_are_documents.Goals as goal
 

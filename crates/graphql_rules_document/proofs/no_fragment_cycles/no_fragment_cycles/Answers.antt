@@ -1,6 +1,6 @@
 use Rattle.std.proofs.Common.{◌<◌, get_or, length, map, ap, refl, subst, ◌∙◌}
 use Rattle.std.proofs.lemmas.Option.{slice_get_read}
-use Rattle.graphql_scopes.specs.Lent.{fragment_of}
+use Rattle.graphql_rules_document.specs.Lent.{fragment_of}
 use Rattle.graphql_rules_document.specs.NoFragmentCycles.{cycles_in}
 use Rattle.graphql_rule_errors.specs.Places.{Reports}
 use Rattle.graphql_rules_document.proofs.LoopLemmas.{reports_turn}

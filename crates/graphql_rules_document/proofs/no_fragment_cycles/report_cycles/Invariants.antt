@@ -1,7 +1,7 @@
 use Rattle.std.proofs.Common.{◌≡◌, Some, map, slice_get, take}
 use Rattle.std.specs.List.{flat_map}
-use Rattle.graphql_scopes.specs.Components.{IsComponents}
-use Rattle.graphql_scopes.specs.Lent.{fragment_of, spread_of}
+use Rattle.graphql_rules_document.specs.Components.{IsComponents}
+use Rattle.graphql_rules_document.specs.Lent.{fragment_of, spread_of}
 use Rattle.graphql_rules_document.specs.NoFragmentCycles.{cycle_at}
 use Rattle.graphql_rule_errors.specs.Places.{Reports}
 use Rattle.graphql_rules_document.proofs.no_fragment_cycles.report_cycles.Given as goal

@@ -1,6 +1,6 @@
 use Rattle.std.proofs.Common.{map, ap, ◌∙◌}
 use Rattle.std.specs.List.{flat_map}
-use Rattle.graphql_scopes.specs.Lent.{operation_of, use_of}
+use Rattle.graphql_rules_document.specs.Lent.{operation_of, use_of}
 use Rattle.graphql_rules_document.specs.NoUndefinedVariables.{undefined_use}
 use Rattle.graphql_rule_errors.proofs.ReportLemmas.{reports_as}
 use Rattle.graphql_rules_document.proofs.LoopLemmas.{on_ok}

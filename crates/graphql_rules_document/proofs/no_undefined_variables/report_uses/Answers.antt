@@ -1,6 +1,6 @@
 use Rattle.std.proofs.Common.{ap, ◌∙◌}
 use Rattle.std.specs.Prelude.{not}
-use Rattle.graphql_scopes.specs.Lent.{operation_of, use_of}
+use Rattle.graphql_rules_document.specs.Lent.{operation_of, use_of}
 use Rattle.graphql_rules_document.specs.NoUndefinedVariables.{undefined_use}
 use Rattle.graphql_rules_document.proofs.LoopLemmas.{reports_turn}
 use Rattle.graphql_rules_document.proofs.ReachedLemmas.{reports_if}

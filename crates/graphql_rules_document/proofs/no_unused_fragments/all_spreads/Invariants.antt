@@ -1,6 +1,6 @@
 use Rattle.std.proofs.Common.{◌≡◌, map, take}
 use Rattle.std.specs.List.{flat_map}
-use Rattle.graphql_scopes.specs.Lent.{operation_of, spread_of}
+use Rattle.graphql_rules_document.specs.Lent.{operation_of, spread_of}
 use Rattle.graphql_rules_document.proofs.no_unused_fragments.all_spreads.Given as goal
 
 abbrev pub invariant-operations : goal.invariant-operations

@@ -1,7 +1,7 @@
 use Rattle.std.proofs.Common.{map, ap, ◌∙◌}
 use Rattle.std.specs.List.{flat_map}
-use Rattle.graphql_scopes.specs.Lent.{fragment_of, spread_of}
-use Rattle.graphql_scopes.specs.Reached.{reached}
+use Rattle.graphql_rules_document.specs.Lent.{fragment_of, spread_of}
+use Rattle.graphql_rules_document.specs.Reached.{reached}
 use Rattle.graphql_rules_document.specs.NoUnusedFragments.{unused_fragment}
 use Rattle.graphql_rule_errors.proofs.ReportLemmas.{reports_as}
 use Rattle.graphql_rules_document.proofs.LoopLemmas.{on_ok}

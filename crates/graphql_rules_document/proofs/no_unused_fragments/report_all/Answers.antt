@@ -1,7 +1,7 @@
 use Rattle.std.proofs.Common.{◌<◌, ◌∷◌, [], not, get_or, length, ap, subst, ◌∙◌}
 use Rattle.graphql_names.specs.Names.{is_one_of}
-use Rattle.graphql_scopes.specs.Lent.{fragment_of}
-use Rattle.graphql_scopes.proofs.UsesLemmas.{mark_is}
+use Rattle.graphql_rules_document.specs.Lent.{fragment_of}
+use Rattle.graphql_rules_document.proofs.UsesLemmas.{mark_is}
 use Rattle.graphql_rules_document.specs.NoUnusedFragments.{unused_fragment}
 use Rattle.graphql_rule_errors.specs.Places.{error_if}
 use Rattle.graphql_rule_errors.proofs.ReportLemmas.{reports_as}

@@ -1,7 +1,7 @@
 use Rattle.std.proofs.Common.{◌≡◌, List, map, take}
 use Rattle.std.specs.List.{flat_map}
 use Rattle.graphql_names.specs.Names.{Bytes, is_one_of}
-use Rattle.graphql_scopes.specs.Lent.{fragment_of}
+use Rattle.graphql_rules_document.specs.Lent.{fragment_of}
 use Rattle.graphql_rules_document.specs.NoUnusedFragments.{unused_fragment}
 use Rattle.graphql_rule_errors.specs.Places.{Reports}
 use Rattle.graphql_rules_document.proofs.no_unused_fragments.report_all.Given as goal

@@ -1,5 +1,5 @@
 use Rattle.std.proofs.Common.{map, subst}
-use Rattle.graphql_scopes.specs.Lent.{fragment_of, operation_of}
+use Rattle.graphql_rules_document.specs.Lent.{fragment_of, operation_of}
 use Rattle.graphql_rules_document.specs.NoUnusedVariables.{unused_in}
 use Rattle.graphql_rule_errors.specs.Places.{Reports}
 use Rattle.graphql_rules_document.proofs.LoopLemmas.{reports_turn}

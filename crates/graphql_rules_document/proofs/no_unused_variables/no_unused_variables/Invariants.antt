@@ -1,6 +1,6 @@
 use Rattle.std.proofs.Common.{map, take}
 use Rattle.std.specs.List.{flat_map}
-use Rattle.graphql_scopes.specs.Lent.{fragment_of, operation_of}
+use Rattle.graphql_rules_document.specs.Lent.{fragment_of, operation_of}
 use Rattle.graphql_rules_document.specs.NoUnusedVariables.{unused_in}
 use Rattle.graphql_rule_errors.specs.Places.{Reports}
 use Rattle.graphql_rules_document.proofs.no_unused_variables.no_unused_variables.Given as goal

@@ -1,7 +1,7 @@
 use Rattle.std.proofs.Common.{map, ap, ◌∙◌}
 use Rattle.graphql_names.specs.Names.{is_one_of}
-use Rattle.graphql_scopes.specs.Lent.{fragment_of, operation_of, use_of}
-use Rattle.graphql_scopes.specs.Reached.{uses_from}
+use Rattle.graphql_rules_document.specs.Lent.{fragment_of, operation_of, use_of}
+use Rattle.graphql_rules_document.specs.Reached.{uses_from}
 use Rattle.graphql_rules_document.proofs.LoopLemmas.{on_ok}
 use Rattle.graphql_rules_document.proofs.no_unused_variables.report_operation.Goals as goal
 

@@ -1,6 +1,6 @@
 use Rattle.std.proofs.Common.{◌++◌, map, ap, ◌∙◌}
 use Rattle.graphql_rule_errors.specs.Places.{places}
-use Rattle.graphql_scopes.specs.Lent.{fragment_of, operation_of}
+use Rattle.graphql_rules_document.specs.Lent.{fragment_of, operation_of}
 use Rattle.graphql_rules_document.proofs.once.rule_errors.Goals as goal
 
 pub returns : goal.returns

@@ -1,7 +1,7 @@
 use Rattle.std.proofs.Common.{◌≡◌, map, take}
-use Rattle.graphql_scopes.specs.Lent.{fragment_of}
+use Rattle.graphql_rules_document.specs.Lent.{fragment_of}
 use Rattle.graphql_rule_errors.specs.Repeats.{mention_lent}
-use Rattle.graphql_rules_document.specs.UniqueNames.{fragment_mention}
+use Rattle.graphql_rules_document.specs.UniqueFragmentNames.{fragment_mention}
 use Rattle.graphql_rules_document.proofs.unique_fragment_names.fragment_names.Given as goal
 
 abbrev pub invariant-fragments : goal.invariant-fragments

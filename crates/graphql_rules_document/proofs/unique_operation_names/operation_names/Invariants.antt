@@ -1,8 +1,8 @@
 use Rattle.std.proofs.Common.{◌≡◌, map, take}
 use Rattle.std.specs.List.{flat_map}
-use Rattle.graphql_scopes.specs.Lent.{operation_of}
+use Rattle.graphql_rules_document.specs.Lent.{operation_of}
 use Rattle.graphql_rule_errors.specs.Repeats.{mention_lent}
-use Rattle.graphql_rules_document.specs.UniqueNames.{operation_mention}
+use Rattle.graphql_rules_document.specs.UniqueOperationNames.{operation_mention}
 use Rattle.graphql_rules_document.proofs.unique_operation_names.operation_names.Given as goal
 
 abbrev pub invariant-operations : goal.invariant-operations

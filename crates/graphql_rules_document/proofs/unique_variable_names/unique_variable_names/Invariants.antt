@@ -1,9 +1,9 @@
 use Rattle.std.proofs.Common.{map, take}
 use Rattle.std.specs.List.{flat_map}
-use Rattle.graphql_scopes.specs.Lent.{operation_of}
+use Rattle.graphql_rules_document.specs.Lent.{operation_of}
 use Rattle.graphql_rule_errors.specs.Places.{Reports}
 use Rattle.graphql_rule_errors.specs.Repeats.{repeats}
-use Rattle.graphql_rules_document.specs.UniqueNames.{variable_mention}
+use Rattle.graphql_rules_document.specs.UniqueVariableNames.{variable_mention}
 use Rattle.graphql_rules_document.proofs.unique_variable_names.unique_variable_names.Given as goal
 
 abbrev pub invariant-operations : goal.invariant-operations

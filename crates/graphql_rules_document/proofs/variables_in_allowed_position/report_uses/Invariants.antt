@@ -1,6 +1,6 @@
 use Rattle.std.proofs.Common.{map, take}
 use Rattle.std.specs.List.{flat_map}
-use Rattle.graphql_scopes.specs.Lent.{use_of}
+use Rattle.graphql_rules_document.specs.Lent.{use_of}
 use Rattle.graphql_rules_document.specs.FirstVariables.{variable_at}
 use Rattle.graphql_rule_errors.specs.Places.{Reports}
 use Rattle.graphql_rules_document.specs.VariablesInAllowedPosition.{disallowed_by}

@@ -9,4 +9,4 @@ returns-clause-made g c = made_of ghosts.of_text _ _ roots c.new.result c.in_ok-
 pub returns-clause-boolean : goal.returns-clause-boolean
 returns-clause-boolean g c =
     let checks = c.args.checks in
-    boolean_in _ checks.int checks.string checks.boolean checks.id checks.introspection c.in_ok-types.types c.new.result c.in_ok-types.ensures c.new.ensures.made
+    boolean_in _ checks.int checks.string checks.boolean checks.id _ c.in_ok-types.types c.new.result c.in_ok-types.ensures c.new.ensures.made

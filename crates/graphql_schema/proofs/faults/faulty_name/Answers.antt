@@ -1,8 +1,9 @@
-use Rattle.std.proofs.Common.{IfOk, subst}
+use Rattle.std.proofs.Common.{IfOk, subst, ◌&&◌}
 use Rattle.std.specs.List.{list_any}
-use Rattle.graphql_names.specs.Names.{Finds, stands_twice}
+use Rattle.graphql_names.specs.Names.{Finds, is_named, stands_twice}
 use Rattle.graphql_schema.specs.declared.faults.kind.FaultKind.TheVariants as fault
-use Rattle.graphql_schema.specs.Faults.{Roots, scopes_of}
+use Rattle.graphql_schema.specs.Faults.{Roots, is_bad_one_of, scopes_of}
+use Rattle.graphql_schema.specs.Lookups.{own_name}
 use Rattle.graphql_schema.proofs.FaultKinds.{found, ok_found}
 use Rattle.graphql_schema.proofs.faults.faulty_name.Goals as goal
 
@@ -41,3 +42,9 @@ pub returns-in-BadMember : goal.returns-in-BadMember
 returns-in-BadMember g c =
     let roots : Roots = record { query = c.args.query.now; mutation = c.args.mutation.now; subscription = c.args.subscription.now } in
     found c.args.types.now roots c.as_slice-all.ensures.by_name c.args.kind fault.BadMember c.bad_member.result c.in-BadMember.is c.bad_member.ensures
+
+pub returns-in-BadOneOf : goal.returns-in-BadOneOf
+returns-in-BadOneOf g c =
+    let roots : Roots = record { query = c.args.query.now; mutation = c.args.mutation.now; subscription = c.args.subscription.now } in
+    found c.args.types.now roots c.as_slice-all.ensures.by_name c.args.kind fault.BadOneOf c.bad_one_of.result c.in-BadOneOf.is
+    (subst (λ metas. Finds (λ name. list_any (λ m. is_named own_name name m && is_bad_one_of m) metas) c.bad_one_of.result) c.as_slice-all.ensures.items c.bad_one_of.ensures)

@@ -1,5 +1,5 @@
 use Rattle.graphql_schema_files.specs.Conforming.{DraftConforms}
-use Rattle.graphql_defaults.proofs.Decided.{all_held, all_refuted, all_turn, fails, holds, refuted}
+use Rattle.graphql_literal_checks.proofs.Decided.{all_held, all_refuted, all_turn, fails, holds, refuted}
 use Rattle.graphql_schema_files.proofs.conforming.defaults_conform.Goals as goal
 
 pub returns-then-not-branch : goal.returns-then-not-branch

@@ -1,5 +1,5 @@
 use Rattle.std.proofs.Common.{◌↔◌, IfOk, IsTrue, subst}
-use Rattle.graphql_defaults.specs.Conforming.{NamedConforms}
+use Rattle.graphql_literal_checks.specs.Defaults.{NamedConforms}
 use Rattle.graphql_schema_files.proofs.conforming.draft_conforms.Goals as goal
 
 pub returns : goal.returns

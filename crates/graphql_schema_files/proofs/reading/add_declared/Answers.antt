@@ -1,5 +1,5 @@
 use Rattle.std.proofs.Common.{IfOk, subst}
-use Rattle.graphql_drafted_types.specs.DraftedTypes.{AddsTypes}
+use Rattle.graphql_schema_files.specs.DraftedTypes.{AddsTypes}
 use Rattle.graphql_schema_files.proofs.reading.add_declared.Goals as goal
 
 pub returns : goal.returns

@@ -1,6 +1,6 @@
 use Rattle.std.proofs.Common.{◌↔◌, IfOk, IsTrue, subst}
 use Rattle.std.specs.List.{All}
-use Rattle.graphql_drafted_types.specs.DraftedTypes.{TypeHasTypes}
+use Rattle.graphql_schema_files.specs.DraftedTypes.{TypeHasTypes}
 use Rattle.graphql_schema_files.proofs.reading.has_types.Goals as goal
 
 pub returns : goal.returns

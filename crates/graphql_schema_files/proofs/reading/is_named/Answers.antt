@@ -1,6 +1,6 @@
 use Rattle.std.proofs.Common.{ap, ◌∙◌}
 use Rattle.std.specs.List.{list_all}
-use Rattle.graphql_schema_drafts.specs.NamedDrafts.{type_is_named}
+use Rattle.graphql_schema_files.specs.NamedDrafts.{type_is_named}
 use Rattle.graphql_schema_files.proofs.Readings.{same_test}
 use Rattle.graphql_schema_files.proofs.reading.is_named.Goals as goal
 

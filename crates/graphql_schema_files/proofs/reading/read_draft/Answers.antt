@@ -1,4 +1,4 @@
-use Rattle.graphql_defaults.proofs.Decided.{refuted}
+use Rattle.graphql_literal_checks.proofs.Decided.{refuted}
 use Rattle.graphql_schema_files.proofs.Readings.{added_made, none_added}
 use Rattle.graphql_schema_files.proofs.reading.read_draft.Goals as goal
 

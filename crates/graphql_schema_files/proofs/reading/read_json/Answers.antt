@@ -1,6 +1,6 @@
 use Rattle.std.proofs.Common.{◌≡◌, Some, None, rules}
 use Rattle.serde_json.specs.View.{view}
-use Rattle.graphql_schema_drafts.specs.Shapes.{schema_of}
+use Rattle.graphql_schema_files.specs.Shapes.{schema_of}
 use Rattle.graphql_schema_files.proofs.Readings.{drafted, shapeless}
 use Rattle.graphql_schema_files.proofs.reading.read_json.Goals as goal
 

@@ -1,4 +1,4 @@
-use Rattle.graphql_defaults.proofs.Decided.{refuted}
+use Rattle.graphql_literal_checks.proofs.Decided.{refuted}
 use Rattle.graphql_schema_files.proofs.Readings.{not_conforming, conforming}
 use Rattle.graphql_schema_files.proofs.reading.rooted.Goals as goal
 

@@ -1,6 +1,6 @@
 //! What a field that is looked at tells, as text.
 
-ghost use Rattle.graphql_collect.specs.Requests.{fragments_in};
+ghost use Rattle.graphql_collected.specs.Requests.{fragments_in};
 ghost use Rattle.graphql_written_out.specs.Written.{Settled};
 
 use graphql_look_ahead::{

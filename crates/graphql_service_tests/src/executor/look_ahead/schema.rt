@@ -7,14 +7,13 @@ ghost use Rattle.graphql_schema.specs.ScalarChecks.{IsBoolean};
 
 use crate::executor::look_ahead::asked::{Row, ask};
 use graphql_executor::{IntrospectionChecks, introspection_metadata};
-use graphql_names::NamedItems;
+use graphql_names::{NamedItems, Type, TypeModifier};
 use graphql_schema::scalar_checks::boolean_check;
 use graphql_schema::{
     Argument, DeprecationStatus, EnumMeta, EnumValue, Field, InterfaceMeta, MetaType, ObjectMeta,
     RootNode, ScalarMeta, SchemaType, TypeCheck,
 };
 use graphql_text::{Items, Text};
-use graphql_type_references::{Type, TypeModifier};
 use graphql_values::{DefaultScalarValue, InputValue};
 use std::alloc::Global;
 use std::process::Abort;

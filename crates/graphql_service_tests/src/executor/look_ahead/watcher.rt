@@ -1,14 +1,14 @@
 //! The resolver of the tests, which looks ahead.
 
 ghost use Rattle.std.specs.Prelude.{◌≡◌};
-ghost use Rattle.graphql_collect.specs.Requests.{fragments_in};
+ghost use Rattle.graphql_collected.specs.Requests.{fragments_in};
 ghost use Rattle.graphql_written_out.specs.Written.{Settled};
-ghost use Rattle.graphql_execution.specs.Answered.{Answered};
+ghost use Rattle.graphql_execution_walk.specs.Answered.{Answered};
 ghost use Rattle.graphql_service_tests.specs.Persons as spec;
 
 use crate::executor::look_ahead::look::{Look, tell_seen};
 use graphql_arguments::Arguments;
-use graphql_execution::{Executor, GraphQLValue};
+use graphql_execution_walk::{Executor, GraphQLValue};
 use graphql_field_results::{FieldResult, Resolved};
 use graphql_text::Text;
 use graphql_values::DefaultScalarValue;

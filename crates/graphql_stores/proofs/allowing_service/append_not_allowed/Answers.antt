@@ -1,5 +1,5 @@
 use Rattle.std.proofs.Common.{take, ap, ◌∙◌}
-use Rattle.graphql_lines.proofs.Fronts.{front_cut}
+use Rattle.graphql_json.proofs.Fronts.{front_cut}
 use Rattle.graphql_stores.proofs.allowing_service.append_not_allowed.Goals as goal
 
 pub returns-in-Err-clause-kept : goal.returns-in-Err-clause-kept

@@ -1,4 +1,4 @@
-use Rattle.graphql_scopes.specs.Lent.{scopes_told}
+use Rattle.graphql_rules_document.specs.Lent.{scopes_told}
 use Rattle.graphql_validation.proofs.ReportedLemmas.{stage_reported}
 use Rattle.graphql_validation.proofs.first_stage.visit_stage.Goals as goal
 

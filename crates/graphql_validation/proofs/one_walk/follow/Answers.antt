@@ -3,7 +3,7 @@ use Rattle.std.specs.Prelude.{MatchOption}
 use Rattle.std.specs.Result.{is_err}
 use Rattle.graphql_occurrences.specs.Lent.{seen_of}
 use Rattle.graphql_document_walk.specs.Pending.{ahead}
-use Rattle.graphql_scopes.specs.Gathered.{gathered, with_event}
+use Rattle.graphql_rules_document.specs.Gathered.{gathered, with_event}
 use Rattle.graphql_visitors.specs.Runs.{Did, Visited}
 use Rattle.graphql_visitors.proofs.RunLemmas.{visited_after, visited_failed, visited_none}
 use Rattle.graphql_validation.proofs.WalkLemmas.{holds_of_value}

@@ -1,6 +1,6 @@
 use Rattle.std.proofs.Common.{◌≡◌, fold, length}
 use Rattle.graphql_document_walk.specs.Pending.{ahead}
-use Rattle.graphql_scopes.specs.Gathered.{gathered, with_event}
+use Rattle.graphql_rules_document.specs.Gathered.{gathered, with_event}
 use Rattle.graphql_visitors.specs.Runs.{Visited}
 use Rattle.graphql_validation.proofs.one_walk.follow.Given as goal
 

@@ -1,9 +1,9 @@
 use Rattle.std.proofs.Common.{◌≡◌, false, fold, sym, ap, ◌∙◌}
 use Rattle.graphql_document_walk.specs.Pending.{ahead}
 use Rattle.graphql_schema.specs.Declarations.{declarations_of}
-use Rattle.graphql_scopes.proofs.GatheredLemmas.{gathered_is}
-use Rattle.graphql_scopes.specs.Gathered.{gathered, nothing, scopes_gathered, with_event}
-use Rattle.graphql_scopes.specs.Scopes.{scopes_in}
+use Rattle.graphql_rules_document.proofs.GatheredLemmas.{gathered_is}
+use Rattle.graphql_rules_document.specs.Gathered.{gathered, nothing, scopes_gathered, with_event}
+use Rattle.graphql_rules_document.specs.Scopes.{scopes_in}
 use Rattle.graphql_validation.proofs.WalkLemmas.{not_failed}
 use Rattle.graphql_validation.proofs.one_walk.visit_and_gather.Goals as goal
 use Rattle.graphql_validation.proofs.one_walk.visit_and_gather.Goals.{in-Ok, in-Err}

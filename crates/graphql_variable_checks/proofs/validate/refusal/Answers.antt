@@ -1,7 +1,7 @@
 use Rattle.std.proofs.Common.{Some, None}
 use Rattle.std.specs.HashMap.{get_by_text}
 use Rattle.std.specs.Option.{option_copied}
-use Rattle.graphql_final_variables.specs.FinalValues.{variable_name}
+use Rattle.graphql_written_out.specs.FinalValues.{variable_name}
 use Rattle.graphql_variable_checks.proofs.JudgedLemmas.{known_type, looked_up, reason_of_known}
 use Rattle.graphql_variable_checks.proofs.validate.refusal.Goals as goal
 

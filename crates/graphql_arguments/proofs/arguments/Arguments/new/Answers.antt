@@ -1,6 +1,6 @@
 use Rattle.std.proofs.Common.{◌≡◌, ◌∙◌, ◌++◌, ap}
 use Rattle.std.proofs.lemmas.List.{map-append}
-use Rattle.graphql_final_variables.specs.FinalVariables.{value_in}
+use Rattle.graphql_written_out.specs.FinalVariables.{value_in}
 use Rattle.graphql_arguments.specs.ArgumentValues.{absent_defaults, written_values}
 use Rattle.graphql_arguments.specs.GivenValues.{pair_told, values_told}
 use Rattle.graphql_arguments.proofs.arguments.Arguments.new.Goals as goal

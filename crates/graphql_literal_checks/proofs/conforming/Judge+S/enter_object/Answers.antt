@@ -1,9 +1,27 @@
-use Rattle.std.proofs.Common.{◌≡◌, true, Ok, ap, sym, ◌∙◌}
+use Rattle.std.proofs.Common.{◌≡◌, Bool, true, false, cond, Ok, ap, sym, refl, ◌∙◌}
 use Rattle.graphql_values.specs.declared.input_value.InputValue.TheVariants as value
+use Rattle.graphql_literal_checks.specs.InputTypes.{is_one_given}
 use Rattle.graphql_literal_checks.specs.Judged.{IsObject, ObjectFits, is_constant, have_constants}
 use Rattle.graphql_literal_checks.proofs.ConformsLemmas.{Whole, constant_object, fits_object, object_fits}
 use Rattle.graphql_literal_checks.proofs.OpenLemmas.{left_push, object_left, opens_one, opens_same}
 use Rattle.graphql_literal_checks.proofs.conforming.Judge+S.enter_object.Goals as goal
+
+-- one of two tests, by what is asked for: the first is passed where it is asked for
+one_asked : (asked one other : Bool) → cond asked one other ≡ true → cond asked one true ≡ true
+one_asked true one other h = h
+one_asked false one other h = refl
+
+pub returns-in-Err-clause-fits : goal.returns-in-Err-clause-fits
+returns-in-Err-clause-fits g c = λ not_memory fits.
+    let answer = g.S.ScalarValue.answer in
+    let accepts = g.S.Check.Check.accepts in
+    let types = c.args.self.now.schema.now.types in
+    let source = c.args.self.now.source in
+    let m = c.args.meta.now in
+    let v = c.args.value.now in
+    let ps = c.as_slice-pairs.result.now in
+    let is : v ≡ value.Object ps = c.in-Object.is ∙ ap value.Object (sym c.as_slice-pairs.ensures) in
+    c.in-Err.ensures not_memory (one_asked m.exactly_one (is_one_given ps) _ (fits_object answer accepts types source m v ps is fits).1.0)
 
 pub returns-in_ok-add-in-Object-clause-fits : goal.returns-in_ok-add-in-Object-clause-fits
 returns-in_ok-add-in-Object-clause-fits g c =

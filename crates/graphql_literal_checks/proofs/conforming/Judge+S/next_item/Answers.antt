@@ -1,7 +1,7 @@
 use Rattle.std.proofs.Common.{◌≡◌, ◌&&◌, ◌+◌, ◌*◌, ◌<◌, List, Ok, Bor, ap}
 use Rattle.graphql_values.specs.Counts.{value_count}
-use Rattle.graphql_type_references.specs.declared.type_modifier.TypeModifier.{TypeModifier}
-use Rattle.graphql_type_references.specs.declared.type_reference.«Type».{«Type»}
+use Rattle.graphql_names.specs.declared.type_modifier.TypeModifier.{TypeModifier}
+use Rattle.graphql_names.specs.declared.type_reference.«Type».{«Type»}
 use Rattle.graphql_schema.specs.Types.{TypeOf}
 use Rattle.graphql_names.specs.Names.{Bytes}
 use Rattle.graphql_literal_checks.specs.Judged.{lent}

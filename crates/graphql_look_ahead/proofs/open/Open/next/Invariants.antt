@@ -1,5 +1,5 @@
 use Rattle.std.proofs.Common.{◌≡◌, ◌-◌, length}
-use Rattle.graphql_collect.specs.Requests.{drops_in, fragments_in}
+use Rattle.graphql_collected.specs.Requests.{drops_in, fragments_in}
 use Rattle.graphql_look_ahead.specs.Open.{Skips, rest_of}
 use Rattle.graphql_look_ahead.proofs.open.Open.next.Given as goal
 

@@ -1,5 +1,5 @@
 use Rattle.std.proofs.Common.{[], reverse, None, ◌∷◌}
-use Rattle.graphql_collect.specs.Requests.{drops_in, fragments_in}
+use Rattle.graphql_collected.specs.Requests.{drops_in, fragments_in}
 use Rattle.graphql_look_ahead.specs.FirstChild.{IsSearch, Leads, lists_left, turns_left}
 use Rattle.graphql_look_ahead.proofs.searching.steps.find_in_list.Given as goal
 

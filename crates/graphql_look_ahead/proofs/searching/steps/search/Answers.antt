@@ -1,5 +1,5 @@
 use Rattle.std.proofs.Common.{rules, refl, sym, ap, ◌∙◌, reverse}
-use Rattle.graphql_collect.specs.Requests.{drops_in, fragments_in}
+use Rattle.graphql_collected.specs.Requests.{drops_in, fragments_in}
 use Rattle.graphql_look_ahead.specs.declared.searching.Task.TheVariants as a_task
 use Rattle.graphql_look_ahead.proofs.SearchLemmas.{pushed-task, pushed-three, pushed-two, turn-end, turn-field-found, turn-field-other, turn-field-out, turn-inline, turn-inline-out, turn-spread, turn-spread-out, turn-spread-searched}
 use Rattle.graphql_look_ahead.proofs.searching.steps.search.Goals.{then-ne-via-then-ne, then-ne-via-else-ne+then-drops, then-not-drops+in_ok-push-in-Inline, else-not-drops, then-not-contains+then-not-drops-2+in_ok-push-in-Spread+in_ok-push-in-Spread-2, else-not-contains, else-not-contains-via-then-not-contains+else-not-drops-2, else-not-contains-via-else-not-contains}

@@ -1,5 +1,5 @@
 use Rattle.std.proofs.Common.{None}
-use Rattle.graphql_collect.specs.Requests.{drops_in, fragments_in}
+use Rattle.graphql_collected.specs.Requests.{drops_in, fragments_in}
 use Rattle.graphql_look_ahead.specs.Told.{selected, told}
 use Rattle.graphql_look_ahead.proofs.ChildrenLemmas.{children-exist}
 use Rattle.graphql_look_ahead.proofs.selection.LookAheadSelection+S.child.Goals as goal

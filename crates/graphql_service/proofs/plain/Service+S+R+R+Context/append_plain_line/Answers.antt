@@ -1,5 +1,5 @@
 use Rattle.std.proofs.Common.{take, ap, ◌∙◌}
-use Rattle.graphql_lines.proofs.Fronts.{front_cut}
+use Rattle.graphql_json.proofs.Fronts.{front_cut}
 use Rattle.graphql_service.proofs.PlainAnswering.{told_as_line}
 use Rattle.graphql_service.proofs.plain.Service+S+R+R+Context.append_plain_line.Goals as goal
 

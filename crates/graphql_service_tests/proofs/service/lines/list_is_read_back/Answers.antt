@@ -6,7 +6,7 @@ use Rattle.serde_json.specs.Read.{max_depth}
 use Rattle.graphql_scalars.specs.DefaultScalar.{answer}
 use Rattle.graphql_output_values.specs.ValueEquations.{value_folds}
 use Rattle.graphql_output_values.specs.declared.value.Value.TheVariants as value
-use Rattle.graphql_lines.specs.Laws.{nesting, fits_32_bits, data_of_value}
+use Rattle.graphql_json.specs.Laws.{nesting, fits_32_bits, data_of_value}
 use Rattle.graphql_service_tests.specs.Samples.{list, list_data, sample, sample_data}
 use Rattle.graphql_service_tests.proofs.service.lines.list_is_read_back.Goals as goal
 

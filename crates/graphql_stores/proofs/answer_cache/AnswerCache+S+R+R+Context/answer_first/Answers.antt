@@ -1,5 +1,5 @@
 use Rattle.std.proofs.Common.{rules, ◌≡◌, ◌&&◌, not, true, sym, ap, subst, ◌∙◌}
-use Rattle.graphql_kept_texts.specs.Keeping.{KeepsAtMost}
+use Rattle.graphql_stores.specs.Keeping.{KeepsAtMost}
 use Rattle.graphql_stores.specs.AnswerEnds.{begins_with_data, ends_with_list}
 use Rattle.graphql_stores.proofs.CachedAnswers.{behind-is, counted-within, query-kept, query-left}
 use Rattle.graphql_stores.proofs.answer_cache.AnswerCache+S+R+R+Context.answer_first.Goals as goal

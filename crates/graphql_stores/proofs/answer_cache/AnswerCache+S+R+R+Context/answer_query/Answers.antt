@@ -1,5 +1,5 @@
 use Rattle.std.proofs.Common.{◌≡◌, refl, subst, ◌∙◌}
-use Rattle.graphql_kept_texts.specs.Keeping.{KeepsAtMost}
+use Rattle.graphql_stores.specs.Keeping.{KeepsAtMost}
 use Rattle.graphql_stores.proofs.CachedAnswers.{behind-is, counted-within, kept-plain, not-broken, own-parts}
 use Rattle.graphql_stores.proofs.answer_cache.AnswerCache+S+R+R+Context.answer_query.Goals as goal
 

@@ -1,5 +1,5 @@
 use Rattle.std.proofs.Common.{rules, ◌≡◌, subst}
-use Rattle.graphql_kept_texts.specs.Keeping.{KeepsAtMost}
+use Rattle.graphql_stores.specs.Keeping.{KeepsAtMost}
 use Rattle.graphql_stores.proofs.kept_answers.KeptAnswers.keep_line.Goals as goal
 
 pub returns-in-Ok-clause-by_line : goal.returns-in-Ok-clause-by_line

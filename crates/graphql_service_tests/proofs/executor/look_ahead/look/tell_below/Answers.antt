@@ -1,5 +1,5 @@
 use Rattle.std.proofs.Common.{subst, sym}
-use Rattle.graphql_collect.specs.Requests.{fragments_in}
+use Rattle.graphql_collected.specs.Requests.{fragments_in}
 use Rattle.graphql_written_out.specs.Written.{Settled}
 use Rattle.graphql_service_tests.proofs.executor.look_ahead.look.tell_below.Goals as goal
 

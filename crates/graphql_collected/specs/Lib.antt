@@ -1,0 +1,3 @@
+pub mod FragmentLists
+pub mod Occurrences
+pub mod Requests

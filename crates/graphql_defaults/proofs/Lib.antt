@@ -1,3 +1,0 @@
-pub mod Conformed
-pub mod Decided
-pub mod FirstUnfit

@@ -1,4 +1,0 @@
-pub mod DefinitionLaws
-pub mod DefinitionReadings
-pub mod WholeTexts
-pub mod DefinitionParts

@@ -1,3 +1,0 @@
-pub mod ReadDefinitions
-pub mod Definitions
-pub mod Texts

@@ -1,2 +1,0 @@
-pub mod WholeTexts
-pub mod Described

@@ -1,8 +1,0 @@
-use Rattle.std.proofs.Common.{IfOk, subst}
-use Rattle.std.specs.List.{All, AllZip}
-use Rattle.graphql_drafted_types.specs.DraftedTypes.{ArgumentMeans, ArgumentIsSound}
-use Rattle.graphql_drafted_types.specs.SpelledTexts.{Finds}
-use Rattle.graphql_drafted_types.proofs.metadata.arguments_in.Goals as goal
-
-pub returns : goal.returns
-returns c = subst (λ arguments. IfOk c.arguments_of.result (Finds (AllZip ArgumentMeans) (All ArgumentIsSound) arguments)) c.as_slice.ensures c.arguments_of.ensures

@@ -1,8 +1,0 @@
-use Rattle.std.proofs.Common.{IfOk, subst}
-use Rattle.std.specs.List.{All, AllZip}
-use Rattle.graphql_drafted_types.specs.DraftedTypes.{FieldMeans, FieldIsSound}
-use Rattle.graphql_drafted_types.specs.SpelledTexts.{Finds}
-use Rattle.graphql_drafted_types.proofs.metadata.fields_in.Goals as goal
-
-pub returns : goal.returns
-returns c = subst (λ fields. IfOk c.fields_of.result (Finds (AllZip FieldMeans) (All FieldIsSound) fields)) c.as_slice.ensures c.fields_of.ensures

@@ -1,5 +1,0 @@
-use Rattle.std.proofs.Common.{◌≡◌, take}
-use Rattle.graphql_drafted_types.proofs.metadata.names_of.Given as goal
-
-abbrev pub invariant-names : goal.invariant-names
-invariant-names l = l.copies ≡ take l.name-index l.names

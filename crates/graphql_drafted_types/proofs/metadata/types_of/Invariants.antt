@@ -1,8 +1,0 @@
-use Rattle.std.proofs.Common.{take}
-use Rattle.std.specs.List.{AllZip}
-use Rattle.graphql_drafted_types.specs.DraftedTypes.{TypeMeans}
-use Rattle.graphql_drafted_types.proofs.metadata.types_of.Given as goal
-
--- what those passed so far describe
-abbrev pub invariant-drafts : goal.invariant-drafts
-invariant-drafts g l = AllZip TypeMeans (take l.draft-index l.drafts) l.types

@@ -1,6 +1,0 @@
-use Rattle.std.proofs.Common.{IfOk, subst}
-use Rattle.graphql_drafted_types.specs.SpelledTexts.{Finds, HasLiteral, IsLiteral}
-use Rattle.graphql_drafted_types.proofs.texts.literal_in.Goals as goal
-
-pub returns : goal.returns
-returns c = subst (λ text. IfOk c.literal_of_text.result (Finds IsLiteral HasLiteral text)) c.as_str.ensures c.literal_of_text.ensures

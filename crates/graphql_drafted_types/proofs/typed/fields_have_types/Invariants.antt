@@ -1,8 +1,0 @@
-use Rattle.std.proofs.Common.{take}
-use Rattle.std.specs.List.{All}
-use Rattle.graphql_drafted_types.specs.DraftedTypes.{FieldHasTypes}
-use Rattle.graphql_drafted_types.proofs.typed.fields_have_types.Given as goal
-
--- those passed so far have types
-abbrev pub invariant-fields : goal.invariant-fields
-invariant-fields l = All FieldHasTypes (take l.field-index l.fields)

@@ -1,2 +1,0 @@
-pub mod SpelledTexts
-pub mod DraftedTypes

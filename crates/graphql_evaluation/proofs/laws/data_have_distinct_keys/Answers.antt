@@ -1,5 +1,0 @@
-use Rattle.graphql_evaluation.proofs.DistinctMembers.{distinct-keys}
-use Rattle.graphql_evaluation.proofs.laws.data_have_distinct_keys.Goals as goal
-
-pub returns : goal.returns
-returns g c = distinct-keys _ _

@@ -1,5 +1,0 @@
-use Rattle.graphql_evaluation.proofs.RunRepeats.{data-of-groups}
-use Rattle.graphql_evaluation.proofs.laws.data_of_groups.Goals as goal
-
-pub returns : goal.returns
-returns g c = data-of-groups _ _

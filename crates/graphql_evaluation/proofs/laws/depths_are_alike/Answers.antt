@@ -1,5 +1,0 @@
-use Rattle.graphql_evaluation.proofs.Depths.{evaluate-run}
-use Rattle.graphql_evaluation.proofs.laws.depths_are_alike.Goals as goal
-
-pub returns : goal.returns
-returns g c = λ e. evaluate-run e

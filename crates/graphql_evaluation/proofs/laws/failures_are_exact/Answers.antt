@@ -1,5 +1,0 @@
-use Rattle.graphql_evaluation.proofs.ExactFailures.{failures-exact}
-use Rattle.graphql_evaluation.proofs.laws.failures_are_exact.Goals as goal
-
-pub returns : goal.returns
-returns g c = failures-exact _ _

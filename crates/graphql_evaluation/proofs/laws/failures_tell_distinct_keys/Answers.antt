@@ -1,5 +1,0 @@
-use Rattle.graphql_evaluation.proofs.ToldErrors.{failures-tell}
-use Rattle.graphql_evaluation.proofs.laws.failures_tell_distinct_keys.Goals as goal
-
-pub returns : goal.returns
-returns g c = failures-tell _ _

@@ -1,5 +1,0 @@
-use Rattle.graphql_evaluation.proofs.Failures.{no-data-fails}
-use Rattle.graphql_evaluation.proofs.laws.no_data_fails.Goals as goal
-
-pub returns : goal.returns
-returns g c = no-data-fails _ _

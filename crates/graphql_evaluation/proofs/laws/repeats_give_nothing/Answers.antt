@@ -1,5 +1,0 @@
-use Rattle.graphql_evaluation.proofs.RunRepeats.{repeats-give-nothing}
-use Rattle.graphql_evaluation.proofs.laws.repeats_give_nothing.Goals as goal
-
-pub returns : goal.returns
-returns g c = repeats-give-nothing _ _

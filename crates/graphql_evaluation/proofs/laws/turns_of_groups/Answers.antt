@@ -1,5 +1,0 @@
-use Rattle.graphql_evaluation.proofs.TurnLaws.{turns-of-all_groups}
-use Rattle.graphql_evaluation.proofs.laws.turns_of_groups.Goals as goal
-
-pub returns : goal.returns
-returns g c = turns-of-all_groups _ _

@@ -1,5 +1,0 @@
-use Rattle.std.proofs.Common.{length}
-use Rattle.graphql_execution.proofs.beginning.+begin.Given as goal
-
-abbrev pub decreases-begin : goal.decreases-begin
-decreases-begin g l = length l.wraps.now

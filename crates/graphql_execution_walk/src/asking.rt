@@ -1,0 +1,109 @@
+//! What is answered for a field of a node.
+
+ghost use Rattle.std.specs.Prelude.{◌≡◌};
+ghost use Rattle.graphql_text.specs.Memory.{Gives, GivesBy};
+ghost use Rattle.graphql_arguments.specs.GivenValues.{arguments_told};
+ghost use Rattle.graphql_collected.specs.Requests.{fragments_in};
+ghost use Rattle.graphql_written_out.specs.Written.{Settled, head_of};
+ghost use Rattle.graphql_execution_walk.specs.Answered.{Answered};
+ghost use Rattle.graphql_execution_walk.specs.Asked.{asked_type, told_of_itself};
+ghost use Rattle.graphql_execution_walk.specs.declared.asked.Asked.TheVariants as asked;
+ghost use Rattle.graphql_execution_walk.specs.EngineAt.{engine_at};
+ghost use Rattle.graphql_execution_walk.specs.Engines.{arguments_in as values_in};
+ghost use Rattle.graphql_execution_walk.specs.Standing.{IsTypeOf, StandsAt};
+
+use crate::asked::{Asked, of_resolver, of_schema};
+use crate::executor::Executor;
+use crate::fields::{declared_arguments, query_root_name};
+use crate::graphql_value::GraphQLValue;
+use graphql_arguments::Arguments;
+use graphql_collected::Request;
+use graphql_field_results::{FieldResult, Resolved};
+use graphql_introspection::{SchemaAnswer, SchemaPart, answer_of, type_asked};
+use graphql_schema::{SchemaScalar, SchemaType};
+use graphql_text::{Spanning, Text};
+use graphql_tree::{Field, arguments_in};
+use std::alloc::{AllocError, Global};
+
+/// The argument values of a field of the object type of this name. An error is want of memory.
+pub fn arguments_of<'d, 'a, S: SchemaScalar + Drop>(
+    alloc: Global,
+    request: &'d Request<'d, 'a, S>,
+    object: &str,
+    field: &'d Spanning<Field<'a, S>>,
+) -> Result<Arguments<'d, S>, AllocError>
+    ensures { GivesBy arguments_told result (values_in request.now object.now (head_of field.now)) }
+{
+    let name = field.item.name.item.as_str();
+    let declared = declared_arguments(request.schema, object, name);
+    let written = arguments_in(&field.item.arguments);
+    Arguments::new(alloc, declared, written, &request.variables)
+}
+
+/// The scalar of a text. An error is want of memory.
+fn text_scalar<S: SchemaScalar>(alloc: Global, text: &str) -> Result<S, AllocError>
+    ensures { Gives result (S.of_text text.now) }
+{
+    Ok(S::from_string(Text::from_str(alloc, text)?.into_string()))
+}
+
+/// What an object of the type of this name tells of itself, without being asked: to each field `__typename` the
+/// name of its type; an object of the type from which queries start the schema, too, to `__schema` and `__type`
+/// (GraphQL October 2021, 4.1 Type Name Introspection, 4.2 Schema Introspection). An error is want of memory.
+pub fn told_of_itself<'d, S: SchemaScalar>(
+    alloc: Global,
+    schema: &'d SchemaType<S>,
+    object: &str,
+    name: &str,
+    arguments: &Arguments<'_, S>,
+) -> Result<Option<SchemaAnswer<'d, S>>, AllocError>
+    ensures { Gives result (told_of_itself S.of_text S.answer schema.now object.now name.now (arguments_told arguments.now)) }
+{
+    if name == "__typename" {
+        return Ok(Some(Resolved::Scalar(text_scalar(alloc, object)?)));
+    }
+    if name == "__schema" && object == query_root_name(schema) {
+        return Ok(Some(Resolved::Node(SchemaPart::Schema)));
+    }
+    if name == "__type" && object == query_root_name(schema) {
+        return Ok(Some(type_asked(schema, arguments)));
+    }
+    Ok(None)
+}
+
+/// What is answered for the field of an object type at which an executor stands: what each object tells of itself
+/// the resolver is not asked, nor what the schema answers (GraphQL October 2021, 4 Introspection).
+/// `FieldFault::Memory` is want of memory.
+#[tactic(auto, unfolding(crate::specs::Engines::engine_over))]
+pub(crate) fn ask<'p, 'd, 'a, S: SchemaScalar + Drop, R: GraphQLValue<S>>(
+    resolver: &R,
+    executor: &Executor<'_, 'p, 'a, R::Context, S>,
+    schema: &'d SchemaType<S>,
+    object: &str,
+    node: &Asked<'d, S, R::Node>,
+    field: &'p Spanning<Field<'a, S>>,
+) -> FieldResult<Resolved<S, Asked<'d, S, R::Node>>, S>
+    requires settled { Settled (fragments_in executor.now.request.now) }
+    requires schema { schema.now ≡ executor.now.request.now.schema.now }
+    requires typed { IsTypeOf executor.now.request.now.schema.now.query (asked.Own (R.root_node resolver.now))
+        (asked_type (R.type_of resolver.now executor.now.context.now)) node.now object.now }
+    requires stands { StandsAt executor.now object.now field.now }
+    ensures { let e = engine_at S.of_text S.of_bool S.answer (R.type_of resolver.now) (R.answer resolver.now) executor.now in
+        Answered (e.answer node.now object.now (head_of field.now).name (e.arguments object.now (head_of field.now))) result }
+{
+    let name = field.item.name.item.as_str();
+    let arguments = arguments_of(executor.alloc, executor.request, object, field)?;
+    if let Some(told) = told_of_itself(executor.alloc, schema, object, name, &arguments)? {
+        return Ok(of_schema(executor.alloc, told)?);
+    }
+    match node {
+        Asked::Own(node) => {
+            let answer = resolver.resolve_field(node, name, &arguments, executor)?;
+            Ok(of_resolver(executor.alloc, answer)?)
+        }
+        Asked::Part(part) => {
+            let answer = answer_of(executor.alloc, schema, part, name, &arguments)?;
+            Ok(of_schema(executor.alloc, answer)?)
+        }
+    }
+}

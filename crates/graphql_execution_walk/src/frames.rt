@@ -1,0 +1,146 @@
+//! Objects and lists in progress.
+
+use crate::selected::KeptSelected;
+use crate::shared::Shared;
+use graphql_collect::Group;
+use graphql_field_results::Resolved;
+use graphql_names::{NameMap, Named, TypeModifier};
+use graphql_output_values::Value;
+use graphql_text::{Items, SourcePosition, Text, TextRef};
+
+/// An object in progress, whose groups are a `G`.
+#[derive(Drop)]
+pub(crate) struct ObjectFrame<'d, S, N, G> {
+    /// The node.
+    pub node: N,
+
+    /// The name of its object type, as the schema has it.
+    pub object: TextRef<'d>,
+
+    /// The groups of its fields.
+    pub groups: G,
+
+    /// The group that comes next, from zero; while a frame stands above this one, the group that waits
+    /// for it.
+    pub next: usize,
+
+    /// Whether the place that waits keeps `null` out.
+    pub is_needed: bool,
+
+    /// The members so far; `None` once one is missing.
+    pub members: Option<Items<(Text, Value<S>)>>,
+}
+
+/// The groups of an object type, which are a `G`.
+#[derive(Drop)]
+pub(crate) struct Known<'d, G> {
+    /// The name of the object type, as the schema has it.
+    pub object: TextRef<'d>,
+
+    /// Its groups.
+    pub groups: G,
+}
+
+/// Groups are found by the object type.
+impl<'d, G> Named for Known<'d, G> {
+    ghost name_of = { λ known. known.object };
+
+    fn name(&self) -> &str {
+        self.object.as_str()
+    }
+}
+
+/// A list in progress, from whose items an `F` is selected.
+#[derive(Drop)]
+pub(crate) struct ListFrame<'d, S, N, G, F> {
+    /// The name of the items' type.
+    pub name: TextRef<'d>,
+
+    /// What is selected from the items.
+    pub selected: F,
+
+    /// Where the field starts that has the list.
+    pub location: SourcePosition,
+
+    /// The wraps within the list, the innermost first.
+    pub wraps: &'d [TypeModifier],
+
+    /// The items that are left, the last first.
+    pub items: Items<Resolved<S, N>>,
+
+    /// The values so far; `None` once one is missing.
+    pub values: Option<Items<Value<S>>>,
+
+    /// What is selected from the items so far that were objects: the groups of their types.
+    pub known: NameMap<Known<'d, G>>,
+}
+
+/// An object or a list in progress.
+#[derive(Drop)]
+pub(crate) enum Frame<'d, S, N, G, F> {
+    /// An object.
+    Object(ObjectFrame<'d, S, N, G>),
+
+    /// A list.
+    List(ListFrame<'d, S, N, G, F>),
+}
+
+/// Groups of a document's fields, which an object and the list that it stands in both hold.
+pub(crate) type SharedGroups<'d, 'a, S> = Shared<Items<Group<'d, 'a, S>>>;
+
+/// The groups of an object type, of a document's fields.
+pub(crate) type KnownIn<'d, 'a, S> = Known<'d, SharedGroups<'d, 'a, S>>;
+
+/// The groups of several object types, each found by its name.
+pub(crate) type KnownGroups<'d, 'a, S> = NameMap<KnownIn<'d, 'a, S>>;
+
+/// An object in progress over a document's groups.
+pub(crate) type ObjectFrameIn<'d, 'a, S, N> = ObjectFrame<'d, S, N, SharedGroups<'d, 'a, S>>;
+
+/// A list in progress over a document.
+pub(crate) type ListFrameIn<'d, 'a, S, N> = ListFrame<
+    'd,
+    S,
+    N,
+    SharedGroups<'d, 'a, S>,
+    KeptSelected<'d, 'a, S>,
+>;
+
+/// An object or a list in progress over a document.
+pub(crate) type FrameIn<'d, 'a, S, N> = Frame<
+    'd,
+    S,
+    N,
+    SharedGroups<'d, 'a, S>,
+    KeptSelected<'d, 'a, S>,
+>;
+
+/// What a place has come to: its value, or what is in progress there.
+#[derive(Drop)]
+pub(crate) enum Begun<'d, 'a, S, N> {
+    /// The value.
+    Value(Option<Value<S>>),
+
+    /// What is in progress.
+    Frame(FrameIn<'d, 'a, S, N>),
+}
+
+/// What a group has come to, and whether its place keeps `null` out.
+#[derive(Drop)]
+pub(crate) struct Started<'d, 'a, S, N> {
+    /// Whether the place keeps `null` out.
+    pub is_needed: bool,
+
+    /// What it has come to.
+    pub begun: Begun<'d, 'a, S, N>,
+}
+
+/// What a turn leaves.
+#[derive(Drop)]
+pub(crate) enum Turned<'d, 'a, S, N> {
+    /// The end, with the value.
+    Done(Option<Value<S>>),
+
+    /// What there is now.
+    Open(Begun<'d, 'a, S, N>),
+}

@@ -1,0 +1,261 @@
+//! Answers on a stack of objects and lists in progress, which is kept on the heap.
+
+ghost use Rattle.std.specs.Prelude.{◌≡◌, ◌<◌, ◌+◌, ◌++◌, [], ◌∷◌, OnOk, IfOk, List};
+ghost use Rattle.graphql_output_values.specs.declared.value.Value.TheVariants as value;
+ghost use Rattle.graphql_collect.specs.Grouped.{all_found};
+ghost use Rattle.graphql_collected.specs.Requests.{fragments_in};
+ghost use Rattle.graphql_names.specs.Names.{Bytes};
+ghost use Rattle.graphql_written_out.specs.Written.{Settled};
+ghost use Rattle.graphql_execution_walk.specs.declared.frames.Frame.TheVariants as frame;
+ghost use Rattle.graphql_execution_walk.specs.Asked.{asked_type};
+ghost use Rattle.graphql_execution_walk.specs.declared.asked.Asked.TheVariants as asked;
+ghost use Rattle.graphql_execution_walk.specs.EngineAt.{engine_at};
+ghost use Rattle.graphql_semantics.specs.Evaluation.{evaluate, group};
+ghost use Rattle.graphql_execution_walk.specs.FrameTurns.{all_waiting, begun_turns, rest_turns, turned_turns};
+ghost use Rattle.graphql_execution_walk.specs.Frames.{Steps, resume, path_of, comes_to, IsTaught, KnownIn, known_of, learns, turned_to, rest, Fine, AllFine, FineBegun, FineTurned};
+ghost use Rattle.graphql_execution_walk.specs.GivesOutcome.{GivesOutcome};
+ghost use Rattle.graphql_execution_walk.specs.Sets.{HasKey};
+ghost use Rattle.graphql_execution_walk.specs.Standing.{IsTypeOf};
+
+use crate::asked::Asked;
+use crate::beginning::{Spot, begin};
+use crate::executor::Executor;
+use crate::failing::begun_or_told;
+use crate::frame_parts::{known_of, list_of, object_of};
+use crate::frames::{
+    Begun, Frame, FrameIn, ListFrame, ListFrameIn, ObjectFrame, ObjectFrameIn, Turned,
+};
+use crate::graphql_value::GraphQLValue;
+use crate::parts::shown;
+use crate::report::Report;
+use crate::steps::{give, start};
+use graphql_collect::Group;
+use graphql_output_values::Value;
+use graphql_schema::SchemaScalar;
+use graphql_text::Items;
+use std::alloc::AllocError;
+
+/// Leaves a frame to wait. An error is want of memory.
+fn wait<'d, 'a, S: SchemaScalar + Drop, N: Drop>(
+    waiting: &mut Items<FrameIn<'d, 'a, S, N>>,
+    waits: FrameIn<'d, 'a, S, N>,
+) -> Result<(), AllocError>
+    ensures { OnOk result (waiting.new ≡ waiting.old ++ waits.entry ∷ []) }
+{
+    waiting.push(waits)?;
+    Ok(())
+}
+
+/// Leaves a list to wait for an item that has begun; if that is an object, the groups of its type are known
+/// from now on. An error is want of memory.
+fn wait_for_item<'d, 'a, S: SchemaScalar + Drop, N: Drop>(
+    waiting: &mut Items<FrameIn<'d, 'a, S, N>>,
+    waits: ListFrameIn<'d, 'a, S, N>,
+    begun: &Begun<'d, 'a, S, N>,
+) -> Result<(), AllocError>
+    ensures { OnOk result ((known : List (KnownIn S)) × IsTaught waits.entry.known (known_of begun.now) known × (waiting.new ≡ waiting.old ++ frame.List (learns waits.entry known) ∷ [])) }
+{
+    let ListFrame {
+        name,
+        selected,
+        location,
+        wraps,
+        items,
+        values,
+        known,
+    } = waits;
+    let mut known = known;
+    if let Some(new) = known_of(begun)? {
+        known.put(new)?;
+    }
+    let waits = Frame::List(ListFrame {
+        name,
+        selected,
+        location,
+        wraps,
+        items,
+        values,
+        known,
+    });
+    wait(waiting, waits)?;
+    Ok(())
+}
+
+/// Starts an object's next group, or ends the object. An error is want of memory.
+fn advance_object<'d, 'a, S: SchemaScalar + Drop, R: GraphQLValue<S>>(
+    resolver: &R,
+    executor: &Executor<'_, 'd, 'a, R::Context, S>,
+    object_frame: ObjectFrameIn<'d, 'a, S, Asked<'d, S, R::Node>>,
+    waiting: &mut Items<FrameIn<'d, 'a, S, Asked<'d, S, R::Node>>>,
+    report: &mut Report<'d, S>,
+) -> Result<Begun<'d, 'a, S, Asked<'d, S, R::Node>>, AllocError>
+    requires settled { Settled (fragments_in executor.now.request.now) }
+    requires fine { let e = engine_at S.of_text S.of_bool S.answer (R.type_of resolver.now) (R.answer resolver.now) executor.now in
+        Fine e (fragments_in executor.now.request.now) (frame.Object object_frame) × AllFine e (fragments_in executor.now.request.now) waiting.now }
+    ensures steps { let e = engine_at S.of_text S.of_bool S.answer (R.type_of resolver.now) (R.answer resolver.now) executor.now in
+        let fr = fragments_in executor.now.request.now in
+        IfOk result (λ b. (path : List Bytes) → report.old.path ≡ path_of path waiting.old → Steps e fr path (resume e fr path waiting.old (λ q. rest e fr q (frame.Object object_frame.entry))) report.old waiting.new (comes_to e fr b) report.new) }
+    ensures turns { let e = engine_at S.of_text S.of_bool S.answer (R.type_of resolver.now) (R.answer resolver.now) executor.now in
+        IfOk result (λ b. all_waiting e (fragments_in executor.now.request.now) waiting.new + begun_turns e (fragments_in executor.now.request.now) b < all_waiting e (fragments_in executor.now.request.now) waiting.old + rest_turns e (fragments_in executor.now.request.now) (frame.Object object_frame.entry)) }
+    ensures fine { let e = engine_at S.of_text S.of_bool S.answer (R.type_of resolver.now) (R.answer resolver.now) executor.now in
+        IfOk result (λ b. AllFine e (fragments_in executor.now.request.now) waiting.new × FineBegun e (fragments_in executor.now.request.now) b) }
+{
+    let ObjectFrame {
+        node,
+        object,
+        groups,
+        next,
+        is_needed: _,
+        members,
+    } = object_frame;
+    let started = match groups.get().get(next) {
+        None => return Ok(Begun::Value(object_of(members))),
+        Some(group) => start(resolver, executor, object.as_str(), &node, group, report)?,
+    };
+    let waits = Frame::Object(ObjectFrame {
+        node,
+        object,
+        groups,
+        next,
+        is_needed: started.is_needed,
+        members,
+    });
+    wait(waiting, waits)?;
+    Ok(started.begun)
+}
+
+/// Begins a list's next item, or ends the list. An error is want of memory.
+fn advance_list<'d, 'a, S: SchemaScalar + Drop, R: GraphQLValue<S>>(
+    resolver: &R,
+    executor: &Executor<'_, 'd, 'a, R::Context, S>,
+    list_frame: ListFrameIn<'d, 'a, S, Asked<'d, S, R::Node>>,
+    waiting: &mut Items<FrameIn<'d, 'a, S, Asked<'d, S, R::Node>>>,
+    report: &mut Report<'d, S>,
+) -> Result<Begun<'d, 'a, S, Asked<'d, S, R::Node>>, AllocError>
+    requires settled { Settled (fragments_in executor.now.request.now) }
+    requires fine { let e = engine_at S.of_text S.of_bool S.answer (R.type_of resolver.now) (R.answer resolver.now) executor.now in
+        Fine e (fragments_in executor.now.request.now) (frame.List list_frame) × AllFine e (fragments_in executor.now.request.now) waiting.now }
+    ensures steps { let e = engine_at S.of_text S.of_bool S.answer (R.type_of resolver.now) (R.answer resolver.now) executor.now in
+        let fr = fragments_in executor.now.request.now in
+        IfOk result (λ b. (path : List Bytes) → report.old.path ≡ path_of path waiting.old → Steps e fr path (resume e fr path waiting.old (λ q. rest e fr q (frame.List list_frame.entry))) report.old waiting.new (comes_to e fr b) report.new) }
+    ensures turns { let e = engine_at S.of_text S.of_bool S.answer (R.type_of resolver.now) (R.answer resolver.now) executor.now in
+        IfOk result (λ b. all_waiting e (fragments_in executor.now.request.now) waiting.new + begun_turns e (fragments_in executor.now.request.now) b < all_waiting e (fragments_in executor.now.request.now) waiting.old + rest_turns e (fragments_in executor.now.request.now) (frame.List list_frame.entry)) }
+    ensures fine { let e = engine_at S.of_text S.of_bool S.answer (R.type_of resolver.now) (R.answer resolver.now) executor.now in
+        IfOk result (λ b. AllFine e (fragments_in executor.now.request.now) waiting.new × FineBegun e (fragments_in executor.now.request.now) b) }
+{
+    let ListFrame {
+        name,
+        selected,
+        location,
+        wraps,
+        items,
+        values,
+        known,
+    } = list_frame;
+    let mut items = items;
+    let Some(item) = items.pop() else {
+        return Ok(Begun::Value(list_of(values)));
+    };
+    let spot = Spot {
+        name: &name,
+        selected: selected.lent(),
+        location,
+        known: &known,
+    };
+    let begins = begin(resolver, executor, &spot, wraps, item);
+    let begun = begun_or_told(executor.alloc, location, begins, report)?;
+    let waits = ListFrame {
+        name,
+        selected,
+        location,
+        wraps,
+        items,
+        values,
+        known,
+    };
+    wait_for_item(waiting, waits, &begun)?;
+    Ok(begun)
+}
+
+/// One turn of the loop. An error is want of memory.
+fn turn<'d, 'a, S: SchemaScalar + Drop, R: GraphQLValue<S>>(
+    resolver: &R,
+    executor: &Executor<'_, 'd, 'a, R::Context, S>,
+    now: Begun<'d, 'a, S, Asked<'d, S, R::Node>>,
+    waiting: &mut Items<FrameIn<'d, 'a, S, Asked<'d, S, R::Node>>>,
+    report: &mut Report<'d, S>,
+) -> Result<Turned<'d, 'a, S, Asked<'d, S, R::Node>>, AllocError>
+    requires settled { Settled (fragments_in executor.now.request.now) }
+    requires fine { let e = engine_at S.of_text S.of_bool S.answer (R.type_of resolver.now) (R.answer resolver.now) executor.now in
+        AllFine e (fragments_in executor.now.request.now) waiting.now × FineBegun e (fragments_in executor.now.request.now) now }
+    ensures steps { let e = engine_at S.of_text S.of_bool S.answer (R.type_of resolver.now) (R.answer resolver.now) executor.now in
+        let fr = fragments_in executor.now.request.now in
+        IfOk result (λ t. (path : List Bytes) → report.old.path ≡ path_of path waiting.old → Steps e fr path (resume e fr path waiting.old (comes_to e fr now.entry)) report.old waiting.new (turned_to e fr t) report.new) }
+    ensures turns { let e = engine_at S.of_text S.of_bool S.answer (R.type_of resolver.now) (R.answer resolver.now) executor.now in
+        IfOk result (λ t. all_waiting e (fragments_in executor.now.request.now) waiting.new + turned_turns e (fragments_in executor.now.request.now) t < all_waiting e (fragments_in executor.now.request.now) waiting.old + begun_turns e (fragments_in executor.now.request.now) now.entry) }
+    ensures fine { let e = engine_at S.of_text S.of_bool S.answer (R.type_of resolver.now) (R.answer resolver.now) executor.now in
+        IfOk result (λ t. FineTurned e (fragments_in executor.now.request.now) t waiting.new) }
+{
+    match now {
+        Begun::Value(value) => match waiting.pop() {
+            None => Ok(Turned::Done(value)),
+            Some(waits) => {
+                let given = give(waits, value, report)?;
+                Ok(Turned::Open(Begun::Frame(given)))
+            }
+        },
+        Begun::Frame(Frame::Object(object_frame)) => {
+            let begun = advance_object(resolver, executor, object_frame, waiting, report)?;
+            Ok(Turned::Open(begun))
+        }
+        Begun::Frame(Frame::List(list_frame)) => {
+            let begun = advance_list(resolver, executor, list_frame, waiting, report)?;
+            Ok(Turned::Open(begun))
+        }
+    }
+}
+
+/// The value of what has begun. An error is want of memory.
+pub(crate) fn drive<'d, 'a, S: SchemaScalar + Drop, R: GraphQLValue<S>>(
+    resolver: &R,
+    executor: &Executor<'_, 'd, 'a, R::Context, S>,
+    first: Begun<'d, 'a, S, Asked<'d, S, R::Node>>,
+    report: &mut Report<'d, S>,
+) -> Result<Option<Value<S>>, AllocError>
+    requires settled { Settled (fragments_in executor.now.request.now) }
+    requires fine { let e = engine_at S.of_text S.of_bool S.answer (R.type_of resolver.now) (R.answer resolver.now) executor.now in
+        FineBegun e (fragments_in executor.now.request.now) first }
+    ensures { let e = engine_at S.of_text S.of_bool S.answer (R.type_of resolver.now) (R.answer resolver.now) executor.now in
+        IfOk result (λ value. GivesOutcome (comes_to e (fragments_in executor.now.request.now) first.entry report.old.path) report.old value report.new) }
+{
+    let mut waiting = Items::new(executor.alloc);
+    let mut now = first;
+    'turns: loop {
+        match turn(resolver, executor, now, &mut waiting, report)? {
+            Turned::Done(value) => return Ok(value),
+            Turned::Open(begun) => now = begun,
+        }
+    }
+}
+
+/// What a group shows. An error is want of memory.
+pub(crate) fn answer_group<'d, 'a, S: SchemaScalar + Drop, R: GraphQLValue<S>>(
+    resolver: &R,
+    executor: &Executor<'_, 'd, 'a, R::Context, S>,
+    object: &str,
+    node: &Asked<'d, S, R::Node>,
+    these: &Group<'d, 'a, S>,
+    report: &mut Report<'d, S>,
+) -> Result<Option<Value<S>>, AllocError>
+    requires settled { Settled (fragments_in executor.now.request.now) }
+    requires typed { IsTypeOf executor.now.request.now.schema.now.query (asked.Own (R.root_node resolver.now))
+        (asked_type (R.type_of resolver.now executor.now.context.now)) node.now object.now }
+    requires keyed { HasKey these.now }
+    ensures { let e = engine_at S.of_text S.of_bool S.answer (R.type_of resolver.now) (R.answer resolver.now) executor.now in
+        IfOk result (λ value. GivesOutcome (group e (evaluate e) report.old.path object.now node.now these.now.0 (all_found (fragments_in executor.now.request.now) these.now.1)) report.old value report.new) }
+{
+    let started = start(resolver, executor, object, node, these, report)?;
+    let value = drive(resolver, executor, started.begun, report)?;
+    report.leave();
+    Ok(shown(started.is_needed, value))
+}

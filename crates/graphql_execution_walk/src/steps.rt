@@ -1,0 +1,234 @@
+//! What groups come to, and what frames get that wait for places.
+
+ghost use Rattle.std.specs.Prelude.{◌≡◌, ◌++◌, [], ◌∷◌, reverse, IfOk, OnOk, List};
+ghost use Rattle.graphql_tree.specs.declared.document.Fragment.{Fragment};
+ghost use Rattle.graphql_collect.specs.Grouped.{all_found};
+ghost use Rattle.graphql_collected.specs.Requests.{fragments_in};
+ghost use Rattle.graphql_occurrences.specs.DeclaredLent.{literal_of};
+ghost use Rattle.graphql_names.specs.Names.{Bytes};
+ghost use Rattle.graphql_written_out.specs.Written.{Settled, head_of};
+ghost use Rattle.graphql_semantics.specs.Engines.{Engine};
+ghost use Rattle.graphql_semantics.specs.Evaluation.{evaluate, group, sets_below};
+ghost use Rattle.graphql_semantics.specs.Outcomes.{show_place};
+ghost use Rattle.graphql_semantics.specs.Turns.{all_turns, turns_of_group};
+ghost use Rattle.graphql_execution_walk.specs.declared.frames.Frame.TheVariants as frame;
+ghost use Rattle.graphql_execution_walk.specs.Begins.{Begins};
+ghost use Rattle.graphql_execution_walk.specs.Asked.{asked_type};
+ghost use Rattle.graphql_execution_walk.specs.declared.asked.Asked.TheVariants as asked;
+ghost use Rattle.graphql_execution_walk.specs.EngineAt.{engine_at};
+ghost use Rattle.graphql_execution_walk.specs.FrameTurns.{begun_turns, rest_turns, waiting_turns};
+ghost use Rattle.graphql_execution_walk.specs.Frames.{Fine, FineBegun, Leads, close, comes_to, down, rest, shows};
+ghost use Rattle.graphql_execution_walk.specs.Sets.{HasKey};
+ghost use Rattle.graphql_execution_walk.specs.Standing.{IsPlaceOf, IsTypeOf};
+
+use crate::asked::Asked;
+use crate::asking::ask;
+use crate::beginning::{Spot, begin};
+use crate::executor::Executor;
+use crate::failing::begun_or_told;
+use crate::fields::declared_type;
+use crate::frame_parts::behind;
+use crate::frames::{
+    Begun, Frame, FrameIn, ListFrame, ListFrameIn, ObjectFrame, ObjectFrameIn, Started,
+};
+use crate::graphql_value::GraphQLValue;
+use crate::parts::{is_required, shown, with_item, with_member};
+use crate::report::Report;
+use graphql_collect::Group;
+use graphql_collected::CollectedField;
+use graphql_field_results::FieldResult;
+use graphql_look_ahead::Selected;
+use graphql_names::NameMap;
+use graphql_occurrences::TypeLiteral;
+use graphql_output_values::Value;
+use graphql_schema::SchemaScalar;
+use graphql_text::{Spanning, TextRef};
+use graphql_tree::Field;
+use std::alloc::AllocError;
+
+/// What a group's first field, of which the schema declares this type and to which these response keys lead,
+/// comes to on a node of an object type.
+fn begin_field<'p, 'd, 'a, S: SchemaScalar + Drop, R: GraphQLValue<S>>(
+    resolver: &R,
+    executor: &Executor<'_, 'd, 'a, R::Context, S>,
+    object: &str,
+    node: &Asked<'d, S, R::Node>,
+    fields: &'p [CollectedField<'d, 'a, S>],
+    first: &CollectedField<'d, 'a, S>,
+    declared: TypeLiteral<'d>,
+    keys: &'p [TextRef<'d>],
+) -> FieldResult<Begun<'d, 'a, S, Asked<'d, S, R::Node>>, S>
+    requires settled { Settled (fragments_in executor.now.request.now) }
+    requires typed { IsTypeOf executor.now.request.now.schema.now.query (asked.Own (R.root_node resolver.now))
+        (asked_type (R.type_of resolver.now executor.now.context.now)) node.now object.now }
+    requires place { IsPlaceOf executor.now.request.now object.now first.now.field.now first.now.among.now (literal_of declared) first.now.field.now.span.start keys.now
+        (sets_below (all_found (fragments_in executor.now.request.now) fields.now)) }
+    ensures { let e = engine_at S.of_text S.of_bool S.answer (R.type_of resolver.now) (R.answer resolver.now) executor.now in
+        Begins e (sets_below (all_found (fragments_in executor.now.request.now) fields.now)) declared.entry.name.now (fragments_in executor.now.request.now) first.now.field.now.span.start (reverse declared.entry.modifiers.now) (e.answer node.now object.now (head_of first.now.field.now).name (e.arguments object.now (head_of first.now.field.now))) result }
+{
+    let name = TextRef::new(declared.name);
+    let wraps = declared.modifiers;
+    let field: &'p Spanning<Field<'a, S>> = first.field;
+    let location = field.span.start;
+    let below = Selected::Below(fields);
+    let here = executor.at_field(keys, location, declared, first.among, below);
+    let answer = ask(
+        resolver,
+        &here,
+        executor.request.schema,
+        object,
+        node,
+        field,
+    )?;
+    let known = NameMap::new(executor.alloc);
+    let spot = Spot {
+        name: &name,
+        selected: Selected::Below(fields),
+        location,
+        known: &known,
+    };
+    begin(resolver, executor, &spot, wraps, answer)
+}
+
+/// What a group comes to; the report goes down to it. An error is want of memory.
+pub(crate) fn start<'d, 'a, S: SchemaScalar + Drop, R: GraphQLValue<S>>(
+    resolver: &R,
+    executor: &Executor<'_, 'd, 'a, R::Context, S>,
+    object: &str,
+    node: &Asked<'d, S, R::Node>,
+    these: &Group<'d, 'a, S>,
+    report: &mut Report<'d, S>,
+) -> Result<Started<'d, 'a, S, Asked<'d, S, R::Node>>, AllocError>
+    requires settled { Settled (fragments_in executor.now.request.now) }
+    requires typed { IsTypeOf executor.now.request.now.schema.now.query (asked.Own (R.root_node resolver.now))
+        (asked_type (R.type_of resolver.now executor.now.context.now)) node.now object.now }
+    requires keyed { HasKey these.now }
+    ensures leads { let e = engine_at S.of_text S.of_bool S.answer (R.type_of resolver.now) (R.answer resolver.now) executor.now in
+        IfOk result (λ s. Leads (group e (evaluate e) report.old.path object.now node.now these.now.0 (all_found (fragments_in executor.now.request.now) these.now.1))
+        report.old (show_place s.is_needed (comes_to e (fragments_in executor.now.request.now) s.begun (report.old.path ++ these.now.0 ∷ []))) report.new) }
+    ensures path { OnOk result (report.new.path ≡ report.old.path ++ these.now.0 ∷ []) }
+    ensures turns { let e = engine_at S.of_text S.of_bool S.answer (R.type_of resolver.now) (R.answer resolver.now) executor.now in
+        IfOk result (λ s. begun_turns e (fragments_in executor.now.request.now) s.begun ≡ turns_of_group e (all_turns e) object.now node.now (all_found (fragments_in executor.now.request.now) these.now.1)) }
+    ensures fine { let e = engine_at S.of_text S.of_bool S.answer (R.type_of resolver.now) (R.answer resolver.now) executor.now in
+        IfOk result (λ s. FineBegun e (fragments_in executor.now.request.now) s.begun) }
+{
+    report.enter(&these.0)?;
+    let Some(first) = these.1.first() else {
+        return Ok(Started {
+            is_needed: true,
+            begun: Begun::Value(None),
+        });
+    };
+    let Some(declared) = declared_type(
+        executor.request.schema,
+        object,
+        first.field.item.name.item.as_str(),
+    ) else {
+        return Ok(Started {
+            is_needed: false,
+            begun: Begun::Value(Some(Value::Null)),
+        });
+    };
+    let is_needed = is_required(declared.modifiers);
+    let fields = these.1.as_slice();
+    let keys = report.path.as_slice();
+    let begins = begin_field(
+        resolver, executor, object, node, fields, first, declared, keys,
+    );
+    let begun = begun_or_told(executor.alloc, first.field.span.start, begins, report)?;
+    Ok(Started { is_needed, begun })
+}
+
+/// An object in progress that gets the value of the place it waits for. An error is want of memory.
+fn give_object<'d, 'a, S: Drop, N: Drop>(
+    waits: ObjectFrameIn<'d, 'a, S, N>,
+    value: Option<Value<S>>,
+    report: &mut Report<'d, S>,
+) -> Result<FrameIn<'d, 'a, S, N>, AllocError>
+    ensures gives { IfOk result (λ f. (e : Engine S N) (fragments : List (Fragment S)) (path : List Bytes) → close e fragments path (frame.Object waits.entry) (shows value) ≡ rest e fragments path f) }
+    ensures path { OnOk result ((path : List Bytes) → report.old.path ≡ down path (frame.Object waits.entry) → report.new.path ≡ path) }
+    ensures errors { OnOk result (report.new.errors ≡ report.old.errors) }
+    ensures turns { IfOk result (λ f. (e : Engine S N) (fragments : List (Fragment S)) → rest_turns e fragments f ≡ waiting_turns e fragments (frame.Object waits.entry)) }
+    ensures fine { (e : Engine S N) (fragments : List (Fragment S)) → Fine e fragments (frame.Object waits.entry) → IfOk result (Fine e fragments) }
+{
+    let ObjectFrame {
+        node,
+        object,
+        groups,
+        next,
+        is_needed,
+        members,
+    } = waits;
+    let these = groups.get();
+    let members = match these.get(next) {
+        None => return Ok(Frame::Object(ObjectFrame {
+            node,
+            object,
+            groups,
+            next,
+            is_needed,
+            members,
+        })),
+        Some(group) => {
+            report.leave();
+            with_member(members, &group.0, shown(is_needed, value))?
+        }
+    };
+    let next = behind(these, next);
+    Ok(Frame::Object(ObjectFrame {
+        node,
+        object,
+        groups,
+        next,
+        is_needed: false,
+        members,
+    }))
+}
+
+/// A list in progress that gets the value of the item it waits for. An error is want of memory.
+fn give_list<'d, 'a, S: Drop, N: Drop>(
+    waits: ListFrameIn<'d, 'a, S, N>,
+    value: Option<Value<S>>,
+) -> Result<FrameIn<'d, 'a, S, N>, AllocError>
+    ensures gives { IfOk result (λ f. (e : Engine S N) (fragments : List (Fragment S)) (path : List Bytes) → close e fragments path (frame.List waits.entry) (shows value) ≡ rest e fragments path f) }
+    ensures turns { IfOk result (λ f. (e : Engine S N) (fragments : List (Fragment S)) → rest_turns e fragments f ≡ waiting_turns e fragments (frame.List waits.entry)) }
+    ensures fine { (e : Engine S N) (fragments : List (Fragment S)) → Fine e fragments (frame.List waits.entry) → IfOk result (Fine e fragments) }
+{
+    let ListFrame {
+        name,
+        selected,
+        location,
+        wraps,
+        items,
+        values,
+        known,
+    } = waits;
+    let values = with_item(values, shown(is_required(wraps), value))?;
+    Ok(Frame::List(ListFrame {
+        name,
+        selected,
+        location,
+        wraps,
+        items,
+        values,
+        known,
+    }))
+}
+
+/// A frame that gets the value of the place it waits for. An error is want of memory.
+pub(crate) fn give<'d, 'a, S: Drop, N: Drop>(
+    waits: FrameIn<'d, 'a, S, N>,
+    value: Option<Value<S>>,
+    report: &mut Report<'d, S>,
+) -> Result<FrameIn<'d, 'a, S, N>, AllocError>
+    ensures gives { IfOk result (λ f. (e : Engine S N) (fragments : List (Fragment S)) (path : List Bytes) → close e fragments path waits.entry (shows value) ≡ rest e fragments path f) }
+    ensures path { OnOk result ((path : List Bytes) → report.old.path ≡ down path waits.entry → report.new.path ≡ path) }
+    ensures errors { OnOk result (report.new.errors ≡ report.old.errors) }
+    ensures turns { IfOk result (λ f. (e : Engine S N) (fragments : List (Fragment S)) → rest_turns e fragments f ≡ waiting_turns e fragments waits.entry) }
+    ensures fine { (e : Engine S N) (fragments : List (Fragment S)) → Fine e fragments waits.entry → IfOk result (Fine e fragments) }
+{
+    match waits {
+        Frame::Object(frame) => give_object(frame, value, report),
+        Frame::List(frame) => give_list(frame, value),
+    }
+}

@@ -1,4 +1,0 @@
-pub mod FullSets
-pub mod SpelledSets
-pub mod WrittenSets
-pub mod Rows

@@ -1,5 +1,0 @@
-use Rattle.graphql_filled_sets.proofs.SpelledSets.{document-whole}
-use Rattle.graphql_filled_sets.proofs.laws.spelled_sets_are_whole.Goals as goal
-
-pub returns : goal.returns
-returns g c = document-whole g.S.ParseScalarValue.reads g.S.ScalarValue.of_bool

@@ -1,2 +1,0 @@
-pub mod WholeSets
-pub mod Laws

@@ -1,2 +1,0 @@
-pub mod FilledEquations
-pub mod FilledLaws

@@ -1,5 +1,0 @@
-use Rattle.graphql_final_variables.proofs.FilledLaws as law
-use Rattle.graphql_final_variables.proofs.laws.agrees_with_constants.Goals as goal
-
-pub returns : goal.returns
-returns g c = law.agrees_with_constants _

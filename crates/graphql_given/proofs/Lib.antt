@@ -1,2 +1,0 @@
-pub mod ExactScalars
-pub mod SameGiven

@@ -1,3 +1,0 @@
-pub mod formers
-pub mod Lending
-pub mod Memory

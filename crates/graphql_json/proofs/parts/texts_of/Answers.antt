@@ -1,0 +1,21 @@
+use Rattle.std.proofs.Common.{rules, arith, ◌≡◌, ◌++◌, [], ◌∷◌, Some, None, get_or, sym}
+use Rattle.serde_json.specs.View.{view}
+use Rattle.graphql_json.specs.Parts.{text_of}
+use Rattle.graphql_json.proofs.EachTurns.{each_turn, each_stops}
+use Rattle.graphql_json.proofs.parts.texts_of.Goals as goal
+
+pub items-preserved : goal.items-preserved
+items-preserved c =
+    let this = c.item-item.result in
+    let one = c.in-Some.text in
+    let here : get_or c.args.items.now c.items.item-index this ≡ this = search rules in
+    let means : text_of (view this) ≡ Some one = search rules in
+    let pushed : c.push.new.self ≡ c.items.texts ++ one ∷ [] = search rules in
+    each_turn text_of _ c.args.items.now c.items.item-index this one c.items.texts c.push.new.self (omega arith) here means pushed c.items.invariant
+
+pub returns-in-None : goal.returns-in-None
+returns-in-None c =
+    let this = c.item-item.result in
+    let here : get_or c.args.items.now c.items.item-index this ≡ this = search rules in
+    let lacks : text_of (view this) ≡ None = search rules in
+    sym (each_stops text_of _ c.args.items.now c.items.item-index this c.items.texts (omega arith) here lacks c.items.invariant)

@@ -1,5 +1,0 @@
-use Rattle.graphql_lines.proofs.Keys.{keys_keep_values}
-use Rattle.graphql_lines.proofs.laws.keys_keep_values.Goals as goal
-
-pub returns : goal.returns
-returns g c = keys_keep_values g.S.ScalarValue.answer

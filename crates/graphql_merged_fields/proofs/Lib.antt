@@ -1,3 +1,0 @@
-pub mod ChosenMembers
-pub mod OneObject
-pub mod Rows

@@ -1,5 +1,0 @@
-use Rattle.graphql_merged_fields.proofs.OneObject.{chosen-are-collected}
-use Rattle.graphql_merged_fields.proofs.laws.chosen_members_are_collected.Goals as goal
-
-pub returns : goal.returns
-returns g c = chosen-are-collected _ _

@@ -1,5 +1,0 @@
-use Rattle.graphql_merged_fields.proofs.OneObject.{own-sets-merge}
-use Rattle.graphql_merged_fields.proofs.laws.own_sets_merge.Goals as goal
-
-pub returns : goal.returns
-returns g c = own-sets-merge _ _ _

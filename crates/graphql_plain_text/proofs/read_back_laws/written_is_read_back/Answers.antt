@@ -1,0 +1,5 @@
+use Rattle.graphql_plain_text.proofs.Types.{written_is_read_back}
+use Rattle.graphql_plain_text.proofs.read_back_laws.written_is_read_back.Goals as goal
+
+pub returns : goal.returns
+returns c = written_is_read_back

@@ -1,5 +1,0 @@
-use Rattle.graphql_read_back.proofs.Types.{written_is_found}
-use Rattle.graphql_read_back.proofs.laws.written_is_found.Goals as goal
-
-pub returns : goal.returns
-returns c = written_is_found

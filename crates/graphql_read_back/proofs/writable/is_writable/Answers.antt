@@ -1,5 +1,0 @@
-use Rattle.graphql_read_back.proofs.WritableLemmas.{writable_is}
-use Rattle.graphql_read_back.proofs.writable.is_writable.Goals as goal
-
-pub returns : goal.returns
-returns c = writable_is c.args.is_const c.passes.result c.args.value.now c.passes.ensures

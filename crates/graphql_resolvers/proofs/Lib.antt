@@ -1,0 +1,9 @@
+pub mod DistinctExtensions
+pub mod EachItem
+pub mod EachTurns
+pub mod ExactScalars
+pub mod KeptTurns
+pub mod Rests
+pub mod SameGiven
+pub mod TextTurns
+pub mod ToldAnswers

@@ -1,0 +1,12 @@
+pub mod GivenLemmas
+pub mod ObjectLemmas
+pub mod ArgumentRows
+pub mod FieldRows
+pub mod SilentLemmas
+pub mod LawLemmas
+pub mod OverlapLemmas
+pub mod ByNameLemmas
+pub mod SpreadLemmas
+pub mod TellLemmas
+pub mod NodeLemmas
+pub mod LiteralLaws

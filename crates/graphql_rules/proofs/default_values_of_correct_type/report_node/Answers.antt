@@ -1,0 +1,10 @@
+use Rattle.graphql_occurrences.specs.Lent.{around_of}
+use Rattle.graphql_schema.specs.Declarations.{declarations_of}
+use Rattle.graphql_rules.proofs.NodeLemmas.{no_defaults}
+use Rattle.graphql_rules.proofs.TellLemmas.{reports_no_literal}
+use Rattle.graphql_rules.proofs.default_values_of_correct_type.report_node.Goals as goal
+
+pub returns-in_default : goal.returns-in_default
+returns-in_default g c =
+    let context = c.args.context.now in
+    reports_no_literal g.S.ScalarValue.answer g.S.Check.Check.accepts context.schema.now.types _ context (no_defaults (declarations_of context.schema.now) (around_of context.around) c.args.node.now c.in_default.not-VariableDefinition)

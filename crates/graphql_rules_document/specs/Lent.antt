@@ -1,0 +1,34 @@
+-- What the scopes that are lent stand for.
+use Rattle.std.specs.Prelude.{map}
+use Rattle.std.specs.Option.{option_map}
+use Rattle.graphql_occurrences.specs.Lent.{input_of}
+use Rattle.graphql_occurrences.specs.Occurrences.{variable_part}
+use Rattle.graphql_occurrences.specs.Parts as part
+use Rattle.graphql_rules_document.specs.Scopes as spec
+use Rattle.graphql_rules_document.specs.declared.scopes.FragmentScope.{FragmentScope}
+use Rattle.graphql_rules_document.specs.declared.scopes.OperationScope.{OperationScope}
+use Rattle.graphql_rules_document.specs.declared.scopes.Scopes.{Scopes}
+use Rattle.graphql_rules_document.specs.declared.scopes.Spread.{Spread}
+use Rattle.graphql_rules_document.specs.declared.scopes.Use.{Use}
+
+abbrev pub use_of : Use → part.Use
+use_of u = record { name = u.name.now; place = u.place; at = option_map input_of u.at }
+
+abbrev pub spread_of : Spread → spec.Spread
+spread_of s = record { name = s.name.now; place = s.place }
+
+abbrev pub fragment_of : FragmentScope → spec.FragmentScope
+fragment_of f = record { name = f.name.now; place = f.place; condition = f.condition.now; uses = map use_of f.uses; spreads = map spread_of f.spreads }
+
+module _ {S : Type 0} where
+  abbrev pub operation_of : OperationScope S → spec.OperationScope S
+  operation_of o = record {
+    name = option_map (λ n. n.now) o.name;
+    place = o.place;
+    defined = map variable_part o.defined.now;
+    uses = map use_of o.uses;
+    spreads = map spread_of o.spreads;
+  }
+
+  abbrev pub scopes_told : Scopes S → spec.Scopes S
+  scopes_told s = record { operations = map operation_of s.operations; fragments = map fragment_of s.fragments }

@@ -1,9 +1,0 @@
-pub mod GivenLemmas
-pub mod ObjectLemmas
-pub mod ArgumentRows
-pub mod FieldRows
-pub mod SilentLemmas
-pub mod LawLemmas
-pub mod OverlapLemmas
-pub mod ByNameLemmas
-pub mod SpreadLemmas

@@ -1,5 +1,0 @@
-use Rattle.graphql_rules_local.proofs.LawLemmas.{arguments_declared}
-use Rattle.graphql_rules_local.proofs.laws.arguments_are_declared.Goals as goal
-
-pub returns : goal.returns
-returns g c = λ subject parts. arguments_declared subject parts

@@ -1,5 +1,0 @@
-use Rattle.graphql_rules_local.proofs.LawLemmas.{conditions_composite}
-use Rattle.graphql_rules_local.proofs.laws.conditions_are_composite.Goals as goal
-
-pub returns : goal.returns
-returns g c = λ subject parts. conditions_composite subject parts

@@ -1,5 +1,0 @@
-use Rattle.graphql_rules_local.proofs.LawLemmas.{input_fields_distinct}
-use Rattle.graphql_rules_local.proofs.laws.input_fields_are_distinct.Goals as goal
-
-pub returns : goal.returns
-returns g c = λ subject parts. input_fields_distinct subject parts

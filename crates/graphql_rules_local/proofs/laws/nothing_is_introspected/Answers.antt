@@ -1,5 +1,0 @@
-use Rattle.graphql_rules_local.proofs.LawLemmas.{no_introspection}
-use Rattle.graphql_rules_local.proofs.laws.nothing_is_introspected.Goals as goal
-
-pub returns : goal.returns
-returns g c = λ subject parts. no_introspection subject parts

@@ -1,5 +1,0 @@
-use Rattle.graphql_rules_local.proofs.SpreadLemmas.{spreads_told}
-use Rattle.graphql_rules_local.proofs.laws.possible_spreads_tell_of_occurrences.Goals as goal
-
-pub returns : goal.returns
-returns g c = λ subject v w told made runs. spreads_told subject v w told made runs

@@ -1,5 +1,0 @@
-use Rattle.graphql_rules_local.proofs.LawLemmas.{variables_input}
-use Rattle.graphql_rules_local.proofs.laws.variables_are_of_input_types.Goals as goal
-
-pub returns : goal.returns
-returns g c = λ subject parts. variables_input subject parts

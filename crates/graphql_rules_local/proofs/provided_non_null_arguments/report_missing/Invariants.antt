@@ -1,9 +1,0 @@
-use Rattle.std.proofs.Common.{take}
-use Rattle.std.specs.List.{flat_map}
-use Rattle.graphql_visitors.specs.Reports.{Reports}
-use Rattle.graphql_literal_checks.specs.InputFields.{has_name}
-use Rattle.graphql_rules_local.specs.ProvidedNonNullArguments.{missing}
-use Rattle.graphql_rules_local.proofs.provided_non_null_arguments.report_missing.Given as goal
-
-abbrev pub invariant-declared : goal.invariant-declared
-invariant-declared g l = Reports (flat_map (missing l.place (has_name l.given)) (take l.argument-index l.declared)) l.initial.context l.context

@@ -1,3 +1,0 @@
-pub mod TellLemmas
-pub mod NodeLemmas
-pub mod LawLemmas

@@ -1,5 +1,0 @@
-use Rattle.graphql_rules_values.proofs.LawLemmas.{defaults_none}
-use Rattle.graphql_rules_values.proofs.laws.defaults_conform.Goals as goal
-
-pub returns : goal.returns
-returns g c = λ subject parts. defaults_none g.S.ScalarValue.answer g.S.Check.Check.accepts subject parts

@@ -1,4 +1,0 @@
-pub mod Literals
-pub mod ArgumentsOfCorrectType
-pub mod DefaultValuesOfCorrectType
-pub mod Laws

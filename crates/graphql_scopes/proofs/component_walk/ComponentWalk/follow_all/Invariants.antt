@@ -1,5 +1,0 @@
-use Rattle.graphql_scopes.specs.Walks.{IsWalk}
-use Rattle.graphql_scopes.proofs.component_walk.ComponentWalk.follow_all.Given as goal
-
-abbrev pub invariant-steps : goal.invariant-steps
-invariant-steps l = IsWalk l.index.fragments.now l.initial.self → IsWalk l.index.fragments.now l.self

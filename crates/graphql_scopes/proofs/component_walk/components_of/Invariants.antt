@@ -1,5 +1,0 @@
-use Rattle.graphql_scopes.specs.Walks.{IsWalk}
-use Rattle.graphql_scopes.proofs.component_walk.components_of.Given as goal
-
-abbrev pub invariant-fragments : goal.invariant-fragments
-invariant-fragments l = IsWalk l.index.fragments.now l.walk

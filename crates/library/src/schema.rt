@@ -1,0 +1,48 @@
+//! The schema of the library.
+
+use graphql_embedding::{SchemaRows, TypeRow};
+
+/// The schema, a row for each type and for each of its fields and values.
+pub const SCHEMA: SchemaRows<'static> = SchemaRows {
+    query: "Query",
+    mutation: Some("Mutation"),
+    types: &[
+        TypeRow::Enum("Genre", &["NOVEL", "ESSAY", "POEMS"]),
+        TypeRow::Interface("Work", &[], WORK),
+        TypeRow::Object("Book", &["Work"], BOOK),
+        TypeRow::Object("Magazine", &["Work"], MAGAZINE),
+        TypeRow::Object("Author", &[], AUTHOR),
+        TypeRow::Union("Found", &["Book", "Magazine", "Author"]),
+        TypeRow::OneOf("BookBy", &["id: ID", "title: String"]),
+        TypeRow::InputObject("Years", &["from: Int! = 0", "to: Int! = 9999"]),
+        TypeRow::InputObject("BookFilter", &["genres: [Genre!]", "years: Years"]),
+        TypeRow::Object("Query", &[], QUERY),
+        TypeRow::Object("Mutation", &[], &["pick(id: ID!): Book"]),
+    ],
+};
+
+const WORK: &[&str] = &["id: ID!", "title: String!", "year: Int!"];
+
+const BOOK: &[&str] = &[
+    "id: ID!",
+    "title: String!",
+    "year: Int!",
+    "genre: Genre!",
+    "author: Author!",
+];
+
+const MAGAZINE: &[&str] = &["id: ID!", "title: String!", "year: Int!", "issue: Int!"];
+
+const AUTHOR: &[&str] = &[
+    "id: ID!",
+    "name: String!",
+    "books(first: Int, skip: Int): [Book!]!",
+];
+
+const QUERY: &[&str] = &[
+    "book(by: BookBy!): Book",
+    "picked: Book",
+    "books(filter: BookFilter, first: Int, skip: Int): [Book!]!",
+    "works(ids: [ID!]!): [Work]!",
+    "find(words: String!): [Found!]!",
+];
