@@ -139,7 +139,7 @@ fn plain_of_records<'a, S: SchemaScalar + Drop>(
     let definitions = document.as_slice();
     let operation = chosen_operation(alloc, definitions, operation_name, root_node, variables)?;
     documents_without_a_fault_are_settled(root_node.schema());
-    print_chosen(
+    plain_of_chosen(
         alloc,
         definitions,
         &operation.item,
@@ -149,9 +149,13 @@ fn plain_of_records<'a, S: SchemaScalar + Drop>(
     )
 }
 
-/// The plain text of an operation of a document whose spreads end, over the values that a request gives
-/// for its variables.
-fn print_chosen<'d, 'a, S: SchemaScalar + Drop>(
+/// The plain text of a request that is read already, as [`plain_request`] gives it: of the operation that
+/// `chosen_operation` gives, of the document that `read_records` gives of the tokens of the request's text,
+/// over the values that the request gives for its variables.
+///
+/// An error is `PlainError::TooLarge` where there are more fields and inline fragments than `limit`.
+/// `PlainError::Memory` comes only where memory ran out, and no other error comes.
+pub fn plain_of_chosen<'d, 'a, S: SchemaScalar + Drop>(
     alloc: Global,
     document: &'d [Definition<'a, S>],
     operation: &'d Operation<'a, S>,

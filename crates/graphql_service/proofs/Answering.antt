@@ -65,7 +65,7 @@ begun-at-the-end m query node sets (Some root) c new is = record {
   after = is;
 }
 
-broken-at-the-end : {S C N X : Type 0} (s : Scalars S C) (a : Asking S C) (r : Resolver S N X) (cmp : ExecutionError S → ExecutionError S → Ordering)
+pub broken-at-the-end : {S C N X : Type 0} (s : Scalars S C) (a : Asking S C) (r : Resolver S N X) (cmp : ExecutionError S → ExecutionError S → Ordering)
     (old new : X) (found : Value S) (errors : List (ExecutionError S)) → IsAnswered s a r cmp old found errors new → IsBrokenOff s a r old new
 broken-at-the-end s a r cmp old new found errors h = record {
   document = h.document;

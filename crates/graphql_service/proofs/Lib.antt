@@ -6,6 +6,7 @@ mod AnsweredToo
 mod JoinedData
 mod DistinctAnswers
 pub mod Answering
+mod ReadAnswers
 mod ServedContexts
 mod PlainAnswering
 mod ServedPlain

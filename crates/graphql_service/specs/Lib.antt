@@ -6,6 +6,7 @@ pub mod PlainRequests
 pub mod Texts
 pub mod Answers
 pub mod Made
+pub mod Reading
 pub mod FittingLines
 pub mod Laws
 pub mod Serving

@@ -1,16 +1,19 @@
 //! The service layer of GraphQL: a service that answers request lines over a schema and a resolver.
 #![tactic(auto)]
 
+mod accepted;
 pub mod laws;
 pub mod meaning;
 mod plain;
 mod plain_lines;
 mod plain_serving;
+mod read;
 mod refusal;
 mod response;
 mod service;
 mod serving;
 
+pub use accepted::AcceptedRequest;
 pub use graphql_executor::{
     Applies, Arguments, Context, ExecutionError, Executor, FieldError, FieldFault, FieldPath,
     FieldResult, GraphQLError, GraphQLMutationValue, GraphQLValue, ID, IntoFieldError,

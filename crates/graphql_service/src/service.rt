@@ -85,7 +85,7 @@ impl Error for ServiceFault {}
 pub struct Service<S, R, X, C = <S as SchemaScalar>::Check> {
     pub(crate) root_node: RootNode<S, C>,
     pub(crate) resolver: R,
-    context: X,
+    pub(crate) context: X,
     pub(crate) line_limit: usize,
     pub(crate) selection_limit: usize,
     ghost executable: { is_executable root_node.schema.types (roots_of root_node.schema) ≡ true },

@@ -1,5 +1,5 @@
 -- What is answered from answers that are kept, and that answers are kept then.
-use Rattle.std.proofs.Common.{◌≡◌, ◌≤◌, ◌⊎◌, inl, inr, refl, sym, ◌∙◌, ap, subst, arith, ℕ, Bool, true, false, not, ◌&&◌, [], ◌++◌, length, drop, codes, nat_eq, Result, Ok, Err, OnErr}
+use Rattle.std.proofs.Common.{◌≡◌, ◌≤◌, ◌⊎◌, inl, inr, refl, sym, ◌∙◌, ap, subst, arith, ℕ, Bool, true, false, not, ◌&&◌, [], ◌++◌, length, drop, codes, nat_eq, Result, Ok, Err, OnErr, OnOk}
 use Rattle.std.proofs.Math.Seq.{drop-append_seam}
 use Rattle.std.proofs.lemmas.List.{length-append}
 use Rattle.std.specs.List.{starts_with}
@@ -10,22 +10,27 @@ use Rattle.graphql_field_results.specs.declared.execution_error.ExecutionError.{
 use Rattle.graphql_rule_errors.specs.declared.rule_error.RuleError.{RuleError}
 use Rattle.graphql_schema.specs.declared.root_node.RootNode.{RootNode}
 use Rattle.graphql_executor.specs.Answered.{IsAnswered}
-use Rattle.graphql_executor.specs.Requests.{Scalars}
+use Rattle.graphql_executor.specs.Requests.{GraphQLError, Scalars}
+use Rattle.graphql_executor.specs.Requests as error
 use Rattle.graphql_executor.specs.Resolvers.{Resolver}
 use Rattle.graphql_stores.specs.Keeping.{IsKept, KeepsAtMost, KeepsNothing}
 use Rattle.graphql_stores.specs.declared.kept_texts.KeptTexts.{KeptTexts}
-use Rattle.graphql_lines.specs.Request.{request_of}
+use Rattle.graphql_json.specs.Writing.{KeepsFront}
+use Rattle.graphql_lines.specs.Request.{Request, request_of}
+use Rattle.graphql_lines.specs.Variables.{IsDue}
+use Rattle.graphql_lines.specs.declared.refusal.LineRefusal.{LineRefusal}
+use Rattle.graphql_lines.specs.declared.refusal.LineRefusal.TheVariants as refusal
 use Rattle.graphql_answers.specs.Lines.{ValuesAreLines, line_of}
 use Rattle.graphql_answers.specs.Responses.{response_of}
-use Rattle.graphql_service.specs.Answers.{Answerer, IsAnswer, IsExecuted, LeavesBroken, answerer_of, asked_by}
+use Rattle.graphql_service.specs.Answers.{Answerer, Appends, IsAnswer, IsExecuted, IsNoRequest, IsNotExecuted, LeavesBroken, answerer_of, asked_by}
 use Rattle.graphql_service.specs.Laws.{IsLineOfDistinctKeys}
 use Rattle.graphql_service.specs.PlainAnswers.{HasPlain}
 use Rattle.graphql_service.specs.PlainRequests.{TakesStandIn}
 use Rattle.graphql_service.specs.Serving.{AnswersLine, HasPartsOf}
 use Rattle.graphql_service.specs.declared.service.Service.{Service}
-use Rattle.graphql_service.proofs.Answering.{answer_is_line}
+use Rattle.graphql_service.proofs.Answering.{answer_is_line, due}
 use Rattle.graphql_stores.specs.AnswerEnds.{begins_with_data, ends_with_list}
-use Rattle.graphql_stores.specs.Caching.{CacheAnswers, CacheBreaks, KeepsAnswers}
+use Rattle.graphql_stores.specs.Caching.{AnswersBehind, CacheAnswers, CacheBreaks, KeepsAnswers}
 use Rattle.graphql_stores.specs.Laws.{AnswersAreShared, AnswersShowErrors, QueriesLeaveTheContext, SharesQuery}
 use Rattle.graphql_stores.specs.PlainLines.{AsksPlain}
 use Rattle.graphql_stores.specs.StoredAnswers.{AreAnswers, AreWholeAnswers, IsWholeAnswer}
@@ -54,6 +59,9 @@ pub counted-within : (old new text : Bytes) (n : ℕ) → n ≡ length old → n
 counted-within old new text n counted written =
     subst (λ m. m ≤ length new) (sym counted)
     (subst (λ xs. length old ≤ length xs) (sym written) (omega (arith, length-append old text)))
+
+pub front-within : (old new : Bytes) (n : ℕ) → n ≡ length old → KeepsFront old new → n ≤ length new
+front-within old new n counted front = counted-within old new front.behind n counted front.is
 
 -- two facts on `Err`
 pub both-on-err : {A E : Type 0} (r : Result A E) (P Q : Type 0) → OnErr r P → OnErr r Q → OnErr r (P × Q)
@@ -133,9 +141,76 @@ module _ {S C N X R : Type 0} (scalars : Scalars S C) (by_rules : RuleError → 
   let-go old service kept line same broken no_line no_plain keeps =
       ((broken, same), none-kept service kept no_line no_plain (takes-still old.service service same keeps.takes))
 
+  -- an answer that changes nothing
+  pub unchanged-answer : (cache : AnswerCache S R X C) (line text : Bytes)
+      → AnswersLine (its_answerer cache.service) cache.service.context line text cache.service.context
+      → Gives cache line text cache
+  unchanged-answer cache line text answer keeps = ((answer, own-parts cache.service), keeps)
+
   -- where memory runs out and nothing has changed
   pub not-broken : (cache : AnswerCache S R X C) (line : Bytes) → Breaks cache line cache
   not-broken cache line keeps = ((inl refl, own-parts cache.service), keeps)
+
+  module _ (cache : AnswerCache S R X C) (line before after : Bytes) where
+    abbrev Refusal : Bytes → Type 0
+    Refusal l =
+        Appends (λ text. AnswersLine (its_answerer cache.service) cache.service.context l text
+        cache.service.context) before after
+
+    -- the refusal of a line, or want of memory for it, changes nothing
+    pub refuses-line : {A E : Type 0} (result : Result A E) (why : LineRefusal)
+        → OnOk result ((l : Bytes) → IsNoRequest (its_answerer cache.service) l why → Refusal l)
+        → OnOk result (why ≡ refusal.Memory → ⊥) → OnErr result (after ≡ before)
+        → ((why ≡ refusal.Memory → ⊥) → IsNoRequest (its_answerer cache.service) line why)
+        → AnswersBehind scalars by_rules by_fields resolving result cache line before after cache
+    refuses-line (Ok x) why told is kept stands =
+        let written : Refusal line = told line (stands is) in
+        record {
+          answers = (written.0, written.1, unchanged-answer cache line written.0 written.2);
+          breaks = tt;
+          parts = own-parts cache.service;
+          kept = tt;
+        }
+    refuses-line (Err e) why told is kept stands = record {
+      answers = tt;
+      breaks = not-broken cache line;
+      parts = own-parts cache.service;
+      kept = kept;
+    }
+
+    -- the same of a line that is read, and is no request
+    pub refuses-due : {A E : Type 0} (result : Result A E) (why : LineRefusal)
+        → OnOk result ((l : Bytes) → IsNoRequest (its_answerer cache.service) l why → Refusal l)
+        → OnOk result (why ≡ refusal.Memory → ⊥) → OnErr result (after ≡ before)
+        → length line ≤ cache.service.line_limit
+        → ((why ≡ refusal.Memory → ⊥)
+        → IsDue scalars.of_bool scalars.of_int scalars.of_text (λ (q : Request). q.variables)
+        (request_of line) why)
+        → AnswersBehind scalars by_rules by_fields resolving result cache line before after cache
+    refuses-due result why told is kept within stands =
+        refuses-line result why told is kept
+        (λ whole. due (its_answerer cache.service) line why within (stands whole))
+
+    -- the same of a request
+    pub refuses-request : {A E : Type 0} (result : Result A E) (why : GraphQLError)
+        → OnOk result ((l : Bytes) → IsNotExecuted (its_answerer cache.service) l why → Refusal l)
+        → OnOk result (why ≡ error.Memory → ⊥) → OnErr result (after ≡ before)
+        → ((why ≡ error.Memory → ⊥) → IsNotExecuted (its_answerer cache.service) line why)
+        → AnswersBehind scalars by_rules by_fields resolving result cache line before after cache
+    refuses-request (Ok x) why told is kept stands =
+        let written : Refusal line = told line (stands is) in
+        record {
+          answers = (written.0, written.1, unchanged-answer cache line written.0 written.2);
+          breaks = tt;
+          parts = own-parts cache.service;
+          kept = tt;
+        }
+    refuses-request (Err e) why told is kept stands = record {
+      answers = tt;
+      breaks = not-broken cache line;
+      parts = own-parts cache.service;
+      kept = kept;
+    }
 
   module _ (old : AnswerCache S R X C) (line text : Bytes) where
     abbrev a : Answerer S C N X

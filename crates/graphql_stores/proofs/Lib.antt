@@ -8,6 +8,7 @@ mod LineOfPlain
 mod Endings
 mod Shared
 mod LeftContexts
+mod ReadOnce
 mod CachedAnswers
 mod CachedRuns
 mod Adding

@@ -11,6 +11,7 @@ pub mod Caching
 pub mod CachedLines
 pub mod Texts
 pub mod Keeping
+pub mod Reading
 pub mod Told
 pub mod Stores
 pub mod FaultTexts

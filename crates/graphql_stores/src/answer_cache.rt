@@ -1,15 +1,20 @@
 //! A service whose answers are kept.
 
 ghost use Rattle.std.specs.Prelude.{◌≡◌, [], OnErr, OnOk, string_bytes};
+ghost use Rattle.graphql_json.specs.Writing.{KeepsFront};
+ghost use Rattle.graphql_names.specs.Names.{Bytes};
+ghost use Rattle.graphql_tree.specs.Definitions.{fragments_listed};
+ghost use Rattle.graphql_written_out.specs.Written.{Settled};
 ghost use Rattle.graphql_service.specs.Answers.{Appends, answerer_of};
 ghost use Rattle.graphql_service.specs.PlainAnswers.{HasPlain};
 ghost use Rattle.graphql_service.specs.PlainRequests.{TakesStandIn};
+ghost use Rattle.graphql_service.specs.Reading.{Executes};
 ghost use Rattle.graphql_service.specs.Serving.{HasPartsOf, ServiceAnswers};
 ghost use Rattle.graphql_stores.specs.Caching.{AnswersBehind, CacheAnswers, CacheBreaks};
 ghost use Rattle.graphql_stores.specs.Caching.{KeepsAnswers};
 ghost use Rattle.graphql_stores.specs.Laws.{SharesQuery};
+ghost use Rattle.graphql_stores.specs.Reading.{AsksAccepted};
 
-use crate::asked::{Asked, asked_of_line};
 use crate::kept_answers::{KeptAnswers, behind, is_executed, is_whole, push_text};
 use crate::laws::{answers_are_shared, answers_show_errors, queries_leave_the_context};
 use crate::plain_lines::{is_query, plain_line_of};
@@ -19,8 +24,7 @@ use graphql_field_results::ExecutionError;
 use graphql_rule_errors::RuleError;
 use graphql_schema::SchemaScalar;
 use graphql_service::laws::answer_lines_have_distinct_keys;
-use graphql_service::{GraphQLMutationValue, Service};
-use graphql_streams::LineEngine;
+use graphql_service::{AcceptedRequest, GraphQLMutationValue, Service};
 use std::alloc::{AllocError, Global};
 
 /// A service that keeps the answers of queries, and gives them again to each line that asks for the
@@ -35,7 +39,7 @@ use std::alloc::{AllocError, Global};
 /// laws.
 #[derive(Drop)]
 pub struct AnswerCache<S, R, X, C = <S as SchemaScalar>::Check> {
-    service: Service<S, R, X, C>,
+    pub(crate) service: Service<S, R, X, C>,
     kept: KeptAnswers,
 }
 
@@ -68,9 +72,10 @@ impl<S: SchemaScalar + Drop, R: GraphQLMutationValue<S>> AnswerCache<S, R, R::Co
     }
 
     /// The answer line of a request line, as `Service::answer` gives it, which is then all that
-    /// `out` holds: one that is kept, or else that of the service. A refusal leaves what is kept,
-    /// and so does a query; what is kept is let go at a request that is executed and is no query,
-    /// or whose plain text is larger than the service's limit, or for which memory runs out.
+    /// `out` holds: one that is kept, or else that of the service, for which the line is read and
+    /// validated once. A refusal leaves what is kept, and so does a query; what is kept is let go at
+    /// a request that is executed and is no query, or whose plain text is larger than the service's
+    /// limit, or where memory runs out once it is accepted.
     ///
     /// The only error is want of memory, after which `out` is empty; a mutation has then changed
     /// the context by a beginning of its response keys. Want of memory for keeping an answer is no
@@ -114,45 +119,31 @@ impl<S: SchemaScalar + Drop, R: GraphQLMutationValue<S>> AnswerCache<S, R, R::Co
         self.answer_anew(alloc, line, out)
     }
 
-    /// Writes the answer line of a line for which none is kept.
-    fn answer_anew(
+    /// Writes the answer line of a line that has this plain text, behind what `out` holds.
+    pub(crate) fn answer_plain(
         &mut self,
         alloc: Global,
         line: &[u8],
-        out: &mut Vec<u8>,
-    ) -> Result<(), AllocError>
-        ensures { AnswersBehind ⟦<S as Meaning>⟧.meaning ⟦<RuleError as Ord>⟧.cmp
-            ⟦<ExecutionError<S> as Ord>⟧.cmp ⟦<R as Resolving<S>>⟧.resolving
-            result self.old line.now out.old.items out.new.items self.new }
-    {
-        match asked_of_line(alloc, &self.service, line) {
-            Ok(Asked::Plain(plain)) => self.answer_plain(alloc, line, plain, out),
-            Ok(_) => self.answer_other(alloc, line, out),
-            Err(_) => self.answer_other(alloc, line, out),
-        }
-    }
-
-    /// The same of a line that has this plain text.
-    fn answer_plain(
-        &mut self,
-        alloc: Global,
-        line: &[u8],
+        accepted: &AcceptedRequest<'_, '_, S>,
         plain: String,
         out: &mut Vec<u8>,
     ) -> Result<(), AllocError>
-        requires { HasPlain (answerer_of ⟦<S as Meaning>⟧.meaning ⟦<RuleError as Ord>⟧.cmp
+        requires has { HasPlain (answerer_of ⟦<S as Meaning>⟧.meaning ⟦<RuleError as Ord>⟧.cmp
             ⟦<ExecutionError<S> as Ord>⟧.cmp ⟦<R as Resolving<S>>⟧.resolving self.old.service)
             self.old.service.selection_limit line.now (string_bytes plain) }
+        requires reads { AsksAccepted (answerer_of ⟦<S as Meaning>⟧.meaning ⟦<RuleError as Ord>⟧.cmp
+            ⟦<ExecutionError<S> as Ord>⟧.cmp ⟦<R as Resolving<S>>⟧.resolving self.old.service)
+            line.now accepted.now }
         ensures { AnswersBehind ⟦<S as Meaning>⟧.meaning ⟦<RuleError as Ord>⟧.cmp
             ⟦<ExecutionError<S> as Ord>⟧.cmp ⟦<R as Resolving<S>>⟧.resolving
             result self.old line.now out.old.items out.new.items self.new }
     {
         if !is_query(plain.as_bytes()) {
-            return self.answer_other(alloc, line, out);
+            return self.answer_other(alloc, accepted, out);
         }
         match plain_line_of(alloc, line, plain) {
-            Some(key) => self.answer_query(alloc, line, key.as_str(), out),
-            None => self.answer_other(alloc, line, out),
+            Some(key) => self.answer_query(alloc, line, accepted, key.as_str(), out),
+            None => self.answer_other(alloc, accepted, out),
         }
     }
 
@@ -161,12 +152,16 @@ impl<S: SchemaScalar + Drop, R: GraphQLMutationValue<S>> AnswerCache<S, R, R::Co
         &mut self,
         alloc: Global,
         line: &[u8],
+        accepted: &AcceptedRequest<'_, '_, S>,
         key: &str,
         out: &mut Vec<u8>,
     ) -> Result<(), AllocError>
-        requires { SharesQuery ⟦<S as Meaning>⟧.meaning ⟦<RuleError as Ord>⟧.cmp
+        requires shares { SharesQuery ⟦<S as Meaning>⟧.meaning ⟦<RuleError as Ord>⟧.cmp
             ⟦<ExecutionError<S> as Ord>⟧.cmp ⟦<R as Resolving<S>>⟧.resolving
             self.old.service line.now key.now }
+        requires reads { AsksAccepted (answerer_of ⟦<S as Meaning>⟧.meaning ⟦<RuleError as Ord>⟧.cmp
+            ⟦<ExecutionError<S> as Ord>⟧.cmp ⟦<R as Resolving<S>>⟧.resolving self.old.service)
+            line.now accepted.now }
         ensures { AnswersBehind ⟦<S as Meaning>⟧.meaning ⟦<RuleError as Ord>⟧.cmp
             ⟦<ExecutionError<S> as Ord>⟧.cmp ⟦<R as Resolving<S>>⟧.resolving
             result self.old line.now out.old.items out.new.items self.new }
@@ -176,7 +171,7 @@ impl<S: SchemaScalar + Drop, R: GraphQLMutationValue<S>> AnswerCache<S, R, R::Co
         answers_are_shared(&self.service);
         let length = out.len();
         let Some(kept) = self.kept.of_plain(key) else {
-            return self.answer_first(alloc, line, key, out);
+            return self.answer_first(alloc, line, accepted, key, out);
         };
         match push_text(out, kept) {
             Ok(()) => {
@@ -194,12 +189,16 @@ impl<S: SchemaScalar + Drop, R: GraphQLMutationValue<S>> AnswerCache<S, R, R::Co
         &mut self,
         alloc: Global,
         line: &[u8],
+        accepted: &AcceptedRequest<'_, '_, S>,
         key: &str,
         out: &mut Vec<u8>,
     ) -> Result<(), AllocError>
-        requires { SharesQuery ⟦<S as Meaning>⟧.meaning ⟦<RuleError as Ord>⟧.cmp
+        requires shares { SharesQuery ⟦<S as Meaning>⟧.meaning ⟦<RuleError as Ord>⟧.cmp
             ⟦<ExecutionError<S> as Ord>⟧.cmp ⟦<R as Resolving<S>>⟧.resolving
             self.old.service line.now key.now }
+        requires reads { AsksAccepted (answerer_of ⟦<S as Meaning>⟧.meaning ⟦<RuleError as Ord>⟧.cmp
+            ⟦<ExecutionError<S> as Ord>⟧.cmp ⟦<R as Resolving<S>>⟧.resolving self.old.service)
+            line.now accepted.now }
         ensures { AnswersBehind ⟦<S as Meaning>⟧.meaning ⟦<RuleError as Ord>⟧.cmp
             ⟦<ExecutionError<S> as Ord>⟧.cmp ⟦<R as Resolving<S>>⟧.resolving
             result self.old line.now out.old.items out.new.items self.new }
@@ -208,7 +207,7 @@ impl<S: SchemaScalar + Drop, R: GraphQLMutationValue<S>> AnswerCache<S, R, R::Co
         answers_show_errors(&self.service);
         queries_leave_the_context(&self.service);
         let length = out.len();
-        match self.ask(alloc, line, out) {
+        match self.ask(alloc, accepted, out) {
             Ok(()) => {}
             Err(error) => return Err(error),
         }
@@ -221,21 +220,25 @@ impl<S: SchemaScalar + Drop, R: GraphQLMutationValue<S>> AnswerCache<S, R, R::Co
         Ok(())
     }
 
-    /// The same of any line: the service's answer. What is kept is let go where the request is
-    /// executed, since it may be a mutation.
-    fn answer_other(
+    /// The same of any request that is accepted: the service's answer. What is kept is let go where
+    /// the request is executed, since it may be a mutation.
+    pub(crate) fn answer_other(
         &mut self,
         alloc: Global,
-        line: &[u8],
+        accepted: &AcceptedRequest<'_, '_, S>,
         out: &mut Vec<u8>,
     ) -> Result<(), AllocError>
-        ensures { AnswersBehind ⟦<S as Meaning>⟧.meaning ⟦<RuleError as Ord>⟧.cmp
+        requires { Settled (fragments_listed accepted.now.document.now) }
+        ensures { let a = answerer_of ⟦<S as Meaning>⟧.meaning ⟦<RuleError as Ord>⟧.cmp
+            ⟦<ExecutionError<S> as Ord>⟧.cmp ⟦<R as Resolving<S>>⟧.resolving self.old.service in
+            (line : Bytes) → Executes a line accepted.now
+            → AnswersBehind ⟦<S as Meaning>⟧.meaning ⟦<RuleError as Ord>⟧.cmp
             ⟦<ExecutionError<S> as Ord>⟧.cmp ⟦<R as Resolving<S>>⟧.resolving
-            result self.old line.now out.old.items out.new.items self.new }
+            result self.old line out.old.items out.new.items self.new }
     {
         answers_show_errors(&self.service);
         let length = out.len();
-        match self.ask(alloc, line, out) {
+        match self.ask(alloc, accepted, out) {
             Ok(()) => {}
             Err(error) => return Err(error),
         }
@@ -246,20 +249,33 @@ impl<S: SchemaScalar + Drop, R: GraphQLMutationValue<S>> AnswerCache<S, R, R::Co
         Ok(())
     }
 
-    /// Writes the service's answer to a line. Where memory runs out, what is kept is let go.
-    fn ask(&mut self, alloc: Global, line: &[u8], out: &mut Vec<u8>) -> Result<(), AllocError>
-        ensures answers { OnOk result (Appends (λ text. ServiceAnswers ⟦<S as Meaning>⟧.meaning
-            ⟦<RuleError as Ord>⟧.cmp ⟦<ExecutionError<S> as Ord>⟧.cmp
-            ⟦<R as Resolving<S>>⟧.resolving
-            self.old.service line.now text self.new.service) out.old.items out.new.items) }
-        ensures same { OnOk result (self.new.kept ≡ self.old.kept) }
-        ensures broken { OnErr result (CacheBreaks ⟦<S as Meaning>⟧.meaning ⟦<RuleError as Ord>⟧.cmp
+    /// Writes the service's answer to a request that is accepted. Where memory runs out, what is kept
+    /// is let go.
+    fn ask(
+        &mut self,
+        alloc: Global,
+        accepted: &AcceptedRequest<'_, '_, S>,
+        out: &mut Vec<u8>,
+    ) -> Result<(), AllocError>
+        requires { Settled (fragments_listed accepted.now.document.now) }
+        ensures answers { let a = answerer_of ⟦<S as Meaning>⟧.meaning ⟦<RuleError as Ord>⟧.cmp
+            ⟦<ExecutionError<S> as Ord>⟧.cmp ⟦<R as Resolving<S>>⟧.resolving self.old.service in
+            OnOk result ((line : Bytes) → Executes a line accepted.now
+            → Appends (λ text. ServiceAnswers ⟦<S as Meaning>⟧.meaning ⟦<RuleError as Ord>⟧.cmp
             ⟦<ExecutionError<S> as Ord>⟧.cmp ⟦<R as Resolving<S>>⟧.resolving
-            self.old line.now self.new) }
+            self.old.service line text self.new.service) out.old.items out.new.items) }
+        ensures front { KeepsFront out.old.items out.new.items }
+        ensures same { OnOk result (self.new.kept ≡ self.old.kept) }
+        ensures broken { let a = answerer_of ⟦<S as Meaning>⟧.meaning ⟦<RuleError as Ord>⟧.cmp
+            ⟦<ExecutionError<S> as Ord>⟧.cmp ⟦<R as Resolving<S>>⟧.resolving self.old.service in
+            OnErr result ((line : Bytes) → Executes a line accepted.now
+            → CacheBreaks ⟦<S as Meaning>⟧.meaning ⟦<RuleError as Ord>⟧.cmp
+            ⟦<ExecutionError<S> as Ord>⟧.cmp ⟦<R as Resolving<S>>⟧.resolving
+            self.old line self.new) }
         ensures parts { HasPartsOf self.old.service self.new.service }
         ensures kept { OnErr result (out.new.items ≡ out.old.items) }
     {
-        match self.service.append_answer(alloc, line, out) {
+        match self.service.append_executed(alloc, accepted, out) {
             Ok(()) => Ok(()),
             Err(error) => {
                 self.kept.clear();

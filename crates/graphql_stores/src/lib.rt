@@ -13,6 +13,7 @@ mod kept_answers;
 mod kept_texts;
 pub mod laws;
 mod plain_lines;
+mod reading;
 
 pub use allowed_fault::AllowedFault;
 pub use allowed_queries::AllowedQueries;

@@ -43,8 +43,8 @@ returns-in_err-operation-clause-refused g c = λ text recorded.
     (stopped-at s a c.args.limit _ c.in_ok-document.document c.as_slice-definitions.result.now c.as_slice-definitions.ensures
     (c.in_ok-document.ensures.read text recorded) c.in_err-operation.field-0.0 c.in_err-operation.ensures.refused c.in_err-operation.ensures.sorted)
 
-pub print_chosen-requires : goal.print_chosen-requires
-print_chosen-requires g c =
+pub plain_of_chosen-requires : goal.plain_of_chosen-requires
+plain_of_chosen-requires g c =
     let document = c.in_ok-document.document in
     let valid =
     subst (λ s. HasNoFault g.S.ScalarValue.answer g.S.Check.Check.accepts (record { schema = declarations_of s; document = document }))
@@ -69,8 +69,8 @@ returns-clause-plain g c = λ text recorded.
     printed s a c.args.limit d o
     (executable-at s a c.args.limit c.in_ok-document.document d c.as_slice-definitions.ensures
     (c.in_ok-document.ensures.read text recorded) o c.in_ok-operation.ensures.ready)
-    (λ text. string_bytes text) c.print_chosen.result c.args.records.now.tokens c.args.records.now.finish recorded
-    c.print_chosen.ensures.plain
+    (λ text. string_bytes text) c.plain_of_chosen.result c.args.records.now.tokens c.args.records.now.finish recorded
+    c.plain_of_chosen.ensures.plain
 
 pub returns-clause-refused : goal.returns-clause-refused
 returns-clause-refused g c = λ text recorded.
@@ -90,4 +90,4 @@ returns-clause-refused g c = λ text recorded.
     larger s a c.args.limit d o
     (executable-at s a c.args.limit c.in_ok-document.document d c.as_slice-definitions.ensures
     (c.in_ok-document.ensures.read text recorded) o c.in_ok-operation.ensures.ready)
-    _ c.print_chosen.result c.print_chosen.ensures.large
+    _ c.plain_of_chosen.result c.plain_of_chosen.ensures.large

@@ -6,26 +6,26 @@ use Rattle.graphql_stores.proofs.answer_cache.AnswerCache+S+R+R+Context.answer_f
 
 pub behind-text-requires : goal.behind-text-requires
 behind-text-requires g c =
-    let h = c.in-Ok.ensures.answers in
+    let h = c.in-Ok.ensures.answers c.args.line.now c.requires.reads.executes in
     counted-within c.args.out.now.items c.as_slice.result.now h.0 c.len-length.result (c.len-length.ensures ∙ c.args.out.now.ok.0)
     (c.as_slice.ensures.value ∙ h.1)
 
 pub returns-in-Err : goal.returns-in-Err
 returns-in-Err g c = record {
   answers = tt;
-  breaks = c.in-Err.ensures.broken;
+  breaks = c.in-Err.ensures.broken c.args.line.now c.requires.reads.executes;
   parts = c.in-Err.ensures.parts;
   kept = c.in-Err.ensures.kept;
 }
 
 pub returns-then-not-is_whole : goal.returns-then-not-is_whole
 returns-then-not-is_whole g c =
-    let h = c.in-Ok.ensures.answers in
+    let h = c.in-Ok.ensures.answers c.args.line.now c.requires.reads.executes in
     record {
       answers = (
         h.0,
         h.1,
-        query-left _ _ _ _ c.args.self.now c.args.line.now h.0 c.args.key.now c.requires c.answers_are_shared.ensures
+        query-left _ _ _ _ c.args.self.now c.args.line.now h.0 c.args.key.now c.requires.shares c.answers_are_shared.ensures
             c.queries_leave_the_context.ensures c.ask.new.self.service h.2.1 h.2.0 c.ask.new.self.kept c.in-Ok.ensures.same,
       );
       breaks = tt;
@@ -35,7 +35,7 @@ returns-then-not-is_whole g c =
 
 pub returns : goal.returns
 returns g c =
-    let h = c.in-Ok.ensures.answers in
+    let h = c.in-Ok.ensures.answers c.args.line.now c.requires.reads.executes in
     let kept = c.ask.new.self.kept in
     let mid = c.keep_plain.new.self in
     let new = c.keep_line.new.self in
@@ -54,7 +54,7 @@ returns g c =
       answers = (
         h.0,
         h.1,
-        query-kept _ _ _ _ c.args.self.now c.args.line.now h.0 c.args.key.now c.requires c.answers_are_shared.ensures
+        query-kept _ _ _ _ c.args.self.now c.args.line.now h.0 c.args.key.now c.requires.shares c.answers_are_shared.ensures
             c.queries_leave_the_context.ensures c.ask.new.self.service h.2.1 h.2.0 c.answers_show_errors.ensures whole kept mid new
             c.in-Ok.ensures.same plains c.keep_plain.ensures.by_line lines c.keep_line.ensures.by_plain,
       );
@@ -62,3 +62,6 @@ returns g c =
       parts = h.2.1;
       kept = tt;
     }
+
+pub ask-requires : goal.ask-requires
+ask-requires g c = c.requires.reads.settled

@@ -5,8 +5,8 @@ use Rattle.graphql_stores.specs.PlainLines.{AsksPlain}
 use Rattle.graphql_stores.proofs.CachedAnswers.{shares-query}
 use Rattle.graphql_stores.proofs.answer_cache.AnswerCache+S+R+R+Context.answer_plain.Goals as goal
 
-pub answer_query-requires : goal.answer_query-requires
-answer_query-requires g c =
+pub answer_query-requires-clause-shares : goal.answer_query-requires-clause-shares
+answer_query-requires-clause-shares g c =
     let plain = string_bytes c.args.plain in
     let service = c.args.self.now.service in
     let told : c.is_query.result ≡ true = search rules in
@@ -14,4 +14,16 @@ answer_query-requires g c =
     ap (λ b. starts_with nat_eq b (codes "query")) (sym c.as_bytes.ensures.value) ∙ sym c.is_query.ensures ∙ told in
     let asks : AsksPlain (request_of c.args.line.now) plain c.as_str.result.now =
     subst (λ key. AsksPlain (request_of c.args.line.now) plain key) (sym c.as_str.ensures.value) c.in-Some.ensures in
-    shares-query _ _ _ _ service c.args.line.now plain c.as_str.result.now c.requires begins asks
+    shares-query _ _ _ _ service c.args.line.now plain c.as_str.result.now c.requires.has begins asks
+
+pub returns-then-not-is_query : goal.returns-then-not-is_query
+returns-then-not-is_query g c = c.answer_other.ensures c.args.line.now c.requires.reads.executes
+
+pub returns-in-None : goal.returns-in-None
+returns-in-None g c = c.answer_other-in-None.ensures c.args.line.now c.requires.reads.executes
+
+pub answer_other-requires : goal.answer_other-requires
+answer_other-requires g c = c.requires.reads.settled
+
+pub answer_other-requires-in-None : goal.answer_other-requires-in-None
+answer_other-requires-in-None g c = c.requires.reads.settled

@@ -23,7 +23,7 @@ returns-in-Ok g c =
       answers = (
         found,
         written,
-        kept-plain _ _ _ _ old c.args.line.now found c.args.key.now c.requires c.answers_are_shared.ensures
+        kept-plain _ _ _ _ old c.args.line.now found c.args.key.now c.requires.shares c.answers_are_shared.ensures
             c.values_are_lines.ensures
             (λ t o n. c.answer_lines_have_distinct_keys.ensures old.service c.args.line.now t o n)
             found c.in-Some.ensures refl new most c.keep_line.ensures.by_plain,

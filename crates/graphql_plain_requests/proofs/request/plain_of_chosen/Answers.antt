@@ -7,7 +7,7 @@ use Rattle.graphql_plain_text.specs.PlainTexts.{plain_text}
 use Rattle.graphql_names.specs.Names.{Bytes}
 use Rattle.graphql_values.specs.declared.input_value.InputValue.{InputValue}
 use Rattle.graphql_plain_requests.proofs.Refused.{not-printed}
-use Rattle.graphql_plain_requests.proofs.request.print_chosen.Goals as goal
+use Rattle.graphql_plain_requests.proofs.request.plain_of_chosen.Goals as goal
 
 pub returns-in_err-text-clause-large : goal.returns-in_err-text-clause-large
 returns-in_err-text-clause-large g c =
