@@ -6,6 +6,7 @@ ghost use Rattle.std.specs.Str.{bytes_eq};
 ghost use Rattle.graphql_collect.specs.Grouped.{IsGrouped, begun, key_at, put};
 
 use graphql_collected::CollectedField;
+use graphql_names::same_name;
 use graphql_text::{Items, TextRef};
 use graphql_written_out::response_key;
 use indexmap::IndexSet;
@@ -30,7 +31,7 @@ fn place_of<S>(groups: &[Group<'_, '_, S>], key: &str) -> usize
 {
     groups
         .iter()
-        .position(|group| key == group.0.as_str())
+        .position(|group| same_name(key, group.0.as_str()))
         .unwrap_or(groups.len())
 }
 

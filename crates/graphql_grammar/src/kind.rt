@@ -94,15 +94,31 @@ impl Kind {
 fn word_kind(name: &TextRef<'_>) -> Kind
     ensures { result ≡ spec.word_kind name.now }
 {
-    match name.as_str() {
-        "on" => Kind::On,
-        "query" => Kind::Query,
-        "mutation" => Kind::Mutation,
-        "subscription" => Kind::Subscription,
-        "fragment" => Kind::Fragment,
-        "true" => Kind::True,
-        "false" => Kind::False,
-        "null" => Kind::Null,
+    let name = name.as_str();
+    match name.len() {
+        2 => match name {
+            "on" => Kind::On,
+            _ => Kind::Name,
+        },
+        4 => match name {
+            "true" => Kind::True,
+            "null" => Kind::Null,
+            _ => Kind::Name,
+        },
+        5 => match name {
+            "query" => Kind::Query,
+            "false" => Kind::False,
+            _ => Kind::Name,
+        },
+        8 => match name {
+            "mutation" => Kind::Mutation,
+            "fragment" => Kind::Fragment,
+            _ => Kind::Name,
+        },
+        12 => match name {
+            "subscription" => Kind::Subscription,
+            _ => Kind::Name,
+        },
         _ => Kind::Name,
     }
 }

@@ -64,8 +64,10 @@ pub(crate) fn record_all(
     ensures fit { IfOk result (λ v. AllFit source.now v.items) }
     ensures fault { IfErr result (λ e. UnlessMemory IsMemory e (IsBroken (chars source.now) e)) }
 {
-    let mut out = Vec::new(alloc);
     let mut cursor = Cursor::new(source);
+    let Ok(mut out) = Vec::with_capacity(alloc, source.len() / 4 + 4) else {
+        return Err(Spanning::zero_width(cursor.at, LexerError::Memory));
+    };
     'tokens: loop {
         let (found, next) = cut_record(alloc, source, cursor)?;
         let is_last = ends_text(found.kind);

@@ -1,9 +1,10 @@
 -- Laws of names, and of what is found at them.
-use Rattle.std.proofs.Common.{◌≡◌, Result, Ok, IfOk, Bor, Bool, true, false, cond, List, map, Some, None, Less, Err, Option, is_eq, IsPermutation, nat_cmp, ltb, sym, refl, ap, ◌∙◌, subst}
+use Rattle.std.proofs.Common.{◌≡◌, ℕ, ◌≤◌, length, take, Result, Ok, IfOk, Bor, Bool, true, false, cond, List, map, Some, None, Less, Err, Option, is_eq, IsPermutation, nat_cmp, ltb, sym, refl, ap, ◌∙◌, subst}
 use Rattle.std.specs.Str.{bytes_eq}
 use Rattle.std.specs.Cmp.{unsigned_ties}
 use Rattle.std.specs.Cmp.Lexicographic.{slice_cmp, lists_ties}
 use Rattle.std.proofs.lemmas.Cmp.{nat_list_eq_equiv}
+use Rattle.std.proofs.lemmas.List.{take_all}
 use Rattle.std.proofs.lemmas.List.Sorted.{sum_by-IsPermutation, IsPermutation-map}
 use Rattle.std.proofs.lemmas.Slice.Eq.{bytes_eq-Decides}
 use Rattle.graphql_names.specs.Names.{Bytes, stands_twice, Finds}
@@ -13,6 +14,13 @@ same_bytes a b = (bytes_eq-Decides a b).0
 
 pub eq_itself : (a : Bytes) → bytes_eq a a ≡ true
 eq_itself a = (bytes_eq-Decides a a).1 refl
+
+-- names of one length whose bytes are the same up to there are one
+pub same_whole : (a b bytes others : Bytes) → bytes ≡ a → others ≡ b → (n : ℕ) → length bytes ≤ n → length bytes ≡ length others → take n bytes ≡ take n others → true ≡ bytes_eq a b
+same_whole a b bytes others is_a is_b n within lengths same =
+    let other_within : length others ≤ n = subst (λ l. l ≤ n) lengths within in
+    let one : bytes ≡ others = sym (take_all n bytes within) ∙ same ∙ take_all n others other_within in
+    sym ((bytes_eq-Decides a b).1 (sym is_a ∙ one ∙ is_b))
 
 pub eq_either_way : (a b : Bytes) → bytes_eq a b ≡ bytes_eq b a
 eq_either_way a b = nat_list_eq_equiv.symm a b

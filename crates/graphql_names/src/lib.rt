@@ -14,7 +14,7 @@ mod type_reference;
 pub use name::{Name, NameParseError};
 pub use name_map::{NameMap, NameMapError};
 pub use named::Named;
-pub use named_items::NamedItems;
+pub use named_items::{NamedItems, same_name};
 pub use repeated::repeated_name;
 pub use type_modifier::{TypeModifier, TypeModifiers};
 pub use type_reference::{BorrowedType, Type};

@@ -6,6 +6,7 @@ ghost use Rattle.std.specs.List.{AllZip, range_with_len};
 ghost use Rattle.std.specs.List.Sorted.{IsPartitionPoint, IsPartitionedBy};
 ghost use Rattle.std.specs.Option.{option_copied, option_to_list};
 ghost use Rattle.std.specs.Ordering.{is_le, is_lt, nat_cmp};
+ghost use Rattle.std.specs.Str.{bytes_eq};
 ghost use Rattle.graphql_text.specs.Memory.{Gives};
 ghost use Rattle.graphql_names.specs.Indexes.{IsIndex, name_at, place_cmp};
 ghost use Rattle.graphql_names.specs.Names.{named};
@@ -126,11 +127,29 @@ impl<T: Named> NamedItems<T> {
 /// Among so many items a name is looked for one by one, and among more by binary search.
 pub(crate) const FEW: usize = 32;
 
+/// Whether two names are one: their lengths and then their bytes are compared, since most names that differ do so in
+/// their lengths or in their first bytes.
+pub fn same_name(one: &str, other: &str) -> bool
+    ensures { result ≡ bytes_eq one.now other.now }
+{
+    let bytes = one.as_bytes();
+    let others = other.as_bytes();
+    if bytes.len() != others.len() {
+        return false;
+    }
+    'bytes: for place in 0..bytes.len() {
+        if bytes[place] != others[place] {
+            return false;
+        }
+    }
+    true
+}
+
 /// The first item of this name, looked for one by one.
 pub(crate) fn first_named<'a, T: Named>(items: &'a [T], name: &str) -> Option<&'a T>
     ensures { option_copied result ≡ named T.name_of items.now name.now }
 {
-    items.iter().find(|item| item.name() == name)
+    items.iter().find(|item| same_name(item.name(), name))
 }
 
 /// The name of the item at a place; past the end the empty one.
@@ -148,7 +167,7 @@ fn item_named<'a, T: Named>(items: &'a [T], place: usize, name: &str) -> Option<
     ensures { option_copied result ≡ named T.name_of (option_to_list (slice_get items.now place)) name.now }
 {
     match items.get(place) {
-        Some(item) if item.name() == name => Some(item),
+        Some(item) if same_name(item.name(), name) => Some(item),
         _ => None,
     }
 }

@@ -7,6 +7,7 @@ ghost use Rattle.graphql_text.specs.Memory.{Gives};
 ghost use Rattle.graphql_output_values.specs.Objects.{field_value, with_field};
 
 use crate::field_value::FieldValue;
+use graphql_names::same_name;
 use graphql_text::{Items, Text};
 use std::alloc::{AllocError, Global};
 
@@ -39,7 +40,9 @@ impl Record {
 fn place_of(fields: &[(Text, FieldValue)], name: &str) -> Option<usize>
     ensures { result ≡ position (λ field. bytes_eq name.now field.0) fields.now }
 {
-    fields.iter().position(|field| name == field.0.as_str())
+    fields
+        .iter()
+        .position(|field| same_name(name, field.0.as_str()))
 }
 
 /// The same values of fields once more. An error is want of memory.

@@ -2,6 +2,7 @@
 
 use graphql_names::Named;
 use graphql_occurrences::{Event, Node};
+use graphql_rule_errors::joined;
 use graphql_schema::SchemaScalar;
 use graphql_text::Text;
 use graphql_visitors::{Local, LocalRule, ValidatorContext};
@@ -22,8 +23,10 @@ pub fn factory() -> Local<FieldsOnCorrectType> {
 
 /// What is said of a field. An error is want of memory.
 fn message(alloc: Global, field: &str, parent: &str) -> Result<Text, AllocError> {
-    let text = format!(in alloc; "Unknown field \"{field}\" on type \"{parent}\"")?;
-    Ok(Text::from_string(text))
+    joined(
+        alloc,
+        &["Unknown field \"", field, "\" on type \"", parent, "\""],
+    )
 }
 
 impl<S: SchemaScalar> LocalRule<S> for FieldsOnCorrectType {

@@ -8,6 +8,7 @@ ghost use Rattle.graphql_rules.specs.KnownArgumentNames.{undeclared, undeclared_
 
 use crate::given::{Given, given_at};
 use graphql_occurrences::{DeclaredArguments, Event, Owner};
+use graphql_rule_errors::joined;
 use graphql_schema::SchemaScalar;
 use graphql_text::{Spanning, Text, TextRef};
 use graphql_values::InputValue;
@@ -91,18 +92,35 @@ fn message<'a, 't, S: SchemaScalar>(
     name: &str,
 ) -> Result<Text, AllocError> {
     let alloc = context.alloc();
-    let text = match owner {
+    match owner {
         Owner::Field(field) => {
             let parent = parent_name(context);
-            format!(in alloc;
-                "Unknown argument \"{name}\" on field \"{field}\" of type \"{parent}\""
-            )?
+            joined(
+                alloc,
+                &[
+                    "Unknown argument \"",
+                    name,
+                    "\" on field \"",
+                    field,
+                    "\" of type \"",
+                    parent,
+                    "\"",
+                ],
+            )
         }
         Owner::Directive(directive) => {
-            format!(in alloc; "Unknown argument \"{name}\" on directive \"{directive}\"")?
+            joined(
+                alloc,
+                &[
+                    "Unknown argument \"",
+                    name,
+                    "\" on directive \"",
+                    directive,
+                    "\"",
+                ],
+            )
         }
-    };
-    Ok(Text::from_string(text))
+    }
 }
 
 /// The name of the type that is selected of; empty where there is none.

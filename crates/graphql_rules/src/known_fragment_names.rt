@@ -8,6 +8,7 @@ ghost use Rattle.graphql_visitors.specs.Reports.{Reports};
 ghost use Rattle.graphql_visitors.specs.Subjects.{subject_of};
 
 use graphql_occurrences::{Event, Node};
+use graphql_rule_errors::joined;
 use graphql_schema::SchemaScalar;
 use graphql_text::{Spanning, Text, TextRef};
 use graphql_visitors::{Local, LocalRule, ValidatorContext};
@@ -27,8 +28,7 @@ pub fn factory() -> Local<KnownFragmentNames> {
 
 /// What is said of a spread. An error is want of memory.
 fn message(alloc: Global, fragment: &str) -> Result<Text, AllocError> {
-    let text = format!(in alloc; "Unknown fragment: \"{fragment}\"")?;
-    Ok(Text::from_string(text))
+    joined(alloc, &["Unknown fragment: \"", fragment, "\""])
 }
 
 /// Reports the name of a fragment, if the document has none of this name.

@@ -8,6 +8,7 @@ ghost use Rattle.graphql_schema.specs.Declarations.{declarations_of};
 ghost use Rattle.graphql_visitors.specs.Reports.{Reports};
 
 use graphql_occurrences::{Event, Node};
+use graphql_rule_errors::joined;
 use graphql_schema::SchemaScalar;
 use graphql_text::{SourcePosition, Text};
 use graphql_visitors::{Local, LocalRule, ValidatorContext};
@@ -29,8 +30,7 @@ pub fn factory() -> Local<KnownTypeNames> {
 
 /// What is said of a type. An error is want of memory.
 fn message(alloc: Global, name: &str) -> Result<Text, AllocError> {
-    let text = format!(in alloc; "Unknown type \"{name}\"")?;
-    Ok(Text::from_string(text))
+    joined(alloc, &["Unknown type \"", name, "\""])
 }
 
 /// Reports a type that is named here, if the schema has not got it.

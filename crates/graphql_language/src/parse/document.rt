@@ -47,7 +47,7 @@ fn definitions<'a, S: ScalarValue>(
     ensures reads { Reads (parts.definitions S.reads S.of_bool cursor.old) result cursor.new }
     ensures no_more { left cursor.new ≤ left cursor.old }
 {
-    let mut found = Items::new(alloc);
+    let mut found = Items::with_capacity(alloc, 1)?;
     keep(&mut found, definition(alloc, cursor)?)?;
     'definitions: while begins_definition(cursor.kind()) {
         keep(&mut found, definition(alloc, cursor)?)?;

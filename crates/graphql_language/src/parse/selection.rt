@@ -21,6 +21,9 @@ use graphql_values::ScalarValue;
 use std::alloc::{AllocError, Global};
 use std::mem;
 
+/// A selection set has room for so many selections to begin with.
+const ROOM: usize = 2;
+
 /// What stands of a field before its selection set.
 #[derive(Drop)]
 struct FieldHead<'a, S> {
@@ -77,8 +80,8 @@ pub(crate) fn selection_set<'a, S: ScalarValue>(
 {
     cursor.expect(alloc, Kind::CurlyOpen)?;
     // the sets that are open around the one that is read, the innermost last
-    let mut outer = Items::new(alloc);
-    let mut found = Items::new(alloc);
+    let mut outer = Items::with_capacity(alloc, 1)?;
+    let mut found = Items::with_capacity(alloc, ROOM)?;
     'selections: loop {
         if cursor.kind() == Kind::CurlyClose && !found.is_empty() {
             cursor.advance();
@@ -110,7 +113,7 @@ fn open_set<'a, S: ScalarValue>(
     ensures opened { OnOk result (outer.new ≡ outer.old ++ record { head = head.entry; around = found.old } ∷ []) }
     ensures empty { OnOk result (found.new ≡ []) }
 {
-    let around = mem::replace(found, Items::new(alloc));
+    let around = mem::replace(found, Items::with_capacity(alloc, ROOM)?);
     keep(outer, Open { head, around })?;
     cursor.expect(alloc, Kind::CurlyOpen)
 }

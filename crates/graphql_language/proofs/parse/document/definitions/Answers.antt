@@ -9,11 +9,11 @@ use Rattle.graphql_language.proofs.parse.document.definitions.Goals as goal
 
 pub returns-in_err-definition-clause-reads : goal.returns-in_err-definition-clause-reads
 returns-in_err-definition-clause-reads g c =
-    exits_with c.from_residual.result c.definition.new.cursor c.from_residual.ensures.1 c.in_err-definition.ensures.reads (first_refused g.S.ParseScalarValue.reads g.S.ScalarValue.of_bool c.args.cursor.now)
+    exits_with c.from_residual-in_err-definition.result c.definition.new.cursor c.from_residual-in_err-definition.ensures.1 c.in_err-definition.ensures.reads (first_refused g.S.ParseScalarValue.reads g.S.ScalarValue.of_bool c.args.cursor.now)
 
 pub definitions-init : goal.definitions-init
 definitions-init g c =
-    let kept = c.in_ok-keep.ensures.ok ∙ ap (λ (xs : List (Definition g.row.S.Denot)). xs ++ c.in_ok-definition.field-0 ∷ []) c.new-found.ensures in
+    let kept = c.in_ok-keep.ensures.ok ∙ ap (λ (xs : List (Definition g.row.S.Denot)). xs ++ c.in_ok-definition.field-0 ∷ []) c.in_ok-found.ensures in
     record {
       reads = first_read g.S.ParseScalarValue.reads g.S.ScalarValue.of_bool c.args.cursor.now c.in_ok-definition.ensures.reads kept;
       no_more = omega arith;

@@ -22,7 +22,7 @@ selections-init g c =
     let apart : k.CurlyOpen ≢ k.EndOfFile = λ e. cc in
     let less = c.in_ok-expect.ensures.fewer apart in
     record {
-      reads = sets_start g.S.ParseScalarValue.reads g.S.ScalarValue.of_bool c.args.cursor.now c.in_ok-expect.ensures.reads c.new-outer.ensures c.new-found.ensures;
+      reads = sets_start g.S.ParseScalarValue.reads g.S.ScalarValue.of_bool c.args.cursor.now c.in_ok-expect.ensures.reads c.in_ok-outer.ensures c.in_ok-found.ensures;
       fewer = less;
     }
 
@@ -55,8 +55,8 @@ returns-in_err-selection-clause-reads g c =
     exits_with c.from_residual-in_err-selection.result c.begin.new.cursor c.from_residual-in_err-selection.ensures.1 c.in_err-selection.ensures.reads
     (sets_refused g.S.ParseScalarValue.reads g.S.ScalarValue.of_bool c.selections.invariant.reads goes)
 
-pub selections-preserved-in-Continue-branch-5 : goal.selections-preserved-in-Continue-branch-5
-selections-preserved-in-Continue-branch-5 g c =
+pub selections-preserved-in-Continue-branch-7 : goal.selections-preserved-in-Continue-branch-7
+selections-preserved-in-Continue-branch-7 g c =
     let goes : GoesOn g.S.ParseScalarValue.reads g.S.ScalarValue.of_bool c.selections.found c.selections.cursor = elim c.else-eq.branch [
       | else-eq-via-then-eq+else-not-is_empty w ↦ inl (w.if-not-is_empty.ensures.0 refl)
       | else-eq-via-else-eq w ↦ inr (asked_kind k.CurlyClose c.selections.cursor c.kind.result false c.kind.ensures w.if-eq.ensures)
