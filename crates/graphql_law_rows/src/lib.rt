@@ -2,7 +2,7 @@
 //! conclusion at a value, of a sample or of what a call has given.
 //!
 //! A law whose premise nothing meets says nothing. The laws with a premise that no other crate calls at a
-//! value are called here. Nothing stands on this crate.
+//! value are called here. Tests alone stand on this crate.
 #![tactic(auto)]
 
 pub mod documents;

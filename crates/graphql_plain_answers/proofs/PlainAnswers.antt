@@ -1,11 +1,15 @@
 -- An operation and the operation of its plain document are answered alike.
-use Rattle.std.proofs.Common.{◌≡◌, refl, sym, ◌∙◌, ap, Bool, List, [], ◌∷◌, map}
+use Rattle.std.proofs.Common.{◌≡◌, refl, sym, ◌∙◌, ap, Bool, List, [], ◌∷◌, map, Option, Some, None}
+use Rattle.std.proofs.lemmas.Option.{none-some}
 use Rattle.std.specs.Cmp.{IsEquivalence}
+use Rattle.std.specs.Option.{option_map, option_or}
 use Rattle.graphql_names.specs.Names.{Bytes}
 use Rattle.graphql_scalars.specs.ScalarAnswers.{ScalarAnswer}
+use Rattle.graphql_values.specs.InputValues.{unlocated}
 use Rattle.graphql_tree.specs.Definitions.{fragments_listed}
 use Rattle.graphql_tree.specs.Documents.{variables_in}
-use Rattle.graphql_written_out.specs.FinalValues.{final_value}
+use Rattle.graphql_tree.specs.Variables.{Variable}
+use Rattle.graphql_written_out.specs.FinalValues.{default_named, final_value}
 use Rattle.graphql_schema.specs.declared.schema.SchemaType.{SchemaType}
 use Rattle.graphql_written_out.specs.Conditions.{left_out}
 use Rattle.graphql_written_out.specs.Trees.{Directives, Tree}
@@ -95,17 +99,33 @@ module _ {S C N X : Type 0} (of_text : Bytes → S) (of_bool : Bool → S) (answ
             ∙ alike-change-the-same m n one object c (p ∷ []) (new ∷ []) (alike, tt);
       }
 
+-- where a request gives one value for a name, so do the final values
+one-or : {A B : Type 0} (f : A → B) (a b d : Option A) → option_map f a ≡ option_map f b
+    → option_map f (option_or a d) ≡ option_map f (option_or b d)
+one-or f None None d same = refl
+one-or f None (Some b) d same = absurd (none-some (f b) same)
+one-or f (Some a) None d same = absurd (none-some (f a) (sym same))
+one-or f (Some a) (Some b) d same = same
+
+finals-agree : {S : Type 0} (given others : Values S) (definitions : List (Variable S)) (name : Bytes)
+    → option_map unlocated (given name) ≡ option_map unlocated (others name)
+    → option_map unlocated (final_value given definitions name)
+    ≡ option_map unlocated (final_value others definitions name)
+finals-agree given others definitions name same =
+    one-or unlocated (given name) (others name) (default_named definitions name) same
+
 pub plain-documents-answer-alike : {S : Type 0} (of_text : Bytes → S) (of_bool : Bool → S)
     (answer : S → ScalarAnswer) (eq : S → S → Bool) → IsEquivalence eq
     → StandInLeavesOut answer of_bool → (C N X : Type 0)
     → PlainDocumentsAnswerAlike of_text of_bool answer eq C N X
 plain-documents-answer-alike of_text of_bool answer eq laws fits C N X
-    schema type_of resolves changes lawful given document again o filled same x i =
+    schema type_of resolves changes lawful given others document again o filled same agree x i =
     let definitions = variables_in o.variable_definitions in
     let fragments = fragments_listed document in
     let values = final_value given definitions in
+    let own = variables_in x.item.variable_definitions in
     let is = plain-document-is-plain answer of_bool values document again o filled same x i in
     again-alike of_text of_bool answer eq laws fits schema type_of resolves changes lawful
-    values (final_value given (variables_in x.item.variable_definitions))
+    values (final_value others own)
     (written fragments o.selection_set) (written (fragments_listed again) x.item.selection_set)
-    is.set (is.values given)
+    is.set (λ name used. is.values given name used ∙ finals-agree given others own name (agree name used))

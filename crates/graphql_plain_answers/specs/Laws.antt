@@ -116,19 +116,21 @@ module _ {S : Type 0} (of_text : Bytes → S) (of_bool : Bool → S) (answer : S
       → IsPlain (skip_true of_bool) set → AgreeOn values others (variables_used set)
       → AreAlike (asked values) (asked others) set other)
 
-  -- an operation and that of a document that is its plain document but for places give the same
+  -- an operation and that of a document that is its plain document but for places give the same, also
+  -- where variables have other values then that no field of the plain document uses
   abbrev pub PlainDocumentsAnswerAlike : Type 0
   PlainDocumentsAnswerAlike =
       ForEachLawful of_text of_bool answer eq C N X (λ asked.
-      (given : Values S) (document again : List (Definition S)) (o : Operation S)
+      (given others : Values S) (document again : List (Definition S)) (o : Operation S)
       → (let fragments = fragments_listed document in
       let definitions = variables_in o.variable_definitions in
       let p = plain_operation answer of_bool (final_value given definitions) fragments o in
       IsFilled (written fragments o.selection_set)
       → unlocated_document again ≡ unlocated_document (document_of p)
+      → AgreeOn given others (variables_used p.set)
       → (x : Placed (Operation S)) → Contains (operations_of again) x
       → GiveTheSame (asked (final_value given definitions))
-      (asked (final_value given (variables_in x.item.variable_definitions)))
+      (asked (final_value others (variables_in x.item.variable_definitions)))
       (written fragments o.selection_set ∷ [])
       (written (fragments_listed again) x.item.selection_set ∷ [])))
 

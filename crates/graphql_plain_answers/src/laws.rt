@@ -79,8 +79,9 @@ pub fn outcomes_succeed_alike<S, A>()
 /// An operation and the operation of its plain document give the same value, and the same failures
 /// but for their places, and leave the same context: as a query and as a mutation, over each schema
 /// and each resolver that keeps its laws. The plain document is one that is the plain operation's
-/// but for places. This holds where no inline fragment of the first operation has an empty set, and
-/// a field a set exactly where one was written.
+/// but for places; variables that none of its fields uses may have other values there. This holds
+/// where no inline fragment of the first operation has an empty set, and a field a set exactly where
+/// one was written.
 pub fn plain_documents_answer_alike<S: ScalarValue, C, N, X>()
     ensures { PlainDocumentsAnswerAlike S.of_text S.of_bool S.answer S.eq C N X }
 {

@@ -6,6 +6,7 @@
 mod operation;
 mod plan;
 mod print_error;
+mod printed;
 mod printing;
 mod variables;
 mod words;
@@ -13,3 +14,4 @@ mod written;
 
 pub use operation::print_operation;
 pub use print_error::PrintError;
+pub use printed::Printed;

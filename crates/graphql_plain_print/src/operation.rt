@@ -7,14 +7,16 @@ ghost use Rattle.graphql_written_out.specs.FinalVariables.{value_in};
 ghost use Rattle.graphql_written_out.specs.Written.{Settled};
 ghost use Rattle.graphql_tree.specs.Definitions.{fragments_listed};
 ghost use Rattle.graphql_plain_tree.specs.Plain.{size};
-ghost use Rattle.graphql_plain_tree.specs.PlainOperations.{plain_operation};
+ghost use Rattle.graphql_plain_tree.specs.PlainOperations.{plain_operation, variables_used};
 ghost use Rattle.graphql_plain_text.specs.TreeTokens.{keyword, name_token};
 ghost use Rattle.graphql_plain_text.specs.PlainTexts.{plain_text};
 ghost use Rattle.graphql_plain_print.specs.Adding.{Adds};
 ghost use Rattle.graphql_plain_print.specs.Faults.{IfTooLarge};
+ghost use Rattle.graphql_plain_print.specs.NameSets.{AreSame};
 
 use crate::plan::Plan;
 use crate::print_error::PrintError;
+use crate::printed::Printed;
 use crate::printing::print_set;
 use crate::variables::push_definitions;
 use crate::words::push_word;
@@ -52,8 +54,8 @@ fn push_name(text: &mut String, name: &Option<Spanning<TextRef<'_>>>) -> Result<
 /// The plain text of an operation of a document over the final values of its variables: the
 /// operation's keyword, its name, the definitions of the variables that are still used, and its plain
 /// set, each token in the spelling of the source, parted by single spaces (GraphQL October 2021, 2.3
-/// Operations, 2.8 Fragments, 3.13 Directives). `tokens` are those of the text that the document was
-/// read from.
+/// Operations, 2.8 Fragments, 3.13 Directives); with it the names of the variables that are still used.
+/// `tokens` are those of the text that the document was read from.
 ///
 /// It is printed as it is walked, and the walk ends as soon as there are more fields and inline
 /// fragments than `limit`: no more time or memory is taken for more of them, however often fragments
@@ -63,18 +65,21 @@ fn push_name(text: &mut String, name: &Option<Spanning<TextRef<'_>>>) -> Result<
 /// The spreads of the document end, as those of a valid document do (5.5.2.2 Fragment Spreads Must Not
 /// Form Cycles). An error is `TooLarge` where there are more fields and inline fragments than `limit`,
 /// or else want of memory.
-pub fn print_operation<'d, 'a, S: ScalarValue>(
+pub fn print_operation<'d, 'v, 'a, S: ScalarValue>(
     alloc: Global,
     document: &'d [Definition<'a, S>],
     operation: &'d Operation<'a, S>,
-    variables: &'d FinalVariables<'d, S>,
+    variables: &'v FinalVariables<'v, S>,
     tokens: &'d TokenRecords<'a>,
     limit: usize,
-) -> Result<String, PrintError>
+) -> Result<Printed<'d>, PrintError>
     requires { Settled (fragments_listed document.now) }
-    ensures text { IfOk result (λ text. string_bytes text
+    ensures text { IfOk result (λ printed. string_bytes printed.text
         ≡ plain_text tokens.now.tokens (plain_operation S.answer S.of_bool (value_in variables.now)
         (fragments_listed document.now) operation.now)) }
+    ensures uses { IfOk result (λ printed. AreSame printed.used.keys (variables_used
+        (plain_operation S.answer S.of_bool (value_in variables.now)
+        (fragments_listed document.now) operation.now).set)) }
     ensures fits { OnOk result (size (plain_operation S.answer S.of_bool (value_in variables.now)
         (fragments_listed document.now) operation.now).set ≤ limit) }
     ensures large { IfTooLarge result (limit < size
@@ -102,5 +107,5 @@ pub fn print_operation<'d, 'a, S: ScalarValue>(
     push_name(&mut text, &operation.name)?;
     push_definitions(&mut text, tokens, definitions_of(operation), &used)?;
     text.push_str(set.as_str())?;
-    Ok(text)
+    Ok(Printed { text, used })
 }

@@ -6,12 +6,12 @@ use graphql_written_out::FinalVariables;
 
 /// What stays the same while an operation is printed.
 #[derive(Drop)]
-pub struct Plan<'d, 'a, S> {
+pub struct Plan<'d, 'v, 'a, S> {
     /// The fragments of the document.
     pub fragments: Fragments<'d, 'a, S>,
 
     /// The final values of the operation's variables.
-    pub variables: &'d FinalVariables<'d, S>,
+    pub variables: &'v FinalVariables<'v, S>,
 
     /// The tokens of the text that the document was read from.
     pub tokens: &'d TokenRecords<'a>,

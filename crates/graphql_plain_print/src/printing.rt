@@ -52,7 +52,7 @@ fn push_frame<'d, 'a, S>(
 
 /// What is left of a set as it opens.
 fn opened<'d, 'a, S: ScalarValue>(
-    plan: &Plan<'d, 'a, S>,
+    plan: &Plan<'d, '_, 'a, S>,
     set: &'d [Selection<'a, S>],
 ) -> Frame<'d, 'a, S>
     requires { Settled (fragments_by plan.now) }
@@ -69,7 +69,7 @@ fn opened<'d, 'a, S: ScalarValue>(
 
 /// Opens a set.
 fn open<'d, 'a, S: ScalarValue>(
-    plan: &Plan<'d, 'a, S>,
+    plan: &Plan<'d, '_, 'a, S>,
     set: &'d [Selection<'a, S>],
     sets: &mut Items<Frame<'d, 'a, S>>,
     text: &mut String,
@@ -94,7 +94,7 @@ fn open<'d, 'a, S: ScalarValue>(
 
 /// Opens a set, unless nothing is selected.
 fn open_some<'d, 'a, S: ScalarValue>(
-    plan: &Plan<'d, 'a, S>,
+    plan: &Plan<'d, '_, 'a, S>,
     set: &'d [Selection<'a, S>],
     sets: &mut Items<Frame<'d, 'a, S>>,
     text: &mut String,
@@ -121,7 +121,7 @@ fn open_some<'d, 'a, S: ScalarValue>(
 /// Prints a field, and opens its set, if it has one.
 fn print_field<'d, 'a, S: ScalarValue>(
     alloc: Global,
-    plan: &Plan<'d, 'a, S>,
+    plan: &Plan<'d, '_, 'a, S>,
     field: &'d Spanning<Field<'a, S>>,
     stands_in: bool,
     sets: &mut Items<Frame<'d, 'a, S>>,
@@ -153,7 +153,7 @@ fn print_field<'d, 'a, S: ScalarValue>(
 
 /// Prints an inline fragment, and opens its set.
 fn print_inline<'d, 'a, S: ScalarValue>(
-    plan: &Plan<'d, 'a, S>,
+    plan: &Plan<'d, '_, 'a, S>,
     on: Option<&'d str>,
     directives: &'d Option<Items<Spanning<Directive<'a, S>>>>,
     set: &'d [Selection<'a, S>],
@@ -184,7 +184,7 @@ fn print_inline<'d, 'a, S: ScalarValue>(
 /// Prints a selection, and opens its set, if it has one.
 fn print_selection<'d, 'a, S: ScalarValue>(
     alloc: Global,
-    plan: &Plan<'d, 'a, S>,
+    plan: &Plan<'d, '_, 'a, S>,
     selection: Written<'d, 'a, S>,
     stands_in: bool,
     sets: &mut Items<Frame<'d, 'a, S>>,
@@ -216,7 +216,7 @@ fn print_selection<'d, 'a, S: ScalarValue>(
 /// Goes on with those of a set that are not left out. Answers how many selections are printed.
 fn advance_kept<'d, 'a, S: ScalarValue>(
     alloc: Global,
-    plan: &Plan<'d, 'a, S>,
+    plan: &Plan<'d, '_, 'a, S>,
     rest: &'d [Selection<'a, S>],
     count: usize,
     sets: &mut Items<Frame<'d, 'a, S>>,
@@ -263,7 +263,7 @@ fn advance_kept<'d, 'a, S: ScalarValue>(
 /// Goes on with the first of a set, which stands for all. Answers how many selections are printed.
 fn advance_first<'d, 'a, S: ScalarValue>(
     alloc: Global,
-    plan: &Plan<'d, 'a, S>,
+    plan: &Plan<'d, '_, 'a, S>,
     rest: &'d [Selection<'a, S>],
     count: usize,
     sets: &mut Items<Frame<'d, 'a, S>>,
@@ -307,7 +307,7 @@ fn advance_first<'d, 'a, S: ScalarValue>(
 /// Goes on with what is left of a set. Answers how many selections are printed.
 fn advance<'d, 'a, S: ScalarValue>(
     alloc: Global,
-    plan: &Plan<'d, 'a, S>,
+    plan: &Plan<'d, '_, 'a, S>,
     frame: Frame<'d, 'a, S>,
     count: usize,
     sets: &mut Items<Frame<'d, 'a, S>>,
@@ -347,7 +347,7 @@ fn advance<'d, 'a, S: ScalarValue>(
 /// It ends past the limit.
 pub(crate) fn print_set<'d, 'a, S: ScalarValue>(
     alloc: Global,
-    plan: &Plan<'d, 'a, S>,
+    plan: &Plan<'d, '_, 'a, S>,
     set: &'d [Selection<'a, S>],
     text: &mut String,
     used: &mut HashSet<TextRef<'d>>,

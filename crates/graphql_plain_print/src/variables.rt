@@ -93,7 +93,7 @@ fn push_definition<S>(
 }
 
 /// Whether the variable of this name is used.
-fn is_used(used: &HashSet<TextRef<'_>>, name: &str) -> bool
+pub(crate) fn is_used(used: &HashSet<TextRef<'_>>, name: &str) -> bool
     ensures { result ≡ is_one_of used.now.keys name.now }
 {
     (&*used).contains(&TextRef::new(name))

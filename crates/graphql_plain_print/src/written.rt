@@ -26,7 +26,7 @@ pub enum Written<'d, 'a, S> {
 
 /// The selection, its spread written out; none where it spreads no fragment.
 fn as_written<'d, 'a, S>(
-    plan: &Plan<'d, 'a, S>,
+    plan: &Plan<'d, '_, 'a, S>,
     selection: &'d Selection<'a, S>,
 ) -> Option<Written<'d, 'a, S>>
     requires { Settled (fragments_by plan.now) }
@@ -92,7 +92,7 @@ fn condition<'d>(on: &'d Option<Spanning<TextRef<'_>>>) -> Option<&'d str>
 
 /// The first selection of a set, and those behind it; spreads of no fragment are passed over.
 pub(crate) fn first_written<'d, 'a, S>(
-    plan: &Plan<'d, 'a, S>,
+    plan: &Plan<'d, '_, 'a, S>,
     set: &'d [Selection<'a, S>],
 ) -> Option<(Written<'d, 'a, S>, &'d [Selection<'a, S>])>
     requires { Settled (fragments_by plan.now) }
@@ -108,7 +108,10 @@ pub(crate) fn first_written<'d, 'a, S>(
 }
 
 /// Whether a selection is left out.
-pub(crate) fn is_out<S: ScalarValue>(plan: &Plan<'_, '_, S>, written: &Written<'_, '_, S>) -> bool
+pub(crate) fn is_out<S: ScalarValue>(
+    plan: &Plan<'_, '_, '_, S>,
+    written: &Written<'_, '_, S>,
+) -> bool
     ensures { result ≡ out_by S.answer plan.now written.now }
 {
     match written {
@@ -119,7 +122,7 @@ pub(crate) fn is_out<S: ScalarValue>(plan: &Plan<'_, '_, S>, written: &Written<'
 
 /// Whether a selection is left out, or spreads no fragment.
 fn is_nothing<'d, 'a, S: ScalarValue>(
-    plan: &Plan<'d, 'a, S>,
+    plan: &Plan<'d, '_, 'a, S>,
     selection: &'d Selection<'a, S>,
 ) -> bool
     requires { Settled (fragments_by plan.now) }
@@ -135,7 +138,7 @@ fn is_nothing<'d, 'a, S: ScalarValue>(
 
 /// Whether every selection of a set is left out.
 pub(crate) fn all_out<'d, 'a, S: ScalarValue>(
-    plan: &Plan<'d, 'a, S>,
+    plan: &Plan<'d, '_, 'a, S>,
     set: &'d [Selection<'a, S>],
 ) -> bool
     requires { Settled (fragments_by plan.now) }

@@ -24,7 +24,7 @@ use Rattle.graphql_moved.proofs.MovedWritten.{some-moved}
 use Rattle.graphql_moved.proofs.UnlocatedDefinitions.{unlocated_defined, unlocated_definitions, variables-alike}
 
 module _ {S : Type 0} where
-  definitions-again : (p : PlainOperation S) (x : Operation S)
+  pub definitions-again : (p : PlainOperation S) (x : Operation S)
       → unlocated_operation x ≡ unlocated_operation (operation_as p)
       → unlocated_definitions (variables_in x.variable_definitions)
       ≡ unlocated_definitions p.variables

@@ -1,4 +1,5 @@
 pub mod AcceptedValues
+mod UnusedValues
 mod AcceptedTexts
 mod OnePlain
 pub mod PlainDocuments

@@ -15,9 +15,14 @@ use Rattle.graphql_written_out.specs.FinalValues.{final_value}
 use Rattle.graphql_written_out.specs.Trees.{IsFilled}
 use Rattle.graphql_written_out.specs.Written.{written}
 use Rattle.graphql_plain_tree.specs.PlainDocuments.{document_of}
-use Rattle.graphql_plain_tree.specs.PlainOperations.{plain_operation}
+use Rattle.graphql_plain_tree.specs.PlainOperations.{plain_operation, variables_used}
 use Rattle.graphql_requests.specs.Asked.{Asking, IsExecutable, asking}
 use Rattle.graphql_requests.specs.Scalars.{Scalars}
+
+-- each of these names has one value in both, or none in either
+abbrev pub AreEqualOn : {S : Type 0} → (Bytes → Option (InputValue S)) → (Bytes → Option (InputValue S))
+    → List Bytes → Type 0
+AreEqualOn given others names = (name : Bytes) → Contains names name → others name ≡ given name
 
 -- by what scalars mean
 module _ {S C : Type 0} (s : Scalars S C) where
@@ -31,6 +36,12 @@ module _ {S C : Type 0} (s : Scalars S C) where
         (document_of (plain_operation s.answer s.of_bool
         (final_value given (variables_in o.variable_definitions)) (fragments_listed document) o))
     pub among : Contains (operations_of again) x
+
+  -- the names of the variables that the plain operation of an operation uses
+  abbrev pub used_by : (Bytes → Option (InputValue S)) → List (Definition S) → Operation S → List Bytes
+  used_by given document o =
+      variables_used (plain_operation s.answer s.of_bool
+      (final_value given (variables_in o.variable_definitions)) (fragments_listed document) o).set
 
   -- the same asked with another text: the same operation name, and the same values for variables
   abbrev pub asked_with : Asking S C → Bytes → Asking S C

@@ -7,10 +7,11 @@ use Rattle.graphql_names.specs.Names.{Bytes}
 use Rattle.graphql_values.specs.declared.input_value.InputValue.{InputValue}
 use Rattle.graphql_rule_errors.specs.declared.rule_error.RuleError.{RuleError}
 use Rattle.graphql_schema.specs.declared.root_node.RootNode.{RootNode}
-use Rattle.graphql_requests.specs.Asked.{Asking}
+use Rattle.graphql_schema.specs.declared.schema.SchemaType.{SchemaType}
+use Rattle.graphql_requests.specs.Asked.{Asking, IsExecutable, asking}
 use Rattle.graphql_requests.specs.Scalars.{Scalars}
 use Rattle.graphql_plain_requests.specs.PlainRequests.{HasNoPlainText, IsPlainText, IsDocumentAgain, IsPlainTextWithin, asked_at, IsLarger}
-use Rattle.graphql_plain_requests.specs.AcceptedAgain.{IsAcceptedAgain}
+use Rattle.graphql_plain_requests.specs.AcceptedAgain.{AreEqualOn, IsAcceptedAgain, IsPlainPair, used_by}
 use Rattle.graphql_plain_requests.specs.StandIns.{TakesStandIn}
 use Rattle.graphql_plain_requests.specs.declared.plain_error.PlainError.{PlainError}
 use Rattle.graphql_plain_requests.specs.declared.plain_error.PlainError.TheVariants as error
@@ -47,6 +48,17 @@ module _ {S C : Type 0} (s : Scalars S C) where
   PlainAreNotRefused =
       (a : Asking S C) (limit : ℕ) (bytes : Bytes) (cmp : RuleError → RuleError → Ordering) (why : PlainError)
       → IsPlainTextWithin s a limit bytes → HasNoPlainText s a cmp limit why → why ≡ error.Memory
+
+  -- the operation of a plain document is executed, whichever values are given for variables that no
+  -- field of the plain document uses
+  abbrev pub UnusedValuesAreNotAsked : Type 0
+  UnusedValuesAreNotAsked =
+      (given others : Bytes → Option (InputValue S)) (document : List (Definition S)) (o : Operation S)
+      (again : List (Definition S)) (x : Placed (Operation S))
+      → IsPlainPair s given document o again x → AreEqualOn given others (used_by s given document o)
+      → (schema : SchemaType S C) (introspection_disabled : Bool) (text : List ℕ) (name : Option Bytes)
+      → IsExecutable s (asking schema introspection_disabled text name given) again x
+      → IsExecutable s (asking schema introspection_disabled text name others) again x
 
   -- the plain text of a request over a root node is a document, and no other
   abbrev pub PlainTextsAreDocuments : RootNode S C → Type 0

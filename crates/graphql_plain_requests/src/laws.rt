@@ -2,7 +2,10 @@
 //! requests whose texts have the same tokens. Each function's contract is a law, and its body asks for
 //! the laws below it.
 
-ghost use Rattle.graphql_plain_requests.specs.Laws.{PlainAreNotRefused, PlainTextsAreAccepted, PlainTextsAreDocuments, PlainTextsAreOne, PlainTextStays, AreValidAlike, PlainRequestsStay, SameTokensAreAskedAlike};
+ghost use Rattle.graphql_plain_requests.specs.Laws.{AreValidAlike, PlainAreNotRefused, PlainRequestsStay};
+ghost use Rattle.graphql_plain_requests.specs.Laws.{PlainTextStays, PlainTextsAreAccepted};
+ghost use Rattle.graphql_plain_requests.specs.Laws.{PlainTextsAreDocuments, PlainTextsAreOne};
+ghost use Rattle.graphql_plain_requests.specs.Laws.{SameTokensAreAskedAlike, UnusedValuesAreNotAsked};
 ghost use Rattle.graphql_schema.specs.Declarations.{Declarations};
 
 use graphql_lexer::laws::one_list;
@@ -69,6 +72,13 @@ pub fn plain_texts_are_accepted<S: SchemaScalar>(root_node: &RootNode<S>)
     plain_texts_are_valid(root_node.schema());
     plain_text_is_document::<S>();
 }
+
+/// Where the plain document of a request is executed, so it is with other values for variables: those
+/// that none of its fields uses it does not define, and which operation is executed does not depend on
+/// them (GraphQL October 2021, 6.1.2 Coercing Variable Values).
+pub fn unused_values_are_not_asked<S: SchemaScalar>()
+    ensures { UnusedValuesAreNotAsked ⟦<S as Meaning>⟧.meaning }
+{}
 
 /// The plain text of an operation, cut and parsed anew, has itself as its plain text, byte for
 /// byte, and as many fields and inline fragments, whatever values variables have then.

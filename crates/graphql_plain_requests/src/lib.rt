@@ -12,4 +12,4 @@ mod request;
 
 pub use boolean::boolean_takes_true;
 pub use plain_error::PlainError;
-pub use request::{operation_name_of, plain_of_chosen, plain_request};
+pub use request::{Printed, operation_name_of, plain_of_chosen, plain_request};

@@ -9,10 +9,11 @@ ghost use Rattle.graphql_tree.specs.Documents.{variables_in};
 ghost use Rattle.graphql_written_out.specs.FinalValues.{final_value};
 ghost use Rattle.graphql_written_out.specs.FinalVariables.{value_in};
 ghost use Rattle.graphql_plain_print.specs.Faults.{IfTooLarge};
+ghost use Rattle.graphql_plain_print.specs.NameSets.{AreSame};
 ghost use Rattle.graphql_written_out.specs.Written.{Settled};
 ghost use Rattle.graphql_lexer.specs.Records.{IsRecorded};
 ghost use Rattle.graphql_plain_tree.specs.Plain.{size};
-ghost use Rattle.graphql_plain_tree.specs.PlainOperations.{plain_operation};
+ghost use Rattle.graphql_plain_tree.specs.PlainOperations.{plain_operation, variables_used};
 ghost use Rattle.graphql_plain_text.specs.PlainTexts.{plain_text};
 ghost use Rattle.graphql_plain_requests.specs.AcceptedAgain.{IsAcceptedAgain};
 ghost use Rattle.graphql_plain_requests.specs.Faults.{IsTold};
@@ -23,6 +24,7 @@ use crate::laws::{plain_texts_are_accepted, plain_texts_are_documents};
 use crate::plain_error::PlainError;
 use graphql_language::TokenRecords;
 use graphql_lines::GraphQLRequest;
+pub use graphql_plain_print::Printed;
 use graphql_plain_print::{PrintError, print_operation};
 use graphql_requests::{
     GraphQLError, Meaning, chosen_operation, documents_without_a_fault_are_settled, read_records,
@@ -139,19 +141,17 @@ fn plain_of_records<'a, S: SchemaScalar + Drop>(
     let definitions = document.as_slice();
     let operation = chosen_operation(alloc, definitions, operation_name, root_node, variables)?;
     documents_without_a_fault_are_settled(root_node.schema());
-    plain_of_chosen(
-        alloc,
-        definitions,
-        &operation.item,
-        variables,
-        records,
-        limit,
-    )
+    let chosen = &operation.item;
+    match plain_of_chosen(alloc, definitions, chosen, variables, records, limit) {
+        Ok(printed) => Ok(printed.text),
+        Err(error) => Err(error),
+    }
 }
 
-/// The plain text of a request that is read already, as [`plain_request`] gives it: of the operation that
-/// `chosen_operation` gives, of the document that `read_records` gives of the tokens of the request's text,
-/// over the values that the request gives for its variables.
+/// The plain text of a request that is read already, as [`plain_request`] gives it, and the names of the
+/// variables that it still uses: of the operation that `chosen_operation` gives, of the document that
+/// `read_records` gives of the tokens of the request's text, over the values that the request gives for
+/// its variables.
 ///
 /// An error is `PlainError::TooLarge` where there are more fields and inline fragments than `limit`.
 /// `PlainError::Memory` comes only where memory ran out, and no other error comes.
@@ -162,18 +162,26 @@ pub fn plain_of_chosen<'d, 'a, S: SchemaScalar + Drop>(
     variables: &'d Variables<S>,
     records: &'d TokenRecords<'a>,
     limit: usize,
-) -> Result<String, PlainError>
+) -> Result<Printed<'d>, PlainError>
     requires { Settled (fragments_listed document.now) }
-    ensures plain { let values = final_value (get_by_text variables.now) (variables_in operation.now.variable_definitions) in
-        let p = plain_operation S.answer S.of_bool values (fragments_listed document.now) operation.now in
-        IfOk result (λ text. (string_bytes text ≡ plain_text records.now.tokens p) × (size p.set ≤ limit)) }
+    ensures plain { let values = final_value (get_by_text variables.now)
+        (variables_in operation.now.variable_definitions) in
+        let p = plain_operation S.answer S.of_bool values
+        (fragments_listed document.now) operation.now in
+        IfOk result (λ printed. (string_bytes printed.text ≡ plain_text records.now.tokens p)
+        × (size p.set ≤ limit)) }
+    ensures uses { let values = final_value (get_by_text variables.now)
+        (variables_in operation.now.variable_definitions) in
+        let p = plain_operation S.answer S.of_bool values
+        (fragments_listed document.now) operation.now in
+        IfOk result (λ printed. AreSame printed.used.keys (variables_used p.set)) }
     ensures large { let values = final_value (get_by_text variables.now) (variables_in operation.now.variable_definitions) in
         let p = plain_operation S.answer S.of_bool values (fragments_listed document.now) operation.now in
         IfErr result (IsTold (limit < size p.set)) }
 {
     let values = FinalVariables::new(alloc, variables, operation)?;
-    let text = print_over(alloc, document, operation, values, records, limit)?;
-    Ok(text)
+    let printed = print_over(alloc, document, operation, values, records, limit)?;
+    Ok(printed)
 }
 
 /// The same over the final values of its variables.
@@ -184,11 +192,14 @@ fn print_over<'d, 'a, S: SchemaScalar + Drop>(
     values: FinalVariables<'d, S>,
     records: &'d TokenRecords<'a>,
     limit: usize,
-) -> Result<String, PrintError>
+) -> Result<Printed<'d>, PrintError>
     requires { Settled (fragments_listed document.now) }
-    ensures text { IfOk result (λ text. string_bytes text
+    ensures text { IfOk result (λ printed. string_bytes printed.text
         ≡ plain_text records.now.tokens (plain_operation S.answer S.of_bool (value_in values.entry)
         (fragments_listed document.now) operation.now)) }
+    ensures uses { IfOk result (λ printed. AreSame printed.used.keys (variables_used
+        (plain_operation S.answer S.of_bool (value_in values.entry)
+        (fragments_listed document.now) operation.now).set)) }
     ensures fits { OnOk result (size (plain_operation S.answer S.of_bool (value_in values.entry)
         (fragments_listed document.now) operation.now).set ≤ limit) }
     ensures large { IfTooLarge result (limit < size

@@ -26,7 +26,7 @@ use Rattle.graphql_plain_validity.proofs.PlainDocumentParts.{definitions-back}
 
 module _ {S : Type 0} where
   -- a document that is one operation, places aside
-  one : (again : List (Definition S)) (q : Operation S)
+  pub one : (again : List (Definition S)) (q : Operation S)
       → unlocated_document again ≡ unlocated_document (definition.Operation (unplaced q) ∷ [])
       → (x : Placed (Operation S)) × (again ≡ definition.Operation x ∷ [])
       × (unlocated_operation x.item ≡ unlocated_operation q)

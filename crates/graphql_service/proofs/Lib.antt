@@ -8,6 +8,7 @@ mod DistinctAnswers
 pub mod Answering
 mod ReadAnswers
 mod ServedContexts
+pub mod AnsweredApart
 mod PlainAnswering
 mod ServedPlain
 mod MadeServices

@@ -1,5 +1,5 @@
 -- An operation and its plain operation yield the same.
-use Rattle.std.proofs.Common.{◌≡◌, [], Option, Some, None}
+use Rattle.std.proofs.Common.{◌≡◌, refl, [], Option, Some, None}
 use Rattle.graphql_names.specs.Names.{Bytes}
 use Rattle.graphql_tree.specs.Documents.{variables_in}
 use Rattle.graphql_written_out.specs.FinalValues.{final_value}
@@ -14,13 +14,13 @@ use Rattle.graphql_service.proofs.AlikeYields.{yield-alike}
 module _ {S C N X : Type 0} (s : Scalars S C) where
   pub plain-runs : PlainDocumentsAnswerAlike s.of_text s.of_bool s.answer s.eq C N X
       → PlainRunsAreAlike s N X
-  plain-runs law schema r lawful given document o again x pair root c =
+  plain-runs law schema r lawful given others document o again x pair agree root c =
       let both =
-      law schema r.type_of r.answer r.changes lawful given document again o pair.filled pair.same
-      x pair.among in
+      law schema r.type_of r.answer r.changes lawful given others document again o pair.filled
+      pair.same agree x pair.among in
       let at-root : (name : Option Bytes)
       → unlocated_run (runs s schema r document given o name c)
-      ≡ unlocated_run (runs s schema r again given x.item name c) = elim [
+      ≡ unlocated_run (runs s schema r again others x.item name c) = elim [
         | None ↦ λ i. record {
           outcome = both.as_query c [] schema.query (asked.Own r.root) i;
           after = c;
@@ -37,5 +37,5 @@ module _ {S C N X : Type 0} (s : Scalars S C) where
       let kind : x.item.operation_type ≡ o.operation_type =
       (is whole document again o pair.filled pair.same x pair.among).kind in
       yield-alike s schema r given document again o x.item kind
-      (λ root c. law schema r lawful given document o again x pair root c)
+      (λ root c. law schema r lawful given given document o again x pair (λ name used. refl) root c)
       cmp old new after answered told errors others y z

@@ -12,4 +12,5 @@ pub mod Laws
 pub mod Serving
 pub mod PlainAnswers
 pub mod PlainServing
+pub mod ApartLaws
 pub mod FaultTexts

@@ -8,8 +8,9 @@ ghost use Rattle.graphql_names.specs.Names.{Bytes};
 ghost use Rattle.graphql_plain_requests.specs.Laws.{PlainRequestsStay};
 ghost use Rattle.graphql_service.specs.TokenLaws.{SameTokensSameAnswer};
 ghost use Rattle.graphql_service.specs.JoinLaws.{JoinOfTwoSets, PartsOfQueriesJoin};
-ghost use Rattle.graphql_service.specs.MeaningLaws.{PlainIsAnsweredToo, PlainMeansTheSame};
+ghost use Rattle.graphql_service.specs.MeaningLaws.{PlainIsAnsweredAlike, PlainMeansTheSame};
 ghost use Rattle.graphql_service.specs.Answers.{IsAnswer, answerer_of};
+ghost use Rattle.graphql_service.specs.ApartLaws.{LinesAreAnsweredApart, QueriesLeaveTheContext};
 ghost use Rattle.graphql_service.specs.FittingLines.{IsFittingLine, IsRefusalLine};
 ghost use Rattle.graphql_service.specs.Laws.{DataHaveDistinctKeys, IsLineOfDistinctKeys};
 ghost use Rattle.graphql_service.specs.declared.service.Service.{Service};
@@ -102,17 +103,31 @@ pub fn plain_means_the_same<S: SchemaScalar, R: GraphQLMutationValue<S>>(
 }
 
 /// What a service's parts answer to a request without errors they answer to its plain text too, asked on
-/// the same context with the same operation name and the same values for variables, and the other way
-/// round. So an answer may be kept for all requests of one plain text. For this the schema takes the
-/// stand-in, of which [`Service::new`] tells (GraphQL October 2021, 7.1 Response Format).
-pub fn plain_is_answered_too<S: SchemaScalar, R: GraphQLMutationValue<S>>(
+/// the same context with the same operation name and the same values for the variables that the plain text
+/// uses, whatever other values there are, and the other way round. So an answer may be kept for all requests
+/// of one plain text. For this the schema takes the stand-in, of which [`Service::new`] tells (GraphQL October
+/// 2021, 6.1.2 Coercing Variable Values, 7.1 Response Format).
+pub fn plain_is_answered_alike<S: SchemaScalar, R: GraphQLMutationValue<S>>(
     service: &Service<S, R, R::Context>,
 )
-    ensures { PlainIsAnsweredToo ⟦<S as Meaning>⟧.meaning service.now.root_node
+    ensures { PlainIsAnsweredAlike ⟦<S as Meaning>⟧.meaning service.now.root_node
         (⟦<R as Resolving<S>>⟧.resolving service.now.resolver) }
 {
-    crate::meaning::plain_is_answered_too(&service.root_node, &service.resolver);
+    crate::meaning::plain_is_answered_alike(&service.root_node, &service.resolver);
 }
+
+/// The lines of two texts with a line feed between them are answered as those of the one, and then, on the
+/// context that they left, those of the other; and lines none of which asks for a mutation leave the context.
+/// So lines of queries may be given to several services of the same parts, each of which answers its lines on
+/// the context of the beginning (GraphQL October 2021, 6.2.1 Query, 6.2.2 Mutation).
+pub fn queries_leave_the_context<S: SchemaScalar, R: GraphQLMutationValue<S>>(
+    service: &Service<S, R, R::Context>,
+)
+    ensures apart { LinesAreAnsweredApart (answerer_of ⟦<S as Meaning>⟧.meaning ⟦<RuleError as Ord>⟧.cmp
+        ⟦<ExecutionError<S> as Ord>⟧.cmp ⟦<R as Resolving<S>>⟧.resolving service.now) }
+    ensures leave { QueriesLeaveTheContext (answerer_of ⟦<S as Meaning>⟧.meaning ⟦<RuleError as Ord>⟧.cmp
+        ⟦<ExecutionError<S> as Ord>⟧.cmp ⟦<R as Resolving<S>>⟧.resolving service.now) }
+{}
 
 /// A plain text within a limit, asked again with the same operation name, the same values for variables and
 /// the same limit, has itself as its plain text, byte for byte, and no other, and is refused by nothing but

@@ -1,7 +1,8 @@
 //! Laws of what plain texts of requests mean, and texts of the same tokens: each function's contract is a law, and its body asks
 //! for the laws below it.
 
-ghost use Rattle.graphql_service.specs.MeaningLaws.{PlainIsAnsweredToo, PlainMeansTheSame};
+ghost use Rattle.graphql_service.specs.MeaningLaws.{PlainIsAnsweredAlike, PlainIsAnsweredToo};
+ghost use Rattle.graphql_service.specs.MeaningLaws.{PlainMeansTheSame};
 ghost use Rattle.graphql_service.specs.TokenLaws.{SameTokensSameAnswer};
 ghost use Rattle.graphql_service.specs.Yields.{PlainOperationsYieldAlike, PlainRunsAreAlike};
 
@@ -12,7 +13,8 @@ use graphql_plain_answers::laws::{
     same_documents_answer_alike,
 };
 use graphql_plain_requests::laws::{
-    plain_texts_are_accepted, plain_texts_are_documents, same_tokens_are_asked_alike, valid_alike,
+    plain_texts_are_accepted, plain_texts_are_documents, same_tokens_are_asked_alike,
+    unused_values_are_not_asked, valid_alike,
 };
 use graphql_requests::Meaning;
 use graphql_requests::laws::one_operation_is_executed;
@@ -56,8 +58,26 @@ pub fn plain_means_the_same<S: SchemaScalar, R: GraphQLMutationValue<S>>(
 }
 
 /// What is answered without errors to a request is answered to its plain text too, asked on the same
-/// context with the same operation name and the same values for variables, and the other way round:
-/// evaluation is a function, so an answer is there.
+/// context with the same operation name and the same values for the variables that the plain text
+/// uses, whatever other values there are, and the other way round: evaluation is a function, so an
+/// answer is there (GraphQL October 2021, 6.1.2 Coercing Variable Values).
+pub fn plain_is_answered_alike<S: SchemaScalar, R: GraphQLMutationValue<S>>(
+    root_node: &RootNode<S>,
+    resolver: &R,
+)
+    ensures { PlainIsAnsweredAlike ⟦<S as Meaning>⟧.meaning root_node.now
+        (⟦<R as Resolving<S>>⟧.resolving resolver.now) }
+{
+    plain_texts_are_accepted(root_node);
+    unused_values_are_not_asked::<S>();
+    one_operation_is_executed::<S>();
+    resolvers_are_lawful::<S, R>(resolver);
+    plain_runs_are_alike::<S, R::Node, R::Context>();
+    plain_document_is_plain::<S>();
+}
+
+/// What is answered without errors to a request is answered to its plain text too, asked on the same
+/// context with the same operation name and the same values for variables, and the other way round.
 pub fn plain_is_answered_too<S: SchemaScalar, R: GraphQLMutationValue<S>>(
     root_node: &RootNode<S>,
     resolver: &R,
@@ -65,11 +85,7 @@ pub fn plain_is_answered_too<S: SchemaScalar, R: GraphQLMutationValue<S>>(
     ensures { PlainIsAnsweredToo ⟦<S as Meaning>⟧.meaning root_node.now
         (⟦<R as Resolving<S>>⟧.resolving resolver.now) }
 {
-    plain_texts_are_accepted(root_node);
-    one_operation_is_executed::<S>();
-    resolvers_are_lawful::<S, R>(resolver);
-    plain_runs_are_alike::<S, R::Node, R::Context>();
-    plain_document_is_plain::<S>();
+    plain_is_answered_alike(root_node, resolver);
 }
 
 /// Requests with one operation name and the same values for variables, whose texts have the same

@@ -1,5 +1,5 @@
 -- What is answered from answers that are kept, and that answers are kept then.
-use Rattle.std.proofs.Common.{◌≡◌, ◌≤◌, ◌⊎◌, inl, inr, refl, sym, ◌∙◌, ap, subst, arith, ℕ, Bool, true, false, not, ◌&&◌, [], ◌++◌, length, drop, codes, nat_eq, Result, Ok, Err, OnErr, OnOk}
+use Rattle.std.proofs.Common.{◌≡◌, ◌≤◌, ◌⊎◌, inl, inr, refl, sym, ◌∙◌, ap, subst, arith, ℕ, Bool, true, false, not, ◌&&◌, [], ◌++◌, length, drop, codes, nat_eq, List, Result, Ok, Err, OnErr, OnOk}
 use Rattle.std.proofs.Math.Seq.{drop-append_seam}
 use Rattle.std.proofs.lemmas.List.{length-append}
 use Rattle.std.specs.List.{starts_with}
@@ -24,14 +24,13 @@ use Rattle.graphql_answers.specs.Lines.{ValuesAreLines, line_of}
 use Rattle.graphql_answers.specs.Responses.{response_of}
 use Rattle.graphql_service.specs.Answers.{Answerer, Appends, IsAnswer, IsExecuted, IsNoRequest, IsNotExecuted, LeavesBroken, answerer_of, asked_by}
 use Rattle.graphql_service.specs.Laws.{IsLineOfDistinctKeys}
-use Rattle.graphql_service.specs.PlainAnswers.{HasPlain}
 use Rattle.graphql_service.specs.PlainRequests.{TakesStandIn}
 use Rattle.graphql_service.specs.Serving.{AnswersLine, HasPartsOf}
 use Rattle.graphql_service.specs.declared.service.Service.{Service}
 use Rattle.graphql_service.proofs.Answering.{answer_is_line, due}
 use Rattle.graphql_stores.specs.AnswerEnds.{begins_with_data, ends_with_list}
 use Rattle.graphql_stores.specs.Caching.{AnswersBehind, CacheAnswers, CacheBreaks, KeepsAnswers}
-use Rattle.graphql_stores.specs.Laws.{AnswersAreShared, AnswersShowErrors, QueriesLeaveTheContext, SharesQuery}
+use Rattle.graphql_stores.specs.Laws.{AnswersAreShared, AnswersShowErrors, HasPlainUsing, QueriesLeaveTheContext, SharesQuery}
 use Rattle.graphql_stores.specs.PlainLines.{AsksPlain}
 use Rattle.graphql_stores.specs.StoredAnswers.{AreAnswers, AreWholeAnswers, IsWholeAnswer}
 use Rattle.graphql_stores.specs.declared.answer_cache.AnswerCache.{AnswerCache}
@@ -277,7 +276,7 @@ module _ {S C N X R : Type 0} (scalars : Scalars S C) (by_rules : RuleError → 
           (answer : AnswersLine a old.service.context line text service.context) where
         left : service.context ≡ old.service.context
         left =
-            leaves old.service.selection_limit line shares.plain text old.service.context service.context shares.shared.has
+            leaves old.service.selection_limit line shares.plain text old.service.context service.context shares.shared.has.has
             shares.begins answer.answer
 
         -- the service's answer to a query, which is not kept
@@ -321,10 +320,14 @@ module _ {S C N X R : Type 0} (scalars : Scalars S C) (by_rules : RuleError → 
             )
 
   -- a line that has a plain text which begins with `query` shares its answer with the line of that text
-  pub shares-query : (service : Service S R X C) (line plain key : Bytes)
-      → (has : HasPlain (its_answerer service) service.selection_limit line plain)
-      → starts_with nat_eq plain (codes "query") ≡ true → AsksPlain (request_of line) plain key
+  pub shares-query : (service : Service S R X C) (line plain key : Bytes) (names : List Bytes)
+      → HasPlainUsing (its_answerer service) service.selection_limit line plain names
+      → starts_with nat_eq plain (codes "query") ≡ true → AsksPlain (request_of line) plain names key
       → SharesQuery scalars by_rules by_fields resolving service line key
-  shares-query service line plain key has begins asks =
-      let both = asks has.request has.asks.asked in
-      record { plain = plain; begins = begins; shared = record { has = has; utf8 = both.0; asked = both.1 } }
+  shares-query service line plain key names h begins asks =
+      let both = asks h.has.request h.has.asks.asked in
+      record {
+        plain = plain;
+        begins = begins;
+        shared = record { names = names; has = h; utf8 = both.0; asked = both.1 };
+      }

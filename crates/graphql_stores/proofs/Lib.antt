@@ -4,6 +4,7 @@ mod AllowedLines
 mod AllowingRuns
 mod StoredTexts
 mod ToldApart
+mod KeptMembers
 mod LineOfPlain
 mod Endings
 mod Shared

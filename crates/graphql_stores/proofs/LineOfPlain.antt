@@ -1,5 +1,5 @@
 -- The line of a plain text asks what was asked, but for the text of the query.
-use Rattle.std.proofs.Common.{◌≡◌, ◌≢◌, ◌≤◌, ℕ, max, Bool, true, false, if◌then◌else◌, Option, Some, None, IfSome, is_some, option_map, option_and_then, unwrap_or, codes, nat_cmp, Ordering, Less, Equal, Greater, refl, sym, ap, ◌∙◌, subst, arith}
+use Rattle.std.proofs.Common.{◌≡◌, ◌≢◌, ◌≤◌, ℕ, max, Bool, true, false, List, if◌then◌else◌, Option, Some, None, IfSome, is_some, option_map, option_and_then, unwrap_or, codes, nat_cmp, Ordering, Less, Equal, Greater, refl, sym, ap, ◌∙◌, subst, arith}
 use Rattle.std.specs.Cmp.Lexicographic.{slice_cmp}
 use Rattle.std.specs.Ordering.{match_ordering}
 use Rattle.std.specs.Str.{IsUtf8}
@@ -9,8 +9,9 @@ use Rattle.serde_json.specs.Read.{max_depth}
 use Rattle.serde_json.proofs.Views.{get_member-put, get_member-put_other}
 use Rattle.graphql_names.specs.Names.{Bytes}
 use Rattle.graphql_lines.specs.Request.{Request, data_of, name_in, request_in, variables_in}
-use Rattle.graphql_stores.specs.PlainLines.{AsksPlain, members_of_plain, put_given}
-use Rattle.graphql_stores.specs.Stored.{with_query}
+use Rattle.graphql_lines.specs.Variables.{members_of_variables}
+use Rattle.graphql_stores.specs.PlainLines.{AsksPlain, KeepsMembers, depth_of, members_of_plain, put_given}
+use Rattle.graphql_stores.specs.Stored.{members_of, with_query}
 
 -- a fact of what may be given gives another
 pub on-some : {A : Type 0} (o : Option A) (P Q : A → Type 0) → ((a : A) → P a → Q a) → IfSome o P → IfSome o Q
@@ -18,10 +19,6 @@ on-some (Some a) P Q f h = f a h
 on-some None P Q f h = tt
 
 -- ---- how deep it nests
-
-abbrev depth_of : Option Data → ℕ
-depth_of None = 0
-depth_of (Some d) = depth d
 
 one-nests : (o : Ordering) (a b c : Members) (n : ℕ) → members_depth a ≤ n → members_depth b ≤ n → members_depth c ≤ n
     → members_depth (match_ordering o a b c) ≤ n
@@ -56,17 +53,18 @@ found-nests k (member l e ms) =
     let behind = found-nests k ms in
     one-found (slice_cmp nat_cmp k l) (get_member k ms) e (max (depth e) (members_depth ms)) (omega arith) (omega arith)
 
-pub plain-nests : (plain : Bytes) (ms : Members) → depth (object ms) ≤ max_depth
-    → depth (object (members_of_plain plain (get_member (codes "operationName") ms) (get_member (codes "variables") ms))) ≤ max_depth
-plain-nests plain ms within =
+pub plain-nests : (plain : Bytes) (ms : Members) (variables : Option Data)
+    → depth_of variables ≤ depth_of (get_member (codes "variables") ms) → depth (object ms) ≤ max_depth
+    → depth (object (members_of_plain plain (get_member (codes "operationName") ms) variables)) ≤ max_depth
+plain-nests plain ms variables less within =
     let n : ℕ = members_depth ms in
     let name : Option Data = get_member (codes "operationName") ms in
     let query : Members = put (codes "query") (string plain) no_members in
     let named : members_depth (put_given (codes "operationName") name query) ≤ n =
     given-nests (codes "operationName") name query n (found-nests (codes "operationName") ms) (omega arith) in
-    let all : members_depth (members_of_plain plain name (get_member (codes "variables") ms)) ≤ n =
-    given-nests (codes "variables") (get_member (codes "variables") ms) (put_given (codes "operationName") name query) n
-    (found-nests (codes "variables") ms) named in
+    let all : members_depth (members_of_plain plain name variables) ≤ n =
+    given-nests (codes "variables") variables (put_given (codes "operationName") name query) n
+    (omega (arith, less, found-nests (codes "variables") ms)) named in
     omega (arith, all, within)
 
 -- ---- what it asks
@@ -115,15 +113,19 @@ asked_with query name variables =
     option_and_then (λ q. option_and_then (λ n. option_map (λ ms. record { query = q; operation_name = n; variables = ms })
     variables) name) query
 
-other-query : (plain query : Bytes) (name : Option (Option Bytes)) (variables : Option Members) (request : Request)
+other-query : (plain query : Bytes) (names : List Bytes) (name : Option (Option Bytes)) (variables kept : Option Members)
+    (request : Request) → ((ms : Members) → variables ≡ Some ms → kept ≡ Some (members_of names ms))
     → asked_with (Some query) name variables ≡ Some request
-    → (request.query ≡ query) × (asked_with (Some plain) name variables ≡ Some (with_query request plain))
-other-query plain query None variables request e = absurd (cc)
-other-query plain query (Some n) None request e = absurd (cc)
-other-query plain query (Some n) (Some ms) request e =
+    → (request.query ≡ query) × (asked_with (Some plain) name kept ≡ Some (with_query request plain names))
+other-query plain query names None variables kept request keeps e = absurd (cc)
+other-query plain query names (Some n) None kept request keeps e = absurd (cc)
+other-query plain query names (Some n) (Some ms) kept request keeps e =
     let here : Request = record { query = query; operation_name = n; variables = ms } in
-    let same : request ≡ here = ap (λ (o : Option Request). unwrap_or o here) (sym e) in
-    (ap (λ (r : Request). r.query) same, ap (λ (r : Request). Some (with_query r plain)) (sym same))
+    let same : request ≡ here = ap (λ (o : Option Request). unwrap_or o here) (sym e) in (
+      ap (λ (r : Request). r.query) same,
+      ap (λ (v : Option Members). asked_with (Some plain) (Some n) v) (keeps ms refl)
+          ∙ ap (λ (r : Request). Some (with_query r plain names)) (sym same),
+    )
 
 abbrev without_values : Bytes → Option Data → Members
 without_values plain name = put_given (codes "operationName") name (put (codes "query") (string plain) no_members)
@@ -164,16 +166,19 @@ module _ (plain : Bytes) (name variables : Option Data) where
       (ap name_in at-name ∙ name-given name)
       ∙ ap (λ v. asked_with (Some plain) (name_in name) v) (ap variables_in at-variables ∙ variables-given variables)
 
-  pub asks-plain : (d : Data) (query : Bytes) → IsUtf8 query → get (codes "query") d ≡ Some (string query)
-      → get (codes "operationName") d ≡ name → get (codes "variables") d ≡ variables
-      → (key : Bytes) → data_of key ≡ Some (object (members_of_plain plain name variables)) → AsksPlain (request_in d) plain key
-  asks-plain d query utf8 has_query has_name has_variables key reads request asked =
-      let given : request_in d ≡ asked_with (Some query) (name_in name) (variables_in variables) =
+  pub asks-plain : (d : Data) (query : Bytes) (names : List Bytes) (given : Option Data) → IsUtf8 query
+      → get (codes "query") d ≡ Some (string query) → get (codes "operationName") d ≡ name
+      → get (codes "variables") d ≡ given → KeepsMembers names given variables
+      → (key : Bytes) → data_of key ≡ Some (object (members_of_plain plain name variables))
+      → AsksPlain (request_in d) plain names key
+  asks-plain d query names given utf8 has_query has_name has_variables keeps key reads request asked =
+      let told : request_in d ≡ asked_with (Some query) (name_in name) (variables_in given) =
       ap (λ q. asked_with q (name_in (get (codes "operationName") d)) (variables_in (get (codes "variables") d)))
       (ap (option_and_then as_str) has_query)
       ∙ ap (λ n. asked_with (Some query) (name_in n) (variables_in (get (codes "variables") d))) has_name
       ∙ ap (λ v. asked_with (Some query) (name_in name) (variables_in v)) has_variables in
-      let both = other-query plain query (name_in name) (variables_in variables) request (sym given ∙ asked) in
+      let both = other-query plain query names (name_in name) (variables_in given) (variables_in variables) request keeps
+      (sym told ∙ asked) in
       (subst IsUtf8 (sym both.0) utf8, ap (option_and_then request_in) reads ∙ asks-with ∙ both.1)
 
 -- the data of an object, by its members
@@ -184,3 +189,13 @@ of-object (number n) ms e = absurd (cc)
 of-object (string s) ms e = absurd (cc)
 of-object (array ds) ms e = absurd (cc)
 of-object (object ns) ms e = ap (λ o. object (unwrap_or o ns)) e
+
+-- variables that are no object are null, and give no members
+pub no-object : (names : List Bytes) (d : Data) (ms : Members) → as_object d ≡ None
+    → members_of_variables d ≡ Some ms → Some no_members ≡ Some (members_of names ms)
+no-object names null ms none e = ap (λ (o : Option Members). Some (members_of names (unwrap_or o no_members))) e
+no-object names (boolean b) ms none e = absurd (cc)
+no-object names (number n) ms none e = absurd (cc)
+no-object names (string s) ms none e = absurd (cc)
+no-object names (array ds) ms none e = absurd (cc)
+no-object names (object ns) ms none e = absurd (cc)

@@ -18,8 +18,9 @@ use Rattle.graphql_schema.specs.Declarations.{declarations_of}
 use Rattle.graphql_schema.specs.declared.root_node.RootNode.{RootNode}
 use Rattle.graphql_schema.specs.declared.schema.SchemaType.{SchemaType}
 use Rattle.graphql_plain_tree.specs.Plain.{size}
-use Rattle.graphql_plain_tree.specs.PlainOperations.{PlainOperation, plain_operation}
+use Rattle.graphql_plain_tree.specs.PlainOperations.{PlainOperation, plain_operation, variables_used}
 use Rattle.graphql_plain_text.specs.PlainTexts.{plain_text}
+use Rattle.graphql_plain_print.specs.NameSets.{AreSame}
 use Rattle.graphql_requests.specs.Faults.{refusal_of}
 use Rattle.graphql_requests.specs.Operations.{chosen}
 use Rattle.graphql_requests.specs.Refusals.{IsRead, IsReady, IsStopped, IsUnread, errors_of}
@@ -29,10 +30,10 @@ use Rattle.graphql_executor.specs.Requests.{GraphQLError}
 use Rattle.graphql_executor.specs.Requests as error
 use Rattle.graphql_lines.specs.declared.request.GraphQLRequest.{GraphQLRequest}
 use Rattle.graphql_service.specs.Answers.{Answerer, IsNotExecuted, asked_by}
-use Rattle.graphql_service.specs.PlainAnswers.{HasPlain}
 use Rattle.graphql_service.specs.Reading.{Executes}
 use Rattle.graphql_service.specs.declared.accepted.AcceptedRequest.{AcceptedRequest}
 use Rattle.graphql_service.proofs.Answering.{as_asked}
+use Rattle.graphql_stores.specs.Laws.{HasPlainUsing}
 use Rattle.graphql_stores.specs.Reading.{AsksRequest, ReadsAccepted, ReadsDocument, asking_of}
 
 module _ {S C N X : Type 0} (a : Answerer S C N X) (line : Bytes) (request : GraphQLRequest S) where
@@ -157,37 +158,40 @@ module _ {S C N X : Type 0} (a : Answerer S C N X) (line : Bytes) (request : Gra
               subst (λ q. IsRecorded (chars q) records) d.asks.holds.query d.recorded;
         }
 
--- what is printed of a request that is accepted is its plain text
+-- what is printed of a request that is accepted is its plain text, with the variables that it uses
 pub has-plain : {S C N X : Type 0} (a : Answerer S C N X) (line : Bytes)
     (accepted : AcceptedRequest S) (records : Recorded)
     → (r : ReadsAccepted a line accepted records) → (size_limit own : ℕ) → size_limit ≡ own
-    → (plain : Bytes)
+    → (plain : Bytes) (names : List Bytes)
     → (let p = plain_operation a.scalars.answer a.scalars.of_bool
     (final_value (get_by_text accepted.variables.now)
     (variables_in accepted.operation.now.item.variable_definitions))
     (fragments_listed accepted.document.now) accepted.operation.now.item in
-    (plain ≡ plain_text records.tokens p) × (size p.set ≤ size_limit))
-    → HasPlain a own line plain
-has-plain {S} a line accepted records r size_limit own same plain h =
+    ((plain ≡ plain_text records.tokens p) × (size p.set ≤ size_limit))
+    → AreSame names (variables_used p.set) → HasPlainUsing a own line plain names)
+has-plain {S} a line accepted records r size_limit own same plain names h uses =
     let x = r.asks.executes in
     let plain_by : (Bytes → Option (InputValue S)) → PlainOperation S = λ v.
     plain_operation a.scalars.answer a.scalars.of_bool
     (final_value v (variables_in accepted.operation.now.item.variable_definitions))
     (fragments_listed accepted.document.now) accepted.operation.now.item in
-    let found : HasPlain a size_limit line plain = record {
-      request = x.request;
-      asks = x.asks;
-      is = record {
-        plain = record {
-          document = accepted.document.now;
-          operation = accepted.operation.now;
-          executable = x.executable;
-          tokens = records.tokens;
-          finish = records.finish;
-          cut = r.recorded;
-          is = subst (λ v. plain ≡ plain_text records.tokens (plain_by v)) x.values h.0;
+    let found : HasPlainUsing a size_limit line plain names = record {
+      has = record {
+        request = x.request;
+        asks = x.asks;
+        is = record {
+          plain = record {
+            document = accepted.document.now;
+            operation = accepted.operation.now;
+            executable = x.executable;
+            tokens = records.tokens;
+            finish = records.finish;
+            cut = r.recorded;
+            is = subst (λ v. plain ≡ plain_text records.tokens (plain_by v)) x.values h.0;
+          };
+          fits = subst (λ v. size (plain_by v).set ≤ size_limit) x.values h.1;
         };
-        fits = subst (λ v. size (plain_by v).set ≤ size_limit) x.values h.1;
       };
+      uses = subst (λ v. AreSame names (variables_used (plain_by v).set)) x.values uses;
     } in
-    subst (λ n. HasPlain a n line plain) same found
+    subst (λ n. HasPlainUsing a n line plain names) same found

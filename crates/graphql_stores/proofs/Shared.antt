@@ -10,10 +10,11 @@ use Rattle.graphql_executor.specs.Requests.{Scalars}
 use Rattle.graphql_executor.specs.Resolvers.{Resolver}
 use Rattle.graphql_lines.specs.Request.{Request}
 use Rattle.graphql_service.specs.Answers.{Answerer, answerer_of, asked_by, executed_to, given}
-use Rattle.graphql_service.specs.MeaningLaws.{PlainIsAnsweredToo}
+use Rattle.graphql_service.specs.MeaningLaws.{PlainIsAnsweredAlike}
 use Rattle.graphql_service.specs.declared.service.Service.{Service}
 use Rattle.graphql_stores.specs.Laws.{AnswersAreShared}
 use Rattle.graphql_stores.specs.Stored.{with_query}
+use Rattle.graphql_stores.proofs.KeptMembers.{values-kept}
 
 module _ {S C N X R : Type 0} (scalars : Scalars S C) (by_rules : RuleError → RuleError → Ordering)
     (by_fields : ExecutionError S → ExecutionError S → Ordering) (resolving : R → Resolver S N X)
@@ -21,26 +22,28 @@ module _ {S C N X R : Type 0} (scalars : Scalars S C) (by_rules : RuleError → 
   abbrev a : Answerer S C N X
   a = answerer_of scalars by_rules by_fields resolving service
 
-  pub answers-are-shared : PlainIsAnsweredToo scalars service.root_node (resolving service.resolver)
+  pub answers-are-shared : PlainIsAnsweredAlike scalars service.root_node (resolving service.resolver)
       → AnswersAreShared scalars by_rules by_fields resolving service
   answers-are-shared too takes line other plain text context shared =
-      let request = shared.has.request in
-      let both = λ (found : Value S). too takes request.query request.operation_name (given scalars request) plain shared.utf8
-      shared.has.is.plain by_fields context context found in (
+      let has = shared.has.has in
+      let request = has.request in
+      let own = with_query request plain shared.names in
+      let both = λ (found : Value S). too takes request.query request.operation_name (given scalars request)
+      (given scalars own) plain shared.utf8 has.is.plain
+      (values-kept scalars request plain shared.names _ shared.has.uses) by_fields context context found in (
         (λ whole.
-            let same : whole.request ≡ with_query request plain =
-            same_Some whole.request (with_query request plain) (sym whole.asked ∙ shared.asked) in
+            let same : whole.request ≡ own = same_Some whole.request own (sym whole.asked ∙ shared.asked) in
             executed_to whole.found [] (record {
               request = request;
-              asks = shared.has.asks;
+              asks = has.asks;
               answers = (both whole.found).1
                   (subst (λ (q : Request). IsAnswered scalars (asked_by a other q) a.resolver by_fields context whole.found [] context)
                   same whole.answers);
             }) whole.is),
         (λ whole.
-            let same : whole.request ≡ request = same_Some whole.request request (sym whole.asked ∙ shared.has.asks.asked) in
+            let same : whole.request ≡ request = same_Some whole.request request (sym whole.asked ∙ has.asks.asked) in
             record {
-              request = with_query request plain;
+              request = own;
               asked = shared.asked;
               found = whole.found;
               answers = (both whole.found).0

@@ -1,7 +1,7 @@
 -- What is kept for a plain text is the answer of each line that asks for it
 -- (GraphQL October 2021, 6.1 Executing Requests, 7.1 Response Format).
 use Rattle.std.specs.List.{starts_with}
-use Rattle.std.specs.Prelude.{◌≡◌, true, false, ℕ, [], Some, codes, nat_eq}
+use Rattle.std.specs.Prelude.{◌≡◌, true, false, ℕ, List, [], Some, codes, nat_eq}
 use Rattle.std.specs.Str.{IsUtf8}
 use Rattle.std.specs.declared.cmp.Ordering.{Ordering}
 use Rattle.graphql_names.specs.Names.{Bytes}
@@ -13,13 +13,23 @@ use Rattle.graphql_executor.specs.Resolvers.{Resolver}
 use Rattle.graphql_lines.specs.Request.{request_of}
 use Rattle.graphql_answers.specs.Lines.{line_of}
 use Rattle.graphql_answers.specs.Responses.{response_of}
-use Rattle.graphql_service.specs.Answers.{Answerer, IsAnswer, IsExecuted, answerer_of}
+use Rattle.graphql_plain_print.specs.NameSets.{AreSame}
+use Rattle.graphql_plain_requests.specs.AcceptedAgain.{used_by}
+use Rattle.graphql_service.specs.Answers.{Answerer, IsAnswer, IsExecuted, answerer_of, given}
 use Rattle.graphql_service.specs.PlainAnswers.{HasPlain}
 use Rattle.graphql_service.specs.PlainRequests.{TakesStandIn}
 use Rattle.graphql_service.specs.declared.service.Service.{Service}
 use Rattle.graphql_stores.specs.AnswerEnds.{begins_with_data, ends_with_list}
 use Rattle.graphql_stores.specs.Stored.{with_query}
 use Rattle.graphql_stores.specs.StoredAnswers.{IsWholeAnswer}
+
+-- by what a service answers, and by the greatest size of a plain text
+module _ {S C N X : Type 0} (a : Answerer S C N X) (size_limit : ℕ) where
+  -- the line asks for a request with this plain text, which uses the variables of these names
+  pub record HasPlainUsing (line plain : Bytes) (names : List Bytes) : Type 0 where
+    pub has : HasPlain a size_limit line plain
+    pub uses : AreSame names (used_by a.scalars (given a.scalars has.request)
+        has.is.plain.document has.is.plain.operation.item)
 
 module _ {S C N X R : Type 0} (scalars : Scalars S C) (by_rules : RuleError → RuleError → Ordering)
     (by_fields : ExecutionError S → ExecutionError S → Ordering) (resolving : R → Resolver S N X)
@@ -28,11 +38,13 @@ module _ {S C N X R : Type 0} (scalars : Scalars S C) (by_rules : RuleError → 
   answerer = answerer_of scalars by_rules by_fields resolving service
 
   -- a line that asks for a plain text, and the line of that plain text with the same operation name
-  -- and the same values for variables
+  -- and the same values for the variables that the plain text uses
   pub record IsSharedWith (line other plain : Bytes) : Type 0 where
-    pub has : HasPlain answerer service.selection_limit line plain
-    pub utf8 : IsUtf8 has.request.query
-    pub asked : request_of other ≡ Some (with_query has.request plain)
+    -- the names of those variables
+    pub names : List Bytes
+    pub has : HasPlainUsing answerer service.selection_limit line plain names
+    pub utf8 : IsUtf8 has.has.request.query
+    pub asked : request_of other ≡ Some (with_query has.has.request plain names)
 
   -- what is answered to the one, without errors, is the answer of the other on that context
   abbrev pub AnswersAreShared : Type 0

@@ -1,6 +1,7 @@
 -- What a line asks of a store, by its plain text (GraphQL October 2021, 6.1 Executing Requests).
-use Rattle.std.specs.Prelude.{ℕ, string_bytes}
-use Rattle.graphql_names.specs.Names.{Bytes}
+use Rattle.std.specs.Prelude.{if◌then◌else◌, ℕ, List, string_bytes}
+use Rattle.serde_json.specs.Data.{Members, no_members, member}
+use Rattle.graphql_names.specs.Names.{Bytes, is_one_of}
 use Rattle.graphql_lines.specs.Request.{Request}
 use Rattle.graphql_lines.specs.declared.refusal.LineRefusal.{LineRefusal}
 use Rattle.graphql_requests.specs.declared.graphql_error.GraphQLError.{GraphQLError}
@@ -10,10 +11,20 @@ use Rattle.graphql_service.specs.PlainRequests.{Refused, TooLarge}
 use Rattle.graphql_stores.specs.declared.asked.Asked.{Asked}
 use Rattle.graphql_stores.specs.declared.asked.Asked.TheVariants as asked
 
--- the request that asks another text, with the same operation name and the same values for variables
-abbrev pub with_query : Request → Bytes → Request
-with_query request text =
-    record { query = text; operation_name = request.operation_name; variables = request.variables }
+-- the members of these names
+abbrev pub members_of : List Bytes → Members → Members
+members_of names no_members = no_members
+members_of names (member name d ms) =
+    if is_one_of names name then member name d (members_of names ms) else members_of names ms
+
+-- the request that asks another text, with the same operation name, and of the values for variables those
+-- of these names
+abbrev pub with_query : Request → Bytes → List Bytes → Request
+with_query request text names = record {
+  query = text;
+  operation_name = request.operation_name;
+  variables = members_of names request.variables;
+}
 
 -- by what a service answers, and by the greatest size of a plain text
 module _ {S C N X : Type 0} (a : Answerer S C N X) (size_limit : ℕ) (line : Bytes) where

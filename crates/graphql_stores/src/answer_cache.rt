@@ -6,13 +6,12 @@ ghost use Rattle.graphql_names.specs.Names.{Bytes};
 ghost use Rattle.graphql_tree.specs.Definitions.{fragments_listed};
 ghost use Rattle.graphql_written_out.specs.Written.{Settled};
 ghost use Rattle.graphql_service.specs.Answers.{Appends, answerer_of};
-ghost use Rattle.graphql_service.specs.PlainAnswers.{HasPlain};
 ghost use Rattle.graphql_service.specs.PlainRequests.{TakesStandIn};
 ghost use Rattle.graphql_service.specs.Reading.{Executes};
 ghost use Rattle.graphql_service.specs.Serving.{HasPartsOf, ServiceAnswers};
 ghost use Rattle.graphql_stores.specs.Caching.{AnswersBehind, CacheAnswers, CacheBreaks};
 ghost use Rattle.graphql_stores.specs.Caching.{KeepsAnswers};
-ghost use Rattle.graphql_stores.specs.Laws.{SharesQuery};
+ghost use Rattle.graphql_stores.specs.Laws.{HasPlainUsing, SharesQuery};
 ghost use Rattle.graphql_stores.specs.Reading.{AsksAccepted};
 
 use crate::kept_answers::{KeptAnswers, behind, is_executed, is_whole, push_text};
@@ -21,6 +20,7 @@ use crate::plain_lines::{is_query, plain_line_of};
 use graphql_answers::laws::values_are_lines;
 use graphql_executor::{Meaning, Resolving};
 use graphql_field_results::ExecutionError;
+use graphql_plain_requests::Printed;
 use graphql_rule_errors::RuleError;
 use graphql_schema::SchemaScalar;
 use graphql_service::laws::answer_lines_have_distinct_keys;
@@ -29,7 +29,8 @@ use std::alloc::{AllocError, Global};
 
 /// A service that keeps the answers of queries, and gives them again to each line that asks for the
 /// same: the same bytes, or a request of the same plain text with the same operation name and the
-/// same values for variables (GraphQL October 2021, 6.1 Executing Requests). What is kept is an
+/// same values for the variables that the plain text uses (GraphQL October 2021, 6.1 Executing
+/// Requests, 6.1.2 Coercing Variable Values). What is kept is an
 /// answer without errors, since the places of errors are those of one spelling. A mutation lets all
 /// go.
 ///
@@ -125,12 +126,13 @@ impl<S: SchemaScalar + Drop, R: GraphQLMutationValue<S>> AnswerCache<S, R, R::Co
         alloc: Global,
         line: &[u8],
         accepted: &AcceptedRequest<'_, '_, S>,
-        plain: String,
+        printed: Printed<'_>,
         out: &mut Vec<u8>,
     ) -> Result<(), AllocError>
-        requires has { HasPlain (answerer_of ⟦<S as Meaning>⟧.meaning ⟦<RuleError as Ord>⟧.cmp
+        requires has { HasPlainUsing (answerer_of ⟦<S as Meaning>⟧.meaning ⟦<RuleError as Ord>⟧.cmp
             ⟦<ExecutionError<S> as Ord>⟧.cmp ⟦<R as Resolving<S>>⟧.resolving self.old.service)
-            self.old.service.selection_limit line.now (string_bytes plain) }
+            self.old.service.selection_limit line.now (string_bytes printed.text)
+            printed.used.keys }
         requires reads { AsksAccepted (answerer_of ⟦<S as Meaning>⟧.meaning ⟦<RuleError as Ord>⟧.cmp
             ⟦<ExecutionError<S> as Ord>⟧.cmp ⟦<R as Resolving<S>>⟧.resolving self.old.service)
             line.now accepted.now }
@@ -138,10 +140,10 @@ impl<S: SchemaScalar + Drop, R: GraphQLMutationValue<S>> AnswerCache<S, R, R::Co
             ⟦<ExecutionError<S> as Ord>⟧.cmp ⟦<R as Resolving<S>>⟧.resolving
             result self.old line.now out.old.items out.new.items self.new }
     {
-        if !is_query(plain.as_bytes()) {
+        if !is_query(printed.text.as_bytes()) {
             return self.answer_other(alloc, accepted, out);
         }
-        match plain_line_of(alloc, line, plain) {
+        match plain_line_of(alloc, line, printed) {
             Some(key) => self.answer_query(alloc, line, accepted, key.as_str(), out),
             None => self.answer_other(alloc, accepted, out),
         }

@@ -70,8 +70,8 @@ pub fn lines_are_told_apart<S: SchemaScalar, R: GraphQLMutationValue<S>>()
 }
 
 /// What a service answers on a context to the line of a plain text, without errors, is its answer
-/// to each line that has this plain text, with the same operation name and the same values for
-/// variables; and what it answers to such a line, without errors, is its answer to the line of the
+/// to each line that has this plain text, with the same operation name and the same values for the
+/// variables that the plain text uses; and what it answers to such a line, without errors, is its answer to the line of the
 /// plain text. For this the schema takes the stand-in of a plain text, of which `Service::new`
 /// tells (GraphQL October 2021, 7.1 Response Format).
 pub fn answers_are_shared<S: SchemaScalar, R: GraphQLMutationValue<S>>(
@@ -80,7 +80,7 @@ pub fn answers_are_shared<S: SchemaScalar, R: GraphQLMutationValue<S>>(
     ensures { AnswersAreShared ⟦<S as Meaning>⟧.meaning ⟦<RuleError as Ord>⟧.cmp
         ⟦<ExecutionError<S> as Ord>⟧.cmp ⟦<R as Resolving<S>>⟧.resolving service.now }
 {
-    graphql_service::laws::plain_is_answered_too(service);
+    graphql_service::laws::plain_is_answered_alike(service);
 }
 
 /// The line of an answer with data begins with their key, and that of a refusal does not; where

@@ -8,29 +8,32 @@ ghost use Rattle.serde_json.specs.Data.{depth, object};
 ghost use Rattle.serde_json.specs.Find.{as_object};
 ghost use Rattle.serde_json.specs.Read.{max_depth};
 ghost use Rattle.serde_json.specs.View.{members_view, view};
-ghost use Rattle.graphql_lines.specs.Request.{data_of, request_in, request_of};
-ghost use Rattle.graphql_stores.specs.PlainLines.{AsksPlain, members_of_plain, put_given};
+ghost use Rattle.graphql_lines.specs.Request.{data_of, request_in, request_of, variables_in};
+ghost use Rattle.graphql_stores.specs.PlainLines.{AsksPlain, KeepsMembers, depth_of};
+ghost use Rattle.graphql_stores.specs.PlainLines.{members_of_plain, put_given};
+ghost use Rattle.graphql_stores.specs.Stored as spec;
 
+use graphql_plain_requests::Printed;
 use serde_json::{Map, Value};
 use std::alloc::{AllocError, Global};
 
 /// The members of a JSON object.
 type Members = Map<String, Value>;
 
-/// The line that asks for a plain text with the operation name and the values for variables that a
-/// line gives: a JSON object with these alone. Lines that differ only in the spelling of their
-/// requests have one.
+/// The line that asks for a plain text with the operation name that a line gives, and its values for
+/// the variables that the plain text uses: a JSON object with these alone. Lines that differ only in
+/// the spelling of their requests have one, and so have those that differ in values that no field uses.
 ///
 /// None where the line is no request, or memory ran out.
-pub(crate) fn plain_line_of(alloc: Global, line: &[u8], plain: String) -> Option<String>
-    ensures { IfSome result (λ key.
-        AsksPlain (request_of line.now) (string_bytes plain) (string_bytes key)) }
+pub(crate) fn plain_line_of(alloc: Global, line: &[u8], printed: Printed<'_>) -> Option<String>
+    ensures { IfSome result (λ key. AsksPlain (request_of line.now) (string_bytes printed.entry.text)
+        printed.entry.used.keys (string_bytes key)) }
 {
     let Ok(value) = Value::from_slice(alloc, line) else {
         return None;
     };
     match members_of(value) {
-        Some(members) => line_of_members(alloc, members, plain),
+        Some(members) => line_of_members(alloc, members, printed),
         None => None,
     }
 }
@@ -48,21 +51,60 @@ fn members_of(value: Value) -> Option<Members>
 }
 
 /// The line of a plain text with what these members of a line give.
-fn line_of_members(alloc: Global, members: Members, plain: String) -> Option<String>
+fn line_of_members(alloc: Global, members: Members, printed: Printed<'_>) -> Option<String>
     ensures { let d = object (members_view members.entries) in
-        IfSome result (λ key. depth d ≤ max_depth
-        → AsksPlain (request_in d) (string_bytes plain) (string_bytes key)) }
+        IfSome result (λ key. depth d ≤ max_depth → AsksPlain (request_in d)
+        (string_bytes printed.entry.text) printed.entry.used.keys (string_bytes key)) }
 {
     let mut members = members;
     let Some(Value::String(_query)) = members.remove("query") else {
         return None;
     };
     let name = members.remove("operationName");
-    let variables = members.remove("variables");
-    match plain_members(alloc, plain, name, variables) {
+    let given = members.remove("variables");
+    let variables = used_values(given, &printed);
+    match plain_members(alloc, printed.text, name, variables) {
         Ok(asked) => text_of_members(alloc, asked),
         Err(_) => None,
     }
+}
+
+/// Of the values for variables those that a plain text uses; none where it uses none of them.
+fn used_values(given: Option<Value>, printed: &Printed<'_>) -> Option<Value>
+    ensures values { KeepsMembers printed.now.used.keys (option_map view given)
+        (option_map view result) }
+    ensures nests { depth_of (option_map view result) ≤ depth_of (option_map view given) }
+{
+    match given {
+        Some(value) => used_of(value, printed),
+        None => None,
+    }
+}
+
+/// The same of what a line gives for them.
+fn used_of(value: Value, printed: &Printed<'_>) -> Option<Value>
+    ensures values { KeepsMembers printed.now.used.keys (Some (view value))
+        (option_map view result) }
+    ensures nests { depth_of (option_map view result) ≤ depth (view value) }
+{
+    match members_of(value) {
+        Some(members) => used_members(members, printed),
+        None => None,
+    }
+}
+
+/// The object of the members whose variables a plain text uses; none where there is none.
+fn used_members(members: Members, printed: &Printed<'_>) -> Option<Value>
+    ensures values { variables_in (option_map view result)
+        ≡ Some (spec.members_of printed.now.used.keys (members_view members.entries)) }
+    ensures nests { depth_of (option_map view result) ≤ depth (object (members_view members.entries)) }
+{
+    let mut members = members;
+    members.retain(|name, _| printed.uses(name.as_str()));
+    if members.is_empty() {
+        return None;
+    }
+    Some(Value::Object(members))
 }
 
 /// The text of a JSON object; none where memory ran out.

@@ -155,7 +155,7 @@ impl<S: SchemaScalar + Drop, R: GraphQLMutationValue<S>> AnswerCache<S, R, R::Co
             records,
             self.service.selection_limit(),
         ) {
-            Ok(plain) => self.answer_plain(alloc, line, accepted, plain, out),
+            Ok(printed) => self.answer_plain(alloc, line, accepted, printed, out),
             Err(_) => self.answer_other(alloc, accepted, out),
         }
     }

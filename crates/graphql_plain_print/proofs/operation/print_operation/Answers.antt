@@ -35,6 +35,16 @@ returns-clause-text g c =
     c.in_ok-push_name.ensures c.in_ok-push_definitions.ensures c.definitions_of.ensures (subst (λ t. AreSame names (variables_used t)) same fresh)
     (c.as_str.ensures.value ∙ set_text ∙ ap (λ t. spaced (in_braces (selection_tokens (tokens_within tokens) t))) same)
 
+pub returns-clause-uses : goal.returns-clause-uses
+returns-clause-uses g c =
+    let given = value_in c.args.variables.now in
+    let tree = plain_by g.S.ScalarValue.answer g.S.ScalarValue.of_bool given (written (fragments_listed c.args.document.now) c.args.operation.now.selection_set) in
+    let of_plan = plain_by g.S.ScalarValue.answer g.S.ScalarValue.of_bool given (written (fragments_listed c.in_ok-fragments.fragments.document.now) c.as_slice.result.now) in
+    let same : of_plan ≡ tree = (λ i. plain_by g.S.ScalarValue.answer g.S.ScalarValue.of_bool given (written (fragments_listed (c.in_ok-fragments.ensures i)) (c.as_slice.ensures i))) in
+    let names = c.print_set.new.used.keys in
+    subst (λ t. AreSame names (variables_used t)) same
+    (subst (λ l. AreSame names (l ++ variables_used of_plan)) c.new-used.ensures.empty c.in_ok-print_set.ensures.uses)
+
 pub returns-clause-fits : goal.returns-clause-fits
 returns-clause-fits g c =
     let given = value_in c.args.variables.now in

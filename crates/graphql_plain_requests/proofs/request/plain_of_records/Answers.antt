@@ -1,11 +1,13 @@
-use Rattle.std.proofs.Common.{inl, option_map, sym, subst}
+use Rattle.std.proofs.Common.{Result, Err, Ok, inl, option_map, sym, subst}
 use Rattle.std.specs.HashMap.{get_by_text}
 use Rattle.std.specs.String.{string_bytes}
 use Rattle.graphql_schema.specs.Declarations.{declarations_of}
 use Rattle.graphql_requests.specs.Asked.{Asking}
 use Rattle.graphql_requests.specs.Scalars.{Scalars}
 use Rattle.graphql_requests.specs.Validity.{HasNoFault}
+use Rattle.graphql_plain_print.specs.declared.printed.Printed.{Printed}
 use Rattle.graphql_plain_requests.specs.PlainRequests.{asked_at}
+use Rattle.graphql_plain_requests.specs.declared.plain_error.PlainError.{PlainError}
 use Rattle.graphql_plain_requests.proofs.Refused.{executable-at, handed-on, larger, printed, stopped-at}
 use Rattle.graphql_plain_requests.proofs.request.plain_of_records.Goals as goal
 
@@ -51,8 +53,8 @@ plain_of_chosen-requires g c =
     (sym c.schema.ensures) c.in_ok-document.ensures.valid.valid.no_fault in
     rw c.as_slice-definitions.ensures (c.documents_without_a_fault_are_settled.ensures document valid)
 
-pub returns-clause-plain : goal.returns-clause-plain
-returns-clause-plain g c = λ text recorded.
+pub returns-in-Ok-clause-plain : goal.returns-in-Ok-clause-plain
+returns-in-Ok-clause-plain g c = λ text recorded.
     let s : Scalars g.row.S.Denot g.row.S-Check.Denot = record {
       reads = g.S.ParseScalarValue.reads;
       of_bool = g.S.ScalarValue.of_bool;
@@ -66,11 +68,12 @@ returns-clause-plain g c = λ text recorded.
     asked_at c.args.root_node.now text (option_map (λ name. name.now) c.args.operation_name) (get_by_text c.args.variables.now) in
     let d = c.as_slice-definitions.result.now in
     let o = c.in_ok-operation.operation.now in
+    let r : Result Printed PlainError = Ok c.in-Ok.printed in
     printed s a c.args.limit d o
     (executable-at s a c.args.limit c.in_ok-document.document d c.as_slice-definitions.ensures
     (c.in_ok-document.ensures.read text recorded) o c.in_ok-operation.ensures.ready)
-    (λ text. string_bytes text) c.plain_of_chosen.result c.args.records.now.tokens c.args.records.now.finish recorded
-    c.plain_of_chosen.ensures.plain
+    (λ (p : Printed). string_bytes p.text) r c.args.records.now.tokens c.args.records.now.finish
+    recorded c.in-Ok.ensures.plain
 
 pub returns-clause-refused : goal.returns-clause-refused
 returns-clause-refused g c = λ text recorded.
@@ -87,7 +90,8 @@ returns-clause-refused g c = λ text recorded.
     asked_at c.args.root_node.now text (option_map (λ name. name.now) c.args.operation_name) (get_by_text c.args.variables.now) in
     let d = c.as_slice-definitions.result.now in
     let o = c.in_ok-operation.operation.now in
+    let r : Result Printed PlainError = Err c.in-Err.error in
     larger s a c.args.limit d o
     (executable-at s a c.args.limit c.in_ok-document.document d c.as_slice-definitions.ensures
     (c.in_ok-document.ensures.read text recorded) o c.in_ok-operation.ensures.ready)
-    _ c.plain_of_chosen.result c.plain_of_chosen.ensures.large
+    _ r c.in-Err.ensures.large

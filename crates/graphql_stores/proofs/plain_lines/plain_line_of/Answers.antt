@@ -16,6 +16,6 @@ returns-in-Some c =
     let asked : request_of c.args.line.now ≡ request_in (object ms) =
     ap (option_and_then request_in) (sym (data_of-read c.args.line.now (view c.in-Ok.value) read.ok.0 read.ok.1) ∙ ap Some is) in
     on-some c.line_of_members.result _ _
-    (λ key asks. subst (λ o. AsksPlain o (string_bytes c.args.plain) (string_bytes key)) (sym asked)
+    (λ key asks. subst (λ o. AsksPlain o (string_bytes c.args.printed.text) c.args.printed.used.keys (string_bytes key)) (sym asked)
     (asks (subst (λ d. depth d ≤ max_depth) is read.nests)))
     c.line_of_members.ensures

@@ -7,14 +7,15 @@ use Rattle.graphql_stores.proofs.answer_cache.AnswerCache+S+R+R+Context.answer_p
 
 pub answer_query-requires-clause-shares : goal.answer_query-requires-clause-shares
 answer_query-requires-clause-shares g c =
-    let plain = string_bytes c.args.plain in
+    let plain = string_bytes c.args.printed.text in
+    let names = c.args.printed.used.keys in
     let service = c.args.self.now.service in
     let told : c.is_query.result ≡ true = search rules in
     let begins : starts_with nat_eq plain (codes "query") ≡ true =
     ap (λ b. starts_with nat_eq b (codes "query")) (sym c.as_bytes.ensures.value) ∙ sym c.is_query.ensures ∙ told in
-    let asks : AsksPlain (request_of c.args.line.now) plain c.as_str.result.now =
-    subst (λ key. AsksPlain (request_of c.args.line.now) plain key) (sym c.as_str.ensures.value) c.in-Some.ensures in
-    shares-query _ _ _ _ service c.args.line.now plain c.as_str.result.now c.requires.has begins asks
+    let asks : AsksPlain (request_of c.args.line.now) plain names c.as_str.result.now =
+    subst (λ key. AsksPlain (request_of c.args.line.now) plain names key) (sym c.as_str.ensures.value) c.in-Some.ensures in
+    shares-query _ _ _ _ service c.args.line.now plain c.as_str.result.now names c.requires.has begins asks
 
 pub returns-then-not-is_query : goal.returns-then-not-is_query
 returns-then-not-is_query g c = c.answer_other.ensures c.args.line.now c.requires.reads.executes

@@ -5,8 +5,8 @@ use Rattle.graphql_stores.proofs.reading.AnswerCache+S+R+R+Context.answer_accept
 pub answer_plain-requires-clause-has : goal.answer_plain-requires-clause-has
 answer_plain-requires-clause-has g c =
     has-plain _ c.args.line.now c.args.accepted.now c.args.records.now c.requires
-    c.selection_limit.result _ c.selection_limit.ensures (string_bytes c.in-Ok.plain)
-    c.in-Ok.ensures.plain
+    c.selection_limit.result _ c.selection_limit.ensures (string_bytes c.in-Ok.printed.text)
+    c.in-Ok.printed.used.keys c.in-Ok.ensures.plain c.in-Ok.ensures.uses
 
 pub plain_of_chosen-requires : goal.plain_of_chosen-requires
 plain_of_chosen-requires g c = c.requires.asks.settled
