@@ -4,6 +4,7 @@ ghost use Rattle.std.specs.Prelude.{IfErr, IfOk};
 ghost use Rattle.std.specs.HashMap.{get_by_text};
 ghost use Rattle.std.specs.Option.{option_map};
 ghost use Rattle.std.specs.Str.{chars};
+ghost use Rattle.graphql_requests.specs.KeptTexts.{AreValid};
 ghost use Rattle.graphql_executor.specs.Answered.{IsAnswered, IsRefused, LeftUnanswered, asking};
 
 use crate::operation::Response;
@@ -12,7 +13,8 @@ use crate::validated::execute_validated_query;
 use graphql_field_results::ExecutionError;
 use graphql_mutation::GraphQLMutationValue;
 use graphql_requests::{
-    GraphQLError, Meaning, chosen_operation, documents_without_a_fault_are_settled, read_request,
+    GraphQLError, Meaning, ValidTexts, chosen_operation, documents_without_a_fault_are_settled,
+    read_request_with,
 };
 use graphql_rule_errors::RuleError;
 use graphql_schema::{RootNode, SchemaScalar};
@@ -55,7 +57,53 @@ pub fn execute_sync<S: SchemaScalar + Drop, R: GraphQLMutationValue<S>>(
         let resolving = ⟦<R as Resolving<S>>⟧.resolving resolver.now in
         IfErr result (λ error. LeftUnanswered ⟦<S as Meaning>⟧.meaning asked resolving error context.old context.new) }
 {
-    let document = read_request(alloc, source, root_node)?;
+    let mut valid = ValidTexts::new(0, 0);
+    execute_with(
+        alloc,
+        source,
+        operation_name,
+        root_node,
+        resolver,
+        variables,
+        context,
+        &mut valid,
+    )
+}
+
+/// What a request is answered, and errors, as [`execute_sync`] gives them, where texts are kept that
+/// were found valid for the root node: of these no rule is asked again, and a text that is found valid
+/// is kept with them, if there is room and memory for it.
+pub fn execute_with<S: SchemaScalar + Drop, R: GraphQLMutationValue<S>>(
+    alloc: Global,
+    source: &str,
+    operation_name: Option<&str>,
+    root_node: &RootNode<S>,
+    resolver: &R,
+    variables: &Variables<S>,
+    context: &mut R::Context,
+    valid: &mut ValidTexts,
+) -> Result<Response<S>, GraphQLError>
+    requires { AreValid ⟦<S as Meaning>⟧.meaning root_node.now valid.old }
+    ensures answered { let name = option_map (λ name. name.now) operation_name.entry in
+        let given = get_by_text variables.now in
+        let root = root_node.now in
+        let asked = asking root.schema root.introspection_disabled (chars source.now) name given in
+        IfOk result (λ r. IsAnswered ⟦<S as Meaning>⟧.meaning asked (⟦<R as Resolving<S>>⟧.resolving resolver.now)
+        ⟦<ExecutionError<S> as Ord>⟧.cmp context.old r.0 r.1 context.new) }
+    ensures refused { let name = option_map (λ name. name.now) operation_name.entry in
+        let given = get_by_text variables.now in
+        let root = root_node.now in
+        let asked = asking root.schema root.introspection_disabled (chars source.now) name given in
+        IfErr result (IsRefused ⟦<S as Meaning>⟧.meaning asked ⟦<RuleError as Ord>⟧.cmp) }
+    ensures unanswered { let name = option_map (λ name. name.now) operation_name.entry in
+        let given = get_by_text variables.now in
+        let root = root_node.now in
+        let asked = asking root.schema root.introspection_disabled (chars source.now) name given in
+        let resolving = ⟦<R as Resolving<S>>⟧.resolving resolver.now in
+        IfErr result (λ error. LeftUnanswered ⟦<S as Meaning>⟧.meaning asked resolving error context.old context.new) }
+    ensures valid { AreValid ⟦<S as Meaning>⟧.meaning root_node.now valid.new }
+{
+    let document = read_request_with(alloc, source, root_node, valid)?;
     let definitions = document.as_slice();
     let operation = chosen_operation(alloc, definitions, operation_name, root_node, variables)?;
     documents_without_a_fault_are_settled(root_node.schema());

@@ -8,7 +8,7 @@ mod operation;
 mod resolving;
 mod validated;
 
-pub use execute_request::execute_sync;
+pub use execute_request::{execute_sync, execute_with};
 pub use graphql_arguments::Arguments;
 pub use graphql_execution_walk::{
     Context, Executor, FieldPath, FromContext, GraphQLValue, declared_type,
@@ -29,7 +29,8 @@ pub use graphql_registry::{
     AnswersByClones, EmptyMutation, EmptySubscription, GraphQLType, IntoResolvable, Registry,
 };
 pub use graphql_requests::{
-    GraphQLError, Meaning, documents_without_a_fault_are_settled, get_operation, read_request,
+    GraphQLError, Meaning, ValidTexts, documents_without_a_fault_are_settled, get_operation,
+    read_request,
 };
 pub use graphql_schema::{IntrospectionChecks, TypeKind};
 pub use graphql_values::{FromInputValueArrayError, FromInputValueVecError};

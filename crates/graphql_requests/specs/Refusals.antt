@@ -35,6 +35,11 @@ pub record IsOnly {S C : Type 0} (s : Scalars S C) (text : List ℕ) (document :
   pub spelled : IsDocument S s.reads s.of_bool text document
   pub alone : OnlyDocument S s.reads s.of_bool text document
 
+-- by what scalars mean, and by a schema: each document that a text spells is valid
+abbrev pub IsValidText : {S C : Type 0} → Scalars S C → Declarations S C → Bool → List ℕ → Type 0
+IsValidText {S} s schema introspection_disabled text =
+    (document : List (Definition S)) → IsDocument S s.reads s.of_bool text document → IsValidIn s schema introspection_disabled document
+
 -- by what scalars mean, and by a schema: what a text is as a request
 module _ {S C : Type 0} (s : Scalars S C) (schema : Declarations S C) (introspection_disabled : Bool) (text : List ℕ) where
   abbrev subject_with : List (Definition S) → Subject S C

@@ -1,18 +1,20 @@
 //! Requests, until they can be executed.
 
-ghost use Rattle.std.specs.Prelude.{ℕ, List, IfErr, IfOk};
+ghost use Rattle.std.specs.Prelude.{ℕ, Bool, List, IfErr, IfOk};
 ghost use Rattle.std.specs.HashMap.{get_by_text};
 ghost use Rattle.std.specs.List.Sorted.{IsSorted};
 ghost use Rattle.std.specs.Option.{option_map};
 ghost use Rattle.std.specs.Str.{chars};
 ghost use Rattle.graphql_lexer.specs.Records.{IsRecorded};
-ghost use Rattle.graphql_schema.specs.Declarations.{declarations_of};
+ghost use Rattle.graphql_schema.specs.Declarations.{Declarations, declarations_of};
+ghost use Rattle.graphql_requests.specs.KeptTexts.{AreValid};
 ghost use Rattle.graphql_requests.specs.Operations.{chosen};
 ghost use Rattle.graphql_requests.specs.Refusals.{IsOnly, IsRead, IsReady, IsStopped, IsUnread, IsValidIn, errors_of};
 
 use crate::graphql_error::GraphQLError;
 use crate::meaning::Meaning;
 use crate::operations::{get_operation, mutation_root};
+use crate::valid_texts::ValidTexts;
 use graphql_language::{TokenRecords, parse_document_records, parse_document_source};
 use graphql_rule_errors::RuleError;
 use graphql_schema::{RootNode, SchemaScalar};
@@ -42,10 +44,56 @@ pub fn read_request<'a, S: SchemaScalar>(
         IfErr result (IsUnread ⟦<S as Meaning>⟧.meaning schema root.introspection_disabled (chars source.now)) }
     ensures sorted { IfErr result (λ error. IsSorted ⟦<RuleError as Ord>⟧.cmp (errors_of error)) }
 {
-    match parse_document_source(alloc, source) {
+    match parse_request(alloc, source) {
         Ok(document) => valid_document(alloc, document, root_node),
+        Err(error) => Err(error),
+    }
+}
+
+/// The document of a request's text, of which no rule is asked. Where the text is known to be valid
+/// for a root node, it is the document that [`read_request`] gives over that root node.
+///
+/// An error is `GraphQLError::ParseError` where the text is no document: its first fault.
+/// `GraphQLError::Memory` comes only where memory ran out, and no other error comes.
+pub fn parse_request<'a, S: SchemaScalar>(
+    alloc: Global,
+    source: &'a str,
+) -> Result<OwnedDocument<'a, S>, GraphQLError>
+    ensures only { IfOk result (IsOnly ⟦<S as Meaning>⟧.meaning (chars source.now)) }
+    ensures refused { (schema : Declarations S S.Check) (introspection_disabled : Bool) →
+        IfErr result
+        (IsUnread ⟦<S as Meaning>⟧.meaning schema introspection_disabled (chars source.now)) }
+    ensures sorted { IfErr result (λ error. IsSorted ⟦<RuleError as Ord>⟧.cmp (errors_of error)) }
+{
+    match parse_document_source(alloc, source) {
+        Ok(document) => Ok(document),
         Err(fault) => Err(GraphQLError::from(fault)),
     }
+}
+
+/// The document of a request's text, and errors, as [`read_request`] gives them. The rules are asked
+/// only of a text that is not kept as valid, which is kept then where it is, if there is room and
+/// memory for it.
+pub fn read_request_with<'a, S: SchemaScalar>(
+    alloc: Global,
+    source: &'a str,
+    root_node: &RootNode<S>,
+    valid: &mut ValidTexts,
+) -> Result<OwnedDocument<'a, S>, GraphQLError>
+    requires { AreValid ⟦<S as Meaning>⟧.meaning root_node.now valid.old }
+    ensures read { let root = root_node.now in let schema = declarations_of root.schema in
+        IfOk result (IsRead ⟦<S as Meaning>⟧.meaning schema root.introspection_disabled (chars source.now)) }
+    ensures refused { let root = root_node.now in let schema = declarations_of root.schema in
+        IfErr result (IsUnread ⟦<S as Meaning>⟧.meaning schema root.introspection_disabled (chars source.now)) }
+    ensures sorted { IfErr result (λ error. IsSorted ⟦<RuleError as Ord>⟧.cmp (errors_of error)) }
+    ensures valid { AreValid ⟦<S as Meaning>⟧.meaning root_node.now valid.new }
+{
+    if valid.has(source) {
+        return parse_request(alloc, source);
+    }
+    let document = read_request(alloc, source, root_node)?;
+    valid.add(alloc, source);
+    Ok(document)
 }
 
 /// The document of a request's text whose tokens are lent, as `read_request` gives it, so that the text

@@ -12,5 +12,6 @@ pub mod Laws
 pub mod Serving
 pub mod PlainAnswers
 pub mod PlainServing
+pub mod KeptTexts
 pub mod ApartLaws
 pub mod FaultTexts

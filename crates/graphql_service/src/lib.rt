@@ -30,4 +30,4 @@ pub use graphql_plain_requests::{
 };
 pub use graphql_schema::scalar_checks::{self, StandardChecks};
 pub use graphql_streams::{ByteSink, ByteSource, Piped, ReadFailed, ServeError, WriteFailed};
-pub use service::{Service, ServiceFault};
+pub use service::{Service, ServiceFault, VALID_BYTE_LIMIT, VALID_TEXT_LIMIT};

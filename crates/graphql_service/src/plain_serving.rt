@@ -58,6 +58,8 @@ impl<S: SchemaScalar + Drop, R: GraphQLMutationValue<S>> LineEngine
 
     ghost breaks = { λ old line new. new.service.now ≡ old.service.now };
 
+    ghost holds = { λ _. Unit {0} };
+
     ghost limit = { λ lines. lines.service.now.line_limit };
 
     ghost answers_kept = { plain-kept ⟦<S as Meaning>⟧.meaning ⟦<RuleError as Ord>⟧.cmp

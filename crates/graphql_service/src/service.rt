@@ -10,7 +10,7 @@ use crate::refusal::{push_error, push_line_refusal};
 use crate::response::push_response;
 use crate::{boolean_takes_true, operation_name_of};
 use graphql_answers::laws::values_are_lines;
-use graphql_executor::{GraphQLMutationValue, Meaning, Resolving, execute_sync};
+use graphql_executor::{GraphQLMutationValue, Meaning, Resolving, ValidTexts, execute_with};
 use graphql_field_results::ExecutionError;
 use graphql_lines::{GraphQLRequest, LineRefusal, request_from_line};
 use graphql_rule_errors::RuleError;
@@ -80,6 +80,14 @@ impl fmt::Display for ServiceFault {
 
 impl Error for ServiceFault {}
 
+/// How many texts of requests a service keeps as valid while it serves lines, unless
+/// [`Service::keep_valid_texts`] says otherwise.
+pub const VALID_TEXT_LIMIT: usize = 1_000;
+
+/// How many bytes of such texts a service keeps in all, unless [`Service::keep_valid_texts`] says
+/// otherwise.
+pub const VALID_BYTE_LIMIT: usize = 1_048_576;
+
 /// A schema that can be executed, a resolver and its context, over which request lines are answered.
 #[derive(Drop)]
 pub struct Service<S, R, X, C = <S as SchemaScalar>::Check> {
@@ -88,6 +96,15 @@ pub struct Service<S, R, X, C = <S as SchemaScalar>::Check> {
     pub(crate) context: X,
     pub(crate) line_limit: usize,
     pub(crate) selection_limit: usize,
+
+    // How many texts that were found valid are kept while lines are served, and how many bytes of
+    // them in all.
+    pub(crate) valid_text_limit: usize,
+    pub(crate) valid_byte_limit: usize,
+
+    // The texts that were found valid among the lines that are being served.
+    pub(crate) valid: ValidTexts,
+
     ghost executable: { is_executable root_node.schema.types (roots_of root_node.schema) ≡ true },
     ghost conditions: { has_standard_conditions root_node.schema.directives ≡ true },
 }
@@ -101,6 +118,7 @@ impl<S: SchemaScalar + Drop, R: GraphQLMutationValue<S>> Service<S, R, R::Contex
     ghost use Rattle.graphql_service.specs.Answers.{Appends, Asks, IsAnswer, LeavesBroken, answerer_of};
     ghost use Rattle.graphql_service.specs.Laws.{IsLineOfDistinctKeys};
     ghost use Rattle.graphql_service.specs.Made.{IsOf, Makes};
+    ghost use Rattle.graphql_service.specs.KeptTexts.{AreKept};
     ghost use Rattle.graphql_service.specs.Serving.{AnswersLine};
 
     /// A service over this root node, this resolver and this context. Its lines have at most `line_limit`
@@ -135,6 +153,9 @@ impl<S: SchemaScalar + Drop, R: GraphQLMutationValue<S>> Service<S, R, R::Contex
             context,
             line_limit,
             selection_limit,
+            valid_text_limit: VALID_TEXT_LIMIT,
+            valid_byte_limit: VALID_BYTE_LIMIT,
+            valid: ValidTexts::new(0, 0),
         })
     }
 
@@ -200,12 +221,13 @@ impl<S: SchemaScalar + Drop, R: GraphQLMutationValue<S>> Service<S, R, R::Contex
         ensures emptied { OnErr result (out.new.items ≡ []) }
     {
         out.clear();
-        self.append_line(alloc, line, out)
+        self.append_answer_line(alloc, line, out)
     }
 
     /// Writes the answer line of a request line behind what `out` holds, as [`Service::answer`]
-    /// gives it. The only error is want of memory, after which `out` is as it was.
-    pub(crate) fn append_line(
+    /// gives it. The only error is want of memory, after which `out` is as it was; a mutation has
+    /// then changed the context by a beginning of its response keys, by none in part.
+    pub fn append_answer_line(
         &mut self,
         alloc: Global,
         line: &[u8],
@@ -221,6 +243,31 @@ impl<S: SchemaScalar + Drop, R: GraphQLMutationValue<S>> Service<S, R, R::Contex
             ⟦<ExecutionError<S> as Ord>⟧.cmp ⟦<R as Resolving<S>>⟧.resolving self.old in
             OnErr result (LeavesBroken a line.now self.old.context self.new.context) }
         ensures kept { OnErr result (out.new.items ≡ out.old.items) }
+    {
+        let none = ValidTexts::new(0, 0);
+        self.valid = none;
+        self.append_line(alloc, line, out)
+    }
+
+    /// The same, where texts are kept that were found valid: no rule is asked of these.
+    pub(crate) fn append_line(
+        &mut self,
+        alloc: Global,
+        line: &[u8],
+        out: &mut Vec<u8>,
+    ) -> Result<(), AllocError>
+        requires { AreKept ⟦<S as Meaning>⟧.meaning self.old }
+        ensures answers { let a = answerer_of ⟦<S as Meaning>⟧.meaning ⟦<RuleError as Ord>⟧.cmp
+            ⟦<ExecutionError<S> as Ord>⟧.cmp ⟦<R as Resolving<S>>⟧.resolving self.old in
+            OnOk result (Appends (λ text. AnswersLine a self.old.context line.now text self.new.context)
+            out.old.items out.new.items) }
+        ensures parts { IsOf self.old.root_node self.old.resolver self.new.context
+            self.old.line_limit self.old.selection_limit self.new }
+        ensures broken { let a = answerer_of ⟦<S as Meaning>⟧.meaning ⟦<RuleError as Ord>⟧.cmp
+            ⟦<ExecutionError<S> as Ord>⟧.cmp ⟦<R as Resolving<S>>⟧.resolving self.old in
+            OnErr result (LeavesBroken a line.now self.old.context self.new.context) }
+        ensures kept { OnErr result (out.new.items ≡ out.old.items) }
+        ensures kept_texts { AreKept ⟦<S as Meaning>⟧.meaning self.new }
     {
         values_are_lines();
         answer_lines_have_distinct_keys::<S, R>();
@@ -242,6 +289,7 @@ impl<S: SchemaScalar + Drop, R: GraphQLMutationValue<S>> Service<S, R, R::Contex
         line: &[u8],
         out: &mut Vec<u8>,
     ) -> Result<(), AllocError>
+        requires { AreKept ⟦<S as Meaning>⟧.meaning self.old }
         ensures answers { let a = answerer_of ⟦<S as Meaning>⟧.meaning ⟦<RuleError as Ord>⟧.cmp
             ⟦<ExecutionError<S> as Ord>⟧.cmp ⟦<R as Resolving<S>>⟧.resolving self.old in
             OnOk result (Appends (λ text. IsAnswer a line.now self.old.context text self.new.context)
@@ -252,6 +300,7 @@ impl<S: SchemaScalar + Drop, R: GraphQLMutationValue<S>> Service<S, R, R::Contex
             ⟦<ExecutionError<S> as Ord>⟧.cmp ⟦<R as Resolving<S>>⟧.resolving self.old in
             OnErr result (LeavesBroken a line.now self.old.context self.new.context) }
         ensures front { KeepsFront out.old.items out.new.items }
+        ensures kept_texts { AreKept ⟦<S as Meaning>⟧.meaning self.new }
     {
         if line.len() > self.line_limit {
             return push_line_refusal(alloc, out, LineRefusal::LineTooLong, self.line_limit);
@@ -270,6 +319,7 @@ impl<S: SchemaScalar + Drop, R: GraphQLMutationValue<S>> Service<S, R, R::Contex
         request: &GraphQLRequest<S>,
         out: &mut Vec<u8>,
     ) -> Result<(), AllocError>
+        requires { AreKept ⟦<S as Meaning>⟧.meaning self.old }
         ensures answers { let a = answerer_of ⟦<S as Meaning>⟧.meaning ⟦<RuleError as Ord>⟧.cmp
             ⟦<ExecutionError<S> as Ord>⟧.cmp ⟦<R as Resolving<S>>⟧.resolving self.old in
             OnOk result ((line : Bytes) (asked : Request) → Asks a line asked
@@ -283,10 +333,11 @@ impl<S: SchemaScalar + Drop, R: GraphQLMutationValue<S>> Service<S, R, R::Contex
             → HoldsRequest S.of_bool S.of_int S.of_text asked request.now
             → LeavesBroken a line self.old.context self.new.context) }
         ensures front { KeepsFront out.old.items out.new.items }
+        ensures kept_texts { AreKept ⟦<S as Meaning>⟧.meaning self.new }
     {
         let name = operation_name_of(request);
         let query = request.query.as_str();
-        match execute_sync(
+        match execute_with(
             alloc,
             query,
             name,
@@ -294,6 +345,7 @@ impl<S: SchemaScalar + Drop, R: GraphQLMutationValue<S>> Service<S, R, R::Contex
             &self.resolver,
             &request.variables,
             &mut self.context,
+            &mut self.valid,
         ) {
             Ok(response) => push_response(out, response),
             Err(error) => push_error(alloc, out, error),

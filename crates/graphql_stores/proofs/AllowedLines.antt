@@ -63,26 +63,26 @@ module _ {S C N X : Type 0} (a : Answerer S C N X) (size_limit : ℕ) (store : A
     passed-breaks old new (inr h) broken = inl (refused-leaves old new h broken)
 
     -- what the service writes behind other answers, and what it leaves where memory runs out
-    module _ {A E : Type 0} (Q : Type 0) (old new : X) (before after : Bytes) (b : Bool) (is : b ≡ true)
+    module _ {A E : Type 0} (old new : X) (before after : Bytes) (b : Bool) (is : b ≡ true)
         (h : Passes a size_limit store line b) where
       pub passed : (r : Result A E)
-          → OnOk r ((text : List ℕ) × (after ≡ before ++ text) × (AnswersLine a old line text new × Q))
+          → OnOk r (Appends (λ text. AnswersLine a old line text new) before after)
           → OnOk r (Appends (λ text. AnswersIfAllowed a size_limit store old line text new) before after)
       passed (Ok x) k = (
         k.0,
         k.1,
         record {
-          answer = passed-answer old new k.0 (subst (Passes a size_limit store line) is h) k.2.0.answer;
-          one_line = k.2.0.one_line;
-          distinct = k.2.0.distinct;
+          answer = passed-answer old new k.0 (subst (Passes a size_limit store line) is h) k.2.answer;
+          one_line = k.2.one_line;
+          distinct = k.2.distinct;
         },
       )
       passed (Err e) k = tt
 
-      pub passed-broken : (r : Result A E) → OnErr r ((after ≡ before) × (BreaksAtLine a old line new × Q))
+      pub passed-broken : (r : Result A E) → OnErr r (BreaksAtLine a old line new)
           → OnErr r (BreaksIfAllowed a size_limit store old line new)
       passed-broken (Ok x) k = tt
-      passed-broken (Err e) k = passed-breaks old new (subst (Passes a size_limit store line) is h) k.1.0
+      passed-broken (Err e) k = passed-breaks old new (subst (Passes a size_limit store line) is h) k
 
   -- what is written where it is not allowed
   pub not-passed : {A E : Type 0} (r : Result A E) (c : X) (before after : Bytes) → ValuesAreLines

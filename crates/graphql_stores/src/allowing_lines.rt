@@ -57,6 +57,8 @@ impl<S: SchemaScalar + Drop, R: GraphQLMutationValue<S>> LineEngine
     ghost breaks = { AllowingBreaks ⟦<S as Meaning>⟧.meaning ⟦<RuleError as Ord>⟧.cmp
         ⟦<ExecutionError<S> as Ord>⟧.cmp ⟦<R as Resolving<S>>⟧.resolving };
 
+    ghost holds = { λ _. Unit {0} };
+
     ghost limit = { λ allowing. allowing.service.line_limit };
 
     ghost answers_kept = { allowing-kept ⟦<S as Meaning>⟧.meaning ⟦<RuleError as Ord>⟧.cmp

@@ -18,7 +18,6 @@ use graphql_rule_errors::RuleError;
 use graphql_schema::SchemaScalar;
 use graphql_service::laws::executable_requests_are_not_refused;
 use graphql_service::{GraphQLMutationValue, Service};
-use graphql_streams::LineEngine;
 use std::alloc::{AllocError, Global};
 
 /// A service that answers the requests whose plain text is in a store.
@@ -109,7 +108,7 @@ impl<S: SchemaScalar + Drop, R: GraphQLMutationValue<S>> AllowingService<S, R, R
         values_are_lines();
         answers_have_distinct_keys::<S>();
         match self.passes(alloc, line) {
-            Ok(true) => self.service.append_answer(alloc, line, out),
+            Ok(true) => self.service.append_answer_line(alloc, line, out),
             Ok(false) => append_not_allowed(out),
             Err(error) => Err(error),
         }

@@ -64,6 +64,8 @@ impl<S: SchemaScalar + Drop, R: GraphQLMutationValue<S>> LineEngine
     ghost breaks = { CacheBreaks ⟦<S as Meaning>⟧.meaning ⟦<RuleError as Ord>⟧.cmp
         ⟦<ExecutionError<S> as Ord>⟧.cmp ⟦<R as Resolving<S>>⟧.resolving };
 
+    ghost holds = { λ _. Unit {0} };
+
     ghost limit = { λ cache. cache.service.line_limit };
 
     ghost answers_kept = { cache-answers-kept ⟦<S as Meaning>⟧.meaning ⟦<RuleError as Ord>⟧.cmp

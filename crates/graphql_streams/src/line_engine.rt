@@ -13,6 +13,9 @@ pub trait LineEngine {
     /// From this state, want of memory at this line leaves that state.
     ghost breaks: { Self → List ℕ → Self → Type 0 };
 
+    /// What holds of it between two lines.
+    ghost holds: { Self → Type 0 };
+
     /// The greatest length of a line, in bytes.
     ghost limit: { Self → ℕ };
 
@@ -30,10 +33,12 @@ pub trait LineEngine {
         line: &[u8],
         out: &mut Vec<u8>,
     ) -> Result<(), AllocError>
+        requires { holds self.old }
         ensures answers { OnOk result ((text : List ℕ) × (out.new.items ≡ out.old.items ++ text)
             × answers self.old line.now text self.new) }
         ensures breaks { OnErr result ((out.new.items ≡ out.old.items)
             × breaks self.old line.now self.new) }
+        ensures holds { holds self.new }
         ensures limit { limit self.new ≡ limit self.old };
 
     /// What is kept of a line that is too long is answered as the line is.

@@ -73,11 +73,13 @@ fn answer_line<E: LineEngine>(
     line: &[u8],
     answers: &mut Vec<u8>,
 ) -> Result<(), AllocError>
+    requires { E.holds engine.old }
     ensures ok { OnOk result
         (Made E.answers engine.old (line.now ∷ []) answers.old.items answers.new.items engine.new) }
     ensures err { OnErr result ((answers.new.items ≡ answers.old.items)
         × Broken E.answers E.breaks engine.old (line.now ∷ []) engine.new) }
     ensures limit { E.limit engine.new ≡ E.limit engine.old }
+    ensures holds { E.holds engine.new }
 {
     if line.is_empty() {
         return Ok(());
@@ -94,7 +96,8 @@ pub fn end_line<E: LineEngine>(
     buffers: &mut Buffers,
     bytes: &[u8],
 ) -> Result<(), AllocError>
-    requires { limit ≡ E.limit engine.old }
+    requires limit { limit ≡ E.limit engine.old }
+    requires holds { E.holds engine.old }
     ensures ok { (begun : List ℕ) → buffers.old.line.items ≡ kept_of limit begun
         → OnOk result (Made E.answers engine.old ((begun ++ bytes.now) ∷ [])
         buffers.old.answers.items buffers.new.answers.items engine.new) }
@@ -103,6 +106,7 @@ pub fn end_line<E: LineEngine>(
         → OnErr result ((buffers.new.answers.items ≡ buffers.old.answers.items)
         × Broken E.answers E.breaks engine.old ((begun ++ bytes.now) ∷ []) engine.new) }
     ensures limit { E.limit engine.new ≡ E.limit engine.old }
+    ensures holds { E.holds engine.new }
 {
     let Buffers { line, answers } = buffers;
     if line.is_empty() {
@@ -123,7 +127,8 @@ pub fn feed<E: LineEngine>(
     buffers: &mut Buffers,
     block: &[u8],
 ) -> Result<(), AllocError>
-    requires { limit ≡ E.limit engine.old }
+    requires limit { limit ≡ E.limit engine.old }
+    requires holds { E.holds engine.old }
     ensures ok { (begun : List ℕ) → buffers.old.line.items ≡ kept_of limit begun
         → OnOk result (Made E.answers engine.old (whole_lines begun block.now)
         buffers.old.answers.items buffers.new.answers.items engine.new) }
@@ -133,6 +138,7 @@ pub fn feed<E: LineEngine>(
         → OnErr result (MadePartly E.answers E.breaks engine.old (whole_lines begun block.now)
         buffers.old.answers.items buffers.new.answers.items engine.new) }
     ensures limit { E.limit engine.new ≡ E.limit engine.old }
+    ensures holds { E.holds engine.new }
 {
     let mut rest = block;
     'lines: while let Some(end) = line_end(rest) {

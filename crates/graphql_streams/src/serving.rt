@@ -25,6 +25,7 @@ fn answer_block<E: LineEngine, O: ByteSink>(
     writer: &mut O,
 ) -> Result<(), ServeError>
     requires limit { limit ≡ E.limit engine.old }
+    requires holds { E.holds engine.old }
     requires none { buffers.old.answers.items ≡ [] }
     ensures ok { (begun : List ℕ) → buffers.old.line.items ≡ kept_of limit begun
         → OnOk result (Serves E.answers engine.old (whole_lines begun block.now)
@@ -36,6 +37,7 @@ fn answer_block<E: LineEngine, O: ByteSink>(
         (O.written writer.old) (O.written writer.new) engine.new) }
     ensures none { buffers.new.answers.items ≡ [] }
     ensures limit { E.limit engine.new ≡ E.limit engine.old }
+    ensures holds { E.holds engine.new }
     ensures faults { WritesAfter result (O.faults writer.old) (O.faults writer.new) }
 {
     let made = feed(alloc, engine, limit, buffers, block);
@@ -51,6 +53,7 @@ fn answer_rest<E: LineEngine, O: ByteSink>(
     writer: &mut O,
 ) -> Result<(), ServeError>
     requires limit { limit ≡ E.limit engine.old }
+    requires holds { E.holds engine.old }
     requires none { buffers.old.answers.items ≡ [] }
     ensures ok { (begun : List ℕ) → buffers.old.line.items ≡ kept_of limit begun
         → OnOk result (Serves E.answers engine.old (begun ∷ [])
@@ -73,7 +76,8 @@ fn serve_over<E: LineEngine, I: ByteSource, O: ByteSink>(
     writer: &mut O,
     block: &mut [u8],
 ) -> Result<(), ServeError>
-    requires { 0 < length block.old }
+    requires block { 0 < length block.old }
+    requires holds { E.holds engine.old }
     ensures ok { OnOk result (ServedAll E.answers engine.old (I.left reader.old) (I.left reader.new)
         (O.written writer.old) (O.written writer.new) engine.new) }
     ensures err { IfErr result (λ e. Ends E.answers E.breaks (HasRisen (O.faults writer.old) (O.faults writer.new)) e engine.old
@@ -119,6 +123,7 @@ pub fn serve_lines<E: LineEngine, I: ByteSource, O: ByteSink>(
     reader: &mut I,
     writer: &mut O,
 ) -> Result<(), ServeError>
+    requires { E.holds engine.old }
     ensures ok { OnOk result (ServedAll E.answers engine.old (I.left reader.old) (I.left reader.new)
         (O.written writer.old) (O.written writer.new) engine.new) }
     ensures err { IfErr result (λ e. Ends E.answers E.breaks (HasRisen (O.faults writer.old) (O.faults writer.new)) e engine.old

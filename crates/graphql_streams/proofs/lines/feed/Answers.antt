@@ -9,7 +9,8 @@ lines-init g c = record {
   feeding = λ begun is.
       feeding-first g.E.LineEngine.answers c.args.limit begun c.args.block.now c.args.engine.now c.args.buffers.now.answers.items
       c.args.buffers.now.line.items is;
-  limit = c.requires;
+  limit = c.requires.limit;
+  holds = c.requires.holds;
 }
 
 pub lines-preserved : goal.lines-preserved
@@ -24,6 +25,7 @@ lines-preserved g c =
           c.end_line.new.buffers.line.items c.end_line.new.buffers.answers.items c.end_line.new.engine
           c.in-Some.ensures.ends (c.in_ok-end_line.ensures.ok f.now f.kept) c.in_ok-end_line.ensures.cleared;
       limit = c.lines.invariant.limit ∙ sym c.in_ok-end_line.ensures.limit;
+      holds = c.in_ok-end_line.ensures.holds;
     })
 
 where_ok : {A E : Type 0} {P Q : Type 0} (r : Result A E) → (P → Q) → OnOk r P → OnOk r Q

@@ -9,6 +9,7 @@ invariant-lines g l = record {
       → Feeding g.E.LineEngine.answers l.limit begun l.block l.rest l.fn.engine l.fn.buffers.answers.items
       l.buffers.line.items l.buffers.answers.items l.engine;
   limit : l.limit ≡ g.E.LineEngine.limit l.engine;
+  holds : g.E.LineEngine.holds l.engine;
 }
 
 abbrev pub decreases-lines : goal.decreases-lines

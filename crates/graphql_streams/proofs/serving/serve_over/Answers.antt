@@ -18,6 +18,7 @@ reading-preserved g c =
           (r c.read_some.new.self) (w c.answer_block.new.writer) c.in-Ok.ensures.bytes.0 c.in-Ok-answer_block.ensures.ok
           c.in-Ok-answer_block.ensures.kept;
       limit = b.invariant.limit ∙ sym c.in-Ok-answer_block.ensures.limit;
+      holds = c.in-Ok-answer_block.ensures.holds;
       none = c.in-Ok-answer_block.ensures.none;
       no_read_fault = search rules;
       no_write_fault = search rules;

@@ -1,19 +1,17 @@
-use Rattle.graphql_streams.specs.Counts.{HasRisen}
-use Rattle.graphql_service.proofs.ServedContexts.{ends-contexts, parts-stay, serves-contexts}
+use Rattle.std.proofs.Common.{sym, ◌∙◌}
+use Rattle.std.proofs.lemmas.Bool.{false≢true}
 use Rattle.graphql_service.proofs.serving.Service+S+R+R+Context.serve.Goals as goal
 
-pub returns-clause-served : goal.returns-clause-served
-returns-clause-served g c =
-    serves-contexts _ _ _ _ c.serve_lines.result c.args.self.now c.serve_lines.new.engine _ _ _ _ c.serve_lines.ensures.ok
-
-pub returns-clause-ended : goal.returns-clause-ended
-returns-clause-ended g c =
-    let f = g.O.ByteSink.faults in
-    ends-contexts _ _ _ _ c.serve_lines.result c.args.self.now c.serve_lines.new.engine _ _ _ _
-    (HasRisen (f c.args.writer.now) (f c.serve_lines.new.writer)) c.serve_lines.ensures.err
+pub serve_keeping-served-requires : goal.serve_keeping-served-requires
+serve_keeping-served-requires g c = λ text kept document spelled. absurd (false≢true (sym (c.new-begun.ensures text) ∙ kept))
 
 pub returns-clause-parts : goal.returns-clause-parts
 returns-clause-parts g c =
-    let f = g.O.ByteSink.faults in
-    parts-stay _ _ _ _ c.serve_lines.result c.args.self.now c.serve_lines.new.engine _ _ _ _
-    (HasRisen (f c.args.writer.now) (f c.serve_lines.new.writer)) c.serve_lines.ensures.ok c.serve_lines.ensures.err
+    let parts = c.serve_keeping-served.ensures.parts in
+    record {
+      root_node = parts.root_node;
+      resolver = parts.resolver;
+      context = parts.context;
+      line_limit = parts.line_limit;
+      selection_limit = parts.selection_limit;
+    }

@@ -3,15 +3,15 @@ use Rattle.graphql_stores.proofs.allowing_service.AllowingService+S+R+R+Context.
 
 pub returns-in-Ok-true-clause-answers : goal.returns-in-Ok-true-clause-answers
 returns-in-Ok-true-clause-answers g c =
-    passed _ _ _ c.args.line.now c.executable_requests_are_not_refused.ensures _ c.args.self.now.service.context
-    c.append_answer.new.self.context c.args.out.now.items c.append_answer.new.out.items c.in-Ok-true.field-0 c.in-Ok-true.field-0-test
-    c.in-Ok-true.ensures c.append_answer.result c.append_answer.ensures.answers
+    passed _ _ _ c.args.line.now c.executable_requests_are_not_refused.ensures c.args.self.now.service.context
+    c.append_answer_line.new.self.context c.args.out.now.items c.append_answer_line.new.out.items c.in-Ok-true.field-0 c.in-Ok-true.field-0-test
+    c.in-Ok-true.ensures c.append_answer_line.result c.append_answer_line.ensures.answers
 
 pub returns-in-Ok-true-clause-broken : goal.returns-in-Ok-true-clause-broken
 returns-in-Ok-true-clause-broken g c =
-    passed-broken _ _ _ c.args.line.now c.executable_requests_are_not_refused.ensures _ c.args.self.now.service.context
-    c.append_answer.new.self.context c.args.out.now.items c.append_answer.new.out.items c.in-Ok-true.field-0 c.in-Ok-true.field-0-test
-    c.in-Ok-true.ensures c.append_answer.result c.append_answer.ensures.breaks
+    passed-broken _ _ _ c.args.line.now c.executable_requests_are_not_refused.ensures c.args.self.now.service.context
+    c.append_answer_line.new.self.context c.args.out.now.items c.append_answer_line.new.out.items c.in-Ok-true.field-0 c.in-Ok-true.field-0-test
+    c.in-Ok-true.ensures c.append_answer_line.result c.append_answer_line.ensures.broken
 
 pub returns-in-Ok-false-clause-answers : goal.returns-in-Ok-false-clause-answers
 returns-in-Ok-false-clause-answers g c =

@@ -1,0 +1,19 @@
+use Rattle.graphql_streams.specs.Counts.{HasRisen}
+use Rattle.graphql_service.proofs.ServedContexts.{ends-contexts, parts-stay, serves-contexts}
+use Rattle.graphql_service.proofs.serving.Service+S+R+R+Context.serve_keeping.Goals as goal
+
+pub returns-clause-served : goal.returns-clause-served
+returns-clause-served g c =
+    serves-contexts _ _ _ _ c.serve_lines.result c.args.self.now c.serve_lines.new.engine _ _ _ _ c.serve_lines.ensures.ok
+
+pub returns-clause-ended : goal.returns-clause-ended
+returns-clause-ended g c =
+    let f = g.O.ByteSink.faults in
+    ends-contexts _ _ _ _ c.serve_lines.result c.args.self.now c.serve_lines.new.engine _ _ _ _
+    (HasRisen (f c.args.writer.now) (f c.serve_lines.new.writer)) c.serve_lines.ensures.err
+
+pub returns-clause-parts : goal.returns-clause-parts
+returns-clause-parts g c =
+    let f = g.O.ByteSink.faults in
+    parts-stay _ _ _ _ c.serve_lines.result c.args.self.now c.serve_lines.new.engine _ _ _ _
+    (HasRisen (f c.args.writer.now) (f c.serve_lines.new.writer)) c.serve_lines.ensures.ok c.serve_lines.ensures.err
