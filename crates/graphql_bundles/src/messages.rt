@@ -3,7 +3,8 @@
 use graphql_merging::{Difference, SelectedField};
 use graphql_names::Type;
 use graphql_occurrences::{TypeLiteral, field_of, type_of_field};
-use graphql_text::TextRef;
+use graphql_rule_errors::joined;
+use graphql_text::{Text, TextRef};
 use graphql_written_out::response_key;
 use std::alloc::{AllocError, Global};
 
@@ -13,25 +14,67 @@ pub(crate) fn message_of<S, C>(
     difference: Difference,
     left: &SelectedField<'_, '_, S, C>,
     right: &SelectedField<'_, '_, S, C>,
-) -> Result<String, AllocError> {
+) -> Result<Text, AllocError> {
     let key = response_key(&left.field.item);
     let one = left.field.item.name.item.as_str();
     let other = right.field.item.name.item.as_str();
     match difference {
-        Difference::Names => format!(in alloc;
-            "Fields \"{key}\" conflict because {one} and {other} are different fields"
-        ),
-        Difference::Arguments => format!(in alloc;
-            "Fields \"{key}\" conflict because they have differing arguments"
+        Difference::Names => names_differ(alloc, key, one, other),
+        Difference::Arguments => joined(
+            alloc,
+            &[
+                "Fields \"",
+                key,
+                "\" conflict because they have differing arguments",
+            ],
         ),
         Difference::Types => {
             let first = type_text(alloc, type_of_field(field_of(Some(left.parent), one)))?;
             let second = type_text(alloc, type_of_field(field_of(Some(right.parent), other)))?;
-            format!(in alloc;
-                "Fields \"{key}\" conflict because they return conflicting types {first} and {second}"
-            )
+            types_differ(alloc, key, first.as_str(), second.as_str())
         }
     }
+}
+
+/// What is said of two fields of these names.
+fn names_differ<'x>(
+    alloc: Global,
+    key: &'x str,
+    one: &'x str,
+    other: &'x str,
+) -> Result<Text, AllocError> {
+    joined(
+        alloc,
+        &[
+            "Fields \"",
+            key,
+            "\" conflict because ",
+            one,
+            " and ",
+            other,
+            " are different fields",
+        ],
+    )
+}
+
+/// What is said of two fields of these types.
+fn types_differ<'x>(
+    alloc: Global,
+    key: &'x str,
+    first: &'x str,
+    second: &'x str,
+) -> Result<Text, AllocError> {
+    joined(
+        alloc,
+        &[
+            "Fields \"",
+            key,
+            "\" conflict because they return conflicting types ",
+            first,
+            " and ",
+            second,
+        ],
+    )
 }
 
 /// A type as it is written, with its wraps.

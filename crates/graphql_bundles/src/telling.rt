@@ -13,7 +13,7 @@ use crate::conflict::Conflict;
 use crate::messages::message_of;
 use graphql_merging::{Difference, SelectedField, WrittenField, first_difference};
 use graphql_schema::SchemaType;
-use graphql_text::{Items, Text};
+use graphql_text::Items;
 use std::alloc::{AllocError, Global};
 
 /// Tells that two fields of one response key, the first of them first in the text, do not agree. An
@@ -32,7 +32,7 @@ fn tell_in_order<S, C>(
 {
     let message = message_of(alloc, difference, first, second)?;
     let places = [first.field.span.start, second.field.span.start];
-    let conflict = Conflict::at(alloc, difference, Text::from_string(message), &places)?;
+    let conflict = Conflict::at(alloc, difference, message, &places)?;
     told.push(conflict)?;
     Ok(())
 }
@@ -57,12 +57,14 @@ pub fn tell<S, C>(
     tell_in_order(alloc, difference, left, right, told)
 }
 
-/// The same, by the first difference that there is where fields around them have parents that are
-/// different objects or not, if there is one. An error of the call is want of memory.
+/// The same of two fields of which this is the first difference where `around` says whether fields around
+/// them have parents that are different objects. Told is the first one where `said` says it, if there is
+/// one. An error of the call is want of memory.
 fn tell_as<S: PartialEq, C>(
     alloc: Global,
     schema: &SchemaType<S, C>,
     around: bool,
+    said: bool,
     difference: Difference,
     left: &SelectedField<'_, '_, S, C>,
     right: &SelectedField<'_, '_, S, C>,
@@ -72,7 +74,10 @@ fn tell_as<S: PartialEq, C>(
         let other = right.now.field.now.span.start in
         OnOk result (AddsConflict (in_order one other) (λ reason. Unit {0}) told.old told.new) }
 {
-    let first = first_difference(alloc, schema, around, left, right)?;
+    if around == said {
+        return tell(alloc, difference, left, right, told);
+    }
+    let first = first_difference(alloc, schema, said, left, right)?;
     tell(alloc, first.unwrap_or(difference), left, right, told)
 }
 
@@ -108,7 +113,7 @@ pub(crate) fn compare<S: PartialEq, C>(
     let other = &right.selected;
     let difference = first_difference(alloc, schema, around, one, other)?;
     match difference {
-        Some(difference) => tell_as(alloc, schema, said, difference, one, other, told),
+        Some(difference) => tell_as(alloc, schema, around, said, difference, one, other, told),
         None => Ok(()),
     }
 }
