@@ -13,6 +13,7 @@ use Rattle.graphql_field_results.specs.Answered.{Answered}
 use Rattle.graphql_field_results.specs.declared.field_fault.FieldFault.{FieldFault}
 use Rattle.graphql_field_results.specs.declared.field_fault.FieldFault.TheVariants as fault
 use Rattle.graphql_records.specs.Asked.{Asked}
+use Rattle.graphql_records.specs.ValuesSet.{Adds}
 use Rattle.graphql_records.specs.Settings.{Fault, Fields, set_all, set_at, set_one}
 use Rattle.graphql_records.specs.declared.table_type.TableType.{TableType}
 
@@ -20,6 +21,12 @@ use Rattle.graphql_records.specs.declared.table_type.TableType.{TableType}
 pub answered_err : (wanted step : Result Fields Fault) (f : FieldFault DefaultScalarValue) → ((e : Fault) → step ≡ Err e → wanted ≡ Err e) → Answered {A = Fields} step (Err f) → Answered {A = Fields} wanted (Err f)
 answered_err wanted step (fault.Error e) carries h = carries e h
 answered_err wanted step fault.Memory carries h = tt
+
+-- the same of a step that adds values behind others
+pub adds_err : (wanted : Fields → Result Fields Fault) (old new : Fields) (f : FieldFault DefaultScalarValue) → Adds {A = Unit {0}} wanted old (Err f) new
+    → (fields : Fields) → Answered {A = Fields} (wanted fields) (Err f)
+adds_err wanted old new (fault.Error e) h fields = h fields
+adds_err wanted old new fault.Memory h fields = tt
 
 module _ (types : List TableType) (object : Bytes) where
   -- what one argument sets, by its name and value

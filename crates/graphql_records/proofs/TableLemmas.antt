@@ -1,10 +1,14 @@
 -- Records that are added one after the other.
-use Rattle.std.proofs.Common.{◌≡◌, ◌||◌, Bool, true, false, cond, [], ◌∷◌, ◌++◌, Option, Some, None, is_some, refl, sym, ap, ◌∙◌, append_assoc, true≢false}
+use Rattle.std.proofs.Common.{◌≡◌, ◌||◌, ℕ, zero, suc, Bool, true, false, cond, [], ◌∷◌, ◌++◌, Option, Some, None, is_some, refl, sym, ap, ◌∙◌, append_assoc, true≢false}
 use Rattle.std.proofs.lemmas.List.{map-append}
-use Rattle.std.specs.Map.{keys_of, lookup}
+use Rattle.std.specs.Map.{keys_of, lookup, values_of}
+use Rattle.std.specs.Option.{option_map_or}
+use Rattle.std.specs.Prelude.{List, slice_get}
 use Rattle.std.specs.Str.{bytes_eq}
 use Rattle.indexmap.specs.IndexMap.{insert_entry}
+use Rattle.indexmap.specs.Layout.{set_value_at}
 use Rattle.graphql_names.specs.Names.{Bytes, is_one_of, stands_twice}
+use Rattle.graphql_records.specs.Settings.{Fields, with_fields}
 use Rattle.graphql_records.specs.Tables.{Entries}
 use Rattle.graphql_records.specs.declared.record.Record.{Record}
 use Rattle.graphql_names.proofs.Repeats.{again, first, kept}
@@ -52,3 +56,14 @@ nothing_behind (r ∷ records) = ap (λ rs. r ∷ rs) (nothing_behind records)
 pub none_found : {A : Type 0} (o : Option A) → is_some o ≡ false → o ≡ None
 none_found None h = refl
 none_found (Some x) h = absurd (true≢false h)
+
+-- a value that stands at a place, put there again, leaves the entries
+put_again : {K X : Type 0} (es : List (K × X)) (i : ℕ) (w : X) → Some w ≡ slice_get (values_of es) i → set_value_at es i w ≡ es
+put_again [] i w there = refl
+put_again (e ∷ es) zero w there = ap (λ o. (e.0, option_map_or (λ v. v) o w) ∷ es) there
+put_again (e ∷ es) (suc i) w there = ap (λ rest. e ∷ rest) (put_again es i w there)
+
+-- so a record whose fields are put in place once more leaves the table
+pub left_alone : (records after : Entries) (place : ℕ) (r : Record) (fields : Fields) → Some r ≡ slice_get (values_of records) place
+    → after ≡ set_value_at records place (with_fields fields r) → fields ≡ r.fields → after ≡ records
+left_alone records after place r fields there set same = set ∙ ap (λ fs. set_value_at records place (with_fields fs r)) same ∙ put_again records place r there

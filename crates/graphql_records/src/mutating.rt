@@ -1,16 +1,17 @@
 //! What the fields of a mutation's root set in records.
 
-ghost use Rattle.std.specs.Prelude.{◌≡◌};
+ghost use Rattle.std.specs.Prelude.{◌≡◌, OnErr, OnOk};
 ghost use Rattle.graphql_text.specs.Memory.{Gives};
 ghost use Rattle.graphql_arguments.specs.GivenValues.{arguments_told};
 ghost use Rattle.graphql_field_results.specs.Answered.{Answered, Leaves};
+ghost use Rattle.graphql_records.specs.ValuesSet.{changed, once_set, once_changed};
 ghost use Rattle.graphql_records.specs.Settings as spec;
 
 use crate::asked::id_asked;
 use crate::lookups::is_possible;
-use crate::record::{Fields, Record, copy_of_fields};
+use crate::record::{Fields, Record};
 use crate::records::Records;
-use crate::setting::set_all;
+use crate::setting::values_of;
 use crate::table_node::TableNode;
 use crate::table_type::TableType;
 use crate::value_answers::Answer;
@@ -33,9 +34,9 @@ fn misfit_record(
     Ok(FieldError::of(Text::from_string(message)))
 }
 
-/// The fields of a record once the arguments of a mutation's field have set theirs. An error says
-/// why they are not set, or is want of memory.
-fn fields_set(
+/// The values that the arguments of a mutation's field set in a record. An error says why they are not
+/// set, or is want of memory.
+fn values_for(
     alloc: Global,
     types: &NamedItems<TableType>,
     of_type: &str,
@@ -44,18 +45,17 @@ fn fields_set(
     arguments: &Arguments<'_, DefaultScalarValue>,
 ) -> FieldResult<Fields, DefaultScalarValue>
     ensures { let given = arguments_told arguments.now in
-        Answered (spec.fields_set types.now of_type.now id.now found.now given) result }
+        Answered (spec.fields_set types.now of_type.now id.now found.now given)
+        (once_set found.now.fields result) }
 {
     if !is_possible(types, of_type, &found.type_name) {
         return Err(FieldFault::Error(misfit_record(alloc, id.as_str(), of_type)?));
     }
-    let fields = copy_of_fields(&found.fields)?;
-    let object = found.type_name.as_str();
-    set_all(alloc, types, object, arguments, fields)
+    values_of(alloc, types, found.type_name.as_str(), arguments)
 }
 
 /// The same of the record at a place; none where there is no record.
-fn fields_at(
+fn values_at(
     alloc: Global,
     types: &NamedItems<TableType>,
     records: &Records,
@@ -64,12 +64,13 @@ fn fields_at(
     arguments: &Arguments<'_, DefaultScalarValue>,
 ) -> FieldResult<Option<Fields>, DefaultScalarValue>
     ensures { let given = arguments_told arguments.now in
-        Answered (spec.fields_at types.now records.now.entries of_type.now given place) result }
+        Answered (spec.fields_at types.now records.now.entries of_type.now given place)
+        (once_changed records.now.entries place result) }
 {
     match records.get(place) {
         Some((id, found)) => {
-            let fields = fields_set(alloc, types, of_type, id, found, arguments)?;
-            Ok(Some(fields))
+            let values = values_for(alloc, types, of_type, id, found, arguments)?;
+            Ok(Some(values))
         }
         None => Ok(None),
     }
@@ -90,18 +91,24 @@ fn place_asked(
     }
 }
 
-/// Puts fields in place of those of the record at a place, if there are any; the record's node,
-/// null where there are none.
-fn set_record(records: &mut Records, place: usize, fields: Option<Fields>) -> Answer
-    ensures answer { result ≡ spec.node_set place fields }
-    ensures after { records.new ≡ spec.record_set records.old place fields }
+/// Sets values in the fields of the record at a place, if there are any; the record's node, null where
+/// there are none. An error is want of memory, and sets none.
+fn set_record(
+    records: &mut Records,
+    place: usize,
+    values: Option<Fields>,
+) -> Result<Answer, AllocError>
+    ensures answer { Gives result (spec.node_set place (changed records.old.entries place values)) }
+    ensures after { OnOk result (records.new ≡ spec.record_set records.old place
+        (changed records.old.entries place values)) }
+    ensures err { OnErr result (records.new ≡ records.old) }
 {
-    match fields {
-        Some(fields) => {
-            records.set_fields(place, fields);
-            Resolved::Node(TableNode::At(place))
+    match values {
+        Some(values) => {
+            records.set_values(place, values)?;
+            Ok(Resolved::Node(TableNode::At(place)))
         }
-        None => Resolved::Null,
+        None => Ok(Resolved::Null),
     }
 }
 
@@ -131,6 +138,6 @@ pub fn set_asked(
     let Some(place) = place_asked(alloc, &*records, arguments)? else {
         return Ok(Resolved::Null);
     };
-    let fields = fields_at(alloc, types, &*records, of_type, place, arguments)?;
-    Ok(set_record(records, place, fields))
+    let values = values_at(alloc, types, &*records, of_type, place, arguments)?;
+    Ok(set_record(records, place, values)?)
 }

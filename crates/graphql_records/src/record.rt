@@ -1,15 +1,15 @@
 //! Records.
 
-ghost use Rattle.std.specs.Prelude.{◌≡◌, position};
+ghost use Rattle.std.specs.Prelude.{◌≡◌, ◌+◌, ◌<◌, ◌≤◌, length, position, vec_capacity, vec_len, OnErr, OnOk};
 ghost use Rattle.std.specs.Option.{option_copied};
 ghost use Rattle.std.specs.Str.{bytes_eq};
-ghost use Rattle.graphql_text.specs.Memory.{Gives};
-ghost use Rattle.graphql_output_values.specs.Objects.{field_value, with_field};
+ghost use Rattle.graphql_output_values.specs.Objects.{field_value, with_field, with_fields};
 
 use crate::field_value::FieldValue;
 use graphql_names::same_name;
 use graphql_text::{Items, Text};
-use std::alloc::{AllocError, Global};
+use std::alloc::AllocError;
+use std::mem;
 
 /// Values of fields, by the fields' names.
 pub type Fields = Items<(Text, FieldValue)>;
@@ -45,38 +45,41 @@ fn place_of(fields: &[(Text, FieldValue)], name: &str) -> Option<usize>
         .position(|field| same_name(name, field.0.as_str()))
 }
 
-/// The same values of fields once more. An error is want of memory.
-pub(crate) fn copy_of_fields(fields: &Fields) -> Result<Fields, AllocError>
-    ensures { Gives result fields.now }
+/// Sets a value in the field of its name; a new field stands behind the others. There is room for it.
+fn set_value(fields: &mut Vec<(Text, FieldValue)>, name: Text, value: FieldValue)
+    requires { vec_len fields.old < vec_capacity fields.old }
+    ensures value { fields.new.items ≡ with_field fields.old.items name value }
+    ensures len { vec_len fields.new ≤ vec_len fields.old + 1 }
+    ensures room { vec_capacity fields.new ≡ vec_capacity fields.old }
 {
-    let mut copies = Items::with_capacity(*fields.allocator(), fields.len())?;
-    'fields: for field in fields.as_slice() {
-        let name = field.0.clone()?;
-        let value = field.1.clone()?;
-        copies.push((name, value))?;
+    match place_of(fields.as_slice(), name.as_str()) {
+        Some(place) => fields[place].1 = value,
+        None => fields.push_reserved((name, value)),
     }
-    Ok(copies)
 }
 
-/// The values of fields, with this one in place of the field's old one, or as the last. An error is
-/// want of memory.
-pub(crate) fn with_field(
-    alloc: Global,
-    mut fields: Fields,
-    name: &str,
-    value: FieldValue,
-) -> Result<Fields, AllocError>
-    ensures { Gives result (with_field fields name.now value) }
+/// Sets values in the fields of their names, in turn. There is room for as many new fields.
+fn set_in_turn(fields: &mut Vec<(Text, FieldValue)>, values: Fields)
+    requires { vec_len fields.old + length values ≤ vec_capacity fields.old }
+    ensures { fields.new.items ≡ with_fields fields.old.items values }
 {
-    match place_of(fields.as_slice(), name) {
-        Some(place) => {
-            fields[place].1 = value;
-            Ok(fields)
-        }
-        None => {
-            let name = Text::from_str(alloc, name)?;
-            fields.push((name, value))?;
-            Ok(fields)
-        }
+    'values: for (name, value) in values.into_vec() {
+        set_value(fields, name, value);
     }
+}
+
+/// Sets values in the fields of their names, in turn; a new field stands behind the others. An error is
+/// want of memory, and sets none.
+pub(crate) fn set_values(fields: &mut Fields, values: Fields) -> Result<(), AllocError>
+    ensures ok { OnOk result (fields.new ≡ with_fields fields.old values) }
+    ensures err { OnErr result (fields.new ≡ fields.old) }
+{
+    let none = Items::new(*fields.allocator());
+    let mut held = mem::replace(fields, none).into_vec();
+    let room = held.reserve(values.len());
+    if room.is_ok() {
+        set_in_turn(&mut held, values);
+    }
+    *fields = Items::from_vec(held);
+    room
 }

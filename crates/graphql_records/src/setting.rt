@@ -5,16 +5,17 @@ ghost use Rattle.graphql_text.specs.Memory.{Gives};
 ghost use Rattle.graphql_arguments.specs.GivenValues.{arguments_told};
 ghost use Rattle.graphql_field_results.specs.Answered.{Answered};
 ghost use Rattle.graphql_records.specs.Settings as spec;
+ghost use Rattle.graphql_records.specs.ValuesSet.{Adds, once_set};
 
 use crate::field_value::FieldValue;
 use crate::lookups::known_field;
-use crate::record::{Fields, with_field};
+use crate::record::Fields;
 use crate::table_type::TableType;
 use graphql_arguments::Arguments;
 use graphql_field_results::{FieldError, FieldFault, FieldResult};
 use graphql_names::NamedItems;
 use graphql_scalars::DefaultScalarValue;
-use graphql_text::Text;
+use graphql_text::{Items, Text};
 use graphql_values::InputValue;
 use std::alloc::{AllocError, Global};
 
@@ -75,62 +76,65 @@ fn no_scalar_field(
     Ok(FieldError::of(Text::from_string(message)))
 }
 
-/// The fields of an object once an argument has set the field of its name: `id` sets none. An error
-/// says that it may not, or is want of memory.
-fn set_one(
+/// Adds the value that an argument sets in the field of its name: `id` sets none. An error says that it
+/// may not, or is want of memory.
+fn add_one(
     alloc: Global,
     types: &NamedItems<TableType>,
     object: &str,
     name: &str,
     value: &InputValue<DefaultScalarValue>,
-    fields: Fields,
-) -> FieldResult<Fields, DefaultScalarValue>
-    ensures { Answered (spec.set_one types.now object.now name.now value.now fields) result }
+    values: &mut Fields,
+) -> FieldResult<(), DefaultScalarValue>
+    ensures { Adds (spec.set_one types.now object.now name.now value.now) values.old result values.new }
 {
     if name == "id" {
-        return Ok(fields);
+        return Ok(());
     }
     match settable(types, object, name, value)? {
-        Some(value) => Ok(with_field(alloc, fields, name, value)?),
+        Some(value) => {
+            values.push((Text::from_str(alloc, name)?, value))?;
+            Ok(())
+        }
         None => Err(FieldFault::Error(no_scalar_field(alloc, object, name)?)),
     }
 }
 
-/// The fields of an object once the argument at a place has set its field.
-fn set_at(
+/// Adds the value that the argument at a place sets in its field.
+fn add_at(
     alloc: Global,
     types: &NamedItems<TableType>,
     object: &str,
     arguments: &Arguments<'_, DefaultScalarValue>,
     place: usize,
-    fields: Fields,
-) -> FieldResult<Fields, DefaultScalarValue>
+    values: &mut Fields,
+) -> FieldResult<(), DefaultScalarValue>
     ensures { let given = arguments_told arguments.now in
-        Answered (spec.set_at types.now object.now given place fields) result }
+        Adds (spec.set_at types.now object.now given place) values.old result values.new }
 {
     match arguments.get_index(place) {
-        Some((name, value)) => set_one(alloc, types, object, name, value, fields),
-        None => Ok(fields),
+        Some((name, value)) => add_one(alloc, types, object, name, value, values),
+        None => Ok(()),
     }
 }
 
-/// The fields of an object once each argument, in order, has set its field. An error says which is
-/// the first that may not, or is want of memory.
-pub(crate) fn set_all(
+/// The values that arguments set in fields of an object, in order. An error says which is the first
+/// that may not, or is want of memory.
+pub(crate) fn values_of(
     alloc: Global,
     types: &NamedItems<TableType>,
     object: &str,
     arguments: &Arguments<'_, DefaultScalarValue>,
-    mut fields: Fields,
 ) -> FieldResult<Fields, DefaultScalarValue>
-    ensures { let given = arguments_told arguments.now in
-        Answered (spec.set_all types.now object.now given fields) result }
+    ensures { let given = arguments_told arguments.now in (fields : spec.Fields)
+        → Answered (spec.set_all types.now object.now given fields) (once_set fields result) }
 {
+    let mut values = Items::with_capacity(alloc, arguments.len())?;
     'arguments: for place in 0..arguments.len() {
-        match set_at(alloc, types, object, arguments, place, fields) {
-            Ok(set) => fields = set,
+        match add_at(alloc, types, object, arguments, place, &mut values) {
+            Ok(()) => {}
             Err(fault) => return Err(fault),
         }
     }
-    Ok(fields)
+    Ok(values)
 }
