@@ -16,7 +16,7 @@ use Rattle.graphql_field_results.specs.declared.resolved.Resolved.TheOpen.{Resol
 use Rattle.graphql_tree.specs.declared.document.Fragment.{Fragment}
 use Rattle.graphql_semantics.specs.Completion.{Members, at_required, blame_at}
 use Rattle.graphql_semantics.specs.Engines.{Engine}
-use Rattle.graphql_semantics.specs.Evaluation.{evaluate, found_in}
+use Rattle.graphql_semantics.specs.Evaluation.{evaluate}
 use Rattle.graphql_semantics.specs.Outcomes.{Outcome, fails}
 use Rattle.graphql_semantics.specs.Turns.{all_turns, turns_at_required}
 use Rattle.graphql_execution_walk.specs.declared.frames.Begun.{Begun}
@@ -27,7 +27,7 @@ use Rattle.graphql_execution_walk.specs.Frames.{FineBegun, Leads, comes_to, know
 use Rattle.graphql_execution_walk.specs.FrameTurns.{begun_turns}
 use Rattle.graphql_execution_walk.specs.OwnErrors.{own_at_required}
 use Rattle.graphql_execution_walk.specs.Parts.{null_at, null_here}
-use Rattle.graphql_execution_walk.specs.Sets.{AreGroups}
+use Rattle.graphql_execution_walk.specs.KnownTypes.{IsKnown}
 use Rattle.graphql_execution_walk.proofs.FrameLemmas.{leads-same}
 use Rattle.graphql_execution_walk.proofs.OwnErrorLaws.{own-fails, own-turns}
 
@@ -38,7 +38,7 @@ module _ {S N : Type 0} (e : Engine S N) (sets : List (Tree S)) (name : Bytes) (
     pub path : new.path ≡ old.path
     pub turns : begun_turns e fragments now ≡ turns_of_answer e sets name wraps answer
     pub fine : FineBegun e fragments now
-    pub known : IfSome (known_of now) (λ k. AreGroups fragments (found_in e k.object sets) k.groups)
+    pub known : IfSome (known_of now) (λ k. IsKnown e fragments name sets k.object k)
 
   abbrev can_stand : N → Bool
   can_stand m = e.is_possible name (e.concrete m)

@@ -1,8 +1,10 @@
 -- What the engine of a request and a resolver is made of.
-use Rattle.std.proofs.Common.{◌≡◌, refl, Bool, List}
+use Rattle.std.proofs.Common.{◌≡◌, refl, Bool, List, Option}
+use Rattle.std.specs.Prelude.{IfSome}
 use Rattle.std.specs.List.{flat_map}
 use Rattle.graphql_scalars.specs.ScalarAnswers.{ScalarAnswer}
 use Rattle.graphql_names.specs.Names.{Bytes}
+use Rattle.graphql_collect.specs.Grouped.{Group}
 use Rattle.graphql_collected.specs.declared.request.Request.{Request}
 use Rattle.graphql_collected.specs.Requests.{drops_in, fields_in, is_below_in}
 use Rattle.graphql_written_out.specs.Trees.{Tree}
@@ -11,6 +13,8 @@ use Rattle.graphql_semantics.specs.Evaluation.{found_in}
 use Rattle.graphql_execution_walk.specs.Asked.{asked_type}
 use Rattle.graphql_execution_walk.specs.declared.asked.Asked.{Asked}
 use Rattle.graphql_execution_walk.specs.FieldDeclarations.{declared_type, is_leaf_named, is_possible_named}
+use Rattle.graphql_execution_walk.specs.Prepared.{ArePreparedBy, ArePreparedIn}
+use Rattle.graphql_execution_walk.specs.declared.prepared.Prepared.{Prepared}
 use Rattle.graphql_execution_walk.specs.Engines.{Resolves, engine_of, engine_over}
 
 module _ {S C N : Type 0} (of_text : Bytes → S) (of_bool : Bool → S) (answer : S → ScalarAnswer) (request : Request S C) (concrete : N → Bytes) (resolves : Resolves S N) where
@@ -37,3 +41,12 @@ module _ {S C N : Type 0} (of_text : Bytes → S) (of_bool : Bool → S) (answer
   pub engine-found : (object : Bytes) (sets : List (Tree S)) → flat_map (fields_in answer request object) sets ≡ found_in engine object sets
   unfolding engine_over drops_in is_below_in
   engine-found object sets = refl
+
+  -- what is known of fields by the request is known by the engine, and the other way round
+  pub prepared-if : (object : Bytes) (gs : List (Group S)) (ps : Option (List Prepared)) → IfSome ps (ArePreparedIn request object gs) → IfSome ps (ArePreparedBy engine object gs)
+  unfolding engine_over
+  prepared-if object gs ps h = h
+
+  pub if-prepared : (object : Bytes) (gs : List (Group S)) (ps : Option (List Prepared)) → IfSome ps (ArePreparedBy engine object gs) → IfSome ps (ArePreparedIn request object gs)
+  unfolding engine_over
+  if-prepared object gs ps h = h

@@ -1,6 +1,6 @@
 -- Laws of frames.
-use Rattle.std.proofs.Common.{◌≡◌, refl, sym, ◌∙◌, ap, subst, ℕ, zero, suc, ◌+◌, arith, Bool, true, false, List, [], ◌∷◌, ◌++◌, map, drop, reverse, append-nil, append_assoc, Option, Some, None, option_map, slice_get, cond, Result}
-use Rattle.std.specs.Prelude.{IfSome}
+use Rattle.std.proofs.Common.{◌≡◌, refl, sym, ◌∙◌, ap, subst, ℕ, zero, suc, ◌+◌, arith, Bool, true, false, List, [], ◌∷◌, ◌++◌, map, drop, reverse, append-nil, append_assoc, Option, Some, None, option_map, slice_get, cond, Result, inl, inr}
+use Rattle.std.specs.Prelude.{◌⊎◌, IfSome}
 use Rattle.std.specs.List.{IsDistinct}
 use Rattle.std.specs.Map.{keys_of}
 use Rattle.std.specs.Str.{bytes_eq}
@@ -22,8 +22,9 @@ use Rattle.graphql_written_out.specs.Groups.{groups}
 use Rattle.graphql_names.specs.Names.{Bytes}
 use Rattle.graphql_written_out.specs.Trees.{Head, Tree}
 use Rattle.graphql_execution_walk.specs.declared.frames.Frame.TheVariants as frame
-use Rattle.graphql_execution_walk.specs.Frames.{FrameIn, IsTaught, KnownIn, ObjectFrameIn, ListFrameIn, known_at}
-use Rattle.graphql_execution_walk.specs.Sets.{AreGroups, AreKnown, kept_sets}
+use Rattle.graphql_execution_walk.specs.Frames.{FrameIn, ObjectFrameIn, ListFrameIn}
+use Rattle.graphql_execution_walk.specs.KnownTypes.{AreKnown, IsKnown, IsTaught, KnownIn, known_at}
+use Rattle.graphql_execution_walk.specs.Sets.{kept_sets}
 use Rattle.std.proofs.lemmas.Slice.Eq.{bytes_eq-Decides}
 use Rattle.graphql_field_results.specs.declared.execution_error.ExecutionError.{ExecutionError}
 use Rattle.graphql_execution_walk.specs.declared.report.Report.{Report}
@@ -170,7 +171,7 @@ module _ {S N : Type 0} (e : Engine S N) (fragments : List (Fragment S)) where
 
   -- an object's next group
   abbrev pub awaits : ObjectFrameIn S N → Bool → ObjectFrameIn S N
-  awaits f needed = record { node = f.node; object = f.object; groups = f.groups; next = f.next; is_needed = needed; members = f.members }
+  awaits f needed = record { node = f.node; object = f.object; groups = f.groups; prepared = f.prepared; next = f.next; is_needed = needed; members = f.members }
 
   pub group-starts : (path : List Bytes) (f : ObjectFrameIn S N) (g : Group S) (needed : Bool) (told : List (ExecutionError S)) (o : List Bytes → Outcome S (Value S)) → slice_get f.groups f.next ≡ Some g
       → group e (evaluate e) path f.object f.node g.0 (all_found fragments g.1) ≡ after told (show_place needed (o (path ++ g.0 ∷ [])))
@@ -189,7 +190,7 @@ module _ {S N : Type 0} (e : Engine S N) (fragments : List (Fragment S)) where
   both-keyed k (Some xs) (Some x) = refl
 
   abbrev pub goes_on : ObjectFrameIn S N → Option (Members S) → ObjectFrameIn S N
-  goes_on f members = record { node = f.node; object = f.object; groups = f.groups; next = f.next + 1; is_needed = false; members = members }
+  goes_on f members = record { node = f.node; object = f.object; groups = f.groups; prepared = f.prepared; next = f.next + 1; is_needed = false; members = members }
 
   pub group-given : (f : ObjectFrameIn S N) (g : Group S) (v : Option (Value S)) (members : Option (Members S)) → slice_get f.groups f.next ≡ Some g
       → members ≡ both (λ xs x. xs ++ (g.0, x) ∷ []) f.members (shown f.is_needed v)
@@ -311,20 +312,35 @@ module _ {S N : Type 0} (e : Engine S N) (fragments : List (Fragment S)) where
       }
 
 -- what was known is known when one more type is
-module _ {S : Type 0} (fragments : List (Fragment S)) (selected : Bytes → List (Found S)) where
-  abbrev IsKnown : Bytes → Option (KnownIn S) → Type 0
-  IsKnown object known = IfSome known (λ k. AreGroups fragments (selected object) k.groups)
+module _ {S N : Type 0} (e : Engine S N) (fragments : List (Fragment S)) (name : Bytes) (sets : List (Tree S)) where
+  abbrev IsSome : Bytes → Option (KnownIn S) → Type 0
+  IsSome object known = IfSome known (IsKnown e fragments name sets object)
 
-  taught-at : (k : KnownIn S) (old : Option (KnownIn S)) (object : Bytes) (same : Bool) → (same ≡ true → k.object ≡ object) → AreGroups fragments (selected k.object) k.groups → IsKnown object old
-      → IsKnown object (cond same (Some k) old)
-  taught-at k old object true is are h = subst (λ o. AreGroups fragments (selected o) k.groups) (is refl) are
+  taught-at : (k : KnownIn S) (old : Option (KnownIn S)) (object : Bytes) (same : Bool) → (same ≡ true → k.object ≡ object) → IsKnown e fragments name sets k.object k → IsSome object old
+      → IsSome object (cond same (Some k) old)
+  taught-at k old object true is are h = subst (λ o. IsKnown e fragments name sets o k) (is refl) are
   taught-at k old object false is are h = h
 
-  pub known-taught : (old new : List (KnownIn S)) (more : Option (KnownIn S)) → IsTaught old more new → IfSome more (λ k. AreGroups fragments (selected k.object) k.groups) → AreKnown fragments selected old
-      → AreKnown fragments selected new
-  known-taught old new None t are h = subst (AreKnown fragments selected) (sym t) h
-  known-taught old new (Some k) t are h = λ object.
-      subst (IsKnown object) (sym (t object)) (taught-at k (known_at old object) object (bytes_eq k.object object) (λ p. (bytes_eq-Decides k.object object).0 p) are (h object))
+  taught-here : (k : KnownIn S) (old new : Option (KnownIn S)) (object : Bytes) → IsKnown e fragments name sets k.object k → IsSome object old
+      → (new ≡ old) ⊎ (new ≡ cond (bytes_eq k.object object) (Some k) old) → IsSome object new
+  taught-here k old new object are h (inl same) = subst (IsSome object) (sym same) h
+  taught-here k old new object are h (inr put) =
+      subst (IsSome object) (sym put) (taught-at k old object (bytes_eq k.object object) (λ p. (bytes_eq-Decides k.object object).0 p) are h)
+
+  pub known-taught : (old new : List (KnownIn S)) (more : Option (KnownIn S)) → IsTaught old more new → IfSome more (λ k. IsKnown e fragments name sets k.object k) → AreKnown e fragments name sets old
+      → AreKnown e fragments name sets new
+  known-taught old new None t are h = subst (AreKnown e fragments name sets) (sym t) h
+  known-taught old new (Some k) t are h = λ object. taught-here k (known_at old object) (known_at new object) object are (h object) (t object)
+
+-- nothing more need be known
+pub untaught : {S : Type 0} (old : List (KnownIn S)) (more : Option (KnownIn S)) → IsTaught old more old
+untaught old None = refl
+untaught old (Some k) = λ object. inl refl
+
+pub taught-news : {S : Type 0} (old new : List (KnownIn S)) (k : KnownIn S) (more : Option (KnownIn S)) → (Some k ≡ None) ⊎ (Some k ≡ more)
+    → ((object : Bytes) → known_at new object ≡ cond (bytes_eq k.object object) (Some k) (known_at old object)) → IsTaught old more new
+taught-news old new k more (inl none) put = cc
+taught-news old new k more (inr news) put = subst (λ m. IsTaught old m new) news (λ object. inr (put object))
 
 pub answer-gives : {S : Type 0} (key : Bytes) (needed : Bool) (o q : Outcome S (Value S)) (old mid below new : Report S) (v : Option (Value S)) → Leads o old (show_place needed q) mid → GivesOutcome q mid v below
     → mid.path ≡ old.path ++ key ∷ [] → new.path ≡ up below.path → new.errors ≡ below.errors → GivesOutcome o old (shown needed v) new

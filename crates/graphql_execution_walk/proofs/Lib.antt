@@ -4,8 +4,10 @@ pub mod EngineParts
 pub mod OutcomeLemmas
 pub mod GroupLemmas
 pub mod KeyLemmas
+pub mod PreparedLemmas
 pub mod FrameLemmas
 pub mod RootLemmas
 pub mod TurnLemmas
 pub mod OwnErrorLaws
+pub mod SpotLemmas
 pub mod BeginLemmas

@@ -13,7 +13,7 @@ use Rattle.graphql_field_results.specs.declared.resolved.Resolved.{Resolved}
 use Rattle.graphql_tree.specs.declared.document.Fragment.{Fragment}
 use Rattle.graphql_semantics.specs.Completion.{blame_at, complete_result}
 use Rattle.graphql_semantics.specs.Engines.{Engine}
-use Rattle.graphql_semantics.specs.Evaluation.{evaluate, found_in}
+use Rattle.graphql_semantics.specs.Evaluation.{evaluate}
 use Rattle.graphql_semantics.specs.Outcomes.{Outcome}
 use Rattle.graphql_semantics.specs.Turns.{all_turns, turns_of_result}
 use Rattle.graphql_execution_walk.specs.declared.frames.Begun.{Begun}
@@ -22,7 +22,7 @@ use Rattle.graphql_execution_walk.specs.declared.report.Report.{Report}
 use Rattle.graphql_execution_walk.specs.Frames.{FineBegun, comes_to, known_of}
 use Rattle.graphql_execution_walk.specs.FrameTurns.{begun_turns}
 use Rattle.graphql_execution_walk.specs.OwnErrors.{own_error_of}
-use Rattle.graphql_execution_walk.specs.Sets.{AreGroups}
+use Rattle.graphql_execution_walk.specs.KnownTypes.{IsKnown}
 
 -- at a type of this name; wraps have the outermost first
 module _ {S N : Type 0} (e : Engine S N) (name : Bytes) where
@@ -47,7 +47,7 @@ module _ {S N : Type 0} (e : Engine S N) (sets : List (Tree S)) (name : Bytes) w
       pub gives : (path : List Bytes) → outcome_at location wraps answer path ≡ comes_to e fragments b path
       pub turns : begun_turns e fragments b ≡ turns_of_answer wraps answer
       pub fine : FineBegun e fragments b
-      pub known : IfSome (known_of b) (λ k. AreGroups fragments (found_in e k.object sets) k.groups)
+      pub known : IfSome (known_of b) (λ k. IsKnown e fragments name sets k.object k)
 
     -- what has begun, or the error of the place itself, unless memory runs out
     abbrev pub Begins : Result (Begun S N) (FieldFault S) → Type 0

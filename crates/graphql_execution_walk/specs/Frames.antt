@@ -2,12 +2,12 @@
 use Rattle.std.specs.List.{All, IsDistinct}
 use Rattle.std.specs.Map.{keys_of}
 use Rattle.std.specs.Str.{bytes_eq}
-use Rattle.std.specs.Prelude.{◌≡◌, IfSome, cond, List, [], ◌∷◌, ◌++◌, map, drop, reverse, Option, Some, None}
+use Rattle.std.specs.Prelude.{◌≡◌, IfSome, List, [], ◌∷◌, ◌++◌, map, drop, reverse, Option, Some, None}
 use Rattle.graphql_output_values.specs.declared.value.Value.{Value}
 use Rattle.graphql_output_values.specs.declared.value.Value.TheVariants as value
 use Rattle.graphql_tree.specs.declared.document.Fragment.{Fragment}
 use Rattle.graphql_collect.specs.Grouped.{Group, group_found}
-use Rattle.graphql_names.specs.Names.{Bytes, named}
+use Rattle.graphql_names.specs.Names.{Bytes}
 use Rattle.graphql_execution_walk.specs.declared.frames.Begun.{Begun}
 use Rattle.graphql_execution_walk.specs.declared.frames.Begun.TheVariants as begun
 use Rattle.graphql_execution_walk.specs.declared.frames.Turned.{Turned}
@@ -16,40 +16,29 @@ use Rattle.graphql_execution_walk.specs.declared.frames.Frame.{Frame}
 use Rattle.graphql_execution_walk.specs.declared.frames.Frame.TheVariants as frame
 use Rattle.graphql_execution_walk.specs.declared.frames.ObjectFrame.{ObjectFrame}
 use Rattle.graphql_execution_walk.specs.declared.frames.ListFrame.{ListFrame}
-use Rattle.graphql_execution_walk.specs.declared.frames.Known.{Known}
 use Rattle.graphql_field_results.specs.declared.execution_error.ExecutionError.{ExecutionError}
 use Rattle.graphql_execution_walk.specs.declared.report.Report.{Report}
 use Rattle.graphql_field_results.specs.declared.resolved.Resolved.{Resolved}
 use Rattle.graphql_semantics.specs.Engines.{Engine}
-use Rattle.graphql_semantics.specs.Evaluation.{evaluate, found_in, keyed}
+use Rattle.graphql_semantics.specs.Evaluation.{evaluate, keyed}
 use Rattle.graphql_semantics.specs.Completion.{blame_at, is_required, object_members}
 use Rattle.graphql_execution_walk.specs.Completed.{completed_item}
-use Rattle.graphql_execution_walk.specs.Sets.{AreKnown, HasKey, kept_sets}
+use Rattle.graphql_execution_walk.specs.KnownTypes.{AreKnown, KnownIn}
+use Rattle.graphql_execution_walk.specs.Prepared.{ArePreparedBy}
+use Rattle.graphql_execution_walk.specs.declared.prepared.Prepared.{Prepared}
+use Rattle.graphql_execution_walk.specs.Sets.{HasKey, kept_sets}
 use Rattle.graphql_execution_walk.specs.declared.selected.KeptSelected.{KeptSelected}
 use Rattle.graphql_semantics.specs.Outcomes.{Outcome, both, together, outcome_map, show_place}
 
 -- frames over a document
 abbrev pub ObjectFrameIn : Type 0 → Type 0 → Type 0
-ObjectFrameIn S N = ObjectFrame S N (List (Group S))
+ObjectFrameIn S N = ObjectFrame S N (List (Group S)) (List Prepared)
 
 abbrev pub ListFrameIn : Type 0 → Type 0 → Type 0
-ListFrameIn S N = ListFrame S N (List (Group S)) (KeptSelected S)
-
--- groups of a document's fields
-abbrev pub KnownIn : Type 0 → Type 0
-KnownIn S = Known (List (Group S))
-
--- what is known of an object type
-abbrev pub known_at : {S : Type 0} → List (KnownIn S) → Bytes → Option (KnownIn S)
-known_at = named (λ k. k.object)
-
--- the groups of one object type more are known, if there are any
-abbrev pub IsTaught : {S : Type 0} → List (KnownIn S) → Option (KnownIn S) → List (KnownIn S) → Type 0
-IsTaught old None new = new ≡ old
-IsTaught old (Some k) new = (object : Bytes) → known_at new object ≡ cond (bytes_eq k.object object) (Some k) (known_at old object)
+ListFrameIn S N = ListFrame S N (List (Group S)) (List Prepared) (KeptSelected S)
 
 abbrev pub FrameIn : Type 0 → Type 0 → Type 0
-FrameIn S N = Frame S N (List (Group S)) (KeptSelected S)
+FrameIn S N = Frame S N (List (Group S)) (List Prepared) (KeptSelected S)
 
 module _ {S : Type 0} where
   -- what is told already, and what is given then
@@ -119,7 +108,7 @@ module _ {S N : Type 0} (e : Engine S N) (fragments : List (Fragment S)) where
 module _ {S N : Type 0} where
   -- the groups that are known of what has begun: those of an object
   abbrev pub known_in : FrameIn S N → Option (KnownIn S)
-  known_in (frame.Object f) = Some (record { object = f.object; groups = f.groups })
+  known_in (frame.Object f) = Some (record { object = f.object; groups = f.groups; prepared = f.prepared })
   known_in (frame.List f) = None
 
   abbrev pub known_of : Begun S N → Option (KnownIn S)
@@ -131,10 +120,11 @@ module _ {S N : Type 0} where
   learns f known = record { name = f.name; selected = f.selected; location = f.location; wraps = f.wraps; items = f.items; values = f.values; known = known }
 
 module _ {S N : Type 0} (e : Engine S N) (fragments : List (Fragment S)) where
-  -- an object's type is that of its node, its groups have their keys, and no key stands twice among its members so far and the groups that are left; what a list knows of a type are the groups of what is selected from it
+  -- an object's type is that of its node, its groups have their keys, no key stands twice among its members so far and the groups that are left, and what is known of its fields is so; so is what a list knows
   abbrev pub Fine : FrameIn S N → Type 0
   Fine (frame.Object f) = (f.object ≡ e.concrete f.node) × All HasKey f.groups × IfSome f.members (λ ms. IsDistinct bytes_eq (keys_of ms ++ map (λ g. g.0) (drop f.next f.groups)))
-  Fine (frame.List f) = AreKnown fragments (λ o. found_in e o (kept_sets fragments f.selected)) f.known
+      × IfSome f.prepared (ArePreparedBy e f.object f.groups)
+  Fine (frame.List f) = AreKnown e fragments f.name (kept_sets fragments f.selected) f.known
 
   abbrev pub AllFine : List (FrameIn S N) → Type 0
   AllFine [] = Unit {0}

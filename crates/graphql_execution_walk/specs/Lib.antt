@@ -9,10 +9,13 @@ pub mod Completed
 pub mod GivesOutcome
 pub mod Parts
 pub mod Sets
+pub mod Prepared
+pub mod KnownTypes
 pub mod Frames
 pub mod FrameTurns
 pub mod OwnErrors
 pub mod Begins
+pub mod Spots
 pub mod Completions
 pub mod Standing
 pub mod LookedAhead

@@ -1,10 +1,10 @@
 -- The selection sets that are selected from at once, and the groups of their fields (GraphQL October 2021, 6.3.2 Field Collection, 6.4.3 Value Completion, MergeSelectionSets).
-use Rattle.std.specs.Prelude.{◌≡◌, List, [], ◌∷◌, map, Option, Some, None, IfSome, unwrap_or}
+use Rattle.std.specs.Prelude.{◌≡◌, List, [], ◌∷◌, map, Option, Some, None, unwrap_or}
 use Rattle.std.specs.Borrow.{Bor}
 use Rattle.std.specs.Option.{option_map}
 use Rattle.std.specs.List.{All, flat_map}
 use Rattle.graphql_scalars.specs.ScalarAnswers.{ScalarAnswer}
-use Rattle.graphql_names.specs.Names.{Bytes, named}
+use Rattle.graphql_names.specs.Names.{Bytes}
 use Rattle.graphql_collected.specs.declared.request.Request.{Request}
 use Rattle.graphql_collected.specs.Requests.{fields_in, fragments_in}
 use Rattle.graphql_collect.specs.Grouped.{Group, all_found, group_found, key_at}
@@ -17,7 +17,6 @@ use Rattle.graphql_written_out.specs.Written.{written}
 use Rattle.graphql_tree.specs.declared.document.Fragment.{Fragment}
 use Rattle.graphql_tree.specs.declared.selection.Selection.{Selection}
 use Rattle.graphql_schema.specs.Types.{TypeOf}
-use Rattle.graphql_execution_walk.specs.declared.frames.Known.{Known}
 use Rattle.graphql_look_ahead.specs.declared.selected.Selected.{Selected}
 use Rattle.graphql_look_ahead.specs.declared.selected.Selected.TheVariants as selected
 use Rattle.graphql_execution_walk.specs.declared.selected.KeptSelected.{KeptSelected}
@@ -61,7 +60,3 @@ module _ {S : Type 0} (fragments : List (Fragment S)) where
     pub found : List (Found S)
     pub groups : map (group_found fragments) gs ≡ groups found
     pub repeats : Repeats found selected
-
-  -- the groups that are known of an object type, if any, are those of what is selected from it
-  abbrev pub AreKnown : (Bytes → List (Found S)) → List (Known (List (Group S))) → Type 0
-  AreKnown selected known = (object : Bytes) → IfSome (named (λ k. k.object) known object) (λ k. AreGroups (selected object) k.groups)

@@ -1,6 +1,6 @@
 //! What is answered for a field of a node.
 
-ghost use Rattle.std.specs.Prelude.{◌≡◌};
+ghost use Rattle.std.specs.Prelude.{◌≡◌, IfSome};
 ghost use Rattle.graphql_text.specs.Memory.{Gives, GivesBy};
 ghost use Rattle.graphql_arguments.specs.GivenValues.{arguments_told};
 ghost use Rattle.graphql_collected.specs.Requests.{fragments_in};
@@ -10,12 +10,14 @@ ghost use Rattle.graphql_execution_walk.specs.Asked.{asked_type, told_of_itself}
 ghost use Rattle.graphql_execution_walk.specs.declared.asked.Asked.TheVariants as asked;
 ghost use Rattle.graphql_execution_walk.specs.EngineAt.{engine_at};
 ghost use Rattle.graphql_execution_walk.specs.Engines.{arguments_in as values_in};
+ghost use Rattle.graphql_execution_walk.specs.Prepared.{PreparesIn};
 ghost use Rattle.graphql_execution_walk.specs.Standing.{IsTypeOf, StandsAt};
 
 use crate::asked::{Asked, of_resolver, of_schema};
 use crate::executor::Executor;
 use crate::fields::{declared_arguments, query_root_name};
 use crate::graphql_value::GraphQLValue;
+use crate::prepared::{Prepared, arguments_at};
 use graphql_arguments::Arguments;
 use graphql_collected::Request;
 use graphql_field_results::{FieldResult, Resolved};
@@ -71,9 +73,9 @@ pub fn told_of_itself<'d, S: SchemaScalar>(
     Ok(None)
 }
 
-/// What is answered for the field of an object type at which an executor stands: what each object tells of itself
-/// the resolver is not asked, nor what the schema answers (GraphQL October 2021, 4 Introspection).
-/// `FieldFault::Memory` is want of memory.
+/// What is answered for the field of an object type at which an executor stands, of which something may be known:
+/// what each object tells of itself the resolver is not asked, nor what the schema answers (GraphQL October 2021,
+/// 4 Introspection). `FieldFault::Memory` is want of memory.
 #[tactic(auto, unfolding(crate::specs::Engines::engine_over))]
 pub(crate) fn ask<'p, 'd, 'a, S: SchemaScalar + Drop, R: GraphQLValue<S>>(
     resolver: &R,
@@ -82,17 +84,19 @@ pub(crate) fn ask<'p, 'd, 'a, S: SchemaScalar + Drop, R: GraphQLValue<S>>(
     object: &str,
     node: &Asked<'d, S, R::Node>,
     field: &'p Spanning<Field<'a, S>>,
+    prepared: Option<&Prepared<'_>>,
 ) -> FieldResult<Resolved<S, Asked<'d, S, R::Node>>, S>
     requires settled { Settled (fragments_in executor.now.request.now) }
     requires schema { schema.now ≡ executor.now.request.now.schema.now }
     requires typed { IsTypeOf executor.now.request.now.schema.now.query (asked.Own (R.root_node resolver.now))
         (asked_type (R.type_of resolver.now executor.now.context.now)) node.now object.now }
     requires stands { StandsAt executor.now object.now field.now }
+    requires prepared { IfSome prepared (λ known. PreparesIn executor.now.request.now object.now (head_of field.now) known.now) }
     ensures { let e = engine_at S.of_text S.of_bool S.answer (R.type_of resolver.now) (R.answer resolver.now) executor.now in
         Answered (e.answer node.now object.now (head_of field.now).name (e.arguments object.now (head_of field.now))) result }
 {
     let name = field.item.name.item.as_str();
-    let arguments = arguments_of(executor.alloc, executor.request, object, field)?;
+    let arguments = arguments_at(executor.alloc, executor.request, object, field, prepared)?;
     if let Some(told) = told_of_itself(executor.alloc, schema, object, name, &arguments)? {
         return Ok(of_schema(executor.alloc, told)?);
     }

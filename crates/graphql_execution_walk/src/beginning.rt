@@ -1,31 +1,38 @@
 //! What answers come to where they are completed (GraphQL October 2021, 6.4.3 Value Completion).
 
-ghost use Rattle.std.specs.Prelude.{[], List, Ok, reverse};
+ghost use Rattle.std.specs.Prelude.{◌≡◌, IfOk, IfSome, [], List, Ok, reverse};
+ghost use Rattle.std.specs.Option.{option_copied};
 ghost use Rattle.graphql_collected.specs.Requests.{fragments_in};
-ghost use Rattle.graphql_semantics.specs.Evaluation.{found_in};
 ghost use Rattle.graphql_written_out.specs.Written.{Settled};
 ghost use Rattle.graphql_field_results.specs.declared.resolved.Resolved.TheVariants as resolved;
 ghost use Rattle.graphql_execution_walk.specs.Begins.{Begins};
 ghost use Rattle.graphql_execution_walk.specs.EngineAt.{engine_at};
+ghost use Rattle.graphql_execution_walk.specs.FieldDeclarations.{is_leaf_named};
 ghost use Rattle.graphql_execution_walk.specs.Parts.{IsListAround};
-ghost use Rattle.graphql_execution_walk.specs.Sets.{AreKnown, sets_in};
+ghost use Rattle.graphql_execution_walk.specs.Prepared.{ArePreparedIn};
+ghost use Rattle.graphql_execution_walk.specs.Sets.{sets_in};
+ghost use Rattle.graphql_execution_walk.specs.Spots.{IsCollected, IsSpot, MayStand, known_in_list};
 
 use crate::asked::{Asked, asked_type_name};
 use crate::executor::Executor;
 use crate::failing::{misfit, own_null};
 use crate::fields::{is_leaf, possible_name};
-use crate::frame_parts::reversed;
-use crate::frames::{Begun, Frame, KnownGroups, ListFrame, ObjectFrame};
+use crate::frame_parts::{known_again, reversed};
+use crate::frames::{Begun, Frame, Known, KnownGroups, KnownIn, ListFrame, ObjectFrame};
 use crate::graphql_value::GraphQLValue;
-use crate::groups::groups_selected;
+use crate::groups::groups_collected;
 use crate::parts::{Outer, is_null, take_apart};
+use crate::prepared::{SharedPrepared, prepared_fields};
 use crate::selected::KeptSelected;
+use crate::shared::Shared;
+use graphql_collect::Group;
 use graphql_field_results::{FieldFault, FieldResult, Resolved};
 use graphql_look_ahead::Selected;
 use graphql_names::{NameMap, TypeModifier};
 use graphql_output_values::Value;
-use graphql_schema::SchemaScalar;
+use graphql_schema::{SchemaScalar, SchemaType};
 use graphql_text::{Items, SourcePosition, TextRef};
+use std::alloc::AllocError;
 
 /// Where an answer is completed: at a type, but for its wraps.
 #[derive(Drop)]
@@ -33,14 +40,88 @@ pub(crate) struct Spot<'p, 'd, 'a, S> {
     /// The type's name.
     pub name: &'p TextRef<'d>,
 
+    /// Whether that is a scalar or an enum, where it is known.
+    pub is_leaf: Option<bool>,
+
     /// What is selected from its objects.
     pub selected: Selected<'p, 'd, 'a, S>,
 
     /// Where the field starts that is answered.
     pub location: SourcePosition,
 
-    /// What is known of what is selected.
-    pub known: &'p KnownGroups<'d, 'a, S>,
+    /// What the list knows of what is selected, in which this is the place of an item; else nothing.
+    pub known: Option<&'p KnownGroups<'d, 'a, S>>,
+}
+
+/// What the list knows of an object type, in which the place of an answer is that of an item.
+fn known_by<'p, 'd, 'a, S>(
+    spot: &Spot<'p, 'd, 'a, S>,
+    object: &str,
+) -> Option<&'p KnownIn<'d, 'a, S>>
+    ensures { option_copied result ≡ known_in_list spot.now.known object.now }
+{
+    match spot.known {
+        Some(known) => known.get(object),
+        None => None,
+    }
+}
+
+/// What is known of the first fields of an object type's groups where an answer is completed: of a list's items,
+/// since others of the type may come; else nothing. An error is want of memory.
+fn prepared_there<'d, 'a, S: SchemaScalar + Drop, Context>(
+    executor: &Executor<'_, 'd, 'a, Context, S>,
+    spot: &Spot<'_, 'd, 'a, S>,
+    object: &str,
+    groups: &[Group<'d, 'a, S>],
+) -> Result<Option<SharedPrepared<'d>>, AllocError>
+    ensures { IfOk result (λ prepared. IfSome prepared (ArePreparedIn executor.now.request.now object.now groups.now)) }
+{
+    if spot.known.is_none() {
+        return Ok(None);
+    }
+    let all = prepared_fields(executor.alloc, executor.request, object, groups)?;
+    Ok(Some(Shared::new(executor.alloc, all)?))
+}
+
+/// What is selected from an object type where an answer is completed, collected. An error is want of memory.
+fn collected_there<'d, 'a, S: SchemaScalar + Drop, Context>(
+    executor: &Executor<'_, 'd, 'a, Context, S>,
+    spot: &Spot<'_, 'd, 'a, S>,
+    object: &'d str,
+) -> Result<KnownIn<'d, 'a, S>, AllocError>
+    requires settled { Settled (fragments_in executor.now.request.now) }
+    ensures { IfOk result (IsCollected S.answer executor.now.request.now (sets_in executor.now.request.now spot.now.selected) object.now) }
+{
+    let groups = groups_collected(executor.alloc, executor.request, object, spot.selected)?;
+    let prepared = prepared_there(executor, spot, object, groups.as_slice())?;
+    Ok(Known {
+        object: TextRef::new(object),
+        groups: Shared::new(executor.alloc, groups)?,
+        prepared,
+    })
+}
+
+/// What is selected from a node: what the list knows of its type, else it is collected. Nothing where the node
+/// cannot stand. An error is want of memory.
+fn selected_there<'d, 'a, S: SchemaScalar + Drop, R: GraphQLValue<S>>(
+    resolver: &R,
+    executor: &Executor<'_, 'd, 'a, R::Context, S>,
+    spot: &Spot<'_, 'd, 'a, S>,
+    node: &Asked<'d, S, R::Node>,
+) -> Result<Option<KnownIn<'d, 'a, S>>, AllocError>
+    requires settled { Settled (fragments_in executor.now.request.now) }
+    requires spot { IsSpot (engine_at S.of_text S.of_bool S.answer (R.type_of resolver.now) (R.answer resolver.now) executor.now) executor.now.request.now spot.now }
+    ensures { let e = engine_at S.of_text S.of_bool S.answer (R.type_of resolver.now) (R.answer resolver.now) executor.now in
+        IfOk result (MayStand e (fragments_in executor.now.request.now) spot.now.name.now (sets_in executor.now.request.now spot.now.selected) (e.concrete node.now)) }
+{
+    let object = asked_type_name(resolver, executor.context, node);
+    if let Some(known) = known_by(spot, object) {
+        return Ok(Some(known_again(known)?));
+    }
+    match possible_name(executor.request.schema, spot.name.as_str(), object) {
+        Some(object) => Ok(Some(collected_there(executor, spot, object)?)),
+        None => Ok(None),
+    }
 }
 
 /// What a node comes to at a type without wraps.
@@ -51,35 +132,35 @@ fn begin_node<'d, 'a, S: SchemaScalar + Drop, R: GraphQLValue<S>>(
     node: Asked<'d, S, R::Node>,
 ) -> FieldResult<Begun<'d, 'a, S, Asked<'d, S, R::Node>>, S>
     requires settled { Settled (fragments_in executor.now.request.now) }
-    requires known { let e = engine_at S.of_text S.of_bool S.answer (R.type_of resolver.now) (R.answer resolver.now) executor.now in
-        AreKnown (fragments_in executor.now.request.now) (λ o. found_in e o (sets_in executor.now.request.now spot.now.selected)) spot.now.known.now }
+    requires spot { IsSpot (engine_at S.of_text S.of_bool S.answer (R.type_of resolver.now) (R.answer resolver.now) executor.now) executor.now.request.now spot.now }
     ensures { let e = engine_at S.of_text S.of_bool S.answer (R.type_of resolver.now) (R.answer resolver.now) executor.now in
         Begins e (sets_in executor.now.request.now spot.now.selected) spot.now.name.now (fragments_in executor.now.request.now) spot.now.location [] (Ok (resolved.Node node.entry)) result }
 {
-    let Some(object) = possible_name(
-        executor.request.schema,
-        spot.name.as_str(),
-        asked_type_name(resolver, executor.context, &node),
-    ) else {
+    let Some(known) = selected_there(resolver, executor, spot, &node)? else {
         drop(node);
         return Err(FieldFault::Error(misfit(executor.alloc, spot.name.as_str(), &[])?));
     };
-    let groups = groups_selected(
-        executor.alloc,
-        executor.request,
-        object,
-        spot.selected,
-        spot.known,
-    )?;
     let members = Some(Items::new(executor.alloc));
     Ok(Begun::Frame(Frame::Object(ObjectFrame {
         node,
-        object: TextRef::new(object),
-        groups,
+        object: known.object,
+        groups: known.groups,
+        prepared: known.prepared,
         next: 0,
         is_needed: false,
         members,
     })))
+}
+
+/// Whether the type at which an answer is completed is a scalar or an enum.
+fn is_leaf_there<S, C>(schema: &SchemaType<S, C>, spot: &Spot<'_, '_, '_, S>) -> bool
+    requires { IfSome spot.now.is_leaf (λ told. told ≡ is_leaf_named schema.now.types spot.now.name.now) }
+    ensures { result ≡ is_leaf_named schema.now.types spot.now.name.now }
+{
+    match spot.is_leaf {
+        Some(told) => told,
+        None => is_leaf(schema, spot.name.as_str()),
+    }
 }
 
 /// What an answer comes to at a type without wraps.
@@ -90,8 +171,7 @@ fn begin_named<'d, 'a, S: SchemaScalar + Drop, R: GraphQLValue<S>>(
     answer: Resolved<S, Asked<'d, S, R::Node>>,
 ) -> FieldResult<Begun<'d, 'a, S, Asked<'d, S, R::Node>>, S>
     requires settled { Settled (fragments_in executor.now.request.now) }
-    requires known { let e = engine_at S.of_text S.of_bool S.answer (R.type_of resolver.now) (R.answer resolver.now) executor.now in
-        AreKnown (fragments_in executor.now.request.now) (λ o. found_in e o (sets_in executor.now.request.now spot.now.selected)) spot.now.known.now }
+    requires spot { IsSpot (engine_at S.of_text S.of_bool S.answer (R.type_of resolver.now) (R.answer resolver.now) executor.now) executor.now.request.now spot.now }
     ensures { let e = engine_at S.of_text S.of_bool S.answer (R.type_of resolver.now) (R.answer resolver.now) executor.now in
         Begins e (sets_in executor.now.request.now spot.now.selected) spot.now.name.now (fragments_in executor.now.request.now) spot.now.location [] (Ok answer.entry) result }
 {
@@ -99,7 +179,7 @@ fn begin_named<'d, 'a, S: SchemaScalar + Drop, R: GraphQLValue<S>>(
     match answer {
         Resolved::Null => Ok(Begun::Value(None)),
         Resolved::Scalar(scalar) => {
-            if is_leaf(executor.request.schema, name) {
+            if is_leaf_there(executor.request.schema, spot) {
                 return Ok(Begun::Value(Some(Value::Scalar(scalar))));
             }
             Err(FieldFault::Error(misfit(executor.alloc, name, &[])?))
@@ -155,8 +235,7 @@ pub(crate) fn begin<'d, 'a, S: SchemaScalar + Drop, R: GraphQLValue<S>>(
     answer: Resolved<S, Asked<'d, S, R::Node>>,
 ) -> FieldResult<Begun<'d, 'a, S, Asked<'d, S, R::Node>>, S>
     requires settled { Settled (fragments_in executor.now.request.now) }
-    requires known { let e = engine_at S.of_text S.of_bool S.answer (R.type_of resolver.now) (R.answer resolver.now) executor.now in
-        AreKnown (fragments_in executor.now.request.now) (λ o. found_in e o (sets_in executor.now.request.now spot.now.selected)) spot.now.known.now }
+    requires spot { IsSpot (engine_at S.of_text S.of_bool S.answer (R.type_of resolver.now) (R.answer resolver.now) executor.now) executor.now.request.now spot.now }
     ensures { let e = engine_at S.of_text S.of_bool S.answer (R.type_of resolver.now) (R.answer resolver.now) executor.now in
         Begins e (sets_in executor.now.request.now spot.now.selected) spot.now.name.now (fragments_in executor.now.request.now) spot.now.location (reverse wraps.now) (Ok answer.entry) result }
 {

@@ -17,13 +17,12 @@ use crate::asked::{Asked, of_resolver};
 use crate::beginning::{Spot, begin};
 use crate::context::FromContext;
 use crate::executor::Executor;
-use crate::frames::Begun;
+use crate::frames::{Begun, KnownGroups};
 use crate::graphql_value::GraphQLValue;
 use crate::parts::or_null;
 use crate::report::Report;
 use crate::stack::drive;
 use graphql_field_results::{ExecutionError, FieldFault, FieldResult, Resolved};
-use graphql_names::NameMap;
 use graphql_output_values::Value;
 use graphql_schema::SchemaScalar;
 use graphql_text::{Items, TextRef};
@@ -40,12 +39,13 @@ fn begin_here<'d, 'a, S: SchemaScalar + Drop, R: GraphQLValue<S>>(
         Begins e (sets_in executor.now.request.now executor.now.selected) executor.now.current_type.name.now (fragments_in executor.now.request.now) (place_of executor.now.path) (reverse executor.now.current_type.modifiers.now) (Ok answer.entry) result }
 {
     let name = TextRef::new(executor.current_type.name);
-    let known = NameMap::new(executor.alloc);
+    let known: Option<&KnownGroups<'d, 'a, S>> = None;
     let spot = Spot {
         name: &name,
+        is_leaf: None,
         selected: executor.selected,
         location: *executor.location(),
-        known: &known,
+        known,
     };
     begin(
         resolver,

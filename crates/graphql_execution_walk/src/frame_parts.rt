@@ -1,31 +1,50 @@
 //! Parts of frames.
 
-ghost use Rattle.std.specs.Prelude.{◌≡◌, ◌<◌, ◌+◌, length, reverse, IfOk, IfSome, option_map};
+ghost use Rattle.std.specs.Prelude.{◌≡◌, ◌⊎◌, ◌<◌, ◌+◌, None, length, reverse, IfOk, IfSome, option_map};
 ghost use Rattle.graphql_semantics.specs.Completion.{object_members};
 ghost use Rattle.graphql_output_values.specs.Objects.{HasDistinctKeys};
 ghost use Rattle.graphql_output_values.specs.declared.value.Value.TheVariants as value;
 ghost use Rattle.graphql_text.specs.Memory.{Gives};
 ghost use Rattle.graphql_execution_walk.specs.Frames.{known_of};
 
-use crate::frames::{Begun, Frame, Known, KnownIn};
+use crate::frames::{Begun, Frame, Known, KnownGroups, KnownIn};
+use crate::prepared::prepared_again;
 use graphql_output_values::{Object, Value};
 use graphql_text::{Items, Text};
 use std::alloc::{AllocError, Global};
 
-/// The groups that are known of what has begun: those of an object. An error is want of memory.
-pub(crate) fn known_of<'d, 'a, S, N>(
+/// What is known of an object type, once more. An error says that there are too many.
+pub(crate) fn known_again<'d, 'a, S>(
+    known: &KnownIn<'d, 'a, S>,
+) -> Result<KnownIn<'d, 'a, S>, AllocError>
+    ensures { Gives result known.now }
+{
+    Ok(Known {
+        object: known.object.copied(),
+        groups: known.groups.again()?,
+        prepared: prepared_again(&known.prepared)?,
+    })
+}
+
+/// What has begun tells of an object type that is not known yet: what is selected from it, where an object has
+/// begun. An error says that there are too many.
+pub(crate) fn news_of<'d, 'a, S, N>(
+    known: &KnownGroups<'d, 'a, S>,
     begun: &Begun<'d, 'a, S, N>,
 ) -> Result<Option<KnownIn<'d, 'a, S>>, AllocError>
-    ensures { Gives result (known_of begun.now) }
+    ensures { IfOk result (λ news. (news ≡ None) ⊎ (news ≡ known_of begun.now)) }
 {
-    match begun {
-        Begun::Value(_) => Ok(None),
-        Begun::Frame(Frame::List(_)) => Ok(None),
-        Begun::Frame(Frame::Object(frame)) => Ok(Some(Known {
-            object: frame.object.copied(),
-            groups: frame.groups.again()?,
-        })),
+    let Begun::Frame(Frame::Object(frame)) = begun else {
+        return Ok(None);
+    };
+    if known.get(frame.object.as_str()).is_some() {
+        return Ok(None);
     }
+    Ok(Some(Known {
+        object: frame.object.copied(),
+        groups: frame.groups.again()?,
+        prepared: prepared_again(&frame.prepared)?,
+    }))
 }
 
 /// The items, the last first. An error is want of memory.

@@ -1,5 +1,6 @@
 //! Objects and lists in progress.
 
+use crate::prepared::SharedPrepared;
 use crate::selected::KeptSelected;
 use crate::shared::Shared;
 use graphql_collect::Group;
@@ -8,9 +9,9 @@ use graphql_names::{NameMap, Named, TypeModifier};
 use graphql_output_values::Value;
 use graphql_text::{Items, SourcePosition, Text, TextRef};
 
-/// An object in progress, whose groups are a `G`.
+/// An object in progress, whose groups are a `G`, and what is known of them a `P`.
 #[derive(Drop)]
-pub(crate) struct ObjectFrame<'d, S, N, G> {
+pub(crate) struct ObjectFrame<'d, S, N, G, P> {
     /// The node.
     pub node: N,
 
@@ -19,6 +20,9 @@ pub(crate) struct ObjectFrame<'d, S, N, G> {
 
     /// The groups of its fields.
     pub groups: G,
+
+    /// What is known of their first fields; `None` where nothing is.
+    pub prepared: Option<P>,
 
     /// The group that comes next, from zero; while a frame stands above this one, the group that waits
     /// for it.
@@ -31,18 +35,21 @@ pub(crate) struct ObjectFrame<'d, S, N, G> {
     pub members: Option<Items<(Text, Value<S>)>>,
 }
 
-/// The groups of an object type, which are a `G`.
+/// What is selected from an object type: its groups, which are a `G`, and what is known of them, a `P`.
 #[derive(Drop)]
-pub(crate) struct Known<'d, G> {
+pub(crate) struct Known<'d, G, P> {
     /// The name of the object type, as the schema has it.
     pub object: TextRef<'d>,
 
     /// Its groups.
     pub groups: G,
+
+    /// What is known of their first fields; `None` where nothing is.
+    pub prepared: Option<P>,
 }
 
 /// Groups are found by the object type.
-impl<'d, G> Named for Known<'d, G> {
+impl<'d, G, P> Named for Known<'d, G, P> {
     ghost name_of = { λ known. known.object };
 
     fn name(&self) -> &str {
@@ -52,7 +59,7 @@ impl<'d, G> Named for Known<'d, G> {
 
 /// A list in progress, from whose items an `F` is selected.
 #[derive(Drop)]
-pub(crate) struct ListFrame<'d, S, N, G, F> {
+pub(crate) struct ListFrame<'d, S, N, G, P, F> {
     /// The name of the items' type.
     pub name: TextRef<'d>,
 
@@ -71,31 +78,37 @@ pub(crate) struct ListFrame<'d, S, N, G, F> {
     /// The values so far; `None` once one is missing.
     pub values: Option<Items<Value<S>>>,
 
-    /// What is selected from the items so far that were objects: the groups of their types.
-    pub known: NameMap<Known<'d, G>>,
+    /// What is selected from the items so far that were objects, by their types.
+    pub known: NameMap<Known<'d, G, P>>,
 }
 
 /// An object or a list in progress.
 #[derive(Drop)]
-pub(crate) enum Frame<'d, S, N, G, F> {
+pub(crate) enum Frame<'d, S, N, G, P, F> {
     /// An object.
-    Object(ObjectFrame<'d, S, N, G>),
+    Object(ObjectFrame<'d, S, N, G, P>),
 
     /// A list.
-    List(ListFrame<'d, S, N, G, F>),
+    List(ListFrame<'d, S, N, G, P, F>),
 }
 
 /// Groups of a document's fields, which an object and the list that it stands in both hold.
 pub(crate) type SharedGroups<'d, 'a, S> = Shared<Items<Group<'d, 'a, S>>>;
 
-/// The groups of an object type, of a document's fields.
-pub(crate) type KnownIn<'d, 'a, S> = Known<'d, SharedGroups<'d, 'a, S>>;
+/// What is selected from an object type, of a document's fields.
+pub(crate) type KnownIn<'d, 'a, S> = Known<'d, SharedGroups<'d, 'a, S>, SharedPrepared<'d>>;
 
-/// The groups of several object types, each found by its name.
+/// What is selected from several object types, each found by its name.
 pub(crate) type KnownGroups<'d, 'a, S> = NameMap<KnownIn<'d, 'a, S>>;
 
 /// An object in progress over a document's groups.
-pub(crate) type ObjectFrameIn<'d, 'a, S, N> = ObjectFrame<'d, S, N, SharedGroups<'d, 'a, S>>;
+pub(crate) type ObjectFrameIn<'d, 'a, S, N> = ObjectFrame<
+    'd,
+    S,
+    N,
+    SharedGroups<'d, 'a, S>,
+    SharedPrepared<'d>,
+>;
 
 /// A list in progress over a document.
 pub(crate) type ListFrameIn<'d, 'a, S, N> = ListFrame<
@@ -103,6 +116,7 @@ pub(crate) type ListFrameIn<'d, 'a, S, N> = ListFrame<
     S,
     N,
     SharedGroups<'d, 'a, S>,
+    SharedPrepared<'d>,
     KeptSelected<'d, 'a, S>,
 >;
 
@@ -112,6 +126,7 @@ pub(crate) type FrameIn<'d, 'a, S, N> = Frame<
     S,
     N,
     SharedGroups<'d, 'a, S>,
+    SharedPrepared<'d>,
     KeptSelected<'d, 'a, S>,
 >;
 

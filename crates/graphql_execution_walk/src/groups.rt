@@ -5,10 +5,8 @@ ghost use Rattle.graphql_collect.specs.Grouped.{all_found};
 ghost use Rattle.graphql_collected.specs.Requests.{fragments_in};
 ghost use Rattle.graphql_written_out.specs.Repeats.{Repeats};
 ghost use Rattle.graphql_written_out.specs.Written.{Settled};
-ghost use Rattle.graphql_execution_walk.specs.Sets.{AreGroups, AreKnown, selected_in, sets_in};
+ghost use Rattle.graphql_execution_walk.specs.Sets.{AreGroups, selected_in, sets_in};
 
-use crate::frames::{KnownGroups, SharedGroups};
-use crate::shared::Shared;
 use graphql_collect::{Group, fields_below, fields_of_set, grouped};
 use graphql_collected::{CollectedField, Request};
 use graphql_look_ahead::Selected;
@@ -45,24 +43,4 @@ pub(crate) fn groups_collected<'d, 'a, S: SchemaScalar>(
     let found = fields_selected(alloc, request, object, selected)?;
     let groups = grouped(alloc, found.as_slice())?;
     Ok(groups)
-}
-
-/// The groups of what is selected from an object type: those that are known of it, else
-/// they are collected. An error is want of memory.
-pub(crate) fn groups_selected<'d, 'a, S: SchemaScalar>(
-    alloc: Global,
-    request: &Request<'d, 'a, S>,
-    object: &str,
-    selected: Selected<'_, 'd, 'a, S>,
-    known: &KnownGroups<'d, 'a, S>,
-) -> Result<SharedGroups<'d, 'a, S>, AllocError>
-    requires settled { Settled (fragments_in request.now) }
-    requires known { AreKnown (fragments_in request.now) (selected_in S.answer request.now (sets_in request.now selected)) known.now }
-    ensures { IfOk result (AreGroups (fragments_in request.now) (selected_in S.answer request.now (sets_in request.now selected.entry) object.now)) }
-{
-    if let Some(known) = known.get(object) {
-        return known.groups.again();
-    }
-    let groups = groups_collected(alloc, request, object, selected)?;
-    Shared::new(alloc, groups)
 }

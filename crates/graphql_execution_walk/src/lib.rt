@@ -16,6 +16,7 @@ mod frames;
 mod graphql_value;
 mod groups;
 mod parts;
+mod prepared;
 mod report;
 mod selected;
 mod selections;

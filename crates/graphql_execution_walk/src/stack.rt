@@ -12,8 +12,9 @@ ghost use Rattle.graphql_execution_walk.specs.declared.asked.Asked.TheVariants a
 ghost use Rattle.graphql_execution_walk.specs.EngineAt.{engine_at};
 ghost use Rattle.graphql_semantics.specs.Evaluation.{evaluate, group};
 ghost use Rattle.graphql_execution_walk.specs.FrameTurns.{all_waiting, begun_turns, rest_turns, turned_turns};
-ghost use Rattle.graphql_execution_walk.specs.Frames.{Steps, resume, path_of, comes_to, IsTaught, KnownIn, known_of, learns, turned_to, rest, Fine, AllFine, FineBegun, FineTurned};
+ghost use Rattle.graphql_execution_walk.specs.Frames.{Steps, resume, path_of, comes_to, known_of, learns, turned_to, rest, Fine, AllFine, FineBegun, FineTurned};
 ghost use Rattle.graphql_execution_walk.specs.GivesOutcome.{GivesOutcome};
+ghost use Rattle.graphql_execution_walk.specs.KnownTypes.{IsTaught, KnownIn};
 ghost use Rattle.graphql_execution_walk.specs.Sets.{HasKey};
 ghost use Rattle.graphql_execution_walk.specs.Standing.{IsTypeOf};
 
@@ -21,12 +22,13 @@ use crate::asked::Asked;
 use crate::beginning::{Spot, begin};
 use crate::executor::Executor;
 use crate::failing::begun_or_told;
-use crate::frame_parts::{known_of, list_of, object_of};
+use crate::frame_parts::{list_of, news_of, object_of};
 use crate::frames::{
-    Begun, Frame, FrameIn, ListFrame, ListFrameIn, ObjectFrame, ObjectFrameIn, Turned,
+    Begun, Frame, FrameIn, KnownGroups, ListFrame, ListFrameIn, ObjectFrame, ObjectFrameIn, Turned,
 };
 use crate::graphql_value::GraphQLValue;
 use crate::parts::shown;
+use crate::prepared::prepared_at;
 use crate::report::Report;
 use crate::steps::{give, start};
 use graphql_collect::Group;
@@ -46,8 +48,24 @@ fn wait<'d, 'a, S: SchemaScalar + Drop, N: Drop>(
     Ok(())
 }
 
-/// Leaves a list to wait for an item that has begun; if that is an object, the groups of its type are known
-/// from now on. An error is want of memory.
+/// What a list knows once an item has begun: if that is an object, what is selected from its type too. An error is
+/// want of memory.
+fn taught<'d, 'a, S: SchemaScalar + Drop, N: Drop>(
+    known: KnownGroups<'d, 'a, S>,
+    begun: &Begun<'d, 'a, S, N>,
+) -> Result<KnownGroups<'d, 'a, S>, AllocError>
+    ensures { IfOk result (IsTaught known.entry (known_of begun.now)) }
+{
+    let Some(news) = news_of(&known, begun)? else {
+        return Ok(known);
+    };
+    let mut known = known;
+    known.put(news)?;
+    Ok(known)
+}
+
+/// Leaves a list to wait for an item that has begun; if that is an object, what is selected from its type is
+/// known from now on. An error is want of memory.
 fn wait_for_item<'d, 'a, S: SchemaScalar + Drop, N: Drop>(
     waiting: &mut Items<FrameIn<'d, 'a, S, N>>,
     waits: ListFrameIn<'d, 'a, S, N>,
@@ -64,10 +82,7 @@ fn wait_for_item<'d, 'a, S: SchemaScalar + Drop, N: Drop>(
         values,
         known,
     } = waits;
-    let mut known = known;
-    if let Some(new) = known_of(begun)? {
-        known.put(new)?;
-    }
+    let known = taught(known, begun)?;
     let waits = Frame::List(ListFrame {
         name,
         selected,
@@ -104,18 +119,31 @@ fn advance_object<'d, 'a, S: SchemaScalar + Drop, R: GraphQLValue<S>>(
         node,
         object,
         groups,
+        prepared,
         next,
         is_needed: _,
         members,
     } = object_frame;
     let started = match groups.get().get(next) {
         None => return Ok(Begun::Value(object_of(members))),
-        Some(group) => start(resolver, executor, object.as_str(), &node, group, report)?,
+        Some(group) => {
+            let known = prepared_at(&prepared, next);
+            start(
+                resolver,
+                executor,
+                object.as_str(),
+                &node,
+                group,
+                known,
+                report,
+            )?
+        }
     };
     let waits = Frame::Object(ObjectFrame {
         node,
         object,
         groups,
+        prepared,
         next,
         is_needed: started.is_needed,
         members,
@@ -158,9 +186,10 @@ fn advance_list<'d, 'a, S: SchemaScalar + Drop, R: GraphQLValue<S>>(
     };
     let spot = Spot {
         name: &name,
+        is_leaf: None,
         selected: selected.lent(),
         location,
-        known: &known,
+        known: Some(&known),
     };
     let begins = begin(resolver, executor, &spot, wraps, item);
     let begun = begun_or_told(executor.alloc, location, begins, report)?;
@@ -254,7 +283,7 @@ pub(crate) fn answer_group<'d, 'a, S: SchemaScalar + Drop, R: GraphQLValue<S>>(
     ensures { let e = engine_at S.of_text S.of_bool S.answer (R.type_of resolver.now) (R.answer resolver.now) executor.now in
         IfOk result (λ value. GivesOutcome (group e (evaluate e) report.old.path object.now node.now these.now.0 (all_found (fragments_in executor.now.request.now) these.now.1)) report.old value report.new) }
 {
-    let started = start(resolver, executor, object, node, these, report)?;
+    let started = start(resolver, executor, object, node, these, None, report)?;
     let value = drive(resolver, executor, started.begun, report)?;
     report.leave();
     Ok(shown(started.is_needed, value))

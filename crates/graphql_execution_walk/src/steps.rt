@@ -1,6 +1,6 @@
 //! What groups come to, and what frames get that wait for places.
 
-ghost use Rattle.std.specs.Prelude.{◌≡◌, ◌++◌, [], ◌∷◌, reverse, IfOk, OnOk, List};
+ghost use Rattle.std.specs.Prelude.{◌≡◌, ◌++◌, [], ◌∷◌, reverse, IfOk, IfSome, OnOk, List};
 ghost use Rattle.graphql_tree.specs.declared.document.Fragment.{Fragment};
 ghost use Rattle.graphql_collect.specs.Grouped.{all_found};
 ghost use Rattle.graphql_collected.specs.Requests.{fragments_in};
@@ -18,6 +18,7 @@ ghost use Rattle.graphql_execution_walk.specs.declared.asked.Asked.TheVariants a
 ghost use Rattle.graphql_execution_walk.specs.EngineAt.{engine_at};
 ghost use Rattle.graphql_execution_walk.specs.FrameTurns.{begun_turns, rest_turns, waiting_turns};
 ghost use Rattle.graphql_execution_walk.specs.Frames.{Fine, FineBegun, Leads, close, comes_to, down, rest, shows};
+ghost use Rattle.graphql_execution_walk.specs.Prepared.{IsPreparedIn, PreparesIn};
 ghost use Rattle.graphql_execution_walk.specs.Sets.{HasKey};
 ghost use Rattle.graphql_execution_walk.specs.Standing.{IsPlaceOf, IsTypeOf};
 
@@ -26,19 +27,18 @@ use crate::asking::ask;
 use crate::beginning::{Spot, begin};
 use crate::executor::Executor;
 use crate::failing::begun_or_told;
-use crate::fields::declared_type;
 use crate::frame_parts::behind;
 use crate::frames::{
-    Begun, Frame, FrameIn, ListFrame, ListFrameIn, ObjectFrame, ObjectFrameIn, Started,
+    Begun, Frame, FrameIn, KnownGroups, ListFrame, ListFrameIn, ObjectFrame, ObjectFrameIn, Started,
 };
 use crate::graphql_value::GraphQLValue;
 use crate::parts::{is_required, shown, with_item, with_member};
+use crate::prepared::{Prepared, declared_at, leaf_told};
 use crate::report::Report;
 use graphql_collect::Group;
 use graphql_collected::CollectedField;
 use graphql_field_results::FieldResult;
 use graphql_look_ahead::Selected;
-use graphql_names::NameMap;
 use graphql_occurrences::TypeLiteral;
 use graphql_output_values::Value;
 use graphql_schema::SchemaScalar;
@@ -56,6 +56,7 @@ fn begin_field<'p, 'd, 'a, S: SchemaScalar + Drop, R: GraphQLValue<S>>(
     fields: &'p [CollectedField<'d, 'a, S>],
     first: &CollectedField<'d, 'a, S>,
     declared: TypeLiteral<'d>,
+    prepared: Option<&Prepared<'d>>,
     keys: &'p [TextRef<'d>],
 ) -> FieldResult<Begun<'d, 'a, S, Asked<'d, S, R::Node>>, S>
     requires settled { Settled (fragments_in executor.now.request.now) }
@@ -63,6 +64,7 @@ fn begin_field<'p, 'd, 'a, S: SchemaScalar + Drop, R: GraphQLValue<S>>(
         (asked_type (R.type_of resolver.now executor.now.context.now)) node.now object.now }
     requires place { IsPlaceOf executor.now.request.now object.now first.now.field.now first.now.among.now (literal_of declared) first.now.field.now.span.start keys.now
         (sets_below (all_found (fragments_in executor.now.request.now) fields.now)) }
+    requires prepared { IfSome prepared (λ known. PreparesIn executor.now.request.now object.now (head_of first.now.field.now) known.now) }
     ensures { let e = engine_at S.of_text S.of_bool S.answer (R.type_of resolver.now) (R.answer resolver.now) executor.now in
         Begins e (sets_below (all_found (fragments_in executor.now.request.now) fields.now)) declared.entry.name.now (fragments_in executor.now.request.now) first.now.field.now.span.start (reverse declared.entry.modifiers.now) (e.answer node.now object.now (head_of first.now.field.now).name (e.arguments object.now (head_of first.now.field.now))) result }
 {
@@ -79,13 +81,15 @@ fn begin_field<'p, 'd, 'a, S: SchemaScalar + Drop, R: GraphQLValue<S>>(
         object,
         node,
         field,
+        prepared,
     )?;
-    let known = NameMap::new(executor.alloc);
+    let known: Option<&KnownGroups<'d, 'a, S>> = None;
     let spot = Spot {
         name: &name,
+        is_leaf: leaf_told(prepared),
         selected: Selected::Below(fields),
         location,
-        known: &known,
+        known,
     };
     begin(resolver, executor, &spot, wraps, answer)
 }
@@ -97,12 +101,14 @@ pub(crate) fn start<'d, 'a, S: SchemaScalar + Drop, R: GraphQLValue<S>>(
     object: &str,
     node: &Asked<'d, S, R::Node>,
     these: &Group<'d, 'a, S>,
+    prepared: Option<&Prepared<'d>>,
     report: &mut Report<'d, S>,
 ) -> Result<Started<'d, 'a, S, Asked<'d, S, R::Node>>, AllocError>
     requires settled { Settled (fragments_in executor.now.request.now) }
     requires typed { IsTypeOf executor.now.request.now.schema.now.query (asked.Own (R.root_node resolver.now))
         (asked_type (R.type_of resolver.now executor.now.context.now)) node.now object.now }
     requires keyed { HasKey these.now }
+    requires prepared { IfSome prepared (λ known. IsPreparedIn executor.now.request.now object.now these.now known.now) }
     ensures leads { let e = engine_at S.of_text S.of_bool S.answer (R.type_of resolver.now) (R.answer resolver.now) executor.now in
         IfOk result (λ s. Leads (group e (evaluate e) report.old.path object.now node.now these.now.0 (all_found (fragments_in executor.now.request.now) these.now.1))
         report.old (show_place s.is_needed (comes_to e (fragments_in executor.now.request.now) s.begun (report.old.path ++ these.now.0 ∷ []))) report.new) }
@@ -119,10 +125,11 @@ pub(crate) fn start<'d, 'a, S: SchemaScalar + Drop, R: GraphQLValue<S>>(
             begun: Begun::Value(None),
         });
     };
-    let Some(declared) = declared_type(
+    let Some(declared) = declared_at(
         executor.request.schema,
         object,
         first.field.item.name.item.as_str(),
+        prepared,
     ) else {
         return Ok(Started {
             is_needed: false,
@@ -133,7 +140,7 @@ pub(crate) fn start<'d, 'a, S: SchemaScalar + Drop, R: GraphQLValue<S>>(
     let fields = these.1.as_slice();
     let keys = report.path.as_slice();
     let begins = begin_field(
-        resolver, executor, object, node, fields, first, declared, keys,
+        resolver, executor, object, node, fields, first, declared, prepared, keys,
     );
     let begun = begun_or_told(executor.alloc, first.field.span.start, begins, report)?;
     Ok(Started { is_needed, begun })
@@ -155,6 +162,7 @@ fn give_object<'d, 'a, S: Drop, N: Drop>(
         node,
         object,
         groups,
+        prepared,
         next,
         is_needed,
         members,
@@ -165,6 +173,7 @@ fn give_object<'d, 'a, S: Drop, N: Drop>(
             node,
             object,
             groups,
+            prepared,
             next,
             is_needed,
             members,
@@ -179,6 +188,7 @@ fn give_object<'d, 'a, S: Drop, N: Drop>(
         node,
         object,
         groups,
+        prepared,
         next,
         is_needed: false,
         members,

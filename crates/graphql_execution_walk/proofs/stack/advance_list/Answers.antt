@@ -1,6 +1,5 @@
 use Rattle.std.proofs.Common.{arith, refl, sym, ◌∙◌, ap, subst, reverse, Ok}
 use Rattle.graphql_collected.specs.Requests.{fragments_in}
-use Rattle.graphql_semantics.specs.Evaluation.{found_in}
 use Rattle.graphql_execution_walk.specs.declared.frames.Frame.TheVariants as frame
 use Rattle.graphql_execution_walk.specs.Begins.{outcome_at}
 use Rattle.graphql_execution_walk.specs.EngineAt.{engine_at}
@@ -48,6 +47,15 @@ returns-clause-steps g c = λ path at.
     (step-pushed e fr path fs (frame.List (learns (keeps e fr f left) c.in_ok-wait_for_item.ensures.0)) (λ q. rest e fr q (frame.List f)) (comes_to e fr begun) old new (told.path ∙ at)
     (item-starts e fr p f left x (comes_to e fr begun p) old new popped leads))
 
+-- the item is at the list's type, and the list knows what it knows
+pub begin-begins-requires-clause-spot : goal.begin-begins-requires-clause-spot
+begin-begins-requires-clause-spot g c =
+    let rq = c.args.executor.now.request.now in
+    let e = engine_at g.S.ScalarValue.of_text g.S.ScalarValue.of_bool g.S.ScalarValue.answer (g.R.GraphQLValue.type_of c.args.resolver.now) (g.R.GraphQLValue.answer c.args.resolver.now) c.args.executor.now in
+    let fr = fragments_in rq in
+    let f = c.args.list_frame in
+    record { leaf = tt; known = rw (c.lent.ensures fr) c.requires.fine.0 }
+
 pub returns-clause-fine : goal.returns-clause-fine
 returns-clause-fine g c =
     let rq = c.args.executor.now.request.now in
@@ -56,7 +64,7 @@ returns-clause-fine g c =
     let f = c.args.list_frame in
     let kept = learns (keeps e fr f c.pop.new.self) c.in_ok-wait_for_item.ensures.0 in
     let told = told-begins e (kept_sets fr f.selected) f.name fr f.location (reverse f.wraps.now) (Ok c.in-Some.item) c.begin-begins.result c.args.report.now c.in_ok-begun.begun c.begun_or_told.new.report (rw (c.lent.ensures fr) at c.begin-begins.ensures) c.in_ok-begun.ensures in
-    let fine = known-taught fr (λ o. found_in e o (kept_sets fr f.selected)) f.known c.in_ok-wait_for_item.ensures.0 (known_of c.in_ok-begun.begun) c.in_ok-wait_for_item.ensures.1 told.known c.requires.fine.0 in
+    let fine = known-taught e fr f.name (kept_sets fr f.selected) f.known c.in_ok-wait_for_item.ensures.0 (known_of c.in_ok-begun.begun) c.in_ok-wait_for_item.ensures.1 told.known c.requires.fine.0 in
     rw c.in_ok-wait_for_item.ensures.2 (fine-last e fr c.args.waiting.now (frame.List kept) c.requires.fine.1 fine, told.fine)
 
 pub returns-in_default-clause-turns : goal.returns-in_default-clause-turns

@@ -9,8 +9,9 @@ use Rattle.graphql_execution_walk.specs.declared.frames.Frame.TheVariants as fra
 use Rattle.graphql_execution_walk.specs.Frames.{Leads, comes_to, path_of, rest, shows}
 use Rattle.graphql_execution_walk.specs.Sets.{HasKey}
 use Rattle.graphql_execution_walk.proofs.FrameLemmas.{awaits, distinct-end, drop-end, fine-last, group-path, group-starts, leads-same, object-ends, step-in_place, step-pushed}
-use Rattle.graphql_execution_walk.proofs.EngineParts.{engine-concrete}
+use Rattle.graphql_execution_walk.proofs.EngineParts.{engine-concrete, if-prepared}
 use Rattle.graphql_execution_walk.proofs.KeyLemmas.{all-at}
+use Rattle.graphql_execution_walk.proofs.PreparedLemmas.{known-here}
 use Rattle.graphql_execution_walk.proofs.TurnLemmas.{group-due, waiting-last}
 use Rattle.graphql_execution_walk.proofs.stack.advance_object.Goals as goal
 
@@ -34,6 +35,20 @@ start-requires-clause-keyed g c =
     let x = c.in-Some.group.now in
     let here : slice_get f.groups f.next ≡ Some x = sym (rw (c.in-Some.is, c.get.ensures) at c.get-2.ensures.value) in
     all-at HasKey f.groups f.next x c.requires.fine.0.1 here
+
+-- what is known at the group's place is known of the group
+pub start-requires-clause-prepared : goal.start-requires-clause-prepared
+start-requires-clause-prepared g c =
+    let rq = c.args.executor.now.request.now in
+    let ty = g.R.GraphQLValue.type_of c.args.resolver.now c.args.executor.now.context.now in
+    let an = g.R.GraphQLValue.answer c.args.resolver.now c.args.executor.now.context.now in
+    let f = c.args.object_frame in
+    let x = c.in-Some.group.now in
+    let here : slice_get f.groups f.next ≡ Some x = sym (rw (c.in-Some.is, c.get.ensures) at c.get-2.ensures.value) in
+    rw c.as_str.ensures
+    (known-here rq f.object f.groups f.prepared f.next x
+    (if-prepared g.S.ScalarValue.of_text g.S.ScalarValue.of_bool g.S.ScalarValue.answer rq ty an f.object f.groups f.prepared c.requires.fine.0.3)
+    here c.prepared_at-known.result c.prepared_at-known.ensures)
 
 pub returns-in-None-clause-steps : goal.returns-in-None-clause-steps
 returns-in-None-clause-steps g c = λ path at.
@@ -77,7 +92,7 @@ returns-clause-fine g c =
     let e = engine_at g.S.ScalarValue.of_text g.S.ScalarValue.of_bool g.S.ScalarValue.answer (g.R.GraphQLValue.type_of c.args.resolver.now) (g.R.GraphQLValue.answer c.args.resolver.now) c.args.executor.now in
     let fr = fragments_in rq in
     let f = c.args.object_frame in
-    rw c.in_ok-wait.ensures (fine-last e fr c.args.waiting.now (frame.Object (record { node = f.node; object = f.object; groups = f.groups; next = f.next; is_needed = c.in_ok-started-in-Some.started.is_needed; members = f.members })) c.requires.fine.1 c.requires.fine.0, c.in_ok-started-in-Some.ensures.fine)
+    rw c.in_ok-wait.ensures (fine-last e fr c.args.waiting.now (frame.Object (record { node = f.node; object = f.object; groups = f.groups; prepared = f.prepared; next = f.next; is_needed = c.in_ok-started-in-Some.started.is_needed; members = f.members })) c.requires.fine.1 c.requires.fine.0, c.in_ok-started-in-Some.ensures.fine)
 
 pub returns-in-None-clause-turns : goal.returns-in-None-clause-turns
 returns-in-None-clause-turns g c = omega arith

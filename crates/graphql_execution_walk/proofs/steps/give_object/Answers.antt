@@ -25,7 +25,7 @@ returns-clause-path g c = λ path p.
 pub returns-clause-fine : goal.returns-clause-fine
 returns-clause-fine g c = λ e fr fine.
     let at : slice_get c.args.waits.groups c.args.waits.next ≡ Some c.in-Some.group.now = sym (rw (c.in-Some.is, c.get-these.ensures) at c.get.ensures.value) in
-    rw (c.behind-next.ensures c.in-Some.ensures.within) (fine.0, fine.1, group-fine c.args.waits c.in-Some.group.now c.shown.result c.in_ok-members-in-Some.members at c.in_ok-members-in-Some.ensures fine.2)
+    rw (c.behind-next.ensures c.in-Some.ensures.within) (fine.0, fine.1, group-fine c.args.waits c.in-Some.group.now c.shown.result c.in_ok-members-in-Some.members at c.in_ok-members-in-Some.ensures fine.2, fine.3)
 
 pub returns-in-None-clause-turns : goal.returns-in-None-clause-turns
 returns-in-None-clause-turns g c = λ e fr. nothing-due e fr c.args.waits (sym (rw (c.in-None.is, c.get-these.ensures) at c.get.ensures.value))

@@ -16,6 +16,7 @@ use Rattle.graphql_execution_walk.proofs.EngineParts.{engine-declared}
 use Rattle.graphql_execution_walk.proofs.FrameLemmas.{group-leads, none-leads, undeclared-leads}
 use Rattle.graphql_execution_walk.proofs.GroupLemmas.{group-turns, head_first, nothing_first}
 use Rattle.graphql_execution_walk.proofs.KeyLemmas.{IsUnder, all-at, contains-at, found-under}
+use Rattle.graphql_execution_walk.proofs.PreparedLemmas.{declared-known, first-known}
 use Rattle.graphql_execution_walk.proofs.steps.start.Goals as goal
 
 -- the first field of the group stands where its executor does
@@ -35,7 +36,7 @@ begin_field-begins-requires-clause-place g c =
     found-under fr key parts.0 (All-tail (λ y. key_at y ≡ key) x parts.0 keyed) in
     record {
       stands = contains-at x.among.now x.place (selection.Field x.field.now) x.stands;
-      declared = ap (declared_type rq.schema.now.types c.args.object.now) (sym c.as_str.ensures) ∙ sym (rw c.in-Some-declared_type.is at c.declared_type.ensures);
+      declared = ap (declared_type rq.schema.now.types c.args.object.now) (sym c.as_str.ensures) ∙ sym (rw c.in-Some-declared_at.is at c.declared_at.ensures);
       starts = refl;
       above = old.path;
       leads = c.as_slice-keys.ensures ∙ c.in_ok-enter.ensures.path ∙ ap (λ k. old.path ++ k ∷ []) (sym same);
@@ -43,6 +44,17 @@ begin_field-begins-requires-clause-place g c =
       alike = subst (λ k. All (IsUnder k) (all_found fr parts.0)) (sym same) alike;
       selects = ap (λ xs. sets_below (all_found fr xs)) (c.as_slice-fields.ensures ∙ parts.1);
     }
+
+-- what is known of the group is known of its first field
+pub declared_at-requires : goal.declared_at-requires
+declared_at-requires g c =
+    let first : Some c.in-Some.first.now ≡ slice_get c.args.these.now.1 0 = rw c.in-Some.is at c.first.ensures in
+    rw c.as_str.ensures (declared-known c.args.executor.now.request.now c.args.object.now c.args.these.now c.in-Some.first.now first c.args.prepared c.requires.prepared)
+
+pub begin_field-begins-requires-clause-prepared : goal.begin_field-begins-requires-clause-prepared
+begin_field-begins-requires-clause-prepared g c =
+    let first : Some c.in-Some.first.now ≡ slice_get c.args.these.now.1 0 = rw c.in-Some.is at c.first.ensures in
+    first-known c.args.executor.now.request.now c.args.object.now c.args.these.now c.in-Some.first.now first c.args.prepared c.requires.prepared
 
 pub returns-in_default-clause-leads : goal.returns-in_default-clause-leads
 returns-in_default-clause-leads g c =
@@ -54,8 +66,8 @@ returns-in_default-clause-leads g c =
     let old = c.args.report.now in
     none-leads fr e old.path c.args.object.now c.args.node.now c.args.these.now.0 c.args.these.now.1 old c.enter.new.self (rw c.in_default.is at c.first.ensures) c.in_ok-enter.ensures.errors
 
-pub returns-in_default-declared_type-clause-leads : goal.returns-in_default-declared_type-clause-leads
-returns-in_default-declared_type-clause-leads g c =
+pub returns-in_default-declared_at-clause-leads : goal.returns-in_default-declared_at-clause-leads
+returns-in_default-declared_at-clause-leads g c =
     let rq = c.args.executor.now.request.now in
     let ty = g.R.GraphQLValue.type_of c.args.resolver.now c.args.executor.now.context.now in
     let an = g.R.GraphQLValue.answer c.args.resolver.now c.args.executor.now.context.now in
@@ -68,7 +80,7 @@ returns-in_default-declared_type-clause-leads g c =
     let x = c.in-Some.first.now in
     let first : Some x ≡ slice_get fields 0 = rw c.in-Some.is at c.first.ensures in
     let named = ap (λ f. f object (head_of x.field.now).name) (engine-declared g.S.ScalarValue.of_text g.S.ScalarValue.of_bool g.S.ScalarValue.answer rq ty an) ∙ ap (declared_type rq.schema.now.types object) (sym c.as_str.ensures) in
-    let declared : e.declared object (head_of x.field.now).name ≡ None = named ∙ sym (rw c.in_default-declared_type.is at c.declared_type.ensures) in
+    let declared : e.declared object (head_of x.field.now).name ≡ None = named ∙ sym (rw c.in_default-declared_at.is at c.declared_at.ensures) in
     undeclared-leads fr e old.path object c.args.node.now key fields x first old c.enter.new.self declared c.in_ok-enter.ensures.errors
 
 pub returns-clause-leads : goal.returns-clause-leads
@@ -86,9 +98,9 @@ returns-clause-leads g c =
     let x = c.in-Some.first.now in
     let first : Some x ≡ slice_get fields 0 = rw c.in-Some.is at c.first.ensures in
     let named = ap (λ f. f object (head_of x.field.now).name) (engine-declared g.S.ScalarValue.of_text g.S.ScalarValue.of_bool g.S.ScalarValue.answer rq ty an) ∙ ap (declared_type rq.schema.now.types object) (sym c.as_str.ensures) in
-    let found = c.in-Some-declared_type.declared in
+    let found = c.in-Some-declared_at.declared in
     let type : TypeOf = record { name = found.name.now; modifiers = found.modifiers.now } in
-    let declared : e.declared object (head_of x.field.now).name ≡ Some type = named ∙ sym (rw c.in-Some-declared_type.is at c.declared_type.ensures) in
+    let declared : e.declared object (head_of x.field.now).name ≡ Some type = named ∙ sym (rw c.in-Some-declared_at.is at c.declared_at.ensures) in
     let mid = c.enter.new.self in
     let down : mid.path ≡ old.path ++ key ∷ [] = c.in_ok-enter.ensures.path in
     let answer = e.answer node object (head_of x.field.now).name (e.arguments object (head_of x.field.now)) in
@@ -102,8 +114,8 @@ returns-clause-leads g c =
 pub returns-in_default-clause-turns : goal.returns-in_default-clause-turns
 returns-in_default-clause-turns g c = rw (nothing_first c.args.these.now.1 (rw c.in_default.is at c.first.ensures)) refl
 
-pub returns-in_default-declared_type-clause-turns : goal.returns-in_default-declared_type-clause-turns
-returns-in_default-declared_type-clause-turns g c =
+pub returns-in_default-declared_at-clause-turns : goal.returns-in_default-declared_at-clause-turns
+returns-in_default-declared_at-clause-turns g c =
     let rq = c.args.executor.now.request.now in
     let ty = g.R.GraphQLValue.type_of c.args.resolver.now c.args.executor.now.context.now in
     let an = g.R.GraphQLValue.answer c.args.resolver.now c.args.executor.now.context.now in
@@ -113,7 +125,7 @@ returns-in_default-declared_type-clause-turns g c =
     let x = c.in-Some.first.now in
     let first : Some x ≡ slice_get fields 0 = rw c.in-Some.is at c.first.ensures in
     let named = ap (λ f. f object (head_of x.field.now).name) (engine-declared g.S.ScalarValue.of_text g.S.ScalarValue.of_bool g.S.ScalarValue.answer rq ty an) ∙ ap (declared_type rq.schema.now.types object) (sym c.as_str.ensures) in
-    let declared : e.declared object (head_of x.field.now).name ≡ None = named ∙ sym (rw c.in_default-declared_type.is at c.declared_type.ensures) in
+    let declared : e.declared object (head_of x.field.now).name ≡ None = named ∙ sym (rw c.in_default-declared_at.is at c.declared_at.ensures) in
     rw (group-turns (fragments_in rq) e object c.args.node.now fields x first, declared) refl
 
 pub returns-clause-turns : goal.returns-clause-turns
@@ -129,9 +141,9 @@ returns-clause-turns g c =
     let x = c.in-Some.first.now in
     let first : Some x ≡ slice_get fields 0 = rw c.in-Some.is at c.first.ensures in
     let named = ap (λ f. f object (head_of x.field.now).name) (engine-declared g.S.ScalarValue.of_text g.S.ScalarValue.of_bool g.S.ScalarValue.answer rq ty an) ∙ ap (declared_type rq.schema.now.types object) (sym c.as_str.ensures) in
-    let found = c.in-Some-declared_type.declared in
+    let found = c.in-Some-declared_at.declared in
     let type : TypeOf = record { name = found.name.now; modifiers = found.modifiers.now } in
-    let declared : e.declared object (head_of x.field.now).name ≡ Some type = named ∙ sym (rw c.in-Some-declared_type.is at c.declared_type.ensures) in
+    let declared : e.declared object (head_of x.field.now).name ≡ Some type = named ∙ sym (rw c.in-Some-declared_at.is at c.declared_at.ensures) in
     let answer = e.answer node object (head_of x.field.now).name (e.arguments object (head_of x.field.now)) in
     let at = told-begins e (sets_below (all_found fr fields)) type.name fr x.field.now.span.start (reverse type.modifiers) answer c.begin_field-begins.result c.enter.new.self c.in_ok-begun.begun c.begun_or_told.new.report (rw c.as_slice-fields.ensures at c.begin_field-begins.ensures) c.in_ok-begun.ensures in
     rw (group-turns fr e object node fields x first, declared) at.turns

@@ -1,0 +1,43 @@
+-- What is selected from a node.
+use Rattle.std.proofs.Common.{◌≡◌, subst, Bool, true, List, Option, Some, None}
+use Rattle.std.specs.Borrow.{Bor}
+use Rattle.std.specs.Prelude.{IfSome}
+use Rattle.std.proofs.lemmas.Slice.Eq.{bytes_eq-Decides}
+use Rattle.graphql_scalars.specs.ScalarAnswers.{ScalarAnswer}
+use Rattle.graphql_names.specs.Names.{Bytes}
+use Rattle.graphql_names.proofs.NameMaps.{found_is_in}
+use Rattle.graphql_tree.specs.declared.document.Fragment.{Fragment}
+use Rattle.graphql_collected.specs.declared.request.Request.{Request}
+use Rattle.graphql_collected.specs.Requests.{fragments_in}
+use Rattle.graphql_written_out.specs.Trees.{Tree}
+use Rattle.graphql_semantics.specs.Engines.{Engine}
+use Rattle.graphql_execution_walk.specs.Engines.{Resolves, engine_of}
+use Rattle.graphql_execution_walk.specs.KnownTypes.{AreKnown, IsKnown, KnownIn}
+use Rattle.graphql_execution_walk.specs.Sets.{AreGroups}
+use Rattle.graphql_execution_walk.specs.Spots.{IsCollected, MayStand, known_in_list}
+use Rattle.graphql_execution_walk.proofs.EngineParts.{engine-found, prepared-if}
+
+module _ {S N : Type 0} (e : Engine S N) (fragments : List (Fragment S)) (name : Bytes) (sets : List (Tree S)) (object : Bytes) where
+  is-known : (found : Option (KnownIn S)) (k : KnownIn S) → IfSome found (IsKnown e fragments name sets object) → found ≡ Some k → IsKnown e fragments name sets object k
+  is-known found k h is = subst (λ f. IfSome f (IsKnown e fragments name sets object)) is h
+
+  -- what the list knows of an object type is of that type
+  pub listed-stands : (known : Option (Bor (List (KnownIn S)))) (k : KnownIn S) → IfSome known (λ ks. AreKnown e fragments name sets ks.now) → known_in_list known object ≡ Some k
+      → MayStand e fragments name sets object (Some k)
+  listed-stands None k are is = (let q : None ≡ Some k = is in cc)
+  listed-stands (Some ks) k are is =
+      let parts = found_is_in (λ (x : KnownIn S). x.object) ks.now object k is in
+      ((bytes_eq-Decides k.object object).0 parts.0, is-known (known_in_list (Some ks) object) k (are object) is)
+
+-- what was collected of an object type is of that type
+module _ {S C N : Type 0} (of_text : Bytes → S) (of_bool : Bool → S) (answer : S → ScalarAnswer) (request : Request S C) (concrete : N → Bytes) (resolves : Resolves S N) where
+  pub collected-stands : (name object : Bytes) (sets : List (Tree S)) (k : KnownIn S) → (engine_of of_text of_bool answer request concrete resolves).is_possible name object ≡ true
+      → IsCollected answer request sets object k → MayStand (engine_of of_text of_bool answer request concrete resolves) (fragments_in request) name sets object (Some k)
+  collected-stands name object sets k may is = (
+    is.named,
+    record {
+      possible = may;
+      groups = subst (λ xs. AreGroups (fragments_in request) xs k.groups) (engine-found of_text of_bool answer request concrete resolves object sets) is.groups;
+      prepared = prepared-if of_text of_bool answer request concrete resolves object k.groups k.prepared is.prepared;
+    },
+  )

@@ -1,0 +1,51 @@
+-- What is known of fields of an object type, whichever object of it they are asked of (GraphQL October 2021, 6.4.1 Coercing Field Arguments).
+use Rattle.std.specs.Prelude.{◌≡◌, ℕ, Bool, true, List, [], Option, Some, None, slice_get}
+use Rattle.graphql_names.specs.Names.{Bytes}
+use Rattle.graphql_schema.specs.Types.{TypeOf}
+use Rattle.graphql_arguments.specs.ArgumentValues.{Given}
+use Rattle.graphql_collect.specs.Grouped.{Group}
+use Rattle.graphql_collected.specs.declared.collected_field.CollectedField.{CollectedField}
+use Rattle.graphql_collected.specs.declared.request.Request.{Request}
+use Rattle.graphql_occurrences.specs.DeclaredLent.{literal_of}
+use Rattle.graphql_semantics.specs.Engines.{Engine}
+use Rattle.graphql_written_out.specs.Trees.{Head}
+use Rattle.graphql_written_out.specs.Written.{head_of}
+use Rattle.graphql_execution_walk.specs.Engines.{arguments_in}
+use Rattle.graphql_execution_walk.specs.FieldDeclarations.{declared_type, is_leaf_named}
+use Rattle.graphql_execution_walk.specs.declared.prepared.Prepared.{Prepared}
+
+-- of the field of a head: the type that is declared for it, whether that is a leaf, and whether no argument has a value
+pub record Prepares {S : Type 0} (declared : Bytes → Bytes → Option TypeOf) (is_leaf : Bytes → Bool)
+    (arguments : Bytes → Head S → Given S) (object : Bytes) (head : Head S) (p : Prepared) : Type 0 where
+  pub type : declared object head.name ≡ Some (literal_of p.declared)
+  pub leaf : p.is_leaf ≡ is_leaf p.declared.name.now
+  pub bare : p.is_bare ≡ true → arguments object head ≡ []
+
+module _ {S : Type 0} (declared : Bytes → Bytes → Option TypeOf) (is_leaf : Bytes → Bool) (arguments : Bytes → Head S → Given S) (object : Bytes) where
+  -- of a group: of its first field
+  abbrev pub IsPrepared : Group S → Prepared → Type 0
+  IsPrepared g p = (x : CollectedField S) → Some x ≡ slice_get g.1 0 → Prepares declared is_leaf arguments object (head_of x.field.now) p
+
+  -- of groups, as far as it goes
+  abbrev pub ArePrepared : List (Group S) → List Prepared → Type 0
+  ArePrepared gs ps = (i : ℕ) (g : Group S) (p : Prepared) → slice_get gs i ≡ Some g → slice_get ps i ≡ Some p → IsPrepared g p
+
+-- the same, by a request
+module _ {S C : Type 0} (request : Request S C) where
+  abbrev pub PreparesIn : Bytes → Head S → Prepared → Type 0
+  PreparesIn = Prepares (declared_type request.schema.now.types) (is_leaf_named request.schema.now.types) (arguments_in request)
+
+  abbrev pub IsPreparedIn : Bytes → Group S → Prepared → Type 0
+  IsPreparedIn = IsPrepared (declared_type request.schema.now.types) (is_leaf_named request.schema.now.types) (arguments_in request)
+
+  abbrev pub ArePreparedIn : Bytes → List (Group S) → List Prepared → Type 0
+  ArePreparedIn = ArePrepared (declared_type request.schema.now.types) (is_leaf_named request.schema.now.types) (arguments_in request)
+
+-- the same, by what evaluation asks
+abbrev pub ArePreparedBy : {S N : Type 0} → Engine S N → Bytes → List (Group S) → List Prepared → Type 0
+ArePreparedBy e = ArePrepared e.declared e.is_leaf e.arguments
+
+-- what is known at a place, from zero
+abbrev pub prepared_at : Option (List Prepared) → ℕ → Option Prepared
+prepared_at None i = None
+prepared_at (Some ps) i = slice_get ps i
