@@ -32,12 +32,12 @@ one_passes test id passes (x ∷ ids) stands = either (bytes_eq id x) refl (one_
         sum_by-cons (λ y. cond (bytes_eq id y) 1 0) x ids ∙ ap (λ b. cond b 1 0 + count_by (bytes_eq id) ids) is in
         behind (test x) (rest (omega (arith, stands, counted)))
 
-ids_repeat_at : (id : Bytes) (ids : List Bytes) → stands_twice ids id ≡ true → list_any (stands_twice ids) ids ≡ true
+pub ids_repeat_at : (id : Bytes) (ids : List Bytes) → stands_twice ids id ≡ true → list_any (stands_twice ids) ids ≡ true
 ids_repeat_at id ids twice =
     let two : 1 < count_by (bytes_eq id) ids = ltb-true 1 _ twice in
     one_passes (stands_twice ids) id twice ids (omega (arith, two))
 
-ids_differ : (ids : List Bytes) → ((id : Bytes) → stands_twice ids id ≡ false) → list_any (stands_twice ids) ids ≡ false
+pub ids_differ : (ids : List Bytes) → ((id : Bytes) → stands_twice ids id ≡ false) → list_any (stands_twice ids) ids ≡ false
 ids_differ ids once = none_pass (stands_twice ids) once ids
 
 module _ (types : List TableType) (query root : Bytes) (records : Entries) where

@@ -3,3 +3,4 @@ pub mod DraftTurns
 pub mod LinkLemmas
 pub mod Judging
 pub mod ReadSteps
+pub mod Placing

@@ -4,3 +4,4 @@ pub mod LentDrafts
 pub mod Refusals
 pub mod Links
 pub mod DataFiles
+pub mod RecordPlaces

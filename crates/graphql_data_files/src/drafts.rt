@@ -9,6 +9,7 @@ ghost use Rattle.graphql_data_files.specs.LentDrafts.{draft_told, file_told};
 
 use crate::values::{fields_have_shape, fields_of};
 use graphql_json::{list_at, text_at};
+use graphql_names::Named;
 use graphql_records::Record;
 use graphql_text::{Items, Text, TextRef};
 use serde_json::{Map, Value};
@@ -25,6 +26,15 @@ pub(crate) struct Draft<'a> {
 
     /// The fields, as they stand in the file. Each has the shape of a value.
     pub(crate) fields: &'a Map<String, Value>,
+}
+
+/// A record is named by its id.
+impl Named for Draft<'_> {
+    ghost name_of = { λ draft. draft.id };
+
+    fn name(&self) -> &str {
+        self.id.as_str()
+    }
 }
 
 /// A file.

@@ -5,9 +5,13 @@
 mod data_file_error;
 mod drafts;
 mod links;
+mod places;
 mod reading;
+mod record_place;
 mod records;
 mod values;
 
 pub use data_file_error::DataFileError;
+pub use places::place_of_fault;
 pub use reading::read_records;
+pub use record_place::RecordPlace;

@@ -48,7 +48,7 @@ fn values_lead(records: &Records, values: &[FieldValue]) -> bool
 }
 
 /// Whether each link in a field's value leads to a record. At a leaf type there are none.
-fn field_leads(
+pub(crate) fn field_leads(
     types: &NamedItems<TableType>,
     records: &Records,
     object: &str,
@@ -63,7 +63,11 @@ fn field_leads(
 }
 
 /// Whether each link in a record leads to a record.
-fn record_leads(types: &NamedItems<TableType>, records: &Records, record: &Record) -> bool
+pub(crate) fn record_leads(
+    types: &NamedItems<TableType>,
+    records: &Records,
+    record: &Record,
+) -> bool
     ensures { result ≡ spec.record_leads records.now.entries types.now record.now }
 {
     let object = record.type_name.as_str();

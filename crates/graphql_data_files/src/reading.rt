@@ -29,7 +29,7 @@ fn fault_of(refusal: LineRefusal) -> DataFileError
 }
 
 /// The JSON of a file. `Memory` is want of memory.
-fn json_of(alloc: Global, bytes: &[u8]) -> Result<Value, DataFileError>
+pub(crate) fn json_of(alloc: Global, bytes: &[u8]) -> Result<Value, DataFileError>
     ensures { MeetsBy view (λ e. e ≡ Memory) result (ok_or (data_of bytes.now) NotJson) }
 {
     match json_of_line(alloc, bytes) {

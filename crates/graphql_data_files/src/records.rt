@@ -15,7 +15,7 @@ use graphql_text::{Items, Text};
 use std::alloc::Global;
 
 /// Whether a record is of an object type.
-fn is_of_object_type(types: &NamedItems<TableType>, record: &(Text, Record)) -> bool
+pub(crate) fn is_of_object_type(types: &NamedItems<TableType>, record: &(Text, Record)) -> bool
     ensures { result ≡ spec.is_of_object_type types.now record.now }
 {
     is_possible(types, record.1.type_name.as_str(), &record.1.type_name)
@@ -31,14 +31,18 @@ fn are_of_object_types(types: &NamedItems<TableType>, records: &[(Text, Record)]
 }
 
 /// Whether an object type has a field.
-fn has_field(types: &NamedItems<TableType>, object: &str, field: &(Text, FieldValue)) -> bool
+pub(crate) fn has_field(
+    types: &NamedItems<TableType>,
+    object: &str,
+    field: &(Text, FieldValue),
+) -> bool
     ensures { result ≡ spec.has_field types.now object.now field.now }
 {
     known_field(types, object, field.0.as_str()).is_some()
 }
 
 /// Whether a record's type has each of the record's fields.
-fn has_fields(types: &NamedItems<TableType>, record: &(Text, Record)) -> bool
+pub(crate) fn has_fields(types: &NamedItems<TableType>, record: &(Text, Record)) -> bool
     ensures { result ≡ spec.has_fields types.now record.now }
 {
     let object = record.1.type_name.as_str();

@@ -5,3 +5,6 @@ pub mod Scalars
 pub mod NameTests
 pub mod WholeTexts
 pub mod Described
+pub mod FirstPlaces
+pub mod Outlining
+pub mod Placing

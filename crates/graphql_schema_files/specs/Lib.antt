@@ -6,3 +6,5 @@ pub mod Shapes
 pub mod NamedDrafts
 pub mod SpelledTexts
 pub mod DraftedTypes
+pub mod DeclarationPlaces
+pub mod Outlines

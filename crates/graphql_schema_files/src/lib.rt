@@ -6,18 +6,25 @@
 
 mod builtin;
 mod conforming;
+mod declaration_place;
 mod drafts;
 mod metadata;
 mod named;
+mod outlines;
+mod places;
 mod reading;
+mod rule;
 mod schema_file_error;
 mod shapes;
 mod texts;
 mod typed;
 
+pub use declaration_place::{DeclarationPlace, FieldPlace};
 pub use drafts::{ArgumentDraft, DraftKind, FieldDraft, SchemaDraft, TypeDraft};
 pub use metadata::add_types;
 pub use named::are_named;
+pub use outlines::{Outline, outline};
+pub use places::place_of_fault;
 pub use reading::SchemaFile;
 pub use schema_file_error::SchemaFileError;
 pub use shapes::schema_of;

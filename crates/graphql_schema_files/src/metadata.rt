@@ -18,7 +18,7 @@ use std::alloc::{AllocError, Global};
 
 /// The value of a default, which an argument may lack; `None` where its text is no constant literal. An
 /// error is want of memory.
-fn default_of(
+pub(crate) fn default_of(
     alloc: Global,
     text: &Option<TextRef<'_>>,
 ) -> Result<Option<Option<InputValue>>, AllocError>

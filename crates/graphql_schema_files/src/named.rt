@@ -8,7 +8,7 @@ use crate::drafts::{ArgumentDraft, FieldDraft, TypeDraft};
 use graphql_names::Name;
 
 /// Whether a text is a name.
-fn is_name(text: &str) -> bool
+pub(crate) fn is_name(text: &str) -> bool
     ensures { result ≡ spec.is_name text.now }
 {
     Name::is_valid(text)

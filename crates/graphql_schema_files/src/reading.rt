@@ -39,7 +39,7 @@ fn fault_of(refusal: LineRefusal) -> SchemaFileError
 }
 
 /// The JSON of a file. `Memory` is want of memory.
-fn json_of(alloc: Global, bytes: &[u8]) -> Result<Value, SchemaFileError>
+pub(crate) fn json_of(alloc: Global, bytes: &[u8]) -> Result<Value, SchemaFileError>
     ensures { Answers (λ json. data_of bytes.now ≡ Some (view json)) (λ e. (e ≡ NotJson) × (data_of bytes.now ≡ None)) (λ e. e ≡ Memory) result }
 {
     match json_of_line(alloc, bytes) {
@@ -49,7 +49,7 @@ fn json_of(alloc: Global, bytes: &[u8]) -> Result<Value, SchemaFileError>
 }
 
 /// A text that is lent, where there is one.
-fn lent<'a>(text: &Option<TextRef<'a>>) -> Option<&'a str>
+pub(crate) fn lent<'a>(text: &Option<TextRef<'a>>) -> Option<&'a str>
     ensures { spec.words_of result ≡ text.now }
 {
     match text {

@@ -11,7 +11,7 @@ use graphql_text::TextRef;
 use std::alloc::{AllocError, Global};
 
 /// Whether a text is a type reference. An error is want of memory.
-fn is_type(alloc: Global, text: &TextRef<'_>) -> Result<bool, AllocError>
+pub(crate) fn is_type(alloc: Global, text: &TextRef<'_>) -> Result<bool, AllocError>
     ensures { IfOk result (λ told. IsTrue told ↔ HasType text.now) }
 {
     match type_in(alloc, text)? {

@@ -1,0 +1,15 @@
+use Rattle.std.proofs.Common.{◌≡◌, Some, None, IfOk, refl, sym, subst, rules}
+use Rattle.serde_json.specs.View.{view}
+use Rattle.graphql_schema_files.specs.DeclarationPlaces.{IsPlaceOf}
+use Rattle.graphql_schema_files.specs.Shapes.{schema_of}
+use Rattle.graphql_schema_files.proofs.places.place_in_json.Goals as goal
+
+pub returns-in-Some : goal.returns-in-Some
+returns-in-Some c =
+    let told : schema_of (view c.args.json.now) ≡ Some c.in-Some.file = search rules in
+    subst (λ o. IfOk c.place_in.result (IsPlaceOf c.args.fault.now o)) (sym told) c.place_in.ensures
+
+pub returns-in-None : goal.returns-in-None
+returns-in-None c =
+    let told : schema_of (view c.args.json.now) ≡ None = search rules in
+    subst (λ o. IsPlaceOf c.args.fault.now o None) (sym told) refl
