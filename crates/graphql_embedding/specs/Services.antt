@@ -81,7 +81,7 @@ Judged s schema names (Err _) = ⊥
 
 -- the types that rows and their checks are
 abbrev pub Declare : {S C : Type 0} → Scalars S C → List (CheckedRow C) → List (MetaType S C) → Type 0
-Declare s rows declared = AllZip (IsTypeOf s.reads s.of_bool) rows declared
+Declare s rows declared = AllZip (IsTypeOf s.reads s.of_bool s.answer) rows declared
 
 -- over the types that each schema has, and those of rows
 module _ {S C R X : Type 0} (s : Scalars S C) (roots : Roots) (by : R) (over : X) (each : List (MetaType S C)) (rows : List (CheckedRow C)) where
@@ -97,7 +97,7 @@ module _ {S C R X : Type 0} (s : Scalars S C) (roots : Roots) (by : R) (over : X
   -- why there is none: the first row that is refused, else the first fault of the types, else the first of which a default
   -- does not conform, else that of their schema; want of memory tells nothing of the rows
   abbrev pub RowsDue : ServeRowsFault → Type 0
-  RowsDue (fault.Row e) = UnlessMemory IsMemory e (IsFirstRefused s.reads s.of_bool rows e)
+  RowsDue (fault.Row e) = UnlessMemory IsMemory e (IsFirstRefused s.reads s.of_bool s.answer rows e)
   RowsDue (fault.Schema e) = DeclaredDue (fault.Schema e)
   RowsDue (fault.BadDefault name) = DeclaredDue (fault.BadDefault name)
   RowsDue (fault.Service e) = DeclaredDue (fault.Service e)

@@ -22,13 +22,18 @@ pub(crate) fn names_of(alloc: Global, texts: &[&str]) -> Result<Items<Text>, Row
     Ok(names)
 }
 
-/// The values of an enum that these texts name.
-pub(crate) fn values_of(alloc: Global, texts: &[&str]) -> Result<Items<EnumValue>, RowFault>
-    ensures { Answers (AllZip spec.ValueMeans texts.now) (spec.RefusedAt spec.RefusesValue texts.now) spec.IsMemory result }
+/// The values of an enum that the rows of a type define.
+pub(crate) fn values_of<S: ScalarValue + Drop>(
+    alloc: Global,
+    head: &str,
+    rows: &[&str],
+) -> Result<Items<EnumValue>, RowFault>
+    ensures { Answers (AllZip (spec.ValueMeans S.reads S.of_bool S.answer) rows.now)
+        (spec.RefusedAt (spec.RefusesValue S.reads S.of_bool S.answer head.now) rows.now) spec.IsMemory result }
 {
-    let mut values = Items::with_capacity(alloc, texts.len())?;
-    'texts: for text in texts {
-        values.push(value_of(alloc, text)?)?;
+    let mut values = Items::with_capacity(alloc, rows.len())?;
+    'rows: for row in rows {
+        values.push(value_of::<S>(alloc, head, row)?)?;
     }
     Ok(values)
 }
@@ -36,15 +41,15 @@ pub(crate) fn values_of(alloc: Global, texts: &[&str]) -> Result<Items<EnumValue
 /// The fields that the rows of a type define.
 pub(crate) fn fields_of<S: ScalarValue + Drop>(
     alloc: Global,
-    type_name: &str,
+    head: &str,
     rows: &[&str],
 ) -> Result<Items<Field<S>>, RowFault>
-    ensures { Answers (AllZip (spec.FieldMeans S.reads S.of_bool) rows.now)
-        (spec.RefusedAt (spec.RefusesField S.reads S.of_bool type_name.now) rows.now) spec.IsMemory result }
+    ensures { Answers (AllZip (spec.FieldMeans S.reads S.of_bool S.answer) rows.now)
+        (spec.RefusedAt (spec.RefusesField S.reads S.of_bool S.answer head.now) rows.now) spec.IsMemory result }
 {
     let mut fields = Items::with_capacity(alloc, rows.len())?;
     'rows: for row in rows {
-        fields.push(field_of(alloc, type_name, row)?)?;
+        fields.push(field_of(alloc, head, row)?)?;
     }
     Ok(fields)
 }
@@ -52,15 +57,15 @@ pub(crate) fn fields_of<S: ScalarValue + Drop>(
 /// The input fields that the rows of a type define.
 pub(crate) fn arguments_of<S: ScalarValue + Drop>(
     alloc: Global,
-    type_name: &str,
+    head: &str,
     rows: &[&str],
 ) -> Result<Items<Argument<S>>, RowFault>
     ensures { Answers (AllZip (spec.ArgumentMeans S.reads S.of_bool) rows.now)
-        (spec.RefusedAt (spec.RefusesArgument S.reads S.of_bool type_name.now) rows.now) spec.IsMemory result }
+        (spec.RefusedAt (spec.RefusesArgument S.reads S.of_bool head.now) rows.now) spec.IsMemory result }
 {
     let mut arguments = Items::with_capacity(alloc, rows.len())?;
     'rows: for row in rows {
-        arguments.push(argument_of(alloc, type_name, row)?)?;
+        arguments.push(argument_of(alloc, head, row)?)?;
     }
     Ok(arguments)
 }

@@ -6,6 +6,7 @@ ghost use Rattle.graphql_text.specs.Memory.{Answers};
 ghost use Rattle.graphql_schema_rows.specs.Rows as row_specs;
 ghost use Rattle.graphql_schema_rows.specs.Types as spec;
 
+use crate::head::name_in;
 use crate::row_fault::RowFault;
 use crate::types::{enumeration, input_object, interface, object, one_of, union_type};
 use graphql_scalars::ScalarValue;
@@ -14,6 +15,10 @@ use graphql_text::Items;
 use std::alloc::{AllocError, Global};
 
 /// A type in rows of text (GraphQL October 2021, 3.4 Types).
+///
+/// A description, a string, may stand before a type's name, before a row and before an argument in it, as
+/// `"Who wrote a book." Author` (3.2 Descriptions). `@deprecated` or `@deprecated(reason: "..")` may
+/// stand behind a field and behind a value of an enum (3.13.3 @deprecated). Introspection tells them.
 #[derive(Clone, Copy)]
 pub enum TypeRow<'a> {
     /// An object: its name, the names of its interfaces, and a row for each field, as
@@ -26,7 +31,7 @@ pub enum TypeRow<'a> {
     /// A union: its name, and those of its members.
     Union(&'a str, &'a [&'a str]),
 
-    /// An enum: its name, and those of its values.
+    /// An enum: its name, and a row for each value, as `EMPIRE @deprecated`.
     Enum(&'a str, &'a [&'a str]),
 
     /// An input object: its name, and a row for each field, as `first: Int = 10`.
@@ -37,14 +42,14 @@ pub enum TypeRow<'a> {
 }
 
 impl<'a> TypeRow<'a> {
-    /// The type's name, as the row has it, whether it is a name or not.
+    /// The type's name, as the row has it behind a description, whether it is a name or not.
     pub fn name(&self) -> &'a str
         ensures { result.now ≡ spec.row_name self.now }
     {
         match self {
-            TypeRow::Object(name, _, _) | TypeRow::Interface(name, _, _) => *name,
-            TypeRow::Union(name, _) | TypeRow::Enum(name, _) => *name,
-            TypeRow::InputObject(name, _) | TypeRow::OneOf(name, _) => *name,
+            TypeRow::Object(head, _, _) | TypeRow::Interface(head, _, _) => name_in(*head),
+            TypeRow::Union(head, _) | TypeRow::Enum(head, _) => name_in(*head),
+            TypeRow::InputObject(head, _) | TypeRow::OneOf(head, _) => name_in(*head),
         }
     }
 }
@@ -64,14 +69,15 @@ pub struct CheckedRow<'a, C> {
 /// that the schema finds right for them they accept; of other types it is let go.
 ///
 /// An error is a refusal of a text that the row has: a name is none, or a row of it is no
-/// definition, with that row's first fault. `RowFault::Memory` is want of memory.
+/// definition, with that row's first fault, or tells of itself what it can't. `RowFault::Memory` is
+/// want of memory.
 pub fn type_of_row<S: ScalarValue + Drop, C: Drop>(
     alloc: Global,
     row: TypeRow<'_>,
     check: C,
 ) -> Result<MetaType<S, C>, RowFault>
-    ensures { Answers (spec.IsType S.reads S.of_bool row.entry check)
-        (spec.IsRefused S.reads S.of_bool row.entry) row_specs.IsMemory result }
+    ensures { Answers (spec.IsType S.reads S.of_bool S.answer row.entry check)
+        (spec.IsRefused S.reads S.of_bool S.answer row.entry) row_specs.IsMemory result }
 {
     match row {
         TypeRow::Object(name, interfaces, fields) => object(alloc, name, interfaces, fields),
@@ -91,8 +97,8 @@ pub fn types_of_rows<S: ScalarValue + Drop, C: Drop>(
     alloc: Global,
     rows: Vec<CheckedRow<'_, C>>,
 ) -> Result<Items<MetaType<S, C>>, RowFault>
-    ensures { Answers (AllZip (spec.IsTypeOf S.reads S.of_bool) rows.entry.items)
-        (spec.IsFirstRefused S.reads S.of_bool rows.entry.items) row_specs.IsMemory result }
+    ensures { Answers (AllZip (spec.IsTypeOf S.reads S.of_bool S.answer) rows.entry.items)
+        (spec.IsFirstRefused S.reads S.of_bool S.answer rows.entry.items) row_specs.IsMemory result }
 {
     let mut types = Items::with_capacity(alloc, rows.len())?;
     'rows: for checked in rows {

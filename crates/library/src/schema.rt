@@ -7,11 +7,18 @@ pub const SCHEMA: SchemaRows<'static> = SchemaRows {
     query: "Query",
     mutation: Some("Mutation"),
     types: &[
-        TypeRow::Enum("Genre", &["NOVEL", "ESSAY", "POEMS"]),
+        TypeRow::Enum(
+            "\"What a book is.\" Genre",
+            &[
+                "NOVEL",
+                "\"Thoughts in prose.\" ESSAY",
+                "POEMS @deprecated(reason: \"None are here.\")",
+            ],
+        ),
         TypeRow::Interface("Work", &[], WORK),
         TypeRow::Object("Book", &["Work"], BOOK),
         TypeRow::Object("Magazine", &["Work"], MAGAZINE),
-        TypeRow::Object("Author", &[], AUTHOR),
+        TypeRow::Object("\"Who wrote a book.\" Author", &[], AUTHOR),
         TypeRow::Union("Found", &["Book", "Magazine", "Author"]),
         TypeRow::OneOf("BookBy", &["id: ID", "title: String"]),
         TypeRow::InputObject("Years", &["from: Int! = 0", "to: Int! = 9999"]),
@@ -35,8 +42,8 @@ const MAGAZINE: &[&str] = &["id: ID!", "title: String!", "year: Int!", "issue: I
 
 const AUTHOR: &[&str] = &[
     "id: ID!",
-    "name: String!",
-    "books(first: Int, skip: Int): [Book!]!",
+    "\"As it stands on the cover.\" name: String!",
+    "books(\"How many at most.\" first: Int, skip: Int): [Book!]! @deprecated",
 ];
 
 const QUERY: &[&str] = &[

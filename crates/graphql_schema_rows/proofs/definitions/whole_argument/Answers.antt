@@ -17,8 +17,8 @@ returns-then-eq g c =
     let seen = asked_kind k.EndOfFile c.argument.new.cursor c.kind.result true c.kind.ensures c.if-eq.ensures in
     whole_read part c.args.cursor.now c.in_ok-found.ensures.reads seen
 
-pub returns-else-eq : goal.returns-else-eq
-returns-else-eq g c =
+pub returns : goal.returns
+returns g c =
     let part = spec.argument g.S.ParseScalarValue.reads g.S.ScalarValue.of_bool in
     let seen = asked_kind k.EndOfFile c.argument.new.cursor c.kind.result false c.kind.ensures c.if-eq.ensures in
     λ told. whole_goes_on part c.args.cursor.now c.in_ok-found.ensures.reads seen ∙ ap Err (c.refuse.ensures told)

@@ -1,4 +1,5 @@
+use Rattle.std.proofs.Common.{inl}
 use Rattle.graphql_schema_rows.proofs.items.argument_of.Goals as goal
 
 pub returns-in_ok-bad_row-in-Err : goal.returns-in_ok-bad_row-in-Err
-returns-in_ok-bad_row-in-Err g c = λ told. (c.in-Err.fault, c.in-Err.ensures.fault c.in_ok-bad_row-in-Err.ensures.0, c.in_ok-bad_row-in-Err.ensures.1)
+returns-in_ok-bad_row-in-Err g c = λ told. inl (record { at = c.in-Err.fault; refused = c.in-Err.ensures.fault c.in_ok-bad_row-in-Err.ensures.0; is = c.in_ok-bad_row-in-Err.ensures.1 })

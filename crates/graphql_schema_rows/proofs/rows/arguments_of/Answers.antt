@@ -6,8 +6,8 @@ use Rattle.graphql_schema_rows.proofs.rows.arguments_of.Goals as goal
 
 pub returns-in_err-argument_of : goal.returns-in_err-argument_of
 returns-in_err-argument_of g c =
-    handed_on (AllZip (spec.ArgumentMeans g.S.ParseScalarValue.reads g.S.ScalarValue.of_bool) c.args.rows.now) (spec.RefusesArgument g.S.ParseScalarValue.reads g.S.ScalarValue.of_bool c.args.type_name.now (row_at c.args.rows.now c.rows.row-index)) c.from_residual-in_err-argument_of.result c.from_residual-in_err-argument_of.ensures.1 c.in_err-argument_of.ensures
-    (refused_at (spec.RefusesArgument g.S.ParseScalarValue.reads g.S.ScalarValue.of_bool c.args.type_name.now) c.args.rows.now c.rows.row-index c.rows-test.true)
+    handed_on (AllZip (spec.ArgumentMeans g.S.ParseScalarValue.reads g.S.ScalarValue.of_bool) c.args.rows.now) (spec.RefusesArgument g.S.ParseScalarValue.reads g.S.ScalarValue.of_bool c.args.head.now (row_at c.args.rows.now c.rows.row-index)) c.from_residual-in_err-argument_of.result c.from_residual-in_err-argument_of.ensures.1 c.in_err-argument_of.ensures
+    (refused_at (spec.RefusesArgument g.S.ParseScalarValue.reads g.S.ScalarValue.of_bool c.args.head.now) c.args.rows.now c.rows.row-index c.rows-test.true)
 
 pub rows-preserved : goal.rows-preserved
 rows-preserved g c =

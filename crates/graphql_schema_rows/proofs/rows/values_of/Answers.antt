@@ -5,15 +5,15 @@ use Rattle.graphql_schema_rows.proofs.Described.{described_turn, described_whole
 use Rattle.graphql_schema_rows.proofs.rows.values_of.Goals as goal
 
 pub returns-in_err-value_of : goal.returns-in_err-value_of
-returns-in_err-value_of c =
-    handed_on (AllZip spec.ValueMeans c.args.texts.now) (spec.RefusesValue (row_at c.args.texts.now c.texts.text-index)) c.from_residual-in_err-value_of.result c.from_residual-in_err-value_of.ensures.1 c.in_err-value_of.ensures
-    (refused_at spec.RefusesValue c.args.texts.now c.texts.text-index c.texts-test.true)
+returns-in_err-value_of g c =
+    handed_on (AllZip (spec.ValueMeans g.S.ParseScalarValue.reads g.S.ScalarValue.of_bool g.S.ScalarValue.answer) c.args.rows.now) (spec.RefusesValue g.S.ParseScalarValue.reads g.S.ScalarValue.of_bool g.S.ScalarValue.answer c.args.head.now (row_at c.args.rows.now c.rows.row-index)) c.from_residual-in_err-value_of.result c.from_residual-in_err-value_of.ensures.1 c.in_err-value_of.ensures
+    (refused_at (spec.RefusesValue g.S.ParseScalarValue.reads g.S.ScalarValue.of_bool g.S.ScalarValue.answer c.args.head.now) c.args.rows.now c.rows.row-index c.rows-test.true)
 
-pub texts-preserved : goal.texts-preserved
-texts-preserved c =
+pub rows-preserved : goal.rows-preserved
+rows-preserved g c =
     let one = c.in_ok-value_of.field-0 in
-    let pushed : c.push.new.self ≡ c.texts.values ++ one ∷ [] = search rules in
-    described_turn spec.ValueMeans c.args.texts.now c.texts.text-index nowhere c.texts.values c.push.new.self one c.texts-test.true pushed c.texts.invariant c.in_ok-value_of.ensures
+    let pushed : c.push.new.self ≡ c.rows.values ++ one ∷ [] = search rules in
+    described_turn (spec.ValueMeans g.S.ParseScalarValue.reads g.S.ScalarValue.of_bool g.S.ScalarValue.answer) c.args.rows.now c.rows.row-index nowhere c.rows.values c.push.new.self one c.rows-test.true pushed c.rows.invariant c.in_ok-value_of.ensures
 
 pub returns : goal.returns
-returns c = described_whole spec.ValueMeans c.args.texts.now c.texts.text-index c.texts.values c.texts-test.false c.texts.invariant
+returns g c = described_whole (spec.ValueMeans g.S.ParseScalarValue.reads g.S.ScalarValue.of_bool g.S.ScalarValue.answer) c.args.rows.now c.rows.row-index c.rows.values c.rows-test.false c.rows.invariant

@@ -4,5 +4,5 @@ use Rattle.graphql_schema_rows.specs.Rows as spec
 use Rattle.graphql_schema_rows.proofs.rows.values_of.Given as goal
 
 -- what those passed so far mean
-abbrev pub invariant-texts : goal.invariant-texts
-invariant-texts l = AllZip spec.ValueMeans (take l.text-index l.texts) l.values
+abbrev pub invariant-rows : goal.invariant-rows
+invariant-rows g l = AllZip (spec.ValueMeans g.S.ParseScalarValue.reads g.S.ScalarValue.of_bool g.S.ScalarValue.answer) (take l.row-index l.rows) l.values

@@ -13,11 +13,12 @@ pub returns-in_err-type_of_row : goal.returns-in_err-type_of_row
 returns-in_err-type_of_row g c =
     let reads = g.S.ParseScalarValue.reads in
     let of_bool = g.S.ScalarValue.of_bool in
+    let answer = g.S.ScalarValue.answer in
     let rows = c.args.rows.items in
     let before = c.rows.invariant.before in
     let rest = into_iter_items c.next.new.self in
     let next : into_iter_items c.rows.checked-iterator ≡ c.in-Some.checked ∷ rest = search rules in
-    handed_on (AllZip (spec.IsTypeOf reads of_bool) rows) (spec.IsFirstRefused reads of_bool rows)
+    handed_on (AllZip (spec.IsTypeOf reads of_bool answer) rows) (spec.IsFirstRefused reads of_bool answer rows)
     c.from_residual-in_err-type_of_row.result c.from_residual-in_err-type_of_row.ensures.1
     (λ told. record {
       before = before;
@@ -32,12 +33,12 @@ returns-in_err-type_of_row g c =
 
 pub rows-preserved : goal.rows-preserved
 rows-preserved g c =
-    let is_type = spec.IsTypeOf g.S.ParseScalarValue.reads g.S.ScalarValue.of_bool in
     let before = c.rows.invariant.before in
     let one = c.in_ok-type_of_row.field-0 in
     let rest = into_iter_items c.next.new.self in
     let next : into_iter_items c.rows.checked-iterator ≡ c.in-Some.checked ∷ rest = search rules in
     let pushed : c.push.new.self ≡ c.rows.types ++ one ∷ [] = search rules in
+    let is_type = spec.IsTypeOf g.S.ParseScalarValue.reads g.S.ScalarValue.of_bool g.S.ScalarValue.answer in
     record {
       before = before ++ c.in-Some.checked ∷ [];
       is = is_passed c.args.rows.items before (into_iter_items c.rows.checked-iterator) rest c.in-Some.checked c.rows.invariant.is next;
@@ -49,6 +50,6 @@ rows-preserved g c =
 pub returns : goal.returns
 returns g c =
     let ended : into_iter_items c.rows.checked-iterator ≡ [] = grind (arith, common_steps) in
-    subst (λ rows. AllZip (spec.IsTypeOf g.S.ParseScalarValue.reads g.S.ScalarValue.of_bool) rows c.rows.types)
+    subst (λ rows. AllZip (spec.IsTypeOf g.S.ParseScalarValue.reads g.S.ScalarValue.of_bool g.S.ScalarValue.answer) rows c.rows.types)
     (all_passed c.args.rows.items c.rows.invariant.before (into_iter_items c.rows.checked-iterator) c.rows.invariant.is ended)
     c.rows.invariant.made

@@ -10,5 +10,5 @@ abbrev pub invariant-rows : goal.invariant-rows
 invariant-rows g l = record {
   before : List (CheckedRow g.row.C.Denot);
   is : l.fn.rows.items ≡ before ++ into_iter_items l.checked-iterator;
-  made : AllZip (spec.IsTypeOf g.S.ParseScalarValue.reads g.S.ScalarValue.of_bool) before l.types;
+  made : AllZip (spec.IsTypeOf g.S.ParseScalarValue.reads g.S.ScalarValue.of_bool g.S.ScalarValue.answer) before l.types;
 }

@@ -1,19 +1,19 @@
 use Rattle.std.proofs.Common.{inl, inr, rules}
-use Rattle.graphql_schema_rows.specs.Rows.{RefusedAt, RefusesArgument, RefusesName}
+use Rattle.graphql_schema_rows.specs.Rows.{RefusedAt, RefusesArgument, RefusesHead}
 use Rattle.graphql_schema_rows.proofs.Described.{handed_on}
 use Rattle.graphql_schema_rows.proofs.types.input_object.Goals as goal
 
 pub returns-in_err-own : goal.returns-in_err-own
-returns-in_err-own g c = handed_on _ (RefusesName c.args.name) c.from_residual.result c.from_residual.ensures.1 c.in_err-own.ensures (λ e refused. inl refused)
+returns-in_err-own g c = handed_on _ (RefusesHead c.args.head) c.from_residual.result c.from_residual.ensures.1 c.in_err-own.ensures (λ e refused. inl refused)
 
 pub returns-in_err-arguments_of : goal.returns-in_err-arguments_of
 returns-in_err-arguments_of g c =
-    handed_on _ (RefusedAt (RefusesArgument g.S.ParseScalarValue.reads g.S.ScalarValue.of_bool c.args.name.now) c.args.rows.now) c.from_residual-in_err-arguments_of.result c.from_residual-in_err-arguments_of.ensures.1 c.in_err-arguments_of.ensures (λ e refused. inr refused)
+    handed_on _ (RefusedAt (RefusesArgument g.S.ParseScalarValue.reads g.S.ScalarValue.of_bool c.args.head.now) c.args.rows.now) c.from_residual-in_err-arguments_of.result c.from_residual-in_err-arguments_of.ensures.1 c.in_err-arguments_of.ensures (λ e refused. inr refused)
 
 pub returns : goal.returns
 returns g c = record {
   own = c.in_ok-own.own;
-  named = c.in_ok-own.ensures;
+  headed = c.in_ok-own.ensures;
   parts = c.in_ok-arguments_of.field-0;
   defined = c.in_ok-arguments_of.ensures;
   is = search rules;

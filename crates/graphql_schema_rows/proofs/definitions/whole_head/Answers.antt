@@ -1,0 +1,24 @@
+use Rattle.std.proofs.Common.{true, false, ap, ◌∙◌, Err}
+use Rattle.graphql_grammar.specs.declared.kind.Kind.TheVariants as k
+use Rattle.graphql_grammar.proofs.Parts.{exits_with}
+use Rattle.graphql_grammar.proofs.KindTests.{asked_kind}
+use Rattle.graphql_schema_rows.specs.ReadDefinitions as spec
+use Rattle.graphql_schema_rows.proofs.WholeTexts.{whole_goes_on, whole_read, whole_refused}
+use Rattle.graphql_schema_rows.proofs.definitions.whole_head.Goals as goal
+
+pub returns-in_err-found : goal.returns-in_err-found
+returns-in_err-found c =
+    let part = spec.head in
+    exits_with c.from_residual.result c.head.new.cursor c.from_residual.ensures.1 c.in_err-found.ensures.reads (whole_refused part c.args.cursor.now)
+
+pub returns-then-eq : goal.returns-then-eq
+returns-then-eq c =
+    let part = spec.head in
+    let seen = asked_kind k.EndOfFile c.head.new.cursor c.kind.result true c.kind.ensures c.if-eq.ensures in
+    whole_read part c.args.cursor.now c.in_ok-found.ensures.reads seen
+
+pub returns : goal.returns
+returns c =
+    let part = spec.head in
+    let seen = asked_kind k.EndOfFile c.head.new.cursor c.kind.result false c.kind.ensures c.if-eq.ensures in
+    λ told. whole_goes_on part c.args.cursor.now c.in_ok-found.ensures.reads seen ∙ ap Err (c.refuse.ensures told)
