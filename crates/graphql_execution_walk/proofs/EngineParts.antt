@@ -13,7 +13,7 @@ use Rattle.graphql_semantics.specs.Evaluation.{found_in}
 use Rattle.graphql_execution_walk.specs.Asked.{asked_type}
 use Rattle.graphql_execution_walk.specs.declared.asked.Asked.{Asked}
 use Rattle.graphql_execution_walk.specs.FieldDeclarations.{declared_type, is_leaf_named, is_possible_named}
-use Rattle.graphql_execution_walk.specs.Prepared.{ArePreparedBy, ArePreparedIn}
+use Rattle.graphql_execution_walk.specs.Prepared.{ArePrepared, asked_by, asked_in}
 use Rattle.graphql_execution_walk.specs.declared.prepared.Prepared.{Prepared}
 use Rattle.graphql_execution_walk.specs.Engines.{Resolves, engine_of, engine_over}
 
@@ -43,10 +43,10 @@ module _ {S C N : Type 0} (of_text : Bytes → S) (of_bool : Bool → S) (answer
   engine-found object sets = refl
 
   -- what is known of fields by the request is known by the engine, and the other way round
-  pub prepared-if : (object : Bytes) (gs : List (Group S)) (ps : Option (List Prepared)) → IfSome ps (ArePreparedIn request object gs) → IfSome ps (ArePreparedBy engine object gs)
+  pub prepared-if : (object : Bytes) (gs : List (Group S)) (ps : Option (List Prepared)) → IfSome ps (ArePrepared (asked_in request) object gs) → IfSome ps (ArePrepared (asked_by engine) object gs)
   unfolding engine_over
   prepared-if object gs ps h = h
 
-  pub if-prepared : (object : Bytes) (gs : List (Group S)) (ps : Option (List Prepared)) → IfSome ps (ArePreparedBy engine object gs) → IfSome ps (ArePreparedIn request object gs)
+  pub if-prepared : (object : Bytes) (gs : List (Group S)) (ps : Option (List Prepared)) → IfSome ps (ArePrepared (asked_by engine) object gs) → IfSome ps (ArePrepared (asked_in request) object gs)
   unfolding engine_over
   if-prepared object gs ps h = h

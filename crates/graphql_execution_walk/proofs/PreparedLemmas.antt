@@ -14,7 +14,7 @@ use Rattle.graphql_written_out.specs.Trees.{Head}
 use Rattle.graphql_written_out.specs.Written.{head_of}
 use Rattle.graphql_execution_walk.specs.Engines.{arguments_in}
 use Rattle.graphql_execution_walk.specs.FieldDeclarations.{declared_type, is_leaf_named}
-use Rattle.graphql_execution_walk.specs.Prepared.{ArePreparedIn, IsPreparedIn, PreparesIn, prepared_at}
+use Rattle.graphql_execution_walk.specs.Prepared.{ArePrepared, IsPrepared, Prepares, asked_in, prepared_at}
 use Rattle.graphql_execution_walk.specs.declared.prepared.Prepared.{Prepared}
 
 -- one item more
@@ -32,42 +32,42 @@ pub length-more : {A : Type 0} (xs : List A) (x : A) (n : ℕ) → length xs ≡
 length-more xs x n is = length-append xs (x ∷ []) ∙ ap (λ m. m + 1) is
 
 module _ {S C : Type 0} (request : Request S C) (object : Bytes) where
-  pub none-known : (gs : List (Group S)) → ArePreparedIn request object gs []
+  pub none-known : (gs : List (Group S)) → ArePrepared (asked_in request) object gs []
   none-known gs i g p at there = (let q : None ≡ Some p = there in cc)
 
-  known-at : (gs : List (Group S)) (ps : List Prepared) (h : Group S) (q : Prepared) → slice_get gs (length ps) ≡ Some h → IsPreparedIn request object h q → ArePreparedIn request object gs ps
-      → (i : ℕ) (g : Group S) (p : Prepared) → slice_get gs i ≡ Some g → (slice_get ps i ≡ Some p) ⊎ ((i ≡ length ps) × (p ≡ q)) → IsPreparedIn request object g p
+  known-at : (gs : List (Group S)) (ps : List Prepared) (h : Group S) (q : Prepared) → slice_get gs (length ps) ≡ Some h → IsPrepared (asked_in request) object h q → ArePrepared (asked_in request) object gs ps
+      → (i : ℕ) (g : Group S) (p : Prepared) → slice_get gs i ≡ Some g → (slice_get ps i ≡ Some p) ⊎ ((i ≡ length ps) × (p ≡ q)) → IsPrepared (asked_in request) object g p
   known-at gs ps h q next is before i g p at (inl there) = before i g p at there
   known-at gs ps h q next is before i g p at (inr last) =
       let same : g ≡ h = (let r : Some g ≡ Some h = sym at ∙ ap (slice_get gs) last.0 ∙ next in cc) in
-      subst (λ x. IsPreparedIn request object x p) (sym same) (subst (IsPreparedIn request object h) (sym last.1) is)
+      subst (λ x. IsPrepared (asked_in request) object x p) (sym same) (subst (IsPrepared (asked_in request) object h) (sym last.1) is)
 
   -- of one group more
-  pub more-known : (gs : List (Group S)) (ps : List Prepared) (h : Group S) (q : Prepared) → slice_get gs (length ps) ≡ Some h → IsPreparedIn request object h q → ArePreparedIn request object gs ps
-      → ArePreparedIn request object gs (ps ++ q ∷ [])
+  pub more-known : (gs : List (Group S)) (ps : List Prepared) (h : Group S) (q : Prepared) → slice_get gs (length ps) ≡ Some h → IsPrepared (asked_in request) object h q → ArePrepared (asked_in request) object gs ps
+      → ArePrepared (asked_in request) object gs (ps ++ q ∷ [])
   more-known gs ps h q next is before i g p at there = known-at gs ps h q next is before i g p at (pushed-at ps q p i there)
 
   -- what is known of a group is known of its first field
-  pub first-known : (g : Group S) (x : CollectedField S) → Some x ≡ slice_get g.1 0 → (known : Option (Bor Prepared)) → IfSome known (λ p. IsPreparedIn request object g p.now)
-      → IfSome known (λ p. PreparesIn request object (head_of x.field.now) p.now)
+  pub first-known : (g : Group S) (x : CollectedField S) → Some x ≡ slice_get g.1 0 → (known : Option (Bor Prepared)) → IfSome known (λ p. IsPrepared (asked_in request) object g p.now)
+      → IfSome known (λ p. Prepares (asked_in request) object (head_of x.field.now) p.now)
   first-known g x first None is = tt
   first-known g x first (Some p) is = is x first
 
-  pub declared-known : (g : Group S) (x : CollectedField S) → Some x ≡ slice_get g.1 0 → (known : Option (Bor Prepared)) → IfSome known (λ p. IsPreparedIn request object g p.now)
+  pub declared-known : (g : Group S) (x : CollectedField S) → Some x ≡ slice_get g.1 0 → (known : Option (Bor Prepared)) → IfSome known (λ p. IsPrepared (asked_in request) object g p.now)
       → IfSome known (λ p. declared_type request.schema.now.types object (head_of x.field.now).name ≡ Some (literal_of p.now.declared))
   declared-known g x first None is = tt
   declared-known g x first (Some p) is = (is x first).type
 
   -- what is known at the place of a group is known of it
-  pub known-here : (gs : List (Group S)) (ps : Option (List Prepared)) (i : ℕ) (g : Group S) → IfSome ps (ArePreparedIn request object gs) → slice_get gs i ≡ Some g
-      → (found : Option (Bor Prepared)) → option_copied found ≡ prepared_at ps i → IfSome found (λ p. IsPreparedIn request object g p.now)
+  pub known-here : (gs : List (Group S)) (ps : Option (List Prepared)) (i : ℕ) (g : Group S) → IfSome ps (ArePrepared (asked_in request) object gs) → slice_get gs i ≡ Some g
+      → (found : Option (Bor Prepared)) → option_copied found ≡ prepared_at ps i → IfSome found (λ p. IsPrepared (asked_in request) object g p.now)
   known-here gs ps i g are at None is = tt
   known-here gs None i g are at (Some p) is = (let q : Some p.now ≡ None = is in cc)
   known-here gs (Some all) i g are at (Some p) is = are i g p.now at (sym is)
 
   -- whether its type is a leaf
   pub leaf-known : (x : CollectedField S) (type : TypeOf) → declared_type request.schema.now.types object (head_of x.field.now).name ≡ Some type
-      → (known : Option (Bor Prepared)) → IfSome known (λ p. PreparesIn request object (head_of x.field.now) p.now)
+      → (known : Option (Bor Prepared)) → IfSome known (λ p. Prepares (asked_in request) object (head_of x.field.now) p.now)
       → IfSome (option_map (λ (p : Bor Prepared). p.now.is_leaf) known) (λ told. told ≡ is_leaf_named request.schema.now.types type.name)
   leaf-known x type declared None is = tt
   leaf-known x type declared (Some p) is =
@@ -75,7 +75,7 @@ module _ {S C : Type 0} (request : Request S C) (object : Bytes) where
       is.leaf ∙ ap (λ (t : TypeOf). is_leaf_named request.schema.now.types t.name) same
 
   -- whether none of its arguments has a value
-  pub bare-known : (head : Head S) (known : Option (Bor Prepared)) → IfSome known (λ p. PreparesIn request object head p.now) → option_map_or (λ (p : Bor Prepared). p.now.is_bare) known false ≡ true
+  pub bare-known : (head : Head S) (known : Option (Bor Prepared)) → IfSome known (λ p. Prepares (asked_in request) object head p.now) → option_map_or (λ (p : Bor Prepared). p.now.is_bare) known false ≡ true
       → arguments_in request object head ≡ []
   bare-known head None is told = (let q : false ≡ true = told in cc)
   bare-known head (Some p) is told = is.bare told

@@ -1,4 +1,5 @@
--- What fields are asked of, and what is answered: by a resolver, and by the schema of itself (GraphQL October 2021, 4 Introspection, 6.4.2 Value Resolution).
+-- What fields are asked of, and what is answered: by a resolver, and by the schema of itself
+-- (GraphQL October 2021, 4 Introspection, 6.4.2 Value Resolution).
 use Rattle.std.specs.Prelude.{◌&&◌, Bool, Option, Some, None, Result, Ok, Err, codes, if◌then◌else◌}
 use Rattle.std.specs.Str.{bytes_eq}
 use Rattle.graphql_names.specs.Names.{Bytes}
@@ -27,7 +28,8 @@ module _ {S N M : Type 0} (f : N → M) where
   abbrev pub map_nodes : Resolved S N → Resolved S M
   map_nodes = fold-Resolved S N (Resolved S M) map_layer
 
-  abbrev pub map_answer : Result (Resolved S N) (FieldError S) → Result (Resolved S M) (FieldError S)
+  abbrev pub map_answer : Result (Resolved S N) (FieldError S)
+      → Result (Resolved S M) (FieldError S)
   map_answer (Ok r) = Ok (map_nodes r)
   map_answer (Err e) = Err e
 
@@ -45,9 +47,10 @@ asked_type type_of (asked.Own n) = type_of n
 asked_type type_of (asked.Part p) = part_type_name p
 
 -- `of_text`, `answer`: of the scalars
-module _ {S C : Type 0} (of_text : Bytes → S) (answer : S → ScalarAnswer) (schema : SchemaType S C) where
-  -- what each object of a type tells of itself, the name of its type (4.1 Type Name Introspection); one of the type
-  -- from which queries start also tells the schema (4.2 Schema Introspection)
+module _ {S C : Type 0} (of_text : Bytes → S) (answer : S → ScalarAnswer)
+    (schema : SchemaType S C) where
+  -- what each object of a type tells of itself, the name of its type (4.1 Type Name Introspection);
+  -- one of the type from which queries start also tells the schema (4.2 Schema Introspection)
   abbrev pub told_of_itself : Bytes → Bytes → Given S → Option (Answer S C)
   told_of_itself object name given =
       if bytes_eq name (codes "__typename") then Some (resolved.Scalar (of_text object)) else

@@ -1,5 +1,7 @@
--- What an answer comes to where it is completed (GraphQL October 2021, 6.4.3 Value Completion, 6.4.4 Handling Field Errors).
-use Rattle.std.specs.Prelude.{◌≡◌, IfSome, ℕ, ◌++◌, [], ◌∷◌, List, Option, None, Some, Result, Ok, Err}
+-- What an answer comes to where it is completed (GraphQL October 2021, 6.4.3 Value Completion,
+-- 6.4.4 Handling Field Errors).
+use Rattle.std.specs.Prelude.{◌≡◌, IfSome, ℕ, ◌++◌, [], ◌∷◌, List, Option, None, Some, Result, Ok}
+use Rattle.std.specs.Prelude.{Err}
 use Rattle.graphql_names.specs.Names.{Bytes}
 use Rattle.graphql_text.specs.declared.position.SourcePosition.{SourcePosition}
 use Rattle.graphql_names.specs.declared.type_modifier.TypeModifier.{TypeModifier}
@@ -27,24 +29,31 @@ use Rattle.graphql_execution_walk.specs.KnownTypes.{IsKnown}
 -- at a type of this name; wraps have the outermost first
 module _ {S N : Type 0} (e : Engine S N) (name : Bytes) where
   -- the error of the place itself
-  abbrev pub own_error_at : List TypeModifier → Result (Resolved S N) (FieldError S) → Option (FieldError S)
-  own_error_at wraps answer = own_error_of name (e.is_leaf name) (λ m. e.is_possible name (e.concrete m)) wraps answer
+  abbrev pub own_error_at : List TypeModifier → Result (Resolved S N) (FieldError S)
+      → Option (FieldError S)
+  own_error_at wraps answer =
+      own_error_of name (e.is_leaf name) (λ m. e.is_possible name (e.concrete m)) wraps answer
 
 -- the same, with these sets selected from its objects
 module _ {S N : Type 0} (e : Engine S N) (sets : List (Tree S)) (name : Bytes) where
   -- what an answer, or an error, comes to, of a field that starts there, at a path
-  abbrev pub outcome_at : SourcePosition → List TypeModifier → Result (Resolved S N) (FieldError S) → List Bytes → Outcome S (Value S)
+  abbrev pub outcome_at : SourcePosition → List TypeModifier → Result (Resolved S N) (FieldError S)
+      → List Bytes → Outcome S (Value S)
   outcome_at location wraps answer path =
-      complete_result (λ m. evaluate e path (e.concrete m) m sets) (blame_at path location) name (e.is_leaf name) (λ m. e.is_possible name (e.concrete m)) wraps answer
+      complete_result (λ m. evaluate e path (e.concrete m) m sets) (blame_at path location) name
+      (e.is_leaf name) (λ m. e.is_possible name (e.concrete m)) wraps answer
 
   abbrev pub turns_of_answer : List TypeModifier → Result (Resolved S N) (FieldError S) → ℕ
-  turns_of_answer wraps answer = turns_of_result (λ m. all_turns e (e.concrete m) m sets) (λ m. e.is_possible name (e.concrete m)) wraps answer
+  turns_of_answer wraps answer = turns_of_result (λ m. all_turns e (e.concrete m) m sets)
+      (λ m. e.is_possible name (e.concrete m)) wraps answer
 
-  module _ (fragments : List (Fragment S)) (location : SourcePosition) (wraps : List TypeModifier) (answer : Result (Resolved S N) (FieldError S)) where
+  module _ (fragments : List (Fragment S)) (location : SourcePosition) (wraps : List TypeModifier)
+      (answer : Result (Resolved S N) (FieldError S)) where
     -- the place itself does not fail, and comes to what has begun
     pub record HasBegun (b : Begun S N) : Type 0 where
       pub own : own_error_at e name wraps answer ≡ None
-      pub gives : (path : List Bytes) → outcome_at location wraps answer path ≡ comes_to e fragments b path
+      pub gives : (path : List Bytes)
+          → outcome_at location wraps answer path ≡ comes_to e fragments b path
       pub turns : begun_turns e fragments b ≡ turns_of_answer wraps answer
       pub fine : FineBegun e fragments b
       pub known : IfSome (known_of b) (λ k. IsKnown e fragments name sets k.object k)
@@ -56,13 +65,19 @@ module _ {S N : Type 0} (e : Engine S N) (sets : List (Tree S)) (name : Bytes) w
     Begins (Err fault.Memory) = Unit {0}
 
 -- what has begun at a place, or nothing where the place itself fails, which is told
-abbrev pub IsTold : {S N : Type 0} → SourcePosition → Result (Begun S N) (FieldFault S) → Report S → Begun S N → Report S → Type 0
+abbrev pub IsTold : {S N : Type 0} → SourcePosition → Result (Begun S N) (FieldFault S) → Report S
+    → Begun S N → Report S → Type 0
 IsTold location (Ok b) old now new = (now ≡ b) × (new.path ≡ old.path) × (new.errors ≡ old.errors)
-IsTold location (Err (fault.Error x)) old now new = (now ≡ begun.Value None) × (new.path ≡ old.path) × (new.errors ≡ old.errors ++ blame_at old.path location x ∷ [])
+IsTold location (Err (fault.Error x)) old now new = (now ≡ begun.Value None)
+    × (new.path ≡ old.path)
+    × (new.errors ≡ old.errors ++ blame_at old.path location x ∷ [])
 IsTold location (Err fault.Memory) old now new = ⊥
 
--- the value of an outcome, if it has one, with its failures told; the error of the place itself, if there is one, in place of both; want of memory tells nothing
-abbrev pub Completes : {S : Type 0} → Option (FieldError S) → Outcome S (Value S) → List (ExecutionError S) → Result (Option (Value S)) (FieldFault S) → List (ExecutionError S) → Type 0
+-- the value of an outcome, if it has one, with its failures told; the error of the place itself, if
+-- there is one, in place of both; want of memory tells nothing
+abbrev pub Completes : {S : Type 0} → Option (FieldError S) → Outcome S (Value S)
+    → List (ExecutionError S) → Result (Option (Value S)) (FieldFault S) → List (ExecutionError S)
+    → Type 0
 Completes own o old (Ok v) new = (own ≡ None) × (v ≡ o.value) × (new ≡ old ++ o.failures)
 Completes own o old (Err (fault.Error e)) new = (own ≡ Some e) × (new ≡ old)
 Completes own o old (Err fault.Memory) new = new ≡ old

@@ -10,11 +10,16 @@ use Rattle.graphql_execution_walk.specs.FieldPaths.{keys_of, place_of}
 use Rattle.graphql_execution_walk.specs.Sets.{sets_in}
 use Rattle.graphql_execution_walk.specs.declared.executor.Executor.{Executor}
 
-module _ {S N Context C : Type 0} (e : Engine S N) (executor : Executor Context S C) (answer : Resolved S N) where
+module _ {S N Context C : Type 0} (e : Engine S N) (executor : Executor Context S C)
+    (answer : Resolved S N) where
   -- the error of the place itself
   abbrev pub own_error_here : Option (FieldError S)
-  own_error_here = own_error_at e executor.current_type.name.now (reverse executor.current_type.modifiers.now) (Ok answer)
+  own_error_here = own_error_at e executor.current_type.name.now
+      (reverse executor.current_type.modifiers.now) (Ok answer)
 
-  -- the value at the current type, with what is selected from its objects, and what fails there and below
+  -- the value at the current type, with what is selected from its objects, and what fails there and
+  -- below
   abbrev pub outcome_here : Outcome S (Value S)
-  outcome_here = outcome_at e (sets_in executor.request.now executor.selected) executor.current_type.name.now (place_of executor.path) (reverse executor.current_type.modifiers.now) (Ok answer) (keys_of executor.path)
+  outcome_here = outcome_at e (sets_in executor.request.now executor.selected)
+      executor.current_type.name.now (place_of executor.path)
+      (reverse executor.current_type.modifiers.now) (Ok answer) (keys_of executor.path)

@@ -15,18 +15,22 @@ use Rattle.graphql_semantics.specs.Engines.{Engine}
 pub use Rattle.graphql_execution_walk.specs.Asked.{Resolves}
 use Rattle.graphql_execution_walk.specs.Asked.{asked_answer, asked_type}
 use Rattle.graphql_execution_walk.specs.declared.asked.Asked.{Asked}
-use Rattle.graphql_execution_walk.specs.FieldDeclarations.{declared_type, declared_arguments, is_leaf_named, is_possible_named}
+use Rattle.graphql_execution_walk.specs.FieldDeclarations.{declared_type, declared_arguments}
+use Rattle.graphql_execution_walk.specs.FieldDeclarations.{is_leaf_named, is_possible_named}
 
 module _ {S C : Type 0} where
   -- the argument values of an object type's field; `given`: the final values of variables
-  abbrev pub arguments_over : List (MetaType S C) → (Bytes → Option (InputValue S)) → Bytes → Head S → Given S
-  arguments_over types given object head = argument_values given (declared_arguments types object head.name) head.arguments
+  abbrev pub arguments_over : List (MetaType S C) → (Bytes → Option (InputValue S)) → Bytes → Head S
+      → Given S
+  arguments_over types given object head =
+      argument_values given (declared_arguments types object head.name) head.arguments
 
   abbrev pub arguments_in : Request S C → Bytes → Head S → Given S
   arguments_in request = arguments_over request.schema.now.types (value_in request.variables)
 
 module _ {S C N : Type 0} where
-  -- `of_text`, `of_bool`, `answer`: of the scalars; `given`: the final values of variables; `type_of`, `resolves`:
+  -- `of_text`, `of_bool`, `answer`: of the scalars; `given`: the final values of variables;
+  -- `type_of`, `resolves`:
   -- of the resolver, over its context
   unfoldable pub engine_over : (Bytes → S) → (Bool → S) → (S → ScalarAnswer) → SchemaType S C
       → (Bytes → Option (InputValue S)) → (N → Bytes) → Resolves S N → Engine S (Asked S N C)

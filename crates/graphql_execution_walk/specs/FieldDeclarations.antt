@@ -1,4 +1,5 @@
--- What a schema declares of a field of an object type, and of the types of its values (GraphQL October 2021, 3.6 Objects, 4.1 Type Name Introspection).
+-- What a schema declares of a field of an object type, and of the types of its values (GraphQL
+-- October 2021, 3.6 Objects, 4.1 Type Name Introspection).
 use Rattle.std.specs.Prelude.{Bool, true, false, List, [], Option, Some, unwrap_or}
 use Rattle.graphql_names.specs.Names.{Bytes}
 use Rattle.graphql_schema.specs.declared.meta.argument.Argument.{Argument}
@@ -27,7 +28,8 @@ module _ {S C : Type 0} (types : List (MetaType S C)) where
 
   -- its arguments, none where it is not declared
   abbrev pub declared_arguments : Bytes → Bytes → List (Argument S)
-  declared_arguments object name = unwrap_or (field_arguments (field_of (type_named types object) name)) []
+  declared_arguments object name =
+      unwrap_or (field_arguments (field_of (type_named types object) name)) []
 
   abbrev pub is_leaf_named : Bytes → Bool
   is_leaf_named name = is_leaf (type_named types name)

@@ -4,7 +4,8 @@ use Rattle.graphql_names.specs.Names.{Bytes}
 use Rattle.graphql_text.specs.declared.position.SourcePosition.{SourcePosition}
 use Rattle.graphql_field_results.specs.declared.execution_error.ExecutionError.{ExecutionError}
 use Rattle.graphql_field_results.specs.declared.field_error.FieldError.{FieldError}
-use Rattle.graphql_execution_walk.specs.declared.field_path.FieldPath.{FieldPath, fold-FieldPath, out-FieldPath}
+use Rattle.graphql_execution_walk.specs.declared.field_path.FieldPath.{FieldPath, fold-FieldPath}
+use Rattle.graphql_execution_walk.specs.declared.field_path.FieldPath.{out-FieldPath}
 use Rattle.graphql_execution_walk.specs.declared.field_path.FieldPath.TheOpen.{FieldPath-F}
 
 abbrev pub place_layer : {A : Type 0} → FieldPath-F A → SourcePosition

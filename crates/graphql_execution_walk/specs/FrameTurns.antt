@@ -17,20 +17,25 @@ use Rattle.graphql_execution_walk.specs.declared.frames.Turned.TheVariants as tu
 use Rattle.graphql_execution_walk.specs.Frames.{FrameIn, ListFrameIn}
 use Rattle.graphql_execution_walk.specs.Sets.{kept_sets}
 
--- of an answer at a type of this name, by its wraps, the outermost first; the sets are selected from the nodes in it
-abbrev pub answer_turns : {S N : Type 0} → Engine S N → List (Tree S) → Bytes → List TypeModifier → Resolved S N → ℕ
-answer_turns e sets name = turns_at (λ m. all_turns e (e.concrete m) m sets) (λ m. e.is_possible name (e.concrete m))
+-- of an answer at a type of this name, by its wraps, the outermost first; the sets are selected
+-- from the nodes in it
+abbrev pub answer_turns : {S N : Type 0} → Engine S N → List (Tree S) → Bytes → List TypeModifier
+    → Resolved S N → ℕ
+answer_turns e sets name =
+    turns_at (λ m. all_turns e (e.concrete m) m sets) (λ m. e.is_possible name (e.concrete m))
 
 module _ {S N : Type 0} (e : Engine S N) (fragments : List (Fragment S)) where
   -- to set out for a group, and for its answer
   abbrev pub group_turns : Bytes → N → Group S → ℕ
-  group_turns object node g = 1 + turns_of_group e (all_turns e) object node (all_found fragments g.1)
+  group_turns object node g =
+      1 + turns_of_group e (all_turns e) object node (all_found fragments g.1)
 
   abbrev pub groups_turns : Bytes → N → List (Group S) → ℕ
   groups_turns object node gs = sum (map (group_turns object node) gs)
 
   abbrev pub item_turns : ListFrameIn S N → Resolved S N → ℕ
-  item_turns f r = 1 + answer_turns e (kept_sets fragments f.selected) f.name (reverse f.wraps.now) r
+  item_turns f r =
+      1 + answer_turns e (kept_sets fragments f.selected) f.name (reverse f.wraps.now) r
 
   -- of a frame at whose next group or item the walk stands
   abbrev pub rest_turns : FrameIn S N → ℕ

@@ -2,7 +2,8 @@
 use Rattle.std.specs.List.{All, IsDistinct}
 use Rattle.std.specs.Map.{keys_of}
 use Rattle.std.specs.Str.{bytes_eq}
-use Rattle.std.specs.Prelude.{◌≡◌, IfSome, List, [], ◌∷◌, ◌++◌, map, drop, reverse, Option, Some, None}
+use Rattle.std.specs.Prelude.{◌≡◌, IfSome, List, [], ◌∷◌, ◌++◌, map, drop, reverse, Option, Some}
+use Rattle.std.specs.Prelude.{None}
 use Rattle.graphql_output_values.specs.declared.value.Value.{Value}
 use Rattle.graphql_output_values.specs.declared.value.Value.TheVariants as value
 use Rattle.graphql_tree.specs.declared.document.Fragment.{Fragment}
@@ -24,7 +25,7 @@ use Rattle.graphql_semantics.specs.Evaluation.{evaluate, keyed}
 use Rattle.graphql_semantics.specs.Completion.{blame_at, is_required, object_members}
 use Rattle.graphql_execution_walk.specs.Completed.{completed_item}
 use Rattle.graphql_execution_walk.specs.KnownTypes.{AreKnown, KnownIn}
-use Rattle.graphql_execution_walk.specs.Prepared.{ArePreparedBy}
+use Rattle.graphql_execution_walk.specs.Prepared.{ArePrepared, asked_by}
 use Rattle.graphql_execution_walk.specs.declared.prepared.Prepared.{Prepared}
 use Rattle.graphql_execution_walk.specs.Sets.{HasKey, kept_sets}
 use Rattle.graphql_execution_walk.specs.declared.selected.KeptSelected.{KeptSelected}
@@ -50,11 +51,18 @@ module _ {S : Type 0} where
   shows x = record { value = x; failures = [] }
 
   -- what is left, where these stand before it
-  abbrev pub more : {A : Type 0} → (List A → Value S) → Option (List A) → List (Outcome S A) → Outcome S (Value S)
-  more wrap so_far os = outcome_map wrap (record { value = both (λ xs ys. xs ++ ys) so_far (together os).value; failures = (together os).failures })
+  abbrev pub more : {A : Type 0} → (List A → Value S) → Option (List A) → List (Outcome S A)
+      → Outcome S (Value S)
+  more wrap so_far os =
+      outcome_map wrap (record {
+        value = both (λ xs ys. xs ++ ys) so_far (together os).value;
+        failures = (together os).failures;
+      })
 
--- a step: what it tells is part of what the old outcome tells, and the new one is what is left of it
-pub record Leads {S A : Type 0} (before : Outcome S A) (old : Report S) (then : Outcome S A) (new : Report S) : Type 0 where
+-- a step: what it tells is part of what the old outcome tells, and the new one is what is left of
+-- it
+pub record Leads {S A : Type 0} (before : Outcome S A) (old : Report S) (then : Outcome S A)
+    (new : Report S) : Type 0 where
   pub told : List (ExecutionError S)
   pub is : before ≡ after told then
   pub errors : new.errors ≡ old.errors ++ told
@@ -75,28 +83,42 @@ module _ {S N : Type 0} where
   path_of path (f ∷ fs) = path_of (down path f) fs
 
 module _ {S N : Type 0} (e : Engine S N) (fragments : List (Fragment S)) where
-  abbrev pub groups_left : List Bytes → Bytes → N → List (Group S) → List (Outcome S (Bytes × Value S))
-  groups_left path object node gs = map (keyed e (evaluate e) path object node) (map (group_found fragments) gs)
+  abbrev pub groups_left : List Bytes → Bytes → N → List (Group S)
+      → List (Outcome S (Bytes × Value S))
+  groups_left path object node gs =
+      map (keyed e (evaluate e) path object node) (map (group_found fragments) gs)
 
   abbrev pub item_at : List Bytes → ListFrameIn S N → Resolved S N → Outcome S (Value S)
-  item_at path f = completed_item e (λ m. evaluate e path (e.concrete m) m (kept_sets fragments f.selected)) (blame_at path f.location) f.name (reverse f.wraps.now)
+  item_at path f =
+      completed_item e (λ m. evaluate e path (e.concrete m) m (kept_sets fragments f.selected))
+      (blame_at path f.location) f.name (reverse f.wraps.now)
 
   -- what a frame gives at whose next group or item the loop stands
   abbrev pub rest : List Bytes → FrameIn S N → Outcome S (Value S)
-  rest path (frame.Object f) = more object_members f.members (groups_left path f.object f.node (drop f.next f.groups))
+  rest path (frame.Object f) =
+      more object_members f.members (groups_left path f.object f.node (drop f.next f.groups))
   rest path (frame.List f) = more value.List f.values (map (item_at path f) (reverse f.items))
 
-  abbrev pub close_group : List Bytes → ObjectFrameIn S N → List (Group S) → Outcome S (Value S) → Outcome S (Value S)
-  close_group path f [] o = record { value = (more object_members f.members (groups_left path f.object f.node [])).value; failures = o.failures }
-  close_group path f (g ∷ gs) o = more object_members f.members (outcome_map (λ x. (g.0, x)) (show_place f.is_needed o) ∷ groups_left path f.object f.node gs)
+  abbrev pub close_group : List Bytes → ObjectFrameIn S N → List (Group S) → Outcome S (Value S)
+      → Outcome S (Value S)
+  close_group path f [] o =
+      record {
+        value = (more object_members f.members (groups_left path f.object f.node [])).value;
+        failures = o.failures;
+      }
+  close_group path f (g ∷ gs) o = more object_members f.members
+      (outcome_map (λ x. (g.0, x)) (show_place f.is_needed o) ∷ groups_left path f.object f.node gs)
 
   -- what a frame gives that waits for a place which gives the outcome
   abbrev pub close : List Bytes → FrameIn S N → Outcome S (Value S) → Outcome S (Value S)
   close path (frame.Object f) o = close_group path f (drop f.next f.groups) o
-  close path (frame.List f) o = more value.List f.values (show_place (is_required (reverse f.wraps.now)) o ∷ map (item_at path f) (reverse f.items))
+  close path (frame.List f) o = more value.List f.values
+      (show_place (is_required (reverse f.wraps.now)) o ∷ map (item_at path f) (reverse f.items))
 
-  -- what the whole gives, the outermost frame first, where the innermost place gives an outcome at its path
-  abbrev pub resume : List Bytes → List (FrameIn S N) → (List Bytes → Outcome S (Value S)) → Outcome S (Value S)
+  -- what the whole gives, the outermost frame first, where the innermost place gives an outcome at
+  -- its path
+  abbrev pub resume : List Bytes → List (FrameIn S N) → (List Bytes → Outcome S (Value S))
+      → Outcome S (Value S)
   resume path [] o = o path
   resume path (f ∷ fs) o = close path f (resume (down path f) fs o)
 
@@ -108,7 +130,8 @@ module _ {S N : Type 0} (e : Engine S N) (fragments : List (Fragment S)) where
 module _ {S N : Type 0} where
   -- the groups that are known of what has begun: those of an object
   abbrev pub known_in : FrameIn S N → Option (KnownIn S)
-  known_in (frame.Object f) = Some (record { object = f.object; groups = f.groups; prepared = f.prepared })
+  known_in (frame.Object f) =
+      Some (record { object = f.object; groups = f.groups; prepared = f.prepared })
   known_in (frame.List f) = None
 
   abbrev pub known_of : Begun S N → Option (KnownIn S)
@@ -117,13 +140,26 @@ module _ {S N : Type 0} where
 
   -- the list knows these groups
   abbrev pub learns : ListFrameIn S N → List (KnownIn S) → ListFrameIn S N
-  learns f known = record { name = f.name; selected = f.selected; location = f.location; wraps = f.wraps; items = f.items; values = f.values; known = known }
+  learns f known = record {
+    name = f.name;
+    selected = f.selected;
+    location = f.location;
+    wraps = f.wraps;
+    items = f.items;
+    values = f.values;
+    known = known;
+  }
 
 module _ {S N : Type 0} (e : Engine S N) (fragments : List (Fragment S)) where
-  -- an object's type is that of its node, its groups have their keys, no key stands twice among its members so far and the groups that are left, and what is known of its fields is so; so is what a list knows
+  -- an object's type is that of its node, its groups have their keys, no key stands twice among its
+  -- members so far and the groups that are left, and what is known of its fields is so; so is what
+  -- a list knows
   abbrev pub Fine : FrameIn S N → Type 0
-  Fine (frame.Object f) = (f.object ≡ e.concrete f.node) × All HasKey f.groups × IfSome f.members (λ ms. IsDistinct bytes_eq (keys_of ms ++ map (λ g. g.0) (drop f.next f.groups)))
-      × IfSome f.prepared (ArePreparedBy e f.object f.groups)
+  Fine (frame.Object f) = (f.object ≡ e.concrete f.node)
+      × All HasKey f.groups
+      × IfSome f.members
+      (λ ms. IsDistinct bytes_eq (keys_of ms ++ map (λ g. g.0) (drop f.next f.groups)))
+      × IfSome f.prepared (ArePrepared (asked_by e) f.object f.groups)
   Fine (frame.List f) = AreKnown e fragments f.name (kept_sets fragments f.selected) f.known
 
   abbrev pub AllFine : List (FrameIn S N) → Type 0
@@ -135,15 +171,20 @@ module _ {S N : Type 0} (e : Engine S N) (fragments : List (Fragment S)) where
   FineBegun (begun.Frame f) = Fine f
 
 -- what a turn leaves: the end, where no frame waits, or what there is now
-abbrev pub turned_to : {S N : Type 0} (e : Engine S N) (fragments : List (Fragment S)) → Turned S N → List Bytes → Outcome S (Value S)
+abbrev pub turned_to : {S N : Type 0} (e : Engine S N) (fragments : List (Fragment S)) → Turned S N
+    → List Bytes → Outcome S (Value S)
 turned_to e fragments (turned.Done v) path = shows v
 turned_to e fragments (turned.Open b) path = comes_to e fragments b path
 
-abbrev pub FineTurned : {S N : Type 0} (e : Engine S N) (fragments : List (Fragment S)) → Turned S N → List (FrameIn S N) → Type 0
+abbrev pub FineTurned : {S N : Type 0} (e : Engine S N) (fragments : List (Fragment S)) → Turned S N
+    → List (FrameIn S N) → Type 0
 FineTurned e fragments (turned.Done v) waiting = waiting ≡ []
-FineTurned e fragments (turned.Open b) waiting = AllFine e fragments waiting × FineBegun e fragments b
+FineTurned e fragments (turned.Open b) waiting =
+    AllFine e fragments waiting × FineBegun e fragments b
 
 -- a step: what is told is part of what was left to tell; the report stands at the innermost place
-pub record Steps {S N : Type 0} (e : Engine S N) (fragments : List (Fragment S)) (path : List Bytes) (before : Outcome S (Value S)) (old : Report S) (waiting : List (FrameIn S N)) (now : List Bytes → Outcome S (Value S)) (new : Report S) : Type 0 where
+pub record Steps {S N : Type 0} (e : Engine S N) (fragments : List (Fragment S)) (path : List Bytes)
+    (before : Outcome S (Value S)) (old : Report S) (waiting : List (FrameIn S N))
+    (now : List Bytes → Outcome S (Value S)) (new : Report S) : Type 0 where
   pub leads : Leads before old (resume e fragments path waiting now) new
   pub stands : new.path ≡ path_of path waiting

@@ -4,7 +4,8 @@ use Rattle.graphql_semantics.specs.Outcomes.{Outcome}
 use Rattle.graphql_execution_walk.specs.declared.report.Report.{Report}
 
 -- the value of an outcome; the report stands where it stood, and has the failures added
-pub record GivesOutcome {S A : Type 0} (o : Outcome S A) (old : Report S) (value : Option A) (new : Report S) : Type 0 where
+pub record GivesOutcome {S A : Type 0} (o : Outcome S A) (old : Report S) (value : Option A)
+    (new : Report S) : Type 0 where
   pub is : value ≡ o.value
   pub path : new.path ≡ old.path
   pub errors : new.errors ≡ old.errors ++ o.failures

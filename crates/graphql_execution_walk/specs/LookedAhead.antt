@@ -1,4 +1,5 @@
--- What is looked at where an executor stands: the field that is answered (GraphQL October 2021, 2.5 Fields, 6.4 Executing Fields).
+-- What is looked at where an executor stands: the field that is answered (GraphQL October 2021, 2.5
+-- Fields, 6.4 Executing Fields).
 use Rattle.std.specs.Prelude.{◌≡◌, Option, Some, None}
 use Rattle.std.specs.List.{Contains}
 use Rattle.std.specs.Option.{option_map}
@@ -17,21 +18,25 @@ use Rattle.graphql_execution_walk.specs.FieldPaths.{own_key}
 use Rattle.graphql_execution_walk.specs.Standing.{StandsAt}
 
 module _ {S C Context : Type 0} (executor : Executor Context S C) where
-  -- the first field of the key of what is answered, where it is looked for; where there is none the key stands for
-  -- it, with what the executor selects; nothing where there is no key, at the root
+  -- the first field of the key of what is answered, where it is looked for; where there is none the
+  -- key stands for it, with what the executor selects; nothing where there is no key, at the root
   abbrev pub ahead_of : Bytes → Ahead S
-  ahead_of key = field_or_key (first_of_key key (none_or executor.among)) key (selections_of executor.selected)
+  ahead_of key =
+      field_or_key (first_of_key key (none_or executor.among)) key (selections_of executor.selected)
 
   abbrev pub looked_ahead : Option (Ahead S × Request S C)
-  looked_ahead = option_map (λ key. within executor.request.now (ahead_of key)) (own_key executor.path)
+  looked_ahead =
+      option_map (λ key. within executor.request.now (ahead_of key)) (own_key executor.path)
 
-  -- where the executor stands at a field of an object type, a field of its response key is found that stands in the
-  -- same list
-  pub record IsFound (field : Placed (Field S)) (found : Option (LookAheadSelection S C)) : Type 0 where
+  -- where the executor stands at a field of an object type, a field of its response key is found
+  -- that stands in the same list
+  pub record IsFound (field : Placed (Field S))
+      (found : Option (LookAheadSelection S C)) : Type 0 where
     pub first : Placed (Field S)
     pub is : option_map told found ≡ Some (a_field first None)
     pub keyed : (head_of first).key ≡ (head_of field).key
     pub stands : Contains (none_or executor.among) (selection.Field first)
 
   abbrev pub FindsField : Option (LookAheadSelection S C) → Type 0
-  FindsField found = (object : Bytes) (field : Placed (Field S)) → StandsAt executor object field → IsFound field found
+  FindsField found = (object : Bytes) (field : Placed (Field S)) → StandsAt executor object field
+      → IsFound field found

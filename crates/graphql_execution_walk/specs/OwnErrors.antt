@@ -1,4 +1,5 @@
--- Why a place has no value of itself, whatever fails below it (GraphQL October 2021, 6.4.3 Value Completion, 6.4.4 Handling Field Errors).
+-- Why a place has no value of itself, whatever fails below it (GraphQL October 2021, 6.4.3 Value
+-- Completion, 6.4.4 Handling Field Errors).
 use Rattle.std.specs.Prelude.{Bool, true, false, List, [], ◌∷◌, Option, Some, None, Result, Ok, Err}
 use Rattle.graphql_names.specs.Names.{Bytes}
 use Rattle.graphql_names.specs.declared.type_modifier.TypeModifier.{TypeModifier}
@@ -27,7 +28,8 @@ module _ {S N : Type 0} (name : Bytes) (is_leaf : Bool) (is_possible : N → Boo
   own_at_list wraps (Resolved-F.List items) = None
   own_at_list wraps (Resolved-F.Node node) = Some (misfit_error name wraps)
 
-  abbrev pub own_at_required : Option (FieldError S) → Resolved-F S N (Resolved S N) → Option (FieldError S)
+  abbrev pub own_at_required : Option (FieldError S) → Resolved-F S N (Resolved S N)
+      → Option (FieldError S)
   own_at_required own Resolved-F.Null = Some own_null
   own_at_required own (Resolved-F.Scalar scalar) = own
   own_at_required own (Resolved-F.List items) = own
@@ -37,9 +39,11 @@ module _ {S N : Type 0} (name : Bytes) (is_leaf : Bool) (is_possible : N → Boo
   abbrev pub own_error : List TypeModifier → Resolved S N → Option (FieldError S)
   own_error [] r = own_at_name (out-Resolved S N r)
   own_error (modifier.NonNull ∷ wraps) r = own_at_required (own_error wraps r) (out-Resolved S N r)
-  own_error (modifier.List size ∷ wraps) r = own_at_list (modifier.List size ∷ wraps) (out-Resolved S N r)
+  own_error (modifier.List size ∷ wraps) r =
+      own_at_list (modifier.List size ∷ wraps) (out-Resolved S N r)
 
   -- a resolver's error is the place's own
-  abbrev pub own_error_of : List TypeModifier → Result (Resolved S N) (FieldError S) → Option (FieldError S)
+  abbrev pub own_error_of : List TypeModifier → Result (Resolved S N) (FieldError S)
+      → Option (FieldError S)
   own_error_of wraps (Ok r) = own_error wraps r
   own_error_of wraps (Err e) = Some e

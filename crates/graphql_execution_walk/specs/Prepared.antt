@@ -1,4 +1,5 @@
--- What is known of fields of an object type, whichever object of it they are asked of (GraphQL October 2021, 6.4.1 Coercing Field Arguments).
+-- What is known of fields of an object type, whichever object of it they are asked of (GraphQL
+-- October 2021, 6.4.1 Coercing Field Arguments).
 use Rattle.std.specs.Prelude.{◌≡◌, ℕ, Bool, true, List, [], Option, Some, None, slice_get}
 use Rattle.graphql_names.specs.Names.{Bytes}
 use Rattle.graphql_schema.specs.Types.{TypeOf}
@@ -14,36 +15,43 @@ use Rattle.graphql_execution_walk.specs.Engines.{arguments_in}
 use Rattle.graphql_execution_walk.specs.FieldDeclarations.{declared_type, is_leaf_named}
 use Rattle.graphql_execution_walk.specs.declared.prepared.Prepared.{Prepared}
 
--- of the field of a head: the type that is declared for it, whether that is a leaf, and whether no argument has a value
-pub record Prepares {S : Type 0} (declared : Bytes → Bytes → Option TypeOf) (is_leaf : Bytes → Bool)
-    (arguments : Bytes → Head S → Given S) (object : Bytes) (head : Head S) (p : Prepared) : Type 0 where
-  pub type : declared object head.name ≡ Some (literal_of p.declared)
-  pub leaf : p.is_leaf ≡ is_leaf p.declared.name.now
-  pub bare : p.is_bare ≡ true → arguments object head ≡ []
+-- what is asked of the fields of object types, whichever object they are asked of: the declared
+-- type, whether a type of a name is a leaf, the values of the arguments
+pub record FieldsAsked (S : Type 0) : Type 0 where
+  pub declared : Bytes → Bytes → Option TypeOf
+  pub is_leaf : Bytes → Bool
+  pub arguments : Bytes → Head S → Given S
 
-module _ {S : Type 0} (declared : Bytes → Bytes → Option TypeOf) (is_leaf : Bytes → Bool) (arguments : Bytes → Head S → Given S) (object : Bytes) where
+-- as a request tells it, and as evaluation asks it
+abbrev pub asked_in : {S C : Type 0} → Request S C → FieldsAsked S
+asked_in request =
+    record {
+      declared = declared_type request.schema.now.types;
+      is_leaf = is_leaf_named request.schema.now.types;
+      arguments = arguments_in request;
+    }
+
+abbrev pub asked_by : {S N : Type 0} → Engine S N → FieldsAsked S
+asked_by e = record { declared = e.declared; is_leaf = e.is_leaf; arguments = e.arguments }
+
+-- of the field of a head: the type that is declared for it, whether that is a leaf, and whether no
+-- argument has a value
+pub record Prepares {S : Type 0} (asked : FieldsAsked S) (object : Bytes) (head : Head S)
+    (p : Prepared) : Type 0 where
+  pub type : asked.declared object head.name ≡ Some (literal_of p.declared)
+  pub leaf : p.is_leaf ≡ asked.is_leaf p.declared.name.now
+  pub bare : p.is_bare ≡ true → asked.arguments object head ≡ []
+
+module _ {S : Type 0} (asked : FieldsAsked S) (object : Bytes) where
   -- of a group: of its first field
   abbrev pub IsPrepared : Group S → Prepared → Type 0
-  IsPrepared g p = (x : CollectedField S) → Some x ≡ slice_get g.1 0 → Prepares declared is_leaf arguments object (head_of x.field.now) p
+  IsPrepared g p = (x : CollectedField S) → Some x ≡ slice_get g.1 0
+      → Prepares asked object (head_of x.field.now) p
 
   -- of groups, as far as it goes
   abbrev pub ArePrepared : List (Group S) → List Prepared → Type 0
-  ArePrepared gs ps = (i : ℕ) (g : Group S) (p : Prepared) → slice_get gs i ≡ Some g → slice_get ps i ≡ Some p → IsPrepared g p
-
--- the same, by a request
-module _ {S C : Type 0} (request : Request S C) where
-  abbrev pub PreparesIn : Bytes → Head S → Prepared → Type 0
-  PreparesIn = Prepares (declared_type request.schema.now.types) (is_leaf_named request.schema.now.types) (arguments_in request)
-
-  abbrev pub IsPreparedIn : Bytes → Group S → Prepared → Type 0
-  IsPreparedIn = IsPrepared (declared_type request.schema.now.types) (is_leaf_named request.schema.now.types) (arguments_in request)
-
-  abbrev pub ArePreparedIn : Bytes → List (Group S) → List Prepared → Type 0
-  ArePreparedIn = ArePrepared (declared_type request.schema.now.types) (is_leaf_named request.schema.now.types) (arguments_in request)
-
--- the same, by what evaluation asks
-abbrev pub ArePreparedBy : {S N : Type 0} → Engine S N → Bytes → List (Group S) → List Prepared → Type 0
-ArePreparedBy e = ArePrepared e.declared e.is_leaf e.arguments
+  ArePrepared gs ps = (i : ℕ) (g : Group S) (p : Prepared) → slice_get gs i ≡ Some g
+      → slice_get ps i ≡ Some p → IsPrepared g p
 
 -- what is known at a place, from zero
 abbrev pub prepared_at : Option (List Prepared) → ℕ → Option Prepared

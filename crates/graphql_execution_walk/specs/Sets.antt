@@ -1,4 +1,5 @@
--- The selection sets that are selected from at once, and the groups of their fields (GraphQL October 2021, 6.3.2 Field Collection, 6.4.3 Value Completion, MergeSelectionSets).
+-- The selection sets that are selected from at once, and the groups of their fields (GraphQL
+-- October 2021, 6.3.2 Field Collection, 6.4.3 Value Completion, MergeSelectionSets).
 use Rattle.std.specs.Prelude.{◌≡◌, List, [], ◌∷◌, map, Option, Some, None, unwrap_or}
 use Rattle.std.specs.Borrow.{Bor}
 use Rattle.std.specs.Option.{option_map}

@@ -1,4 +1,5 @@
--- Where the executor of a field stands, and what a resolver is asked there (GraphQL October 2021, 6.4 Executing Fields).
+-- Where the executor of a field stands, and what a resolver is asked there (GraphQL October 2021,
+-- 6.4 Executing Fields).
 use Rattle.std.specs.Prelude.{◌≡◌, ◌⊎◌, List, [], ◌∷◌, ◌++◌, Some}
 use Rattle.std.specs.List.{All, Contains}
 use Rattle.graphql_names.specs.Names.{Bytes}
@@ -26,11 +27,14 @@ use Rattle.graphql_execution_walk.specs.Sets.{sets_in}
 
 -- the object type of a node: its own, or of the root that from which queries start (6.2.1 Query)
 abbrev pub IsTypeOf : {N : Type 0} → Bytes → N → (N → Bytes) → N → Bytes → Type 0
-IsTypeOf query root type_of node object = (object ≡ type_of node) ⊎ ((object ≡ query) × (node ≡ root))
+IsTypeOf query root type_of node object =
+    (object ≡ type_of node) ⊎ ((object ≡ query) × (node ≡ root))
 
 -- the place of a field of an object type, which is the first of its response key
-pub record IsPlaceOf {S C : Type 0} (request : Request S C) (object : Bytes) (field : Placed (Field S))
-    (among : List (Selection S)) (type : TypeOf) (start : SourcePosition) (path : List Bytes) (sets : List (Tree S)) : Type 0 where
+pub record IsPlaceOf {S C : Type 0} (request : Request S C) (object : Bytes)
+    (field : Placed (Field S))
+    (among : List (Selection S)) (type : TypeOf) (start : SourcePosition) (path : List Bytes)
+    (sets : List (Tree S)) : Type 0 where
   -- the list in which it directly stands
   pub stands : Contains among (selection.Field field)
   -- the type that is declared for it
@@ -49,11 +53,14 @@ module _ {S C Context : Type 0} (executor : Executor Context S C) where
   -- the executor stands at a field of an object type
   abbrev pub StandsAt : Bytes → Placed (Field S) → Type 0
   StandsAt object field =
-      IsPlaceOf executor.request.now object field (none_or executor.among) (literal_of executor.current_type) (place_of executor.path) (keys_of executor.path)
+      IsPlaceOf executor.request.now object field (none_or executor.among)
+      (literal_of executor.current_type) (place_of executor.path) (keys_of executor.path)
       (sets_in executor.request.now executor.selected)
 
-  -- where the executor stands at a field of a node, that field is asked for, by its name and the values of its arguments
-  pub record IsAsked {N : Type 0} (root : N) (type_of : N → Bytes) (node : N) (name : Bytes) (given : Given S) : Type 0 where
+  -- where the executor stands at a field of a node, that field is asked for, by its name and the
+  -- values of its arguments
+  pub record IsAsked {N : Type 0} (root : N) (type_of : N → Bytes) (node : N) (name : Bytes)
+      (given : Given S) : Type 0 where
     pub object : Bytes
     pub typed : IsTypeOf executor.request.now.schema.now.query root type_of node object
     pub field : Placed (Field S)

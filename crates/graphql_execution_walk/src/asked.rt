@@ -36,8 +36,8 @@ pub(crate) fn asked_type_name<'c, S: SchemaScalar, R: GraphQLValue<S>>(
     }
 }
 
-/// What a resolver answers, as an answer of what is asked. Takes stack for each level that lists nest in it. An
-/// error is want of memory.
+/// What a resolver answers, as an answer of what is asked. Takes stack for each level that lists
+/// nest in it. An error is want of memory.
 #[cycle(of_resolver)]
 pub fn of_resolver<'d, S: SchemaScalar + Drop, N: Drop>(
     alloc: Global,
@@ -68,8 +68,8 @@ fn items_of_resolver<'d, S: SchemaScalar + Drop, N: Drop>(
     Ok(all)
 }
 
-/// What the schema answers, as an answer of what is asked. Takes stack for each level that lists nest in it, which
-/// is one at most. An error is want of memory.
+/// What the schema answers, as an answer of what is asked. Takes stack for each level that lists
+/// nest in it, which is one at most. An error is want of memory.
 #[cycle(of_schema)]
 pub fn of_schema<'d, S: SchemaScalar + Drop, N: Drop>(
     alloc: Global,

@@ -10,7 +10,7 @@ ghost use Rattle.graphql_execution_walk.specs.Asked.{asked_type, told_of_itself}
 ghost use Rattle.graphql_execution_walk.specs.declared.asked.Asked.TheVariants as asked;
 ghost use Rattle.graphql_execution_walk.specs.EngineAt.{engine_at};
 ghost use Rattle.graphql_execution_walk.specs.Engines.{arguments_in as values_in};
-ghost use Rattle.graphql_execution_walk.specs.Prepared.{PreparesIn};
+ghost use Rattle.graphql_execution_walk.specs.Prepared.{Prepares, asked_in};
 ghost use Rattle.graphql_execution_walk.specs.Standing.{IsTypeOf, StandsAt};
 
 use crate::asked::{Asked, of_resolver, of_schema};
@@ -49,9 +49,10 @@ fn text_scalar<S: SchemaScalar>(alloc: Global, text: &str) -> Result<S, AllocErr
     Ok(S::from_string(Text::from_str(alloc, text)?.into_string()))
 }
 
-/// What an object of the type of this name tells of itself, without being asked: to each field `__typename` the
-/// name of its type; an object of the type from which queries start the schema, too, to `__schema` and `__type`
-/// (GraphQL October 2021, 4.1 Type Name Introspection, 4.2 Schema Introspection). An error is want of memory.
+/// What an object of the type of this name tells of itself, without being asked: to each field
+/// `__typename` the name of its type; an object of the type from which queries start the schema,
+/// too, to `__schema` and `__type` (GraphQL October 2021, 4.1 Type Name Introspection, 4.2 Schema
+/// Introspection). An error is want of memory.
 pub fn told_of_itself<'d, S: SchemaScalar>(
     alloc: Global,
     schema: &'d SchemaType<S>,
@@ -59,7 +60,8 @@ pub fn told_of_itself<'d, S: SchemaScalar>(
     name: &str,
     arguments: &Arguments<'_, S>,
 ) -> Result<Option<SchemaAnswer<'d, S>>, AllocError>
-    ensures { Gives result (told_of_itself S.of_text S.answer schema.now object.now name.now (arguments_told arguments.now)) }
+    ensures { Gives result (told_of_itself S.of_text S.answer schema.now object.now name.now
+        (arguments_told arguments.now)) }
 {
     if name == "__typename" {
         return Ok(Some(Resolved::Scalar(text_scalar(alloc, object)?)));
@@ -73,9 +75,10 @@ pub fn told_of_itself<'d, S: SchemaScalar>(
     Ok(None)
 }
 
-/// What is answered for the field of an object type at which an executor stands, of which something may be known:
-/// what each object tells of itself the resolver is not asked, nor what the schema answers (GraphQL October 2021,
-/// 4 Introspection). `FieldFault::Memory` is want of memory.
+/// What is answered for the field of an object type at which an executor stands, of which something
+/// may be known:
+/// what each object tells of itself the resolver is not asked, nor what the schema answers (GraphQL
+/// October 2021, 4 Introspection). `FieldFault::Memory` is want of memory.
 #[tactic(auto, unfolding(crate::specs::Engines::engine_over))]
 pub(crate) fn ask<'p, 'd, 'a, S: SchemaScalar + Drop, R: GraphQLValue<S>>(
     resolver: &R,
@@ -88,12 +91,17 @@ pub(crate) fn ask<'p, 'd, 'a, S: SchemaScalar + Drop, R: GraphQLValue<S>>(
 ) -> FieldResult<Resolved<S, Asked<'d, S, R::Node>>, S>
     requires settled { Settled (fragments_in executor.now.request.now) }
     requires schema { schema.now ≡ executor.now.request.now.schema.now }
-    requires typed { IsTypeOf executor.now.request.now.schema.now.query (asked.Own (R.root_node resolver.now))
+    requires typed { IsTypeOf executor.now.request.now.schema.now.query
+        (asked.Own (R.root_node resolver.now))
         (asked_type (R.type_of resolver.now executor.now.context.now)) node.now object.now }
     requires stands { StandsAt executor.now object.now field.now }
-    requires prepared { IfSome prepared (λ known. PreparesIn executor.now.request.now object.now (head_of field.now) known.now) }
-    ensures { let e = engine_at S.of_text S.of_bool S.answer (R.type_of resolver.now) (R.answer resolver.now) executor.now in
-        Answered (e.answer node.now object.now (head_of field.now).name (e.arguments object.now (head_of field.now))) result }
+    requires prepared { IfSome prepared
+        (λ known.
+        Prepares (asked_in executor.now.request.now) object.now (head_of field.now) known.now) }
+    ensures { let e = engine_at S.of_text S.of_bool S.answer (R.type_of resolver.now)
+        (R.answer resolver.now) executor.now in
+        Answered (e.answer node.now object.now (head_of field.now).name
+        (e.arguments object.now (head_of field.now))) result }
 {
     let name = field.item.name.item.as_str();
     let arguments = arguments_at(executor.alloc, executor.request, object, field, prepared)?;

@@ -9,7 +9,7 @@ ghost use Rattle.graphql_execution_walk.specs.Begins.{Begins};
 ghost use Rattle.graphql_execution_walk.specs.EngineAt.{engine_at};
 ghost use Rattle.graphql_execution_walk.specs.FieldDeclarations.{is_leaf_named};
 ghost use Rattle.graphql_execution_walk.specs.Parts.{IsListAround};
-ghost use Rattle.graphql_execution_walk.specs.Prepared.{ArePreparedIn};
+ghost use Rattle.graphql_execution_walk.specs.Prepared.{ArePrepared, asked_in};
 ghost use Rattle.graphql_execution_walk.specs.Sets.{sets_in};
 ghost use Rattle.graphql_execution_walk.specs.Spots.{IsCollected, IsSpot, MayStand, known_in_list};
 
@@ -49,7 +49,8 @@ pub(crate) struct Spot<'p, 'd, 'a, S> {
     /// Where the field starts that is answered.
     pub location: SourcePosition,
 
-    /// What the list knows of what is selected, in which this is the place of an item; else nothing.
+    /// What the list knows of what is selected, in which this is the place of an item; else
+    /// nothing.
     pub known: Option<&'p KnownGroups<'d, 'a, S>>,
 }
 
@@ -66,15 +67,16 @@ fn known_by<'p, 'd, 'a, S>(
     }
 }
 
-/// What is known of the first fields of an object type's groups where an answer is completed: of a list's items,
-/// since others of the type may come; else nothing. An error is want of memory.
+/// What is known of the first fields of an object type's groups where an answer is completed: of a
+/// list's items, since others of the type may come; else nothing. An error is want of memory.
 fn prepared_there<'d, 'a, S: SchemaScalar + Drop, Context>(
     executor: &Executor<'_, 'd, 'a, Context, S>,
     spot: &Spot<'_, 'd, 'a, S>,
     object: &str,
     groups: &[Group<'d, 'a, S>],
 ) -> Result<Option<SharedPrepared<'d>>, AllocError>
-    ensures { IfOk result (λ prepared. IfSome prepared (ArePreparedIn executor.now.request.now object.now groups.now)) }
+    ensures { IfOk result (λ prepared.
+        IfSome prepared (ArePrepared (asked_in executor.now.request.now) object.now groups.now)) }
 {
     if spot.known.is_none() {
         return Ok(None);
@@ -83,14 +85,16 @@ fn prepared_there<'d, 'a, S: SchemaScalar + Drop, Context>(
     Ok(Some(Shared::new(executor.alloc, all)?))
 }
 
-/// What is selected from an object type where an answer is completed, collected. An error is want of memory.
+/// What is selected from an object type where an answer is completed, collected. An error is want
+/// of memory.
 fn collected_there<'d, 'a, S: SchemaScalar + Drop, Context>(
     executor: &Executor<'_, 'd, 'a, Context, S>,
     spot: &Spot<'_, 'd, 'a, S>,
     object: &'d str,
 ) -> Result<KnownIn<'d, 'a, S>, AllocError>
     requires settled { Settled (fragments_in executor.now.request.now) }
-    ensures { IfOk result (IsCollected S.answer executor.now.request.now (sets_in executor.now.request.now spot.now.selected) object.now) }
+    ensures { IfOk result
+        (IsCollected S.answer executor.now.request.now spot.now object.now) }
 {
     let groups = groups_collected(executor.alloc, executor.request, object, spot.selected)?;
     let prepared = prepared_there(executor, spot, object, groups.as_slice())?;
@@ -101,8 +105,8 @@ fn collected_there<'d, 'a, S: SchemaScalar + Drop, Context>(
     })
 }
 
-/// What is selected from a node: what the list knows of its type, else it is collected. Nothing where the node
-/// cannot stand. An error is want of memory.
+/// What is selected from a node: what the list knows of its type, else it is collected. Nothing
+/// where the node cannot stand. An error is want of memory.
 fn selected_there<'d, 'a, S: SchemaScalar + Drop, R: GraphQLValue<S>>(
     resolver: &R,
     executor: &Executor<'_, 'd, 'a, R::Context, S>,
@@ -110,9 +114,12 @@ fn selected_there<'d, 'a, S: SchemaScalar + Drop, R: GraphQLValue<S>>(
     node: &Asked<'d, S, R::Node>,
 ) -> Result<Option<KnownIn<'d, 'a, S>>, AllocError>
     requires settled { Settled (fragments_in executor.now.request.now) }
-    requires spot { IsSpot (engine_at S.of_text S.of_bool S.answer (R.type_of resolver.now) (R.answer resolver.now) executor.now) executor.now.request.now spot.now }
-    ensures { let e = engine_at S.of_text S.of_bool S.answer (R.type_of resolver.now) (R.answer resolver.now) executor.now in
-        IfOk result (MayStand e (fragments_in executor.now.request.now) spot.now.name.now (sets_in executor.now.request.now spot.now.selected) (e.concrete node.now)) }
+    requires spot { let e = engine_at S.of_text S.of_bool S.answer (R.type_of resolver.now)
+        (R.answer resolver.now) executor.now in
+        IsSpot e executor.now.request.now spot.now }
+    ensures { let e = engine_at S.of_text S.of_bool S.answer (R.type_of resolver.now)
+        (R.answer resolver.now) executor.now in
+        IfOk result (MayStand e executor.now.request.now spot.now (e.concrete node.now)) }
 {
     let object = asked_type_name(resolver, executor.context, node);
     if let Some(known) = known_by(spot, object) {
@@ -132,9 +139,14 @@ fn begin_node<'d, 'a, S: SchemaScalar + Drop, R: GraphQLValue<S>>(
     node: Asked<'d, S, R::Node>,
 ) -> FieldResult<Begun<'d, 'a, S, Asked<'d, S, R::Node>>, S>
     requires settled { Settled (fragments_in executor.now.request.now) }
-    requires spot { IsSpot (engine_at S.of_text S.of_bool S.answer (R.type_of resolver.now) (R.answer resolver.now) executor.now) executor.now.request.now spot.now }
-    ensures { let e = engine_at S.of_text S.of_bool S.answer (R.type_of resolver.now) (R.answer resolver.now) executor.now in
-        Begins e (sets_in executor.now.request.now spot.now.selected) spot.now.name.now (fragments_in executor.now.request.now) spot.now.location [] (Ok (resolved.Node node.entry)) result }
+    requires spot { let e = engine_at S.of_text S.of_bool S.answer (R.type_of resolver.now)
+        (R.answer resolver.now) executor.now in
+        IsSpot e executor.now.request.now spot.now }
+    ensures { let e = engine_at S.of_text S.of_bool S.answer (R.type_of resolver.now)
+        (R.answer resolver.now) executor.now in
+        Begins e (sets_in executor.now.request.now spot.now.selected) spot.now.name.now
+        (fragments_in executor.now.request.now) spot.now.location [] (Ok (resolved.Node node.entry))
+        result }
 {
     let Some(known) = selected_there(resolver, executor, spot, &node)? else {
         drop(node);
@@ -154,7 +166,8 @@ fn begin_node<'d, 'a, S: SchemaScalar + Drop, R: GraphQLValue<S>>(
 
 /// Whether the type at which an answer is completed is a scalar or an enum.
 fn is_leaf_there<S, C>(schema: &SchemaType<S, C>, spot: &Spot<'_, '_, '_, S>) -> bool
-    requires { IfSome spot.now.is_leaf (λ told. told ≡ is_leaf_named schema.now.types spot.now.name.now) }
+    requires { IfSome spot.now.is_leaf
+        (λ told. told ≡ is_leaf_named schema.now.types spot.now.name.now) }
     ensures { result ≡ is_leaf_named schema.now.types spot.now.name.now }
 {
     match spot.is_leaf {
@@ -171,9 +184,13 @@ fn begin_named<'d, 'a, S: SchemaScalar + Drop, R: GraphQLValue<S>>(
     answer: Resolved<S, Asked<'d, S, R::Node>>,
 ) -> FieldResult<Begun<'d, 'a, S, Asked<'d, S, R::Node>>, S>
     requires settled { Settled (fragments_in executor.now.request.now) }
-    requires spot { IsSpot (engine_at S.of_text S.of_bool S.answer (R.type_of resolver.now) (R.answer resolver.now) executor.now) executor.now.request.now spot.now }
-    ensures { let e = engine_at S.of_text S.of_bool S.answer (R.type_of resolver.now) (R.answer resolver.now) executor.now in
-        Begins e (sets_in executor.now.request.now spot.now.selected) spot.now.name.now (fragments_in executor.now.request.now) spot.now.location [] (Ok answer.entry) result }
+    requires spot { let e = engine_at S.of_text S.of_bool S.answer (R.type_of resolver.now)
+        (R.answer resolver.now) executor.now in
+        IsSpot e executor.now.request.now spot.now }
+    ensures { let e = engine_at S.of_text S.of_bool S.answer (R.type_of resolver.now)
+        (R.answer resolver.now) executor.now in
+        Begins e (sets_in executor.now.request.now spot.now.selected) spot.now.name.now
+        (fragments_in executor.now.request.now) spot.now.location [] (Ok answer.entry) result }
 {
     let name = spot.name.as_str();
     match answer {
@@ -189,8 +206,8 @@ fn begin_named<'d, 'a, S: SchemaScalar + Drop, R: GraphQLValue<S>>(
     }
 }
 
-/// What an answer comes to at a list type, by all its wraps and by those within the list, which have the
-/// innermost first.
+/// What an answer comes to at a list type, by all its wraps and by those within the list, which
+/// have the innermost first.
 fn begin_list<'d, 'a, S: SchemaScalar + Drop, R: GraphQLValue<S>>(
     resolver: &R,
     executor: &Executor<'_, 'd, 'a, R::Context, S>,
@@ -200,8 +217,11 @@ fn begin_list<'d, 'a, S: SchemaScalar + Drop, R: GraphQLValue<S>>(
     answer: Resolved<S, Asked<'d, S, R::Node>>,
 ) -> FieldResult<Begun<'d, 'a, S, Asked<'d, S, R::Node>>, S>
     requires { IsListAround whole.now wraps.now }
-    ensures { let e = engine_at S.of_text S.of_bool S.answer (R.type_of resolver.now) (R.answer resolver.now) executor.now in
-        Begins e (sets_in executor.now.request.now spot.now.selected) spot.now.name.now (fragments_in executor.now.request.now) spot.now.location (reverse whole.now) (Ok answer.entry) result }
+    ensures { let e = engine_at S.of_text S.of_bool S.answer (R.type_of resolver.now)
+        (R.answer resolver.now) executor.now in
+        Begins e (sets_in executor.now.request.now spot.now.selected) spot.now.name.now
+        (fragments_in executor.now.request.now) spot.now.location (reverse whole.now)
+        (Ok answer.entry) result }
 {
     let name = spot.name.as_str();
     match answer {
@@ -225,8 +245,9 @@ fn begin_list<'d, 'a, S: SchemaScalar + Drop, R: GraphQLValue<S>>(
     }
 }
 
-/// What an answer comes to at a type, by its wraps, which have the innermost first: its value, or what is in
-/// progress there. An error is that of the place itself, whatever would fail below it, or want of memory.
+/// What an answer comes to at a type, by its wraps, which have the innermost first: its value, or
+/// what is in progress there. An error is that of the place itself, whatever would fail below it,
+/// or want of memory.
 pub(crate) fn begin<'d, 'a, S: SchemaScalar + Drop, R: GraphQLValue<S>>(
     resolver: &R,
     executor: &Executor<'_, 'd, 'a, R::Context, S>,
@@ -235,9 +256,14 @@ pub(crate) fn begin<'d, 'a, S: SchemaScalar + Drop, R: GraphQLValue<S>>(
     answer: Resolved<S, Asked<'d, S, R::Node>>,
 ) -> FieldResult<Begun<'d, 'a, S, Asked<'d, S, R::Node>>, S>
     requires settled { Settled (fragments_in executor.now.request.now) }
-    requires spot { IsSpot (engine_at S.of_text S.of_bool S.answer (R.type_of resolver.now) (R.answer resolver.now) executor.now) executor.now.request.now spot.now }
-    ensures { let e = engine_at S.of_text S.of_bool S.answer (R.type_of resolver.now) (R.answer resolver.now) executor.now in
-        Begins e (sets_in executor.now.request.now spot.now.selected) spot.now.name.now (fragments_in executor.now.request.now) spot.now.location (reverse wraps.now) (Ok answer.entry) result }
+    requires spot { let e = engine_at S.of_text S.of_bool S.answer (R.type_of resolver.now)
+        (R.answer resolver.now) executor.now in
+        IsSpot e executor.now.request.now spot.now }
+    ensures { let e = engine_at S.of_text S.of_bool S.answer (R.type_of resolver.now)
+        (R.answer resolver.now) executor.now in
+        Begins e (sets_in executor.now.request.now spot.now.selected) spot.now.name.now
+        (fragments_in executor.now.request.now) spot.now.location (reverse wraps.now)
+        (Ok answer.entry) result }
 {
     match take_apart(wraps) {
         Outer::Named => begin_named(resolver, executor, spot, answer),

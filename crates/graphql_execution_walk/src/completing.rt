@@ -35,8 +35,12 @@ fn begin_here<'d, 'a, S: SchemaScalar + Drop, R: GraphQLValue<S>>(
     answer: Resolved<S, Asked<'d, S, R::Node>>,
 ) -> FieldResult<Begun<'d, 'a, S, Asked<'d, S, R::Node>>, S>
     requires { Settled (fragments_in executor.now.request.now) }
-    ensures { let e = engine_at S.of_text S.of_bool S.answer (R.type_of resolver.now) (R.answer resolver.now) executor.now in
-        Begins e (sets_in executor.now.request.now executor.now.selected) executor.now.current_type.name.now (fragments_in executor.now.request.now) (place_of executor.now.path) (reverse executor.now.current_type.modifiers.now) (Ok answer.entry) result }
+    ensures { let e = engine_at S.of_text S.of_bool S.answer (R.type_of resolver.now)
+        (R.answer resolver.now) executor.now in
+        Begins e (sets_in executor.now.request.now executor.now.selected)
+        executor.now.current_type.name.now (fragments_in executor.now.request.now)
+        (place_of executor.now.path) (reverse executor.now.current_type.modifiers.now)
+        (Ok answer.entry) result }
 {
     let name = TextRef::new(executor.current_type.name);
     let known: Option<&KnownGroups<'d, 'a, S>> = None;
@@ -57,13 +61,13 @@ fn begin_here<'d, 'a, S: SchemaScalar + Drop, R: GraphQLValue<S>>(
 }
 
 impl<'c, 'd, 'a, Context, S: SchemaScalar + Drop> Executor<'c, 'd, 'a, Context, S> {
-    /// The value of an answer at the current type (GraphQL October 2021, 6.4.3 Value Completion), with what
-    /// is selected from its objects. What fails below the place of the answer is told, behind the errors that
-    /// were told, and may leave the place without a value. A place without one is `null` where its type lets
-    /// `null` stand; else the place around it has none either.
+    /// The value of an answer at the current type (GraphQL October 2021, 6.4.3 Value Completion),
+    /// with what is selected from its objects. What fails below the place of the answer is told,
+    /// behind the errors that were told, and may leave the place without a value. A place without
+    /// one is `null` where its type lets `null` stand; else the place around it has none either.
     ///
-    /// An error is that of the place itself: the answer does not fit the type, or is a `null` that may not
-    /// stand there. Nothing is told then, nor where memory runs out.
+    /// An error is that of the place itself: the answer does not fit the type, or is a `null` that
+    /// may not stand there. Nothing is told then, nor where memory runs out.
     pub fn resolve<R: GraphQLValue<S, Context = Context>>(
         &self,
         resolver: &R,
@@ -71,16 +75,18 @@ impl<'c, 'd, 'a, Context, S: SchemaScalar + Drop> Executor<'c, 'd, 'a, Context, 
         errors: &mut Items<ExecutionError<S>>,
     ) -> FieldResult<Option<Value<S>>, S>
         requires { Settled (fragments_in self.now.request.now) }
-        ensures { let e = engine_at S.of_text S.of_bool S.answer (R.type_of resolver.now) (R.answer resolver.now) self.now in
+        ensures { let e = engine_at S.of_text S.of_bool S.answer (R.type_of resolver.now)
+            (R.answer resolver.now) self.now in
             let answer = map_nodes asked.Own answer in
-            Completes (own_error_here e self.now answer) (outcome_here e self.now answer) errors.old result errors.new }
+            Completes (own_error_here e self.now answer) (outcome_here e self.now answer) errors.old
+            result errors.new }
     {
         let answer = of_resolver(self.alloc, answer)?;
         self.resolve_asked(resolver, answer, errors)
     }
 
-    /// The value of what is asked, where an answer has been made of one of a resolver or of the schema: as
-    /// `resolve` gives it.
+    /// The value of what is asked, where an answer has been made of one of a resolver or of the
+    /// schema: as `resolve` gives it.
     pub fn resolve_asked<R: GraphQLValue<S, Context = Context>>(
         &self,
         resolver: &R,
@@ -88,8 +94,10 @@ impl<'c, 'd, 'a, Context, S: SchemaScalar + Drop> Executor<'c, 'd, 'a, Context, 
         errors: &mut Items<ExecutionError<S>>,
     ) -> FieldResult<Option<Value<S>>, S>
         requires { Settled (fragments_in self.now.request.now) }
-        ensures { let e = engine_at S.of_text S.of_bool S.answer (R.type_of resolver.now) (R.answer resolver.now) self.now in
-            Completes (own_error_here e self.now answer.entry) (outcome_here e self.now answer.entry) errors.old result errors.new }
+        ensures { let e = engine_at S.of_text S.of_bool S.answer (R.type_of resolver.now)
+            (R.answer resolver.now) self.now in
+            Completes (own_error_here e self.now answer.entry)
+            (outcome_here e self.now answer.entry) errors.old result errors.new }
     {
         let begun = begin_here(resolver, self, answer)?;
         let mut report = Report {
@@ -113,17 +121,19 @@ impl<'c, 'd, 'a, Context, S: SchemaScalar + Drop> Executor<'c, 'd, 'a, Context, 
     ) -> FieldResult<Option<Value<S>>, S>
         requires { Settled (fragments_in self.now.request.now) }
         ensures { let context = Within.within self.now.context.now in
-            let e = engine_of S.of_text S.of_bool S.answer self.now.request.now (R.type_of resolver.now context) (R.answer resolver.now context) in
+            let e = engine_of S.of_text S.of_bool S.answer self.now.request.now
+            (R.type_of resolver.now context) (R.answer resolver.now context) in
             let answer = map_nodes asked.Own answer in
-            Completes (own_error_here e self.now answer) (outcome_here e self.now answer) errors.old result errors.new }
+            Completes (own_error_here e self.now answer) (outcome_here e self.now answer) errors.old
+            result errors.new }
     {
         let within = self.replaced_context(Within::from(self.context));
         within.resolve(resolver, answer, errors)
     }
 
-    /// The value of an answer at the current type, `null` where it has none. All that fails is told, the
-    /// place itself among it, behind the errors that were told. An error is want of memory, and nothing is
-    /// told then.
+    /// The value of an answer at the current type, `null` where it has none. All that fails is
+    /// told, the place itself among it, behind the errors that were told. An error is want of
+    /// memory, and nothing is told then.
     pub fn resolve_into_value<R: GraphQLValue<S, Context = Context>>(
         &self,
         resolver: &R,
@@ -131,10 +141,12 @@ impl<'c, 'd, 'a, Context, S: SchemaScalar + Drop> Executor<'c, 'd, 'a, Context, 
         errors: &mut Items<ExecutionError<S>>,
     ) -> Result<Value<S>, AllocError>
         requires { Settled (fragments_in self.now.request.now) }
-        ensures value { let e = engine_at S.of_text S.of_bool S.answer (R.type_of resolver.now) (R.answer resolver.now) self.now in
+        ensures value { let e = engine_at S.of_text S.of_bool S.answer (R.type_of resolver.now)
+            (R.answer resolver.now) self.now in
             let answer = map_nodes asked.Own answer in
             IfOk result (λ v. v ≡ unwrap_or (outcome_here e self.now answer).value value.Null) }
-        ensures told { let e = engine_at S.of_text S.of_bool S.answer (R.type_of resolver.now) (R.answer resolver.now) self.now in
+        ensures told { let e = engine_at S.of_text S.of_bool S.answer (R.type_of resolver.now)
+            (R.answer resolver.now) self.now in
             let answer = map_nodes asked.Own answer in
             OnOk result (errors.new ≡ errors.old ++ (outcome_here e self.now answer).failures) }
         ensures kept { OnErr result (errors.new ≡ errors.old) }

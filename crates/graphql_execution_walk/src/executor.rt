@@ -26,9 +26,9 @@ use graphql_tree::{Fragment, Selection};
 use graphql_written_out::FinalVariables;
 use std::alloc::{AllocError, Global};
 
-/// The request that is executed, the context over which it is, and the field that is answered (GraphQL
-/// October 2021, 6 Execution). The context is lent for a time of its own, so that it can be written between
-/// the fields of one request.
+/// The request that is executed, the context over which it is, and the field that is answered
+/// (GraphQL October 2021, 6 Execution). The context is lent for a time of its own, so that it can
+/// be written between the fields of one request.
 #[derive(Drop)]
 pub struct Executor<'c, 'd, 'a, Context, S, C = <S as SchemaScalar>::Check> {
     /// Where memory is taken.
@@ -49,14 +49,15 @@ pub struct Executor<'c, 'd, 'a, Context, S, C = <S as SchemaScalar>::Check> {
     /// What is selected from the objects of its answer; at the root what the operation selects.
     pub selected: Selected<'d, 'd, 'a, S>,
 
-    /// Where the field is looked for that is answered, when it is looked at: the list in which it directly
-    /// stands, or what the executor selects that was asked for this one; at the root nothing.
+    /// Where the field is looked for that is answered, when it is looked at: the list in which it
+    /// directly stands, or what the executor selects that was asked for this one; at the root
+    /// nothing.
     pub among: Option<Selected<'d, 'd, 'a, S>>,
 }
 
 impl<'c, 'd, 'a, Context, S, C> Executor<'c, 'd, 'a, Context, S, C> {
-    /// The executor of an operation that starts at this place of the request's text and has this selection
-    /// set, at the root, which is an object of the type of this name.
+    /// The executor of an operation that starts at this place of the request's text and has this
+    /// selection set, at the root, which is an object of the type of this name.
     pub fn at_root(
         alloc: Global,
         request: &'d Request<'d, 'a, S, C>,
@@ -69,8 +70,10 @@ impl<'c, 'd, 'a, Context, S, C> Executor<'c, 'd, 'a, Context, S, C> {
         ensures context { result.context.now ≡ context.now }
         ensures location { place_of result.path ≡ start }
         ensures path { keys_of result.path ≡ [] }
-        ensures current_type { literal_of result.current_type ≡ record { name = object.now; modifiers = [] } }
-        ensures selected { sets_in request.now result.selected ≡ written_in request.now set.now ∷ [] }
+        ensures current_type { literal_of result.current_type
+            ≡ record { name = object.now; modifiers = [] } }
+        ensures selected { sets_in request.now result.selected
+            ≡ written_in request.now set.now ∷ [] }
         ensures among { result.among ≡ None }
     {
         Executor {
@@ -87,9 +90,9 @@ impl<'c, 'd, 'a, Context, S, C> Executor<'c, 'd, 'a, Context, S, C> {
         }
     }
 
-    /// The executor of a field, by all the response keys that lead to it, its start, the type that the
-    /// schema declares for it, the list in which it directly stands, and what is selected from the objects of
-    /// its answer.
+    /// The executor of a field, by all the response keys that lead to it, its start, the type that
+    /// the schema declares for it, the list in which it directly stands, and what is selected from
+    /// the objects of its answer.
     pub fn at_field<'p>(
         &self,
         keys: &'p [TextRef<'d>],
@@ -117,10 +120,11 @@ impl<'c, 'd, 'a, Context, S, C> Executor<'c, 'd, 'a, Context, S, C> {
         }
     }
 
-    /// The executor of a field of the current type, whose wraps do not count: the field of this name, to which
-    /// all these response keys lead, its own the last, which starts at this place, and has this selection set,
-    /// if it has one. `lent_keys` of the path gives the keys above it. The type must have a field of this name,
-    /// which may be `__typename`; `declared_type` tells. Its `look_ahead` looks among what this one selects.
+    /// The executor of a field of the current type, whose wraps do not count: the field of this
+    /// name, to which all these response keys lead, its own the last, which starts at this place,
+    /// and has this selection set, if it has one. `lent_keys` of the path gives the keys above it.
+    /// The type must have a field of this name, which may be `__typename`; `declared_type` tells.
+    /// Its `look_ahead` looks among what this one selects.
     pub fn field_sub_executor<'p>(
         &self,
         keys: &'p [TextRef<'d>],
@@ -128,13 +132,17 @@ impl<'c, 'd, 'a, Context, S, C> Executor<'c, 'd, 'a, Context, S, C> {
         location: SourcePosition,
         set: Option<&'p [Selection<'a, S>]>,
     ) -> Executor<'c, 'p, 'a, Context, S, C>
-        requires { IsSome (declared_type self.now.request.now.schema.now.types self.now.current_type.name.now name.now) }
+        requires { IsSome (declared_type self.now.request.now.schema.now.types
+            self.now.current_type.name.now name.now) }
         ensures request { result.request.now ≡ self.now.request.now }
         ensures context { result.context.now ≡ self.now.context.now }
         ensures location { place_of result.path ≡ location }
         ensures path { keys_of result.path ≡ keys.now }
-        ensures current_type { Some (literal_of result.current_type) ≡ declared_type self.now.request.now.schema.now.types self.now.current_type.name.now name.now }
-        ensures selected { sets_in self.now.request.now result.selected ≡ written_in self.now.request.now (set_given set.entry) ∷ [] }
+        ensures current_type { Some (literal_of result.current_type)
+            ≡ declared_type self.now.request.now.schema.now.types self.now.current_type.name.now
+            name.now }
+        ensures selected { sets_in self.now.request.now result.selected
+            ≡ written_in self.now.request.now (set_given set.entry) ∷ [] }
         ensures among { result.among ≡ Some self.now.selected }
     {
         let Some(declared) = declared_type(self.request.schema, self.current_type.name, name) else {
@@ -151,9 +159,9 @@ impl<'c, 'd, 'a, Context, S, C> Executor<'c, 'd, 'a, Context, S, C> {
         }
     }
 
-    /// The executor of the same field at the type of this name, or at the same type where no name is given,
-    /// from whose objects this set selects, if there is one. Nothing fits a type that the schema does not
-    /// have. Its `look_ahead` looks among what this one selects.
+    /// The executor of the same field at the type of this name, or at the same type where no name
+    /// is given, from whose objects this set selects, if there is one. Nothing fits a type that the
+    /// schema does not have. Its `look_ahead` looks among what this one selects.
     pub fn type_sub_executor(
         &self,
         type_name: Option<&'d str>,
@@ -162,8 +170,10 @@ impl<'c, 'd, 'a, Context, S, C> Executor<'c, 'd, 'a, Context, S, C> {
         ensures request { result.request.now ≡ self.now.request.now }
         ensures context { result.context.now ≡ self.now.context.now }
         ensures path { result.path ≡ self.now.path }
-        ensures current_type { literal_of result.current_type ≡ type_given type_name.entry (literal_of self.now.current_type) }
-        ensures selected { sets_in self.now.request.now result.selected ≡ written_in self.now.request.now (set_given set.entry) ∷ [] }
+        ensures current_type { literal_of result.current_type
+            ≡ type_given type_name.entry (literal_of self.now.current_type) }
+        ensures selected { sets_in self.now.request.now result.selected
+            ≡ written_in self.now.request.now (set_given set.entry) ∷ [] }
         ensures among { result.among ≡ Some self.now.selected }
     {
         let current_type = match type_name {
@@ -207,12 +217,13 @@ impl<'c, 'd, 'a, Context, S, C> Executor<'c, 'd, 'a, Context, S, C> {
         }
     }
 
-    /// The field that is answered, to look at what is selected below it; at the root, which is no field, `None`.
-    /// It is the first field of its response key, left out or not, in the list in which the field directly stands
-    /// that a resolver is asked for, where there always is one. In an executor that `field_sub_executor` or
-    /// `type_sub_executor` gave, it is looked for in what the executor selects that was asked for this one. Where
-    /// no field of the key directly stands there, the key stands for it, as its name, without alias and arguments,
-    /// with what this executor selects.
+    /// The field that is answered, to look at what is selected below it; at the root, which is no
+    /// field, `None`. It is the first field of its response key, left out or not, in the list in
+    /// which the field directly stands that a resolver is asked for, where there always is one. In
+    /// an executor that `field_sub_executor` or `type_sub_executor` gave, it is looked for in what
+    /// the executor selects that was asked for this one. Where no field of the key directly stands
+    /// there, the key stands for it, as its name, without alias and arguments, with what this
+    /// executor selects.
     pub fn look_ahead(&self) -> Option<LookAheadSelection<'d, 'a, S, C>>
         ensures told { option_map looked_at result ≡ looked_ahead self.now }
         ensures found { FindsField self.now result }
@@ -253,12 +264,14 @@ impl<'c, 'd, 'a, Context, S, C> Executor<'c, 'd, 'a, Context, S, C> {
 
     /// The fragment of this name: of several the first, which no valid document has.
     pub fn fragment_by_name(&self, name: &str) -> Option<&'d Fragment<'a, S>>
-        ensures { option_copied result ≡ fragment_meant (fragments_in self.now.request.now) name.now }
+        ensures { option_copied result
+            ≡ fragment_meant (fragments_in self.now.request.now) name.now }
     {
         self.request.fragments.get(name)
     }
 
-    /// The type that the schema declares for the field that is answered; at the root the type of the root.
+    /// The type that the schema declares for the field that is answered; at the root the type of
+    /// the root.
     pub fn current_type(&self) -> TypeLiteral<'d>
         ensures { result ≡ self.now.current_type }
     {
@@ -272,8 +285,8 @@ impl<'c, 'd, 'a, Context, S, C> Executor<'c, 'd, 'a, Context, S, C> {
         self.path.location()
     }
 
-    /// The error of the field that is answered (GraphQL October 2021, 7.1.2 Errors): at its start, with its
-    /// path. An error is want of memory.
+    /// The error of the field that is answered (GraphQL October 2021, 7.1.2 Errors): at its start,
+    /// with its path. An error is want of memory.
     pub fn new_error(&self, error: FieldError<S>) -> Result<ExecutionError<S>, AllocError>
     where
         S: Drop,
@@ -296,8 +309,8 @@ impl<'c, 'd, 'a, Context, S, C> Executor<'c, 'd, 'a, Context, S, C> {
         Ok(ExecutionError::new(location, path, error))
     }
 
-    /// Tells the error of the field that is answered, behind those that were told. An error is want of
-    /// memory, and nothing is told then.
+    /// Tells the error of the field that is answered, behind those that were told. An error is want
+    /// of memory, and nothing is told then.
     pub fn push_error(
         &self,
         error: FieldError<S>,
@@ -305,14 +318,16 @@ impl<'c, 'd, 'a, Context, S, C> Executor<'c, 'd, 'a, Context, S, C> {
     ) -> Result<(), AllocError>
     where
         S: Drop,
-        ensures told { OnOk result (errors.new ≡ errors.old ++ error_at (place_of self.now.path) self.now.path error ∷ []) }
+        ensures told { OnOk result (errors.new
+            ≡ errors.old
+            ++ error_at (place_of self.now.path) self.now.path error ∷ []) }
         ensures kept { OnErr result (errors.new ≡ errors.old) }
     {
         self.push_error_at(error, *self.location(), errors)
     }
 
-    /// Tells the error of the field that is answered as one of another place, behind those that were told.
-    /// An error is want of memory, and nothing is told then.
+    /// Tells the error of the field that is answered as one of another place, behind those that
+    /// were told. An error is want of memory, and nothing is told then.
     pub fn push_error_at(
         &self,
         error: FieldError<S>,
@@ -321,7 +336,8 @@ impl<'c, 'd, 'a, Context, S, C> Executor<'c, 'd, 'a, Context, S, C> {
     ) -> Result<(), AllocError>
     where
         S: Drop,
-        ensures told { OnOk result (errors.new ≡ errors.old ++ error_at location self.now.path error ∷ []) }
+        ensures told { OnOk result
+            (errors.new ≡ errors.old ++ error_at location self.now.path error ∷ []) }
         ensures kept { OnErr result (errors.new ≡ errors.old) }
     {
         let error = self.error_at(error, location)?;

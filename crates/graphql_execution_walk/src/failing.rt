@@ -21,8 +21,8 @@ pub(crate) fn own_null<S>(alloc: Global) -> Result<FieldError<S>, AllocError>
     Ok(FieldError::of(message))
 }
 
-/// The answer does not fit a type of this name within these wraps, the innermost first. An error is want of
-/// memory.
+/// The answer does not fit a type of this name within these wraps, the innermost first. An error is
+/// want of memory.
 pub(crate) fn misfit<S>(
     alloc: Global,
     name: &str,
@@ -46,8 +46,8 @@ fn misfit_message(alloc: Global, name: &str, wraps: &[TypeModifier]) -> Result<T
     Ok(Text::from_string(message))
 }
 
-/// What has begun at the place of a field that starts there; nothing where the place itself fails, which is
-/// told. An error is want of memory.
+/// What has begun at the place of a field that starts there; nothing where the place itself fails,
+/// which is told. An error is want of memory.
 pub(crate) fn begun_or_told<'d, 'a, S: Drop, N>(
     alloc: Global,
     location: SourcePosition,

@@ -8,8 +8,9 @@ ghost use Rattle.graphql_execution_walk.specs.FieldPaths.{keys_of, own_key, plac
 use graphql_text::{Items, SourcePosition, Text, TextRef};
 use std::alloc::{AllocError, Global};
 
-/// Where a field stands (GraphQL October 2021, 7.1.2 Errors): in the request's text, and in the data by the
-/// response keys from its root down to the field. It is lent, so that a field takes no memory for it.
+/// Where a field stands (GraphQL October 2021, 7.1.2 Errors): in the request's text, and in the
+/// data by the response keys from its root down to the field. It is lent, so that a field takes no
+/// memory for it.
 #[derive(Clone, Copy)]
 pub enum FieldPath<'p> {
     /// At the root of the data, which is where the operation starts.
@@ -48,8 +49,8 @@ impl<'p> FieldPath<'p> {
         }
     }
 
-    /// The response keys from the root of the data down to the field, lent. It takes stack for each `Field`
-    /// above it. An error is want of memory.
+    /// The response keys from the root of the data down to the field, lent. It takes stack for each
+    /// `Field` above it. An error is want of memory.
     pub fn lent_keys(&self, alloc: Global) -> Result<Items<TextRef<'p>>, AllocError>
         ensures { Gives result (keys_of self.now) }
     {

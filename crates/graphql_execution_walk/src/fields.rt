@@ -17,7 +17,8 @@ fn known_field<'t, S, C>(
     object: &str,
     name: &str,
 ) -> Option<KnownField<'t, S>>
-    ensures { option_map field_of_known result ≡ lookups.field_of (type_named schema.now.types object.now) name.now }
+    ensures { option_map field_of_known result
+        ≡ lookups.field_of (type_named schema.now.types object.now) name.now }
 {
     field_of(schema.concrete_type_by_name(object), name)
 }
@@ -28,7 +29,8 @@ pub fn declared_type<'t, S, C>(
     object: &str,
     name: &str,
 ) -> Option<TypeLiteral<'t>>
-    ensures { option_map literal_of result ≡ spec.declared_type schema.now.types object.now name.now }
+    ensures { option_map literal_of result
+        ≡ spec.declared_type schema.now.types object.now name.now }
 {
     type_of_field(known_field(schema, object, name))
 }
@@ -76,8 +78,8 @@ pub fn query_root_name<S, C>(schema: &SchemaType<S, C>) -> &str
     name_of(schema.concrete_query_type())
 }
 
-/// The name of an object type, as the schema has it, where an object of it can stand at a place of a
-/// type.
+/// The name of an object type, as the schema has it, where an object of it can stand at a place of
+/// a type.
 pub(crate) fn possible_name<'t, S, C>(
     schema: &'t SchemaType<S, C>,
     at: &str,

@@ -1,6 +1,7 @@
 //! Parts of frames.
 
-ghost use Rattle.std.specs.Prelude.{◌≡◌, ◌⊎◌, ◌<◌, ◌+◌, None, length, reverse, IfOk, IfSome, option_map};
+ghost use Rattle.std.specs.Prelude.{◌≡◌, ◌⊎◌, ◌<◌, ◌+◌, None, length, reverse, IfOk, IfSome};
+ghost use Rattle.std.specs.Prelude.{option_map};
 ghost use Rattle.graphql_semantics.specs.Completion.{object_members};
 ghost use Rattle.graphql_output_values.specs.Objects.{HasDistinctKeys};
 ghost use Rattle.graphql_output_values.specs.declared.value.Value.TheVariants as value;
@@ -26,8 +27,8 @@ pub(crate) fn known_again<'d, 'a, S>(
     })
 }
 
-/// What has begun tells of an object type that is not known yet: what is selected from it, where an object has
-/// begun. An error says that there are too many.
+/// What has begun tells of an object type that is not known yet: what is selected from it, where an
+/// object has begun. An error says that there are too many.
 pub(crate) fn news_of<'d, 'a, S, N>(
     known: &KnownGroups<'d, 'a, S>,
     begun: &Begun<'d, 'a, S, N>,

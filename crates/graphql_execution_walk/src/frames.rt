@@ -24,8 +24,8 @@ pub(crate) struct ObjectFrame<'d, S, N, G, P> {
     /// What is known of their first fields; `None` where nothing is.
     pub prepared: Option<P>,
 
-    /// The group that comes next, from zero; while a frame stands above this one, the group that waits
-    /// for it.
+    /// The group that comes next, from zero; while a frame stands above this one, the group that
+    /// waits for it.
     pub next: usize,
 
     /// Whether the place that waits keeps `null` out.
@@ -35,7 +35,8 @@ pub(crate) struct ObjectFrame<'d, S, N, G, P> {
     pub members: Option<Items<(Text, Value<S>)>>,
 }
 
-/// What is selected from an object type: its groups, which are a `G`, and what is known of them, a `P`.
+/// What is selected from an object type: its groups, which are a `G`, and what is known of them, a
+/// `P`.
 #[derive(Drop)]
 pub(crate) struct Known<'d, G, P> {
     /// The name of the object type, as the schema has it.

@@ -14,7 +14,8 @@ use graphql_schema::SchemaScalar;
 use graphql_text::Items;
 use std::alloc::{AllocError, Global};
 
-/// The fields that are selected from an object type, each fragment entered once. An error is want of memory.
+/// The fields that are selected from an object type, each fragment entered once. An error is want
+/// of memory.
 fn fields_selected<'d, 'a, S: SchemaScalar>(
     alloc: Global,
     request: &Request<'d, 'a, S>,
@@ -22,7 +23,8 @@ fn fields_selected<'d, 'a, S: SchemaScalar>(
     selected: Selected<'_, 'd, 'a, S>,
 ) -> Result<Items<CollectedField<'d, 'a, S>>, AllocError>
     requires { Settled (fragments_in request.now) }
-    ensures { IfOk result (λ found. Repeats (all_found (fragments_in request.now) found) (selected_in S.answer request.now (sets_in request.now selected.entry) object.now)) }
+    ensures { IfOk result (λ found. Repeats (all_found (fragments_in request.now) found)
+        (selected_in S.answer request.now (sets_in request.now selected.entry) object.now)) }
 {
     match selected {
         Selected::Set(set) => fields_of_set(alloc, request, object, set),
@@ -38,7 +40,8 @@ pub(crate) fn groups_collected<'d, 'a, S: SchemaScalar>(
     selected: Selected<'_, 'd, 'a, S>,
 ) -> Result<Items<Group<'d, 'a, S>>, AllocError>
     requires { Settled (fragments_in request.now) }
-    ensures { IfOk result (AreGroups (fragments_in request.now) (selected_in S.answer request.now (sets_in request.now selected.entry) object.now)) }
+    ensures { IfOk result (AreGroups (fragments_in request.now)
+        (selected_in S.answer request.now (sets_in request.now selected.entry) object.now)) }
 {
     let found = fields_selected(alloc, request, object, selected)?;
     let groups = grouped(alloc, found.as_slice())?;

@@ -1,5 +1,5 @@
-//! Resolvers, and the walk over a document that answers its selections with what they say (GraphQL October
-//! 2021, 6.3 Executing Selection Sets, 6.4 Executing Fields).
+//! Resolvers, and the walk over a document that answers its selections with what they say (GraphQL
+//! October 2021, 6.3 Executing Selection Sets, 6.4 Executing Fields).
 #![tactic(auto)]
 
 mod asked;

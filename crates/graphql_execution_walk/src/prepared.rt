@@ -8,7 +8,8 @@ ghost use Rattle.graphql_text.specs.Memory.{Gives, GivesBy};
 ghost use Rattle.graphql_written_out.specs.Written.{head_of};
 ghost use Rattle.graphql_execution_walk.specs.Engines.{arguments_in};
 ghost use Rattle.graphql_execution_walk.specs.FieldDeclarations as spec;
-ghost use Rattle.graphql_execution_walk.specs.Prepared.{ArePreparedIn, IsPreparedIn, PreparesIn, prepared_at};
+ghost use Rattle.graphql_execution_walk.specs.Prepared.{ArePrepared, IsPrepared, Prepares};
+ghost use Rattle.graphql_execution_walk.specs.Prepared.{asked_in, prepared_at};
 
 use crate::asking::arguments_of;
 use crate::fields::{declared_type, is_leaf};
@@ -38,15 +39,16 @@ pub(crate) struct Prepared<'d> {
 /// What is known of the first fields of groups, which several objects hold.
 pub(crate) type SharedPrepared<'d> = Shared<Items<Prepared<'d>>>;
 
-/// What is known of the first field of a group, for the object type of this name; `None` where the schema does
-/// not declare that field. An error is want of memory.
+/// What is known of the first field of a group, for the object type of this name; `None` where the
+/// schema does not declare that field. An error is want of memory.
 fn prepared_field<'d, 'a, S: SchemaScalar + Drop>(
     alloc: Global,
     request: &'d Request<'d, 'a, S>,
     object: &str,
     group: &Group<'d, 'a, S>,
 ) -> Result<Option<Prepared<'d>>, AllocError>
-    ensures { IfOk result (λ prepared. IfSome prepared (IsPreparedIn request.now object.now group.now)) }
+    ensures { IfOk result
+        (λ prepared. IfSome prepared (IsPrepared (asked_in request.now) object.now group.now)) }
 {
     let Some(first) = group.1.first() else {
         return Ok(None);
@@ -65,16 +67,16 @@ fn prepared_field<'d, 'a, S: SchemaScalar + Drop>(
     }))
 }
 
-/// What is known of the first fields of groups, for the object type of this name: of all of them where the
-/// schema declares all, as it does in a valid document, else of those before the first that it does not
-/// declare. An error is want of memory.
+/// What is known of the first fields of groups, for the object type of this name: of all of them
+/// where the schema declares all, as it does in a valid document, else of those before the first
+/// that it does not declare. An error is want of memory.
 pub(crate) fn prepared_fields<'d, 'a, S: SchemaScalar + Drop>(
     alloc: Global,
     request: &'d Request<'d, 'a, S>,
     object: &str,
     groups: &[Group<'d, 'a, S>],
 ) -> Result<Items<Prepared<'d>>, AllocError>
-    ensures { IfOk result (ArePreparedIn request.now object.now groups.now) }
+    ensures { IfOk result (ArePrepared (asked_in request.now) object.now groups.now) }
 {
     let mut all = Items::with_capacity(alloc, groups.len())?;
     'groups: for group in groups {
@@ -131,8 +133,8 @@ fn is_bare(prepared: Option<&Prepared<'_>>) -> bool
     }
 }
 
-/// The argument values of a field of the object type of this name, of which something may be known. An error is
-/// want of memory.
+/// The argument values of a field of the object type of this name, of which something may be known.
+/// An error is want of memory.
 pub(crate) fn arguments_at<'p, 'a, S: SchemaScalar + Drop>(
     alloc: Global,
     request: &'p Request<'p, 'a, S>,
@@ -140,8 +142,10 @@ pub(crate) fn arguments_at<'p, 'a, S: SchemaScalar + Drop>(
     field: &'p Spanning<Field<'a, S>>,
     prepared: Option<&Prepared<'_>>,
 ) -> Result<Arguments<'p, S>, AllocError>
-    requires { IfSome prepared (λ known. PreparesIn request.now object.now (head_of field.now) known.now) }
-    ensures { GivesBy arguments_told result (arguments_in request.now object.now (head_of field.now)) }
+    requires { IfSome prepared
+        (λ known. Prepares (asked_in request.now) object.now (head_of field.now) known.now) }
+    ensures { GivesBy arguments_told result
+        (arguments_in request.now object.now (head_of field.now)) }
 {
     if is_bare(prepared) {
         return Arguments::new(alloc, &[], &[], &request.variables);
@@ -156,8 +160,10 @@ pub(crate) fn declared_at<'d, S, C>(
     name: &str,
     prepared: Option<&Prepared<'d>>,
 ) -> Option<TypeLiteral<'d>>
-    requires { IfSome prepared (λ known. spec.declared_type schema.now.types object.now name.now ≡ Some (literal_of known.now.declared)) }
-    ensures { option_map literal_of result ≡ spec.declared_type schema.now.types object.now name.now }
+    requires { IfSome prepared (λ known. spec.declared_type schema.now.types object.now name.now
+        ≡ Some (literal_of known.now.declared)) }
+    ensures { option_map literal_of result
+        ≡ spec.declared_type schema.now.types object.now name.now }
 {
     match prepared {
         Some(prepared) => Some(prepared.declared),

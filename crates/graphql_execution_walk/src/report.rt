@@ -56,7 +56,9 @@ impl<'d, S> Report<'d, S> {
     where
         S: Drop,
         ensures path { OnOk result (self.new.path ≡ self.old.path) }
-        ensures errors { OnOk result (self.new.errors ≡ self.old.errors ++ record { location = location; path = self.old.path; error = error } ∷ []) }
+        ensures errors { OnOk result (self.new.errors
+            ≡ self.old.errors
+            ++ record { location = location; path = self.old.path; error = error } ∷ []) }
     {
         let path = copied_keys(alloc, self.path.as_slice())?;
         self.errors

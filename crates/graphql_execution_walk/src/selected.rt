@@ -52,7 +52,8 @@ impl<'d, 'a, S> KeptSelected<'d, 'a, S> {
         alloc: Global,
         selected: Selected<'_, 'd, 'a, S>,
     ) -> Result<KeptSelected<'d, 'a, S>, AllocError>
-        ensures { IfOk result (λ kept. (fragments : List (Fragment S)) → kept_sets fragments kept ≡ sets_of fragments selected.entry) }
+        ensures { IfOk result (λ kept. (fragments : List (Fragment S))
+            → kept_sets fragments kept ≡ sets_of fragments selected.entry) }
     {
         match selected {
             Selected::Set(set) => Ok(KeptSelected::Set(set)),
@@ -62,7 +63,8 @@ impl<'d, 'a, S> KeptSelected<'d, 'a, S> {
 
     /// What is selected, lent.
     pub fn lent(&self) -> Selected<'_, 'd, 'a, S>
-        ensures { (fragments : List (Fragment S)) → sets_of fragments result ≡ kept_sets fragments self.now }
+        ensures { (fragments : List (Fragment S))
+            → sets_of fragments result ≡ kept_sets fragments self.now }
     {
         match *self {
             KeptSelected::Set(set) => Selected::Set(set),

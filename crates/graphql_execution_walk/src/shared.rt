@@ -28,7 +28,8 @@ impl<T: Drop> Shared<T> {
         Ok(Shared { held })
     }
 
-    /// The same value, with one owner more; nothing of it is copied. An error says that there are too many.
+    /// The same value, with one owner more; nothing of it is copied. An error says that there are
+    /// too many.
     pub fn again(&self) -> Result<Shared<T>, AllocError>
         ensures { Gives result self.now }
     {

@@ -11,8 +11,11 @@ ghost use Rattle.graphql_execution_walk.specs.Asked.{asked_type};
 ghost use Rattle.graphql_execution_walk.specs.declared.asked.Asked.TheVariants as asked;
 ghost use Rattle.graphql_execution_walk.specs.EngineAt.{engine_at};
 ghost use Rattle.graphql_semantics.specs.Evaluation.{evaluate, group};
-ghost use Rattle.graphql_execution_walk.specs.FrameTurns.{all_waiting, begun_turns, rest_turns, turned_turns};
-ghost use Rattle.graphql_execution_walk.specs.Frames.{Steps, resume, path_of, comes_to, known_of, learns, turned_to, rest, Fine, AllFine, FineBegun, FineTurned};
+ghost use Rattle.graphql_execution_walk.specs.FrameTurns.{all_waiting, begun_turns, rest_turns};
+ghost use Rattle.graphql_execution_walk.specs.FrameTurns.{turned_turns};
+ghost use Rattle.graphql_execution_walk.specs.Frames.{Steps, resume, path_of, comes_to, known_of};
+ghost use Rattle.graphql_execution_walk.specs.Frames.{learns, turned_to, rest, Fine, AllFine};
+ghost use Rattle.graphql_execution_walk.specs.Frames.{FineBegun, FineTurned};
 ghost use Rattle.graphql_execution_walk.specs.GivesOutcome.{GivesOutcome};
 ghost use Rattle.graphql_execution_walk.specs.KnownTypes.{IsTaught, KnownIn};
 ghost use Rattle.graphql_execution_walk.specs.Sets.{HasKey};
@@ -48,8 +51,8 @@ fn wait<'d, 'a, S: SchemaScalar + Drop, N: Drop>(
     Ok(())
 }
 
-/// What a list knows once an item has begun: if that is an object, what is selected from its type too. An error is
-/// want of memory.
+/// What a list knows once an item has begun: if that is an object, what is selected from its type
+/// too. An error is want of memory.
 fn taught<'d, 'a, S: SchemaScalar + Drop, N: Drop>(
     known: KnownGroups<'d, 'a, S>,
     begun: &Begun<'d, 'a, S, N>,
@@ -64,14 +67,16 @@ fn taught<'d, 'a, S: SchemaScalar + Drop, N: Drop>(
     Ok(known)
 }
 
-/// Leaves a list to wait for an item that has begun; if that is an object, what is selected from its type is
-/// known from now on. An error is want of memory.
+/// Leaves a list to wait for an item that has begun; if that is an object, what is selected from
+/// its type is known from now on. An error is want of memory.
 fn wait_for_item<'d, 'a, S: SchemaScalar + Drop, N: Drop>(
     waiting: &mut Items<FrameIn<'d, 'a, S, N>>,
     waits: ListFrameIn<'d, 'a, S, N>,
     begun: &Begun<'d, 'a, S, N>,
 ) -> Result<(), AllocError>
-    ensures { OnOk result ((known : List (KnownIn S)) × IsTaught waits.entry.known (known_of begun.now) known × (waiting.new ≡ waiting.old ++ frame.List (learns waits.entry known) ∷ [])) }
+    ensures { OnOk result ((known : List (KnownIn S))
+        × IsTaught waits.entry.known (known_of begun.now) known
+        × (waiting.new ≡ waiting.old ++ frame.List (learns waits.entry known) ∷ [])) }
 {
     let ListFrame {
         name,
@@ -105,15 +110,26 @@ fn advance_object<'d, 'a, S: SchemaScalar + Drop, R: GraphQLValue<S>>(
     report: &mut Report<'d, S>,
 ) -> Result<Begun<'d, 'a, S, Asked<'d, S, R::Node>>, AllocError>
     requires settled { Settled (fragments_in executor.now.request.now) }
-    requires fine { let e = engine_at S.of_text S.of_bool S.answer (R.type_of resolver.now) (R.answer resolver.now) executor.now in
-        Fine e (fragments_in executor.now.request.now) (frame.Object object_frame) × AllFine e (fragments_in executor.now.request.now) waiting.now }
-    ensures steps { let e = engine_at S.of_text S.of_bool S.answer (R.type_of resolver.now) (R.answer resolver.now) executor.now in
+    requires fine { let e = engine_at S.of_text S.of_bool S.answer (R.type_of resolver.now)
+        (R.answer resolver.now) executor.now in
+        Fine e (fragments_in executor.now.request.now) (frame.Object object_frame)
+        × AllFine e (fragments_in executor.now.request.now) waiting.now }
+    ensures steps { let e = engine_at S.of_text S.of_bool S.answer (R.type_of resolver.now)
+        (R.answer resolver.now) executor.now in
         let fr = fragments_in executor.now.request.now in
-        IfOk result (λ b. (path : List Bytes) → report.old.path ≡ path_of path waiting.old → Steps e fr path (resume e fr path waiting.old (λ q. rest e fr q (frame.Object object_frame.entry))) report.old waiting.new (comes_to e fr b) report.new) }
-    ensures turns { let e = engine_at S.of_text S.of_bool S.answer (R.type_of resolver.now) (R.answer resolver.now) executor.now in
-        IfOk result (λ b. all_waiting e (fragments_in executor.now.request.now) waiting.new + begun_turns e (fragments_in executor.now.request.now) b < all_waiting e (fragments_in executor.now.request.now) waiting.old + rest_turns e (fragments_in executor.now.request.now) (frame.Object object_frame.entry)) }
-    ensures fine { let e = engine_at S.of_text S.of_bool S.answer (R.type_of resolver.now) (R.answer resolver.now) executor.now in
-        IfOk result (λ b. AllFine e (fragments_in executor.now.request.now) waiting.new × FineBegun e (fragments_in executor.now.request.now) b) }
+        IfOk result (λ b. (path : List Bytes) → report.old.path ≡ path_of path waiting.old
+        → Steps e fr path (resume e fr path waiting.old (λ q. rest e fr q
+        (frame.Object object_frame.entry))) report.old waiting.new (comes_to e fr b) report.new) }
+    ensures turns { let e = engine_at S.of_text S.of_bool S.answer (R.type_of resolver.now)
+        (R.answer resolver.now) executor.now in
+        IfOk result (λ b. all_waiting e (fragments_in executor.now.request.now) waiting.new
+        + begun_turns e (fragments_in executor.now.request.now) b
+        < all_waiting e (fragments_in executor.now.request.now) waiting.old
+        + rest_turns e (fragments_in executor.now.request.now) (frame.Object object_frame.entry)) }
+    ensures fine { let e = engine_at S.of_text S.of_bool S.answer (R.type_of resolver.now)
+        (R.answer resolver.now) executor.now in
+        IfOk result (λ b. AllFine e (fragments_in executor.now.request.now) waiting.new
+        × FineBegun e (fragments_in executor.now.request.now) b) }
 {
     let ObjectFrame {
         node,
@@ -127,14 +143,14 @@ fn advance_object<'d, 'a, S: SchemaScalar + Drop, R: GraphQLValue<S>>(
     let started = match groups.get().get(next) {
         None => return Ok(Begun::Value(object_of(members))),
         Some(group) => {
-            let known = prepared_at(&prepared, next);
+            let prepared_field = prepared_at(&prepared, next);
             start(
                 resolver,
                 executor,
                 object.as_str(),
                 &node,
                 group,
-                known,
+                prepared_field,
                 report,
             )?
         }
@@ -161,15 +177,26 @@ fn advance_list<'d, 'a, S: SchemaScalar + Drop, R: GraphQLValue<S>>(
     report: &mut Report<'d, S>,
 ) -> Result<Begun<'d, 'a, S, Asked<'d, S, R::Node>>, AllocError>
     requires settled { Settled (fragments_in executor.now.request.now) }
-    requires fine { let e = engine_at S.of_text S.of_bool S.answer (R.type_of resolver.now) (R.answer resolver.now) executor.now in
-        Fine e (fragments_in executor.now.request.now) (frame.List list_frame) × AllFine e (fragments_in executor.now.request.now) waiting.now }
-    ensures steps { let e = engine_at S.of_text S.of_bool S.answer (R.type_of resolver.now) (R.answer resolver.now) executor.now in
+    requires fine { let e = engine_at S.of_text S.of_bool S.answer (R.type_of resolver.now)
+        (R.answer resolver.now) executor.now in
+        Fine e (fragments_in executor.now.request.now) (frame.List list_frame)
+        × AllFine e (fragments_in executor.now.request.now) waiting.now }
+    ensures steps { let e = engine_at S.of_text S.of_bool S.answer (R.type_of resolver.now)
+        (R.answer resolver.now) executor.now in
         let fr = fragments_in executor.now.request.now in
-        IfOk result (λ b. (path : List Bytes) → report.old.path ≡ path_of path waiting.old → Steps e fr path (resume e fr path waiting.old (λ q. rest e fr q (frame.List list_frame.entry))) report.old waiting.new (comes_to e fr b) report.new) }
-    ensures turns { let e = engine_at S.of_text S.of_bool S.answer (R.type_of resolver.now) (R.answer resolver.now) executor.now in
-        IfOk result (λ b. all_waiting e (fragments_in executor.now.request.now) waiting.new + begun_turns e (fragments_in executor.now.request.now) b < all_waiting e (fragments_in executor.now.request.now) waiting.old + rest_turns e (fragments_in executor.now.request.now) (frame.List list_frame.entry)) }
-    ensures fine { let e = engine_at S.of_text S.of_bool S.answer (R.type_of resolver.now) (R.answer resolver.now) executor.now in
-        IfOk result (λ b. AllFine e (fragments_in executor.now.request.now) waiting.new × FineBegun e (fragments_in executor.now.request.now) b) }
+        IfOk result (λ b. (path : List Bytes) → report.old.path ≡ path_of path waiting.old
+        → Steps e fr path (resume e fr path waiting.old (λ q. rest e fr q
+        (frame.List list_frame.entry))) report.old waiting.new (comes_to e fr b) report.new) }
+    ensures turns { let e = engine_at S.of_text S.of_bool S.answer (R.type_of resolver.now)
+        (R.answer resolver.now) executor.now in
+        IfOk result (λ b. all_waiting e (fragments_in executor.now.request.now) waiting.new
+        + begun_turns e (fragments_in executor.now.request.now) b
+        < all_waiting e (fragments_in executor.now.request.now) waiting.old
+        + rest_turns e (fragments_in executor.now.request.now) (frame.List list_frame.entry)) }
+    ensures fine { let e = engine_at S.of_text S.of_bool S.answer (R.type_of resolver.now)
+        (R.answer resolver.now) executor.now in
+        IfOk result (λ b. AllFine e (fragments_in executor.now.request.now) waiting.new
+        × FineBegun e (fragments_in executor.now.request.now) b) }
 {
     let ListFrame {
         name,
@@ -215,14 +242,24 @@ fn turn<'d, 'a, S: SchemaScalar + Drop, R: GraphQLValue<S>>(
     report: &mut Report<'d, S>,
 ) -> Result<Turned<'d, 'a, S, Asked<'d, S, R::Node>>, AllocError>
     requires settled { Settled (fragments_in executor.now.request.now) }
-    requires fine { let e = engine_at S.of_text S.of_bool S.answer (R.type_of resolver.now) (R.answer resolver.now) executor.now in
-        AllFine e (fragments_in executor.now.request.now) waiting.now × FineBegun e (fragments_in executor.now.request.now) now }
-    ensures steps { let e = engine_at S.of_text S.of_bool S.answer (R.type_of resolver.now) (R.answer resolver.now) executor.now in
+    requires fine { let e = engine_at S.of_text S.of_bool S.answer (R.type_of resolver.now)
+        (R.answer resolver.now) executor.now in
+        AllFine e (fragments_in executor.now.request.now) waiting.now
+        × FineBegun e (fragments_in executor.now.request.now) now }
+    ensures steps { let e = engine_at S.of_text S.of_bool S.answer (R.type_of resolver.now)
+        (R.answer resolver.now) executor.now in
         let fr = fragments_in executor.now.request.now in
-        IfOk result (λ t. (path : List Bytes) → report.old.path ≡ path_of path waiting.old → Steps e fr path (resume e fr path waiting.old (comes_to e fr now.entry)) report.old waiting.new (turned_to e fr t) report.new) }
-    ensures turns { let e = engine_at S.of_text S.of_bool S.answer (R.type_of resolver.now) (R.answer resolver.now) executor.now in
-        IfOk result (λ t. all_waiting e (fragments_in executor.now.request.now) waiting.new + turned_turns e (fragments_in executor.now.request.now) t < all_waiting e (fragments_in executor.now.request.now) waiting.old + begun_turns e (fragments_in executor.now.request.now) now.entry) }
-    ensures fine { let e = engine_at S.of_text S.of_bool S.answer (R.type_of resolver.now) (R.answer resolver.now) executor.now in
+        IfOk result (λ t. (path : List Bytes) → report.old.path ≡ path_of path waiting.old
+        → Steps e fr path (resume e fr path waiting.old (comes_to e fr now.entry)) report.old
+        waiting.new (turned_to e fr t) report.new) }
+    ensures turns { let e = engine_at S.of_text S.of_bool S.answer (R.type_of resolver.now)
+        (R.answer resolver.now) executor.now in
+        IfOk result (λ t. all_waiting e (fragments_in executor.now.request.now) waiting.new
+        + turned_turns e (fragments_in executor.now.request.now) t
+        < all_waiting e (fragments_in executor.now.request.now) waiting.old
+        + begun_turns e (fragments_in executor.now.request.now) now.entry) }
+    ensures fine { let e = engine_at S.of_text S.of_bool S.answer (R.type_of resolver.now)
+        (R.answer resolver.now) executor.now in
         IfOk result (λ t. FineTurned e (fragments_in executor.now.request.now) t waiting.new) }
 {
     match now {
@@ -252,10 +289,13 @@ pub(crate) fn drive<'d, 'a, S: SchemaScalar + Drop, R: GraphQLValue<S>>(
     report: &mut Report<'d, S>,
 ) -> Result<Option<Value<S>>, AllocError>
     requires settled { Settled (fragments_in executor.now.request.now) }
-    requires fine { let e = engine_at S.of_text S.of_bool S.answer (R.type_of resolver.now) (R.answer resolver.now) executor.now in
+    requires fine { let e = engine_at S.of_text S.of_bool S.answer (R.type_of resolver.now)
+        (R.answer resolver.now) executor.now in
         FineBegun e (fragments_in executor.now.request.now) first }
-    ensures { let e = engine_at S.of_text S.of_bool S.answer (R.type_of resolver.now) (R.answer resolver.now) executor.now in
-        IfOk result (λ value. GivesOutcome (comes_to e (fragments_in executor.now.request.now) first.entry report.old.path) report.old value report.new) }
+    ensures { let e = engine_at S.of_text S.of_bool S.answer (R.type_of resolver.now)
+        (R.answer resolver.now) executor.now in
+        IfOk result (λ value. GivesOutcome (comes_to e (fragments_in executor.now.request.now)
+        first.entry report.old.path) report.old value report.new) }
 {
     let mut waiting = Items::new(executor.alloc);
     let mut now = first;
@@ -277,11 +317,15 @@ pub(crate) fn answer_group<'d, 'a, S: SchemaScalar + Drop, R: GraphQLValue<S>>(
     report: &mut Report<'d, S>,
 ) -> Result<Option<Value<S>>, AllocError>
     requires settled { Settled (fragments_in executor.now.request.now) }
-    requires typed { IsTypeOf executor.now.request.now.schema.now.query (asked.Own (R.root_node resolver.now))
+    requires typed { IsTypeOf executor.now.request.now.schema.now.query
+        (asked.Own (R.root_node resolver.now))
         (asked_type (R.type_of resolver.now executor.now.context.now)) node.now object.now }
     requires keyed { HasKey these.now }
-    ensures { let e = engine_at S.of_text S.of_bool S.answer (R.type_of resolver.now) (R.answer resolver.now) executor.now in
-        IfOk result (λ value. GivesOutcome (group e (evaluate e) report.old.path object.now node.now these.now.0 (all_found (fragments_in executor.now.request.now) these.now.1)) report.old value report.new) }
+    ensures { let e = engine_at S.of_text S.of_bool S.answer (R.type_of resolver.now)
+        (R.answer resolver.now) executor.now in
+        IfOk result (λ value. GivesOutcome (group e (evaluate e) report.old.path object.now node.now
+        these.now.0 (all_found (fragments_in executor.now.request.now) these.now.1)) report.old
+        value report.new) }
 {
     let started = start(resolver, executor, object, node, these, None, report)?;
     let value = drive(resolver, executor, started.begun, report)?;

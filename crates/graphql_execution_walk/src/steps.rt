@@ -17,8 +17,9 @@ ghost use Rattle.graphql_execution_walk.specs.Asked.{asked_type};
 ghost use Rattle.graphql_execution_walk.specs.declared.asked.Asked.TheVariants as asked;
 ghost use Rattle.graphql_execution_walk.specs.EngineAt.{engine_at};
 ghost use Rattle.graphql_execution_walk.specs.FrameTurns.{begun_turns, rest_turns, waiting_turns};
-ghost use Rattle.graphql_execution_walk.specs.Frames.{Fine, FineBegun, Leads, close, comes_to, down, rest, shows};
-ghost use Rattle.graphql_execution_walk.specs.Prepared.{IsPreparedIn, PreparesIn};
+ghost use Rattle.graphql_execution_walk.specs.Frames.{Fine, FineBegun, Leads, close, comes_to};
+ghost use Rattle.graphql_execution_walk.specs.Frames.{down, rest, shows};
+ghost use Rattle.graphql_execution_walk.specs.Prepared.{IsPrepared, Prepares, asked_in};
 ghost use Rattle.graphql_execution_walk.specs.Sets.{HasKey};
 ghost use Rattle.graphql_execution_walk.specs.Standing.{IsPlaceOf, IsTypeOf};
 
@@ -46,8 +47,8 @@ use graphql_text::{Spanning, TextRef};
 use graphql_tree::Field;
 use std::alloc::AllocError;
 
-/// What a group's first field, of which the schema declares this type and to which these response keys lead,
-/// comes to on a node of an object type.
+/// What a group's first field, of which the schema declares this type and to which these response
+/// keys lead, comes to on a node of an object type.
 fn begin_field<'p, 'd, 'a, S: SchemaScalar + Drop, R: GraphQLValue<S>>(
     resolver: &R,
     executor: &Executor<'_, 'd, 'a, R::Context, S>,
@@ -60,13 +61,22 @@ fn begin_field<'p, 'd, 'a, S: SchemaScalar + Drop, R: GraphQLValue<S>>(
     keys: &'p [TextRef<'d>],
 ) -> FieldResult<Begun<'d, 'a, S, Asked<'d, S, R::Node>>, S>
     requires settled { Settled (fragments_in executor.now.request.now) }
-    requires typed { IsTypeOf executor.now.request.now.schema.now.query (asked.Own (R.root_node resolver.now))
+    requires typed { IsTypeOf executor.now.request.now.schema.now.query
+        (asked.Own (R.root_node resolver.now))
         (asked_type (R.type_of resolver.now executor.now.context.now)) node.now object.now }
-    requires place { IsPlaceOf executor.now.request.now object.now first.now.field.now first.now.among.now (literal_of declared) first.now.field.now.span.start keys.now
+    requires place { IsPlaceOf executor.now.request.now object.now first.now.field.now
+        first.now.among.now (literal_of declared) first.now.field.now.span.start keys.now
         (sets_below (all_found (fragments_in executor.now.request.now) fields.now)) }
-    requires prepared { IfSome prepared (λ known. PreparesIn executor.now.request.now object.now (head_of first.now.field.now) known.now) }
-    ensures { let e = engine_at S.of_text S.of_bool S.answer (R.type_of resolver.now) (R.answer resolver.now) executor.now in
-        Begins e (sets_below (all_found (fragments_in executor.now.request.now) fields.now)) declared.entry.name.now (fragments_in executor.now.request.now) first.now.field.now.span.start (reverse declared.entry.modifiers.now) (e.answer node.now object.now (head_of first.now.field.now).name (e.arguments object.now (head_of first.now.field.now))) result }
+    requires prepared { IfSome prepared (λ known.
+        Prepares (asked_in executor.now.request.now) object.now
+        (head_of first.now.field.now) known.now) }
+    ensures { let e = engine_at S.of_text S.of_bool S.answer (R.type_of resolver.now)
+        (R.answer resolver.now) executor.now in
+        Begins e (sets_below (all_found (fragments_in executor.now.request.now) fields.now))
+        declared.entry.name.now (fragments_in executor.now.request.now)
+        first.now.field.now.span.start (reverse declared.entry.modifiers.now)
+        (e.answer node.now object.now (head_of first.now.field.now).name
+        (e.arguments object.now (head_of first.now.field.now))) result }
 {
     let name = TextRef::new(declared.name);
     let wraps = declared.modifiers;
@@ -105,17 +115,27 @@ pub(crate) fn start<'d, 'a, S: SchemaScalar + Drop, R: GraphQLValue<S>>(
     report: &mut Report<'d, S>,
 ) -> Result<Started<'d, 'a, S, Asked<'d, S, R::Node>>, AllocError>
     requires settled { Settled (fragments_in executor.now.request.now) }
-    requires typed { IsTypeOf executor.now.request.now.schema.now.query (asked.Own (R.root_node resolver.now))
+    requires typed { IsTypeOf executor.now.request.now.schema.now.query
+        (asked.Own (R.root_node resolver.now))
         (asked_type (R.type_of resolver.now executor.now.context.now)) node.now object.now }
     requires keyed { HasKey these.now }
-    requires prepared { IfSome prepared (λ known. IsPreparedIn executor.now.request.now object.now these.now known.now) }
-    ensures leads { let e = engine_at S.of_text S.of_bool S.answer (R.type_of resolver.now) (R.answer resolver.now) executor.now in
-        IfOk result (λ s. Leads (group e (evaluate e) report.old.path object.now node.now these.now.0 (all_found (fragments_in executor.now.request.now) these.now.1))
-        report.old (show_place s.is_needed (comes_to e (fragments_in executor.now.request.now) s.begun (report.old.path ++ these.now.0 ∷ []))) report.new) }
+    requires prepared { IfSome prepared
+        (λ known.
+        IsPrepared (asked_in executor.now.request.now) object.now these.now known.now) }
+    ensures leads { let e = engine_at S.of_text S.of_bool S.answer (R.type_of resolver.now)
+        (R.answer resolver.now) executor.now in
+        IfOk result (λ s. Leads (group e (evaluate e) report.old.path object.now node.now
+        these.now.0 (all_found (fragments_in executor.now.request.now) these.now.1))
+        report.old (show_place s.is_needed (comes_to e (fragments_in executor.now.request.now)
+        s.begun (report.old.path ++ these.now.0 ∷ []))) report.new) }
     ensures path { OnOk result (report.new.path ≡ report.old.path ++ these.now.0 ∷ []) }
-    ensures turns { let e = engine_at S.of_text S.of_bool S.answer (R.type_of resolver.now) (R.answer resolver.now) executor.now in
-        IfOk result (λ s. begun_turns e (fragments_in executor.now.request.now) s.begun ≡ turns_of_group e (all_turns e) object.now node.now (all_found (fragments_in executor.now.request.now) these.now.1)) }
-    ensures fine { let e = engine_at S.of_text S.of_bool S.answer (R.type_of resolver.now) (R.answer resolver.now) executor.now in
+    ensures turns { let e = engine_at S.of_text S.of_bool S.answer (R.type_of resolver.now)
+        (R.answer resolver.now) executor.now in
+        IfOk result (λ s. begun_turns e (fragments_in executor.now.request.now) s.begun
+        ≡ turns_of_group e (all_turns e) object.now node.now
+        (all_found (fragments_in executor.now.request.now) these.now.1)) }
+    ensures fine { let e = engine_at S.of_text S.of_bool S.answer (R.type_of resolver.now)
+        (R.answer resolver.now) executor.now in
         IfOk result (λ s. FineBegun e (fragments_in executor.now.request.now) s.begun) }
 {
     report.enter(&these.0)?;
@@ -152,11 +172,17 @@ fn give_object<'d, 'a, S: Drop, N: Drop>(
     value: Option<Value<S>>,
     report: &mut Report<'d, S>,
 ) -> Result<FrameIn<'d, 'a, S, N>, AllocError>
-    ensures gives { IfOk result (λ f. (e : Engine S N) (fragments : List (Fragment S)) (path : List Bytes) → close e fragments path (frame.Object waits.entry) (shows value) ≡ rest e fragments path f) }
-    ensures path { OnOk result ((path : List Bytes) → report.old.path ≡ down path (frame.Object waits.entry) → report.new.path ≡ path) }
+    ensures gives { IfOk result
+        (λ f. (e : Engine S N) (fragments : List (Fragment S)) (path : List Bytes)
+        → close e fragments path (frame.Object waits.entry) (shows value)
+        ≡ rest e fragments path f) }
+    ensures path { OnOk result ((path : List Bytes)
+        → report.old.path ≡ down path (frame.Object waits.entry) → report.new.path ≡ path) }
     ensures errors { OnOk result (report.new.errors ≡ report.old.errors) }
-    ensures turns { IfOk result (λ f. (e : Engine S N) (fragments : List (Fragment S)) → rest_turns e fragments f ≡ waiting_turns e fragments (frame.Object waits.entry)) }
-    ensures fine { (e : Engine S N) (fragments : List (Fragment S)) → Fine e fragments (frame.Object waits.entry) → IfOk result (Fine e fragments) }
+    ensures turns { IfOk result (λ f. (e : Engine S N) (fragments : List (Fragment S))
+        → rest_turns e fragments f ≡ waiting_turns e fragments (frame.Object waits.entry)) }
+    ensures fine { (e : Engine S N) (fragments : List (Fragment S))
+        → Fine e fragments (frame.Object waits.entry) → IfOk result (Fine e fragments) }
 {
     let ObjectFrame {
         node,
@@ -200,9 +226,13 @@ fn give_list<'d, 'a, S: Drop, N: Drop>(
     waits: ListFrameIn<'d, 'a, S, N>,
     value: Option<Value<S>>,
 ) -> Result<FrameIn<'d, 'a, S, N>, AllocError>
-    ensures gives { IfOk result (λ f. (e : Engine S N) (fragments : List (Fragment S)) (path : List Bytes) → close e fragments path (frame.List waits.entry) (shows value) ≡ rest e fragments path f) }
-    ensures turns { IfOk result (λ f. (e : Engine S N) (fragments : List (Fragment S)) → rest_turns e fragments f ≡ waiting_turns e fragments (frame.List waits.entry)) }
-    ensures fine { (e : Engine S N) (fragments : List (Fragment S)) → Fine e fragments (frame.List waits.entry) → IfOk result (Fine e fragments) }
+    ensures gives { IfOk result
+        (λ f. (e : Engine S N) (fragments : List (Fragment S)) (path : List Bytes)
+        → close e fragments path (frame.List waits.entry) (shows value) ≡ rest e fragments path f) }
+    ensures turns { IfOk result (λ f. (e : Engine S N) (fragments : List (Fragment S))
+        → rest_turns e fragments f ≡ waiting_turns e fragments (frame.List waits.entry)) }
+    ensures fine { (e : Engine S N) (fragments : List (Fragment S))
+        → Fine e fragments (frame.List waits.entry) → IfOk result (Fine e fragments) }
 {
     let ListFrame {
         name,
@@ -231,11 +261,16 @@ pub(crate) fn give<'d, 'a, S: Drop, N: Drop>(
     value: Option<Value<S>>,
     report: &mut Report<'d, S>,
 ) -> Result<FrameIn<'d, 'a, S, N>, AllocError>
-    ensures gives { IfOk result (λ f. (e : Engine S N) (fragments : List (Fragment S)) (path : List Bytes) → close e fragments path waits.entry (shows value) ≡ rest e fragments path f) }
-    ensures path { OnOk result ((path : List Bytes) → report.old.path ≡ down path waits.entry → report.new.path ≡ path) }
+    ensures gives { IfOk result
+        (λ f. (e : Engine S N) (fragments : List (Fragment S)) (path : List Bytes)
+        → close e fragments path waits.entry (shows value) ≡ rest e fragments path f) }
+    ensures path { OnOk result
+        ((path : List Bytes) → report.old.path ≡ down path waits.entry → report.new.path ≡ path) }
     ensures errors { OnOk result (report.new.errors ≡ report.old.errors) }
-    ensures turns { IfOk result (λ f. (e : Engine S N) (fragments : List (Fragment S)) → rest_turns e fragments f ≡ waiting_turns e fragments waits.entry) }
-    ensures fine { (e : Engine S N) (fragments : List (Fragment S)) → Fine e fragments waits.entry → IfOk result (Fine e fragments) }
+    ensures turns { IfOk result (λ f. (e : Engine S N) (fragments : List (Fragment S))
+        → rest_turns e fragments f ≡ waiting_turns e fragments waits.entry) }
+    ensures fine { (e : Engine S N) (fragments : List (Fragment S)) → Fine e fragments waits.entry
+        → IfOk result (Fine e fragments) }
 {
     match waits {
         Frame::Object(frame) => give_object(frame, value, report),

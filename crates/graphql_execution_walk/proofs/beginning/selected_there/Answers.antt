@@ -1,8 +1,6 @@
 use Rattle.std.proofs.Common.{◌≡◌, sym, ◌∙◌, ap, subst, Some, true, is_some}
-use Rattle.graphql_collected.specs.Requests.{fragments_in}
 use Rattle.graphql_execution_walk.specs.Engines.{engine_of}
 use Rattle.graphql_execution_walk.specs.FieldDeclarations.{is_possible_named}
-use Rattle.graphql_execution_walk.specs.Sets.{sets_in}
 use Rattle.graphql_execution_walk.specs.Spots.{MayStand, known_in_list}
 use Rattle.graphql_execution_walk.proofs.EngineParts.{engine-concrete, engine-is_possible}
 use Rattle.graphql_execution_walk.proofs.SpotLemmas.{collected-stands, listed-stands}
@@ -21,8 +19,7 @@ returns-in-Some g c =
     let found : known_in_list spot.known object ≡ Some k = sym (rw c.in-Some.is at c.known_by.ensures) in
     let same : object ≡ e.concrete c.args.node.now = c.asked_type_name-object.ensures ∙ sym (ap (λ h. h c.args.node.now) (engine-concrete g.S.ScalarValue.of_text g.S.ScalarValue.of_bool g.S.ScalarValue.answer rq ty an)) in
     rw c.in_ok-known_again.ensures
-    (subst (λ o. MayStand e (fragments_in rq) spot.name.now (sets_in rq spot.selected) o (Some k)) same
-    (listed-stands e (fragments_in rq) spot.name.now (sets_in rq spot.selected) object spot.known k c.requires.spot.known found))
+    (subst (λ o. MayStand e rq spot o (Some k)) same (listed-stands e rq spot object k c.requires.spot found))
 
 -- it is collected
 pub returns-in_ok-collected_there-in-Some-possible_name : goal.returns-in_ok-collected_there-in-Some-possible_name
@@ -40,8 +37,8 @@ returns-in_ok-collected_there-in-Some-possible_name g c =
     let possible : e.is_possible name object ≡ true =
     (λ i. engine-is_possible g.S.ScalarValue.of_text g.S.ScalarValue.of_bool g.S.ScalarValue.answer rq ty an i name object)
     ∙ (λ i. is_possible_named rq.schema.now.types (sym c.as_str.ensures i) (named i)) ∙ sym c.possible_name.ensures.possible ∙ ap is_some c.in-Some-possible_name.is in
-    subst (λ o. MayStand e (fragments_in rq) name (sets_in rq spot.selected) o (Some c.in_ok-collected_there-in-Some-possible_name.field-0)) same
-    (collected-stands g.S.ScalarValue.of_text g.S.ScalarValue.of_bool g.S.ScalarValue.answer rq ty an name object (sets_in rq spot.selected) c.in_ok-collected_there-in-Some-possible_name.field-0 possible c.in_ok-collected_there-in-Some-possible_name.ensures)
+    subst (λ o. MayStand e rq spot o (Some c.in_ok-collected_there-in-Some-possible_name.field-0)) same
+    (collected-stands g.S.ScalarValue.of_text g.S.ScalarValue.of_bool g.S.ScalarValue.answer rq ty an spot object c.in_ok-collected_there-in-Some-possible_name.field-0 possible c.in_ok-collected_there-in-Some-possible_name.ensures)
 
 -- the node cannot stand there
 pub returns-in-None : goal.returns-in-None

@@ -48,7 +48,7 @@ start-requires-clause-prepared g c =
     rw c.as_str.ensures
     (known-here rq f.object f.groups f.prepared f.next x
     (if-prepared g.S.ScalarValue.of_text g.S.ScalarValue.of_bool g.S.ScalarValue.answer rq ty an f.object f.groups f.prepared c.requires.fine.0.3)
-    here c.prepared_at-known.result c.prepared_at-known.ensures)
+    here c.prepared_at-prepared_field.result c.prepared_at-prepared_field.ensures)
 
 pub returns-in-None-clause-steps : goal.returns-in-None-clause-steps
 returns-in-None-clause-steps g c = λ path at.

@@ -3,7 +3,7 @@ use Rattle.std.specs.Prelude.{IfSome}
 use Rattle.graphql_occurrences.specs.DeclaredLent.{literal_of}
 use Rattle.graphql_collected.specs.Requests.{fragments_in}
 use Rattle.graphql_written_out.specs.Written.{Settled, head_of}
-use Rattle.graphql_execution_walk.specs.Prepared.{PreparesIn}
+use Rattle.graphql_execution_walk.specs.Prepared.{Prepares, asked_in}
 use Rattle.graphql_execution_walk.proofs.PreparedLemmas.{leaf-known}
 use Rattle.graphql_execution_walk.proofs.steps.begin_field.Goals as goal
 
@@ -23,7 +23,7 @@ ask-requires-clause-stands g c =
 
 pub ask-requires-clause-prepared : goal.ask-requires-clause-prepared
 ask-requires-clause-prepared g c =
-    subst (λ rq. IfSome c.args.prepared (λ known. PreparesIn rq c.args.object.now (head_of c.args.first.now.field.now) known.now)) (sym c.at_field-here.ensures.request) c.requires.prepared
+    subst (λ rq. IfSome c.args.prepared (λ known. Prepares (asked_in rq) c.args.object.now (head_of c.args.first.now.field.now) known.now)) (sym c.at_field-here.ensures.request) c.requires.prepared
 
 -- what is known of the field's type
 pub begin-requires-clause-spot : goal.begin-requires-clause-spot
