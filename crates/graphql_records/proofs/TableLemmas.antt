@@ -8,7 +8,7 @@ use Rattle.std.specs.Str.{bytes_eq}
 use Rattle.indexmap.specs.IndexMap.{insert_entry}
 use Rattle.indexmap.specs.Layout.{set_value_at}
 use Rattle.graphql_names.specs.Names.{Bytes, is_one_of, stands_twice}
-use Rattle.graphql_records.specs.Settings.{Fields, with_fields}
+use Rattle.graphql_records.specs.Settings.{Fields, record_with}
 use Rattle.graphql_records.specs.Tables.{Entries}
 use Rattle.graphql_records.specs.declared.record.Record.{Record}
 use Rattle.graphql_names.proofs.Repeats.{again, first, kept}
@@ -65,5 +65,5 @@ put_again (e ∷ es) (suc i) w there = ap (λ rest. e ∷ rest) (put_again es i 
 
 -- so a record whose fields are put in place once more leaves the table
 pub left_alone : (records after : Entries) (place : ℕ) (r : Record) (fields : Fields) → Some r ≡ slice_get (values_of records) place
-    → after ≡ set_value_at records place (with_fields fields r) → fields ≡ r.fields → after ≡ records
-left_alone records after place r fields there set same = set ∙ ap (λ fs. set_value_at records place (with_fields fs r)) same ∙ put_again records place r there
+    → after ≡ set_value_at records place (record_with fields r) → fields ≡ r.fields → after ≡ records
+left_alone records after place r fields there set same = set ∙ ap (λ fs. set_value_at records place (record_with fs r)) same ∙ put_again records place r there

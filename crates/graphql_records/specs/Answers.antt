@@ -1,5 +1,6 @@
 -- What a table of records answers for a field (GraphQL October 2021, 6.4.2 Value Resolution).
-use Rattle.std.specs.Prelude.{ℕ, Bool, true, false, List, [], Option, slice_get, codes, if◌then◌else◌, option_and_then}
+use Rattle.std.specs.Prelude.{ℕ, Bool, true, false, List, [], Option, slice_get, codes}
+use Rattle.std.specs.Prelude.{if◌then◌else◌, option_and_then}
 use Rattle.std.specs.Option.{option_map_or}
 use Rattle.std.specs.Str.{bytes_eq}
 use Rattle.graphql_names.specs.Names.{Bytes, is_one_of, named}
@@ -19,7 +20,8 @@ use Rattle.graphql_records.specs.declared.table_type.TableType.{TableType}
 
 -- a missing `id` is the record's id, another missing one is null
 abbrev pub missing : Bytes → Bytes → FieldValue
-missing id field = if bytes_eq field (codes "id") then value.Scalar (scalar.String id) else value.Null
+missing id field =
+    if bytes_eq field (codes "id") then value.Scalar (scalar.String id) else value.Null
 
 -- the value of a field of the record of an id
 abbrev pub field_of : Bytes → Record → Bytes → FieldValue
@@ -57,14 +59,17 @@ module _ (types : List TableType) where
 
   -- whether an object of the one type can stand at a place of the other
   abbrev pub is_possible : Bytes → Bytes → Bool
-  is_possible at object = option_map_or (λ t. is_one_of t.possible object) (named (λ t. t.name) types at) false
+  is_possible at object =
+      option_map_or (λ t. is_one_of t.possible object) (named (λ t. t.name) types at) false
 
   -- a field of the record of an id; one that the table does not know is null
   abbrev pub record_answer : Entries → Bytes → Record → Bytes → Asked → Answer
   record_answer records id r field given =
-      option_map_or (λ f. field_answer records f given (field_of id r field)) (known_field r.type_name field) resolved.Null
+      option_map_or (λ f. field_answer records f given (field_of id r field))
+      (known_field r.type_name field) resolved.Null
 
   -- a field of a node; null where it has no record
   abbrev pub answer : Table → TableNode → Bytes → Asked → Answer
   answer table n field given =
-      option_map_or (λ r. record_answer table.entries r.0 r.1 field given) (record_at table n) resolved.Null
+      option_map_or (λ r. record_answer table.entries r.0 r.1 field given) (record_at table n)
+      resolved.Null

@@ -12,7 +12,8 @@ abbrev pub Asked : Type 0
 Asked = Given DefaultScalarValue
 
 -- the scalar that a value is
-abbrev pub scalar_layer : {A : Type 0} → InputValue-F DefaultScalarValue A → Option DefaultScalarValue
+abbrev pub scalar_layer : {A : Type 0} → InputValue-F DefaultScalarValue A
+    → Option DefaultScalarValue
 scalar_layer (InputValue-F.Scalar s) = Some s
 scalar_layer InputValue-F.Null = None
 scalar_layer (InputValue-F.Enum n) = None
@@ -30,7 +31,8 @@ id_of_scalar (scalar.Int z) = Some (signed_decimal z)
 id_of_scalar (scalar.Boolean b) = None
 
 abbrev pub id_asked : Asked → Option Bytes
-id_asked given = option_and_then id_of_scalar (option_and_then scalar_of (value_named given (codes "id")))
+id_asked given =
+    option_and_then id_of_scalar (option_and_then scalar_of (value_named given (codes "id")))
 
 abbrev pub int_of_scalar : DefaultScalarValue → Option ℤ
 int_of_scalar (scalar.Int z) = Some z
@@ -38,4 +40,5 @@ int_of_scalar (scalar.String s) = None
 int_of_scalar (scalar.Boolean b) = None
 
 abbrev pub first_asked : Asked → Option ℤ
-first_asked given = option_and_then int_of_scalar (option_and_then scalar_of (value_named given (codes "first")))
+first_asked given =
+    option_and_then int_of_scalar (option_and_then scalar_of (value_named given (codes "first")))

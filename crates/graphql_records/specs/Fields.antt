@@ -1,5 +1,6 @@
 -- The values of records' fields, and what they answer.
-use Rattle.std.specs.Prelude.{ℕ, ℤ, pos, negsuc, Bool, false, Option, Some, None, take, if◌then◌else◌}
+use Rattle.std.specs.Prelude.{ℕ, ℤ, pos, negsuc, Bool, false, Option, Some, None, take}
+use Rattle.std.specs.Prelude.{if◌then◌else◌}
 use Rattle.std.specs.List.{list_any}
 use Rattle.std.specs.Option.{option_map_or}
 use Rattle.std.specs.Str.{bytes_eq}
@@ -29,7 +30,8 @@ at_leaf = fold-FieldValue Answer leaf_layer
 
 -- a link: the record of an id, null where there is none
 abbrev pub linked : Entries → Bytes → Answer
-linked records id = option_map_or (λ place. resolved.Node (node.At place)) (place_of records id) resolved.Null
+linked records id =
+    option_map_or (λ place. resolved.Node (node.At place)) (place_of records id) resolved.Null
 
 -- at a composite type texts are links
 abbrev pub link_of_scalar : Entries → DefaultScalarValue → Answer

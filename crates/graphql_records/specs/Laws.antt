@@ -17,10 +17,12 @@ IsExact eq = (a b : DefaultScalarValue) → eq a b ≡ true → a ≡ b
 
 -- to arguments that are the same under each name, a table gives one answer
 abbrev pub AnswersRespect : (DefaultScalarValue → DefaultScalarValue → Bool) → Type 0
-AnswersRespect eq = (types : List TableType) (table : Table) (n : TableNode) (field : Bytes) (a b : Asked)
+AnswersRespect eq =
+    (types : List TableType) (table : Table) (n : TableNode) (field : Bytes) (a b : Asked)
     → SameArguments eq a b → answer types table n field a ≡ answer types table n field b
 
--- to arguments that are the same in one order, a mutation's field gives one answer, and leaves one table
+-- to arguments that are the same in one order, a mutation's field gives one answer, and leaves one
+-- table
 abbrev pub SettingsRespect : (DefaultScalarValue → DefaultScalarValue → Bool) → Type 0
 SettingsRespect eq = (types : List TableType) (table : Table) (of_type : Bytes) (a b : Asked)
     → SameInOrder eq a b
@@ -29,10 +31,13 @@ SettingsRespect eq = (types : List TableType) (table : Table) (of_type : Bytes) 
 
 -- where it is refused, the table stays
 abbrev pub RefusalsChangeNothing : Type 0
-RefusalsChangeNothing = (types : List TableType) (table : Table) (of_type : Bytes) (given : Asked) (refusal : Fault)
-    → root_answer types table of_type given ≡ Err refusal → table_after types table of_type given ≡ table
+RefusalsChangeNothing =
+    (types : List TableType) (table : Table) (of_type : Bytes) (given : Asked) (refusal : Fault)
+    → root_answer types table of_type given ≡ Err refusal
+    → table_after types table of_type given ≡ table
 
 -- and what is told beside the reason has distinct keys
 abbrev pub RefusalsTellDistinctKeys : Type 0
-RefusalsTellDistinctKeys = (types : List TableType) (table : Table) (of_type : Bytes) (given : Asked)
+RefusalsTellDistinctKeys =
+    (types : List TableType) (table : Table) (of_type : Bytes) (given : Asked)
     → TellsInDistinctKeys (root_answer types table of_type given)

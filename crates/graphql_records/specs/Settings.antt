@@ -1,5 +1,7 @@
--- What a field of a mutation's root sets in a table of records, and what it answers (GraphQL October 2021, 6.2.2 Mutation).
-use Rattle.std.specs.Prelude.{◌++◌, ◌∷◌, [], ℕ, Bool, false, List, Option, Some, None, Result, Ok, Err, codes, slice_get, if◌then◌else◌, option_and_then}
+-- What a field of a mutation's root sets in a table of records, and what it answers (GraphQL
+-- October 2021, 6.2.2 Mutation).
+use Rattle.std.specs.Prelude.{◌++◌, ◌∷◌, [], ℕ, Bool, false, List, Option, Some, None, Result, Ok}
+use Rattle.std.specs.Prelude.{Err, codes, slice_get, if◌then◌else◌, option_and_then}
 use Rattle.std.specs.Option.{option_map_or}
 use Rattle.std.specs.Str.{bytes_eq}
 use Rattle.indexmap.specs.Layout.{set_value_at}
@@ -41,9 +43,11 @@ set_layer (InputValue-F.Object fields) = Some value.Null
 abbrev pub set_by : InputValue DefaultScalarValue → Option FieldValue
 set_by v = set_layer (out-InputValue DefaultScalarValue v)
 
--- the two refusals: a record that can't stand at a place of a type, and an argument that may set no field
+-- the two refusals: a record that can't stand at a place of a type, and an argument that may set no
+-- field
 abbrev pub misfit_record : Bytes → Bytes → Fault
-misfit_record id of_type = told (codes "Record \"" ++ id ++ codes "\" does not fit type " ++ of_type)
+misfit_record id of_type =
+    told (codes "Record \"" ++ id ++ codes "\" does not fit type " ++ of_type)
 
 abbrev pub no_scalar_field : Bytes → Bytes → Fault
 no_scalar_field object name =
@@ -58,15 +62,19 @@ abbrev pub node_set : ℕ → Option Fields → Answer
 node_set place (Some fields) = resolved.Node (node.At place)
 node_set place None = resolved.Null
 
-abbrev pub with_fields : Fields → Record → Record
-with_fields fields r = record r { fields = fields }
+-- a record, with these fields in place of its own
+abbrev pub record_with : Fields → Record → Record
+record_with fields r = record r { fields = fields }
 
+-- the records, the one at a place with these fields, where one stands there
 abbrev pub fields_replaced : Entries → ℕ → Fields → Entries
 fields_replaced records place fields =
-    option_map_or (λ r. set_value_at records place (with_fields fields r.1)) (slice_get records place) records
+    option_map_or (λ r. set_value_at records place (record_with fields r.1))
+    (slice_get records place) records
 
 abbrev pub record_set : Table → ℕ → Option Fields → Table
-record_set table place (Some fields) = record table { entries = fields_replaced table.entries place fields }
+record_set table place (Some fields) =
+    record table { entries = fields_replaced table.entries place fields }
 record_set table place None = table
 
 -- `types`: what the table knows of the schema's types
@@ -83,7 +91,8 @@ module _ (types : List TableType) where
   abbrev pub set_one : Bytes → Bytes → InputValue DefaultScalarValue → Fields → Result Fields Fault
   set_one object name v fields =
       if bytes_eq name (codes "id") then Ok fields else
-      option_map_or (λ x. Ok (with_field fields name x)) (settable object name v) (Err (no_scalar_field object name))
+      option_map_or (λ x. Ok (with_field fields name x)) (settable object name v)
+      (Err (no_scalar_field object name))
 
   abbrev pub set_at : Bytes → Asked → ℕ → Fields → Result Fields Fault
   set_at object given place fields =
@@ -94,7 +103,8 @@ module _ (types : List TableType) where
   set_all object [] fields = Ok fields
   set_all object (a ∷ given) fields = set_one object a.0 a.1.item fields >>= set_all object given
 
-  -- the fields of a record, which can stand at the type of the mutation's field, once its arguments have set theirs
+  -- the fields of a record, which can stand at the type of the mutation's field, once its arguments
+  -- have set theirs
   abbrev pub fields_set : Bytes → Bytes → Record → Asked → Result Fields Fault
   fields_set of_type id r given =
       if is_possible types of_type r.type_name then set_all r.type_name given r.fields
@@ -102,12 +112,14 @@ module _ (types : List TableType) where
 
   abbrev pub fields_at : Entries → Bytes → Asked → ℕ → Result (Option Fields) Fault
   fields_at records of_type given place =
-      option_map_or (λ r. fields_set of_type r.0 r.1 given >>= λ fields. Ok (Some fields)) (slice_get records place) (Ok None)
+      option_map_or (λ r. fields_set of_type r.0 r.1 given >>= λ fields. Ok (Some fields))
+      (slice_get records place) (Ok None)
 
   -- what a mutation's field answers: null where no record has the id
   abbrev pub root_answer : Table → Bytes → Asked → Result Answer Fault
   root_answer table of_type given =
-      option_map_or (λ place. fields_at table.entries of_type given place >>= λ fields. Ok (node_set place fields))
+      option_map_or (λ place. fields_at table.entries of_type given place >>= λ fields.
+      Ok (node_set place fields))
       (place_asked table.entries given) (Ok resolved.Null)
 
   -- the table after: the same where nothing is set
@@ -117,5 +129,6 @@ module _ (types : List TableType) where
 
   abbrev pub table_after : Table → Bytes → Asked → Table
   table_after table of_type given =
-      option_map_or (λ place. after_setting table place (fields_at table.entries of_type given place))
+      option_map_or
+      (λ place. after_setting table place (fields_at table.entries of_type given place))
       (place_asked table.entries given) table

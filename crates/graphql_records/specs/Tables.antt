@@ -18,8 +18,10 @@ pub record Table : Type 0 where
 abbrev pub place_of : Entries → Bytes → Option ℕ
 place_of records id = position (bytes_eq id) (keys_of records)
 
--- the records, in order, queries starting from the first, where no id stands twice; none where one does
+-- the records, in order, queries starting from the first, where no id stands twice; none where one
+-- does
 abbrev pub IsTableOf : Entries → Option Table → Type 0
 IsTableOf records (Some table) =
-    (table ≡ record { entries = records; root = 0 }) × ((id : Bytes) → stands_twice (keys_of records) id ≡ false)
+    (table ≡ record { entries = records; root = 0 })
+    × ((id : Bytes) → stands_twice (keys_of records) id ≡ false)
 IsTableOf records None = (id : Bytes) × (stands_twice (keys_of records) id ≡ true)

@@ -1,4 +1,5 @@
--- Values that arguments set, on their way to a record: what becomes of its fields once they are set in turn.
+-- Values that arguments set, on their way to a record: what becomes of its fields once they are set
+-- in turn.
 use Rattle.std.specs.Prelude.{◌≡◌, ℕ, [], Option, Result, Ok, Err, slice_get, option_map}
 use Rattle.std.specs.Option.{option_map_or}
 use Rattle.graphql_output_values.specs.Objects.{with_fields}
@@ -37,6 +38,7 @@ once_changed records place (Err e) = Err e
 
 -- values are added: to any fields, set in turn behind those before them, they do what is wanted
 abbrev pub Adds : {A : Type 0} → (Fields → Result Fields Fault) → Fields → Found A → Fields → Type 0
-Adds wanted old (Ok done) new = (fields : Fields) → wanted (with_fields fields old) ≡ Ok (with_fields fields new)
+Adds wanted old (Ok done) new =
+    (fields : Fields) → wanted (with_fields fields old) ≡ Ok (with_fields fields new)
 Adds wanted old (Err (fault.Error e)) new = (fields : Fields) → wanted fields ≡ Err e
 Adds wanted old (Err fault.Memory) new = Unit {0}

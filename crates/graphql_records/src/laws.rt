@@ -1,7 +1,8 @@
 //! Laws of what a table answers and sets: each function's contract is a law, and its body does
 //! nothing.
 
-ghost use Rattle.graphql_records.specs.Laws.{AnswersRespect, IsExact, RefusalsChangeNothing, RefusalsTellDistinctKeys, SettingsRespect};
+ghost use Rattle.graphql_records.specs.Laws.{AnswersRespect, IsExact, RefusalsChangeNothing};
+ghost use Rattle.graphql_records.specs.Laws.{RefusalsTellDistinctKeys, SettingsRespect};
 
 use graphql_scalars::DefaultScalarValue;
 

@@ -34,8 +34,8 @@ fn misfit_record(
     Ok(FieldError::of(Text::from_string(message)))
 }
 
-/// The values that the arguments of a mutation's field set in a record. An error says why they are not
-/// set, or is want of memory.
+/// The values that the arguments of a mutation's field set in a record. An error says why they are
+/// not set, or is want of memory.
 fn values_for(
     alloc: Global,
     types: &NamedItems<TableType>,
@@ -91,8 +91,8 @@ fn place_asked(
     }
 }
 
-/// Sets values in the fields of the record at a place, if there are any; the record's node, null where
-/// there are none. An error is want of memory, and sets none.
+/// Sets values in the fields of the record at a place, if there are any; the record's node, null
+/// where there are none. An error is want of memory, and sets none.
 fn set_record(
     records: &mut Records,
     place: usize,
@@ -133,7 +133,8 @@ pub fn set_asked(
     ensures answer { let given = arguments_told arguments.now in
         Answered (spec.root_answer types.now records.old of_type.now given) result }
     ensures after { let given = arguments_told arguments.now in
-        Leaves records.old (spec.table_after types.now records.old of_type.now given) result records.new }
+        Leaves records.old (spec.table_after types.now records.old of_type.now given) result
+        records.new }
 {
     let Some(place) = place_asked(alloc, &*records, arguments)? else {
         return Ok(Resolved::Null);

@@ -1,6 +1,7 @@
 //! Records.
 
-ghost use Rattle.std.specs.Prelude.{◌≡◌, ◌+◌, ◌<◌, ◌≤◌, length, position, vec_capacity, vec_len, OnErr, OnOk};
+ghost use Rattle.std.specs.Prelude.{◌≡◌, ◌+◌, ◌<◌, ◌≤◌, length, position, vec_capacity, vec_len};
+ghost use Rattle.std.specs.Prelude.{OnErr, OnOk};
 ghost use Rattle.std.specs.Option.{option_copied};
 ghost use Rattle.std.specs.Str.{bytes_eq};
 ghost use Rattle.graphql_output_values.specs.Objects.{field_value, with_field, with_fields};
@@ -45,7 +46,8 @@ fn place_of(fields: &[(Text, FieldValue)], name: &str) -> Option<usize>
         .position(|field| same_name(name, field.0.as_str()))
 }
 
-/// Sets a value in the field of its name; a new field stands behind the others. There is room for it.
+/// Sets a value in the field of its name; a new field stands behind the others. There is room for
+/// it.
 fn set_value(fields: &mut Vec<(Text, FieldValue)>, name: Text, value: FieldValue)
     requires { vec_len fields.old < vec_capacity fields.old }
     ensures value { fields.new.items ≡ with_field fields.old.items name value }
@@ -68,8 +70,8 @@ fn set_in_turn(fields: &mut Vec<(Text, FieldValue)>, values: Fields)
     }
 }
 
-/// Sets values in the fields of their names, in turn; a new field stands behind the others. An error is
-/// want of memory, and sets none.
+/// Sets values in the fields of their names, in turn; a new field stands behind the others. An
+/// error is want of memory, and sets none.
 pub(crate) fn set_values(fields: &mut Fields, values: Fields) -> Result<(), AllocError>
     ensures ok { OnOk result (fields.new ≡ with_fields fields.old values) }
     ensures err { OnErr result (fields.new ≡ fields.old) }

@@ -1,9 +1,9 @@
 //! Records, which are answered from and changed.
 
-ghost use Rattle.std.specs.Prelude.{◌≡◌, ◌↔◌, ◌++◌, ◌∷◌, [], false, length, slice_get, option_map, IfOk, IsTrue, OnErr, OnOk};
+ghost use Rattle.std.specs.Prelude.{◌≡◌, ◌↔◌, ◌++◌, ◌∷◌, [], false, length, slice_get, option_map};
+ghost use Rattle.std.specs.Prelude.{IfOk, IsTrue, OnErr, OnOk};
 ghost use Rattle.std.specs.Map.{keys_of};
 ghost use Rattle.graphql_names.specs.Names.{is_one_of};
-ghost use Rattle.graphql_records.specs.Settings.{fields_replaced};
 ghost use Rattle.graphql_records.specs.ValuesSet.{values_set};
 ghost use Rattle.graphql_records.specs.Tables.{IsTableOf, place_of};
 
@@ -66,24 +66,15 @@ impl Records {
         self.root
     }
 
-    /// Sets the fields of the record at a place, if there is one.
-    pub fn set_fields(&mut self, place: usize, fields: Items<(Text, FieldValue)>)
-        ensures entries { self.new.entries ≡ fields_replaced self.old.entries place fields }
-        ensures root { self.new.root ≡ self.old.root }
-    {
-        if let Some(record) = self.by_id.get_index_mut(place) {
-            record.fields = fields;
-        }
-    }
-
-    /// Sets these values in the fields of their names of the record at a place, in turn, if there is one; a
-    /// new field stands behind the others. An error is want of memory, and sets none.
+    /// Sets these values in the fields of their names of the record at a place, in turn, if there
+    /// is one; a new field stands behind the others. An error is want of memory, and sets none.
     pub fn set_values(
         &mut self,
         place: usize,
         values: Items<(Text, FieldValue)>,
     ) -> Result<(), AllocError>
-        ensures entries { OnOk result (self.new.entries ≡ values_set self.old.entries place values) }
+        ensures entries { OnOk result
+            (self.new.entries ≡ values_set self.old.entries place values) }
         ensures err { OnErr result (self.new.entries ≡ self.old.entries) }
         ensures root { self.new.root ≡ self.old.root }
     {

@@ -76,8 +76,8 @@ fn no_scalar_field(
     Ok(FieldError::of(Text::from_string(message)))
 }
 
-/// Adds the value that an argument sets in the field of its name: `id` sets none. An error says that it
-/// may not, or is want of memory.
+/// Adds the value that an argument sets in the field of its name: `id` sets none. An error says
+/// that it may not, or is want of memory.
 fn add_one(
     alloc: Global,
     types: &NamedItems<TableType>,
@@ -86,7 +86,8 @@ fn add_one(
     value: &InputValue<DefaultScalarValue>,
     values: &mut Fields,
 ) -> FieldResult<(), DefaultScalarValue>
-    ensures { Adds (spec.set_one types.now object.now name.now value.now) values.old result values.new }
+    ensures { Adds (spec.set_one types.now object.now name.now value.now) values.old result
+        values.new }
 {
     if name == "id" {
         return Ok(());
