@@ -21,6 +21,7 @@ abbrev pub name_behind : Bytes → Option Bytes → Bytes
 name_behind head None = head
 name_behind head (Some rest) = trim_start rest
 
--- what has to be the name: behind the last quote and the blanks there, or all where there is no quote
-abbrev pub name_in : Bytes → Bytes
-name_in head = name_behind head (behind_last quote head)
+-- what has to be the name: behind the last quote and the blanks there, or all where there is no
+-- quote
+abbrev pub name_part : Bytes → Bytes
+name_part head = name_behind head (behind_last quote head)

@@ -1,5 +1,7 @@
--- What a definition tells of itself, and why it tells nothing (GraphQL October 2021, 3.2 Descriptions, 3.13.3 @deprecated).
-use Rattle.std.specs.Prelude.{◌≡◌, ◌==◌, if◌then◌else◌, Option, Some, None, Result, Ok, Err, List, [], ◌∷◌, codes, length, slice_get}
+-- What a definition tells of itself, and why it tells nothing (GraphQL October 2021, 3.2
+-- Descriptions, 3.13.3 @deprecated).
+use Rattle.std.specs.Prelude.{◌≡◌, ◌==◌, if◌then◌else◌, Option, Some, None, Result, Ok, Err, List}
+use Rattle.std.specs.Prelude.{[], ◌∷◌, codes, length, slice_get}
 use Rattle.std.specs.Option.{option_and_then}
 use Rattle.std.specs.Str.{bytes_eq}
 use Rattle.graphql_text.specs.Memory.{◌>>=◌}
@@ -67,8 +69,8 @@ module _ {S : Type 0} where
   scalar_of v = scalar_layer (out-InputValue S v)
 
   -- the name of a directive, at the directive's place
-  abbrev pub named : At (Directive S) → At Bytes
-  named d = record { item = d.item.name.item; span = d.span }
+  abbrev pub directive_name : At (Directive S) → At Bytes
+  directive_name d = record { item = d.item.name.item; span = d.span }
 
   module _ (answer : S → ScalarAnswer) where
     -- the text that a value is
@@ -79,23 +81,28 @@ module _ {S : Type 0} where
     abbrev pub reason_of : Option (At (Arguments S)) → Option Bytes
     reason_of None = Some (codes "No longer supported")
     reason_of (Some arguments) =
-        if length arguments.item.items == 1 then option_and_then (λ v. text_of_value v.item) (value_of (codes "reason") arguments.item.items) else None
+        if length arguments.item.items == 1 then option_and_then (λ v. text_of_value v.item)
+        (value_of (codes "reason") arguments.item.items) else None
 
     abbrev pub for_reason : At (Directive S) → Option Bytes → Result DeprecationStatus NoteFault
-    for_reason d None = Err (fault.NoReason (named d))
+    for_reason d None = Err (fault.NoReason (directive_name d))
     for_reason d (Some reason) = Ok (status.Deprecated (Some reason))
 
     -- what one directive tells, which has to be `@deprecated`
     abbrev pub deprecated_by : At (Directive S) → Result DeprecationStatus NoteFault
     deprecated_by d =
-        if bytes_eq d.item.name.item (codes "deprecated") then for_reason d (reason_of d.item.arguments) else Err (fault.OtherDirective (named d))
+        if bytes_eq d.item.name.item (codes "deprecated")
+        then for_reason d (reason_of d.item.arguments)
+        else Err (fault.OtherDirective (directive_name d))
 
     -- where no second one stands
-    abbrev pub alone : Option (At (Directive S)) → DeprecationStatus → Result DeprecationStatus NoteFault
+    abbrev pub alone : Option (At (Directive S)) → DeprecationStatus
+        → Result DeprecationStatus NoteFault
     alone None told = Ok told
-    alone (Some second) told = Err (fault.SecondDirective (named second))
+    alone (Some second) told = Err (fault.SecondDirective (directive_name second))
 
-    abbrev pub deprecated_first : Option (At (Directive S)) → Option (At (Directive S)) → Result DeprecationStatus NoteFault
+    abbrev pub deprecated_first : Option (At (Directive S)) → Option (At (Directive S))
+        → Result DeprecationStatus NoteFault
     deprecated_first None second = Ok status.Current
     deprecated_first (Some d) second = deprecated_by d >>= (λ told. alone second told)
 
@@ -115,14 +122,21 @@ module _ {S : Type 0} where
   abbrev pub told_argument : ArgumentDefinition S → Result (Argument S) NoteFault
   told_argument d = do
     told ← described d.description
-    Ok (record { name = d.name; description = told; arg_type = d.arg_type; default_value = d.default_value })
+    Ok (record {
+      name = d.name;
+      description = told;
+      arg_type = d.arg_type;
+      default_value = d.default_value;
+    })
 
   -- one after the other, up to the first that can't
   abbrev pub told_arguments : List (ArgumentDefinition S) → Result (List (Argument S)) NoteFault
   told_arguments [] = Ok []
-  told_arguments (d ∷ ds) = told_argument d >>= (λ first. told_arguments ds >>= (λ more. Ok (first ∷ more)))
+  told_arguments (d ∷ ds) =
+      told_argument d >>= (λ first. told_arguments ds >>= (λ more. Ok (first ∷ more)))
 
-  abbrev pub told_where_given : Option (List (ArgumentDefinition S)) → Result (Option (List (Argument S))) NoteFault
+  abbrev pub told_where_given : Option (List (ArgumentDefinition S))
+      → Result (Option (List (Argument S))) NoteFault
   told_where_given None = Ok None
   told_where_given (Some ds) = told_arguments ds >>= (λ arguments. Ok (Some arguments))
 
@@ -132,7 +146,13 @@ module _ {S : Type 0} where
       told ← described d.description
       arguments ← told_where_given d.arguments
       standing ← deprecation answer d.directives
-      Ok (record { name = d.name; description = told; arguments = arguments; field_type = d.field_type; deprecation_status = standing })
+      Ok (record {
+        name = d.name;
+        description = told;
+        arguments = arguments;
+        field_type = d.field_type;
+        deprecation_status = standing;
+      })
 
     abbrev pub told_value : ValueDefinition S → Result EnumValue NoteFault
     told_value d = do

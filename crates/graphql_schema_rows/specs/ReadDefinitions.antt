@@ -1,4 +1,5 @@
--- How definitions are read (GraphQL October 2021, 3.2 Descriptions, 3.6 Objects, 3.6.1 Field Arguments, 3.9 Enums, 3.10 Input Objects).
+-- How definitions are read (GraphQL October 2021, 3.2 Descriptions, 3.6 Objects, 3.6.1 Field
+-- Arguments, 3.9 Enums, 3.10 Input Objects).
 use Rattle.std.specs.Prelude.{ℕ, Bool, true, List, Option, Result, option_map}
 use Rattle.graphql_text.specs.declared.token.ScalarToken.{ScalarToken}
 use Rattle.graphql_text.specs.declared.token.Token.{Token}
@@ -8,7 +9,8 @@ use Rattle.graphql_tree.specs.declared.directive.Directive.{Directive}
 use Rattle.graphql_grammar.specs.declared.kind.Kind.TheVariants as k
 use Rattle.graphql_grammar.specs.Kinds.{enum_names, only}
 use Rattle.graphql_grammar.specs.Input.{At, Parser, ◌>>=◌, ◌>>◌, pure}
-use Rattle.graphql_grammar.specs.Steps.{expect, finished, located, name, name_in, optional, some_between, token}
+use Rattle.graphql_grammar.specs.Steps.{expect, finished, located, name, name_in, optional}
+use Rattle.graphql_grammar.specs.Steps.{some_between, token}
 use Rattle.graphql_value_syntax.specs.ReadDirectives.{default_value, directives}
 use Rattle.graphql_value_syntax.specs.ReadTypes.{TypeRef, type_ref}
 use Rattle.graphql_schema_rows.specs.declared.written.ArgumentDefinition.{ArgumentDefinition}
@@ -22,11 +24,19 @@ Written = Option (At Token)
 
 -- what a definition is made of
 module _ {S : Type 0} where
-  abbrev pub argument_of : Written → List ℕ → At TypeRef → Option (At (InputValue S)) → ArgumentDefinition S
-  argument_of w n t d = record { description = w; name = n; arg_type = t.item; default_value = option_map (λ v. v.item) d }
+  abbrev pub argument_of : Written → List ℕ → At TypeRef → Option (At (InputValue S))
+      → ArgumentDefinition S
+  argument_of w n t d = record {
+    description = w;
+    name = n;
+    arg_type = t.item;
+    default_value = option_map (λ v. v.item) d;
+  }
 
-  abbrev pub field_of : Written → List ℕ → Option (List (ArgumentDefinition S)) → At TypeRef → Option (List (At (Directive S))) → FieldDefinition S
-  field_of w n args t ds = record { description = w; name = n; arguments = args; field_type = t.item; directives = ds }
+  abbrev pub field_of : Written → List ℕ → Option (List (ArgumentDefinition S)) → At TypeRef
+      → Option (List (At (Directive S))) → FieldDefinition S
+  field_of w n args t ds =
+      record { description = w; name = n; arguments = args; field_type = t.item; directives = ds }
 
   abbrev pub value_of : Written → List ℕ → Option (List (At (Directive S))) → ValueDefinition S
   value_of w n ds = record { description = w; name = n; directives = ds }

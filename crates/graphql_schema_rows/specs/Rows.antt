@@ -1,4 +1,5 @@
--- What rows of text are (GraphQL October 2021, 2.1.9 Names, 3.2 Descriptions, 3.6 Objects, 3.9 Enums, 3.10 Input Objects), and why one is refused.
+-- What rows of text are (GraphQL October 2021, 2.1.9 Names, 3.2 Descriptions, 3.6 Objects, 3.9
+-- Enums, 3.10 Input Objects), and why one is refused.
 use Rattle.std.specs.Prelude.{◌≡◌, ◌≢◌, ◌⊎◌, Bool, List, Result, Ok, Err}
 use Rattle.std.specs.Borrow.{Bor}
 use Rattle.std.specs.List.{Contains}
@@ -15,7 +16,7 @@ use Rattle.graphql_schema.specs.declared.meta.argument.Argument.{Argument}
 use Rattle.graphql_schema.specs.declared.meta.enum_value.EnumValue.{EnumValue}
 use Rattle.graphql_schema.specs.declared.meta.field.Field.{Field}
 use Rattle.graphql_schema_rows.specs.Definitions.{Arguments, Fields, Heads, Values}
-use Rattle.graphql_schema_rows.specs.Heads.{name_in}
+use Rattle.graphql_schema_rows.specs.Heads.{name_part}
 use Rattle.graphql_schema_rows.specs.Notes.{told_argument, told_field, told_head, told_value}
 use Rattle.graphql_schema_rows.specs.Texts.{IsRefused, IsText}
 use Rattle.graphql_schema_rows.specs.declared.head.Head.{Head}
@@ -41,7 +42,8 @@ RefusesName text e = (IsName (chars text.now) → ⊥) × (e ≡ fault.BadName t
 
 -- ---- definitions, by what scalars mean, and by what a definition tells
 
-module _ {S D A : Type 0} (reads : Reading S) (Trees : Reading S → Rel D) (told : D → Result A NoteFault) where
+module _ {S D A : Type 0} (reads : Reading S) (Trees : Reading S → Rel D)
+    (told : D → Result A NoteFault) where
   -- the row's tokens spell a definition that tells this
   pub record Defines (row : Bor Bytes) (x : A) : Type 0 where
     pub definition : D
@@ -52,7 +54,7 @@ module _ {S D A : Type 0} (reads : Reading S) (Trees : Reading S → Rel D) (tol
   pub record SpellsNone (head : Bytes) (row : Bor Bytes) (e : RowFault) : Type 0 where
     pub at : Fault
     pub refused : IsRefused reads Trees (chars row.now) at
-    pub is : e ≡ fault.BadRow (name_in head) row.now at
+    pub is : e ≡ fault.BadRow (name_part head) row.now at
 
   -- it spells one that can't tell of itself what it tells
   pub record TellsNone (head : Bytes) (row : Bor Bytes) (e : RowFault) : Type 0 where
@@ -60,7 +62,7 @@ module _ {S D A : Type 0} (reads : Reading S) (Trees : Reading S → Rel D) (tol
     pub why : NoteFault
     pub spells : IsText reads Trees (chars row.now) definition
     pub tells : told definition ≡ Err why
-    pub is : e ≡ fault.BadNote (name_in head) row.now why
+    pub is : e ≡ fault.BadNote (name_part head) row.now why
 
   abbrev pub RefusesRow : Bytes → Bor Bytes → RowFault → Type 0
   RefusesRow head row e = (SpellsNone head row e) ⊎ (TellsNone head row e)
@@ -93,13 +95,14 @@ HeadDefines = Defines {S = DefaultScalarValue} default.reads (Heads DefaultScala
 
 -- and the name ends it
 pub record HeadMeans (head : Bor Bytes) (h : Head) : Type 0 where
-  pub named : IsName (chars (name_in head.now))
+  pub named : IsName (chars (name_part head.now))
   pub defined : HeadDefines head h
-  pub is : h.name ≡ name_in head.now
+  pub is : h.name ≡ name_part head.now
 
 -- what ends it is no name, or its tokens spell no head, or one whose name does not end it
 abbrev pub RefusesHead : Bor Bytes → RowFault → Type 0
 RefusesHead head e =
-    ((IsName (chars (name_in head.now)) → ⊥) × (e ≡ fault.BadName (name_in head.now)))
-    ⊎ (RefusesRow {S = DefaultScalarValue} default.reads (Heads DefaultScalarValue) told_head head.now head e)
-    ⊎ ((h : Head) × HeadDefines head h × (h.name ≢ name_in head.now) × (e ≡ fault.BadName h.name))
+    ((IsName (chars (name_part head.now)) → ⊥) × (e ≡ fault.BadName (name_part head.now)))
+    ⊎ (RefusesRow {S = DefaultScalarValue} default.reads (Heads DefaultScalarValue) told_head
+    head.now head e)
+    ⊎ ((h : Head) × HeadDefines head h × (h.name ≢ name_part head.now) × (e ≡ fault.BadName h.name))

@@ -40,7 +40,8 @@ fn made_argument<'a, S: Drop>(
     arg_type: Spanning<Type<TextRef<'_>>>,
     default_value: Option<Spanning<InputValue<S>>>,
 ) -> Result<ArgumentDefinition<'a, S>, AllocError>
-    ensures { Gives result (spec.argument_of description.entry name.entry arg_type.entry default_value) }
+    ensures { Gives result
+        (spec.argument_of description.entry name.entry arg_type.entry default_value) }
 {
     let name = Text::from_str(alloc, name.as_str())?;
     let arg_type = owned(alloc, arg_type.item)?;
@@ -66,7 +67,8 @@ fn made_field<'a, S: Drop>(
     directives: Option<Items<Spanning<Directive<'a, S>>>>,
 ) -> Result<FieldDefinition<'a, S>, AllocError>
     ensures { Gives result
-        (spec.field_of description.entry name.entry arguments.entry field_type.entry directives.entry) }
+        (spec.field_of description.entry name.entry arguments.entry field_type.entry
+        directives.entry) }
 {
     let name = Text::from_str(alloc, name.as_str())?;
     let field_type = owned(alloc, field_type.item)?;
@@ -183,7 +185,8 @@ fn arguments<'a, S: ScalarValue + Drop>(
     alloc: Global,
     cursor: &mut Cursor<'a>,
 ) -> Result<Option<Items<ArgumentDefinition<'a, S>>>, Fault>
-    ensures reads { Reads (optional (only k.ParenOpen) (spec.arguments S.reads S.of_bool) cursor.old)
+    ensures reads { Reads
+        (optional (only k.ParenOpen) (spec.arguments S.reads S.of_bool) cursor.old)
         result cursor.new }
     ensures no_more { left cursor.new ≤ left cursor.old }
 {

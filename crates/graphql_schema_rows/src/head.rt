@@ -15,10 +15,10 @@ pub struct Head {
     pub description: Option<Text>,
 }
 
-/// The part of a head that has to be the type's name: what stands behind the last quote and the blanks
-/// there. Without a quote it is all of the head.
-pub(crate) fn name_in(head: &str) -> &str
-    ensures { result.now ≡ spec.name_in head.now }
+/// The part of a head that has to be the type's name: what stands behind the last quote and the
+/// blanks there. Without a quote it is all of the head.
+pub(crate) fn name_part(head: &str) -> &str
+    ensures { result.now ≡ spec.name_part head.now }
 {
     match head.rsplit_once('"') {
         Some((_, behind)) => behind.trim_start(),

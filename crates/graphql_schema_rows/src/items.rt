@@ -11,9 +11,10 @@ ghost use Rattle.graphql_schema_rows.specs.Heads as heads;
 ghost use Rattle.graphql_schema_rows.specs.Notes as notes;
 ghost use Rattle.graphql_schema_rows.specs.Rows as spec;
 ghost use Rattle.graphql_schema_rows.specs.declared.note_fault.NoteFault.TheVariants as note_faults;
-ghost use Rattle.graphql_schema_rows.specs.declared.row_fault.RowFault.TheVariants.{BadNote, BadRow};
+ghost use Rattle.graphql_schema_rows.specs.declared.row_fault.RowFault.TheVariants.{BadNote};
+ghost use Rattle.graphql_schema_rows.specs.declared.row_fault.RowFault.TheVariants.{BadRow};
 
-use crate::head::{Head, name_in};
+use crate::head::{Head, name_part};
 use crate::note_fault::NoteFault;
 use crate::row_fault::RowFault;
 use crate::texts::{argument_of_text, field_of_text, head_of_text, value_of_text};
@@ -44,12 +45,13 @@ fn bad_row(
     row: &str,
     fault: Spanning<ParseError>,
 ) -> Result<RowFault, AllocError>
-    ensures { IfOk result (λ e. (fault.item ≢ Memory) × (e ≡ BadRow (heads.name_in head.now) row.now fault)) }
+    ensures { IfOk result
+        (λ e. (fault.item ≢ Memory) × (e ≡ BadRow (heads.name_part head.now) row.now fault)) }
 {
     if let ParseError::Memory = fault.item {
         return Err(AllocError);
     }
-    let type_name = Text::from_str(alloc, name_in(head))?;
+    let type_name = Text::from_str(alloc, name_part(head))?;
     let row = Text::from_str(alloc, row)?;
     Ok(RowFault::BadRow(type_name, row, fault))
 }
@@ -57,12 +59,14 @@ fn bad_row(
 /// The refusal of a row of the type with this head, by what its definition can't tell of itself. An
 /// error is want of memory.
 fn bad_note(alloc: Global, head: &str, row: &str, fault: NoteFault) -> Result<RowFault, AllocError>
-    ensures { IfOk result (λ e. (fault ≢ note_faults.Memory) × (e ≡ BadNote (heads.name_in head.now) row.now fault)) }
+    ensures { IfOk result
+        (λ e. (fault ≢ note_faults.Memory)
+        × (e ≡ BadNote (heads.name_part head.now) row.now fault)) }
 {
     if let NoteFault::Memory = fault {
         return Err(AllocError);
     }
-    let type_name = Text::from_str(alloc, name_in(head))?;
+    let type_name = Text::from_str(alloc, name_part(head))?;
     let row = Text::from_str(alloc, row)?;
     Ok(RowFault::BadNote(type_name, row, fault))
 }
@@ -70,7 +74,8 @@ fn bad_note(alloc: Global, head: &str, row: &str, fault: NoteFault) -> Result<Ro
 /// The head that a text defines, whichever part of it is the name.
 fn defined_head(alloc: Global, text: &str) -> Result<Head, RowFault>
     ensures { Answers (spec.HeadDefines text.entry)
-        (spec.RefusesRow {S = DefaultScalarValue} default.reads (Heads DefaultScalarValue) notes.told_head text.now text.entry)
+        (spec.RefusesRow {S = DefaultScalarValue} default.reads (Heads DefaultScalarValue)
+        notes.told_head text.now text.entry)
         spec.IsMemory result }
 {
     match head_of_text(alloc, text) {
@@ -84,9 +89,10 @@ fn defined_head(alloc: Global, text: &str) -> Result<Head, RowFault>
 
 /// The head of a type that a text is, which the name ends.
 pub(crate) fn head_of(alloc: Global, text: &str) -> Result<Head, RowFault>
-    ensures { Answers (spec.HeadMeans text.entry) (spec.RefusesHead text.entry) spec.IsMemory result }
+    ensures { Answers (spec.HeadMeans text.entry) (spec.RefusesHead text.entry) spec.IsMemory
+        result }
 {
-    let name = name_in(text);
+    let name = name_part(text);
     if !Name::is_valid(name) {
         return Err(RowFault::BadName(Text::from_str(alloc, name)?));
     }

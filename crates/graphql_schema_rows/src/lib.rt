@@ -1,9 +1,10 @@
 //! A schema in rows of text: each type by its name and a row for each field, argument or value, as
 //! a user writes them (GraphQL October 2021, 3.4 Types): `friends(first: Int = 10): [Human!]!`. A
-//! description may stand before each, and `@deprecated` behind a field or a value (3.2 Descriptions,
-//! 3.13.3 @deprecated). Which tokens spell which definition is said by the relations in
-//! `specs/Definitions.antt`, in the words of the standard's grammar (3.6 Objects, 3.6.1 Field Arguments,
-//! 3.9 Enums, 3.10 Input Objects), and what a definition tells of itself in `specs/Notes.antt`.
+//! description may stand before each, and `@deprecated` behind a field or a value (3.2
+//! Descriptions, 3.13.3 @deprecated). Which tokens spell which definition is said by the relations
+//! in `specs/Definitions.antt`, in the words of the standard's grammar (3.6 Objects, 3.6.1 Field
+//! Arguments, 3.9 Enums, 3.10 Input Objects), and what a definition tells of itself in
+//! `specs/Notes.antt`.
 #![tactic(auto)]
 
 mod definitions;

@@ -10,8 +10,8 @@ use thiserror::Error;
 /// Why a definition can't tell of itself what it tells, at its place; or want of memory.
 #[derive(Debug, Drop, Error)]
 pub enum NoteFault {
-    /// What stands as its description is no string: a number, or a string with a bad escape (GraphQL
-    /// October 2021, 3.2 Descriptions).
+    /// What stands as its description is no string: a number, or a string with a bad escape
+    /// (GraphQL October 2021, 3.2 Descriptions).
     #[error("A description is a string: {0}")]
     NoDescription(Spanning<ParseError>),
 
@@ -23,7 +23,8 @@ pub enum NoteFault {
     #[error("A second directive: {0}")]
     SecondDirective(Spanning<Text>),
 
-    /// The arguments of the directive of this name, `deprecated`, are not one text, `reason` (3.13.3).
+    /// The arguments of the directive of this name, `deprecated`, are not one text, `reason`
+    /// (3.13.3).
     #[error("The one argument has to be a text, \"reason\": {0}")]
     NoReason(Spanning<Text>),
 

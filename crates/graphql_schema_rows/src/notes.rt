@@ -95,11 +95,11 @@ fn reason_of<S: ScalarValue>(
 }
 
 /// The name of a directive, at the directive's place. An error is want of memory.
-fn named<S>(
+fn directive_name<S>(
     alloc: Global,
     directive: &Spanning<Directive<'_, S>>,
 ) -> Result<Spanning<Text>, AllocError>
-    ensures { Gives result (spec.named directive.now) }
+    ensures { Gives result (spec.directive_name directive.now) }
 {
     let name = Text::from_str(alloc, directive.item.name.item.as_str())?;
     Ok(Spanning::new(directive.span, name))
@@ -113,11 +113,11 @@ fn deprecated_by<S: ScalarValue>(
     ensures { Meets spec.IsMemory result (spec.deprecated_by S.answer directive.now) }
 {
     if !directive.item.name.item.is("deprecated") {
-        return Err(NoteFault::OtherDirective(named(alloc, directive)?));
+        return Err(NoteFault::OtherDirective(directive_name(alloc, directive)?));
     }
     match reason_of(alloc, &directive.item.arguments)? {
         Some(reason) => Ok(DeprecationStatus::Deprecated(Some(reason))),
-        None => Err(NoteFault::NoReason(named(alloc, directive)?)),
+        None => Err(NoteFault::NoReason(directive_name(alloc, directive)?)),
     }
 }
 
@@ -136,7 +136,7 @@ pub(crate) fn deprecation<S: ScalarValue>(
     };
     let told = deprecated_by(alloc, first)?;
     match directives.get(1) {
-        Some(second) => Err(NoteFault::SecondDirective(named(alloc, second)?)),
+        Some(second) => Err(NoteFault::SecondDirective(directive_name(alloc, second)?)),
         None => Ok(told),
     }
 }

@@ -20,8 +20,8 @@ pub enum RowFault {
     #[error("Type \"{0}\", row \"{1}\": {2}")]
     BadRow(Text, Text, Spanning<ParseError>),
 
-    /// In a row of a type a definition can't tell of itself what it tells: the type's name, the row, and
-    /// why.
+    /// In a row of a type a definition can't tell of itself what it tells: the type's name, the
+    /// row, and why.
     #[error("Type \"{0}\", row \"{1}\": {2}")]
     BadNote(Text, Text, NoteFault),
 

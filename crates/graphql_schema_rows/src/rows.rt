@@ -13,7 +13,8 @@ use std::alloc::Global;
 
 /// The names that these texts are.
 pub(crate) fn names_of(alloc: Global, texts: &[&str]) -> Result<Items<Text>, RowFault>
-    ensures { Answers (AllZip spec.NameMeans texts.now) (spec.RefusedAt spec.RefusesName texts.now) spec.IsMemory result }
+    ensures { Answers (AllZip spec.NameMeans texts.now) (spec.RefusedAt spec.RefusesName texts.now)
+        spec.IsMemory result }
 {
     let mut names = Items::with_capacity(alloc, texts.len())?;
     'texts: for text in texts {
@@ -29,7 +30,8 @@ pub(crate) fn values_of<S: ScalarValue + Drop>(
     rows: &[&str],
 ) -> Result<Items<EnumValue>, RowFault>
     ensures { Answers (AllZip (spec.ValueMeans S.reads S.of_bool S.answer) rows.now)
-        (spec.RefusedAt (spec.RefusesValue S.reads S.of_bool S.answer head.now) rows.now) spec.IsMemory result }
+        (spec.RefusedAt (spec.RefusesValue S.reads S.of_bool S.answer head.now) rows.now)
+        spec.IsMemory result }
 {
     let mut values = Items::with_capacity(alloc, rows.len())?;
     'rows: for row in rows {
@@ -45,7 +47,8 @@ pub(crate) fn fields_of<S: ScalarValue + Drop>(
     rows: &[&str],
 ) -> Result<Items<Field<S>>, RowFault>
     ensures { Answers (AllZip (spec.FieldMeans S.reads S.of_bool S.answer) rows.now)
-        (spec.RefusedAt (spec.RefusesField S.reads S.of_bool S.answer head.now) rows.now) spec.IsMemory result }
+        (spec.RefusedAt (spec.RefusesField S.reads S.of_bool S.answer head.now) rows.now)
+        spec.IsMemory result }
 {
     let mut fields = Items::with_capacity(alloc, rows.len())?;
     'rows: for row in rows {
@@ -61,7 +64,8 @@ pub(crate) fn arguments_of<S: ScalarValue + Drop>(
     rows: &[&str],
 ) -> Result<Items<Argument<S>>, RowFault>
     ensures { Answers (AllZip (spec.ArgumentMeans S.reads S.of_bool) rows.now)
-        (spec.RefusedAt (spec.RefusesArgument S.reads S.of_bool head.now) rows.now) spec.IsMemory result }
+        (spec.RefusedAt (spec.RefusesArgument S.reads S.of_bool head.now) rows.now) spec.IsMemory
+        result }
 {
     let mut arguments = Items::with_capacity(alloc, rows.len())?;
     'rows: for row in rows {

@@ -25,7 +25,8 @@ fn scalar(alloc: Global, name: &str, check: TypeCheck) -> Result<Meta, AllocErro
 /// introspection (GraphQL October 2021, 3.5 Scalars, 4.2 Schema Introspection). An error is want of
 /// memory.
 pub fn built_ins(alloc: Global, checks: StandardChecks) -> Result<Items<Meta>, AllocError>
-    ensures { Gives result (spec.built_ins checks.int checks.string checks.boolean checks.id checks.introspection) }
+    ensures { Gives result
+        (spec.built_ins checks.int checks.string checks.boolean checks.id checks.introspection) }
 {
     let mut types = Items::new(alloc);
     types.push(scalar(alloc, "Int", checks.int)?)?;

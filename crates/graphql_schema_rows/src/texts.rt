@@ -15,9 +15,9 @@ use graphql_grammar::{Cursor, Fault};
 use graphql_scalars::ScalarValue;
 use std::alloc::Global;
 
-/// The definition of a field that a text is, as `friends(first: Int = 10): [Human!]!` (GraphQL October
-/// 2021, 3.6 Objects), with what it may tell of itself: `"Who knows whom." friends: [Human!]!
-/// @deprecated`.
+/// The definition of a field that a text is, as `friends(first: Int = 10): [Human!]!` (GraphQL
+/// October 2021, 3.6 Objects), with what it may tell of itself: `"Who knows whom." friends:
+/// [Human!]! @deprecated`.
 ///
 /// An error is the first fault of the text, at its place: a lexical one, or the first token that no
 /// definition of a field could have there. `ParseError::Memory` comes only where memory ran out,
@@ -36,8 +36,8 @@ pub fn field_of_text<S: ScalarValue + Drop>(
     }
 }
 
-/// The definition of an argument, or of a field of an input object, that a text is, as `first: Int =
-/// 10` (3.6.1 Field Arguments, 3.10 Input Objects), with a description before it or without. No
+/// The definition of an argument, or of a field of an input object, that a text is, as `first: Int
+/// = 10` (3.6.1 Field Arguments, 3.10 Input Objects), with a description before it or without. No
 /// directive stands behind it.
 ///
 /// An error is the first fault of the text, as [`field_of_text`] says.
@@ -55,7 +55,8 @@ pub fn argument_of_text<S: ScalarValue + Drop>(
     }
 }
 
-/// The definition of a value of an enum that a text is, as `"In 1980." EMPIRE @deprecated` (3.9 Enums).
+/// The definition of a value of an enum that a text is, as `"In 1980." EMPIRE @deprecated` (3.9
+/// Enums).
 ///
 /// An error is the first fault of the text, as [`field_of_text`] says.
 pub fn value_of_text<S: ScalarValue + Drop>(
@@ -72,14 +73,16 @@ pub fn value_of_text<S: ScalarValue + Drop>(
     }
 }
 
-/// What a type's definition begins with, of which a text is made: `"A film of the saga." Episode` (3.2
-/// Descriptions, 3.4 Types).
+/// What a type's definition begins with, of which a text is made: `"A film of the saga." Episode`
+/// (3.2 Descriptions, 3.4 Types).
 ///
 /// An error is the first fault of the text, as [`field_of_text`] says.
 pub fn head_of_text(alloc: Global, text: &str) -> Result<HeadDefinition<'_>, Fault>
-    ensures head { IfOk result (IsText {S = DefaultScalarValue} default.reads (Heads DefaultScalarValue) (chars text.now)) }
+    ensures head { IfOk result (IsText {S = DefaultScalarValue} default.reads
+        (Heads DefaultScalarValue) (chars text.now)) }
     ensures fault { IfErr result (λ e. UnlessMemory IsMemory e
-        (IsRefused {S = DefaultScalarValue} default.reads (Heads DefaultScalarValue) (chars text.now) e)) }
+        (IsRefused {S = DefaultScalarValue} default.reads (Heads DefaultScalarValue)
+        (chars text.now) e)) }
 {
     match Cursor::new(alloc, text) {
         Ok(mut cursor) => whole_head(alloc, &mut cursor),

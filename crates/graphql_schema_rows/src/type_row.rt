@@ -6,7 +6,7 @@ ghost use Rattle.graphql_text.specs.Memory.{Answers};
 ghost use Rattle.graphql_schema_rows.specs.Rows as row_specs;
 ghost use Rattle.graphql_schema_rows.specs.Types as spec;
 
-use crate::head::name_in;
+use crate::head::name_part;
 use crate::row_fault::RowFault;
 use crate::types::{enumeration, input_object, interface, object, one_of, union_type};
 use graphql_scalars::ScalarValue;
@@ -16,9 +16,10 @@ use std::alloc::{AllocError, Global};
 
 /// A type in rows of text (GraphQL October 2021, 3.4 Types).
 ///
-/// A description, a string, may stand before a type's name, before a row and before an argument in it, as
-/// `"Who wrote a book." Author` (3.2 Descriptions). `@deprecated` or `@deprecated(reason: "..")` may
-/// stand behind a field and behind a value of an enum (3.13.3 @deprecated). Introspection tells them.
+/// A description, a string, may stand before a type's name, before a row and before an argument in
+/// it, as `"Who wrote a book." Author` (3.2 Descriptions). `@deprecated` or `@deprecated(reason:
+/// "..")` may stand behind a field and behind a value of an enum (3.13.3 @deprecated).
+/// Introspection tells them.
 #[derive(Clone, Copy)]
 pub enum TypeRow<'a> {
     /// An object: its name, the names of its interfaces, and a row for each field, as
@@ -37,7 +38,8 @@ pub enum TypeRow<'a> {
     /// An input object: its name, and a row for each field, as `first: Int = 10`.
     InputObject(&'a str, &'a [&'a str]),
 
-    /// An input object of which exactly one field is given, in the same way: `input By @oneOf { .. }`.
+    /// An input object of which exactly one field is given, in the same way: `input By @oneOf { ..
+    /// }`.
     OneOf(&'a str, &'a [&'a str]),
 }
 
@@ -47,9 +49,9 @@ impl<'a> TypeRow<'a> {
         ensures { result.now ≡ spec.row_name self.now }
     {
         match self {
-            TypeRow::Object(head, _, _) | TypeRow::Interface(head, _, _) => name_in(*head),
-            TypeRow::Union(head, _) | TypeRow::Enum(head, _) => name_in(*head),
-            TypeRow::InputObject(head, _) | TypeRow::OneOf(head, _) => name_in(*head),
+            TypeRow::Object(head, _, _) | TypeRow::Interface(head, _, _) => name_part(*head),
+            TypeRow::Union(head, _) | TypeRow::Enum(head, _) => name_part(*head),
+            TypeRow::InputObject(head, _) | TypeRow::OneOf(head, _) => name_part(*head),
         }
     }
 }
@@ -60,8 +62,8 @@ pub struct CheckedRow<'a, C> {
     /// The type.
     pub row: TypeRow<'a>,
 
-    /// Which of the values that the schema finds right for an enum or an input object it accepts. Of
-    /// another type it is let go.
+    /// Which of the values that the schema finds right for an enum or an input object it accepts.
+    /// Of another type it is let go.
     pub check: C,
 }
 
@@ -98,7 +100,8 @@ pub fn types_of_rows<S: ScalarValue + Drop, C: Drop>(
     rows: Vec<CheckedRow<'_, C>>,
 ) -> Result<Items<MetaType<S, C>>, RowFault>
     ensures { Answers (AllZip (spec.IsTypeOf S.reads S.of_bool S.answer) rows.entry.items)
-        (spec.IsFirstRefused S.reads S.of_bool S.answer rows.entry.items) row_specs.IsMemory result }
+        (spec.IsFirstRefused S.reads S.of_bool S.answer rows.entry.items) row_specs.IsMemory
+        result }
 {
     let mut types = Items::with_capacity(alloc, rows.len())?;
     'rows: for checked in rows {
@@ -107,7 +110,8 @@ pub fn types_of_rows<S: ScalarValue + Drop, C: Drop>(
     Ok(types)
 }
 
-/// The names of the types that rows are, in order, as the rows have them. An error is want of memory.
+/// The names of the types that rows are, in order, as the rows have them. An error is want of
+/// memory.
 pub fn names_of_rows<'a, C>(
     alloc: Global,
     rows: &[CheckedRow<'a, C>],

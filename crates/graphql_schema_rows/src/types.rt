@@ -13,20 +13,22 @@ use graphql_schema::{EnumMeta, InputObjectMeta, InterfaceMeta, MetaType, ObjectM
 use std::alloc::Global;
 
 /// The object of this head, which lists these interfaces, with a field for each row, in order, as
-/// `friends(first: Int = 10): [Human!]!` (GraphQL October 2021, 3.6 Objects). The head is its name, with a
-/// description before it or without: `"Who acts." Human` (3.2 Descriptions).
+/// `friends(first: Int = 10): [Human!]!` (GraphQL October 2021, 3.6 Objects). The head is its name,
+/// with a description before it or without: `"Who acts." Human` (3.2 Descriptions).
 ///
-/// An error is a refusal of a text that it has: its name or one that it lists is no name, its head or a
-/// row is no definition, with the first fault, or tells of itself what it can't. `RowFault::Memory` is
-/// want of memory.
+/// An error is a refusal of a text that it has: its name or one that it lists is no name, its head
+/// or a row is no definition, with the first fault, or tells of itself what it can't.
+/// `RowFault::Memory` is want of memory.
 pub fn object<S: ScalarValue + Drop, C: Drop>(
     alloc: Global,
     head: &str,
     interfaces: &[&str],
     rows: &[&str],
 ) -> Result<MetaType<S, C>, RowFault>
-    ensures { Answers (spec.IsOf (row_specs.FieldMeans S.reads S.of_bool S.answer) spec.object head.entry rows.now interfaces.now)
-        (spec.RefusesListing (row_specs.RefusesField S.reads S.of_bool S.answer head.now) head.entry interfaces.now rows.now) row_specs.IsMemory result }
+    ensures { Answers (spec.IsOf (row_specs.FieldMeans S.reads S.of_bool S.answer) spec.object
+        head.entry rows.now interfaces.now)
+        (spec.RefusesFields S.reads S.of_bool S.answer head.entry interfaces.now rows.now)
+        row_specs.IsMemory result }
 {
     let own = head_of(alloc, head)?;
     let listed = names_of(alloc, interfaces)?;
@@ -48,8 +50,10 @@ pub fn interface<S: ScalarValue + Drop, C: Drop>(
     interfaces: &[&str],
     rows: &[&str],
 ) -> Result<MetaType<S, C>, RowFault>
-    ensures { Answers (spec.IsOf (row_specs.FieldMeans S.reads S.of_bool S.answer) spec.interface head.entry rows.now interfaces.now)
-        (spec.RefusesListing (row_specs.RefusesField S.reads S.of_bool S.answer head.now) head.entry interfaces.now rows.now) row_specs.IsMemory result }
+    ensures { Answers (spec.IsOf (row_specs.FieldMeans S.reads S.of_bool S.answer) spec.interface
+        head.entry rows.now interfaces.now)
+        (spec.RefusesFields S.reads S.of_bool S.answer head.entry interfaces.now rows.now)
+        row_specs.IsMemory result }
 {
     let own = head_of(alloc, head)?;
     let listed = names_of(alloc, interfaces)?;
@@ -85,19 +89,22 @@ pub fn union_type<S: ScalarValue + Drop, C: Drop>(
     Ok(meta.into_meta())
 }
 
-/// The enum of this head, with a value for each row, in order, as `"In 1980." EMPIRE @deprecated`, that
-/// accepts what the check accepts of them (GraphQL October 2021, 3.9 Enums).
+/// The enum of this head, with a value for each row, in order, as `"In 1980." EMPIRE @deprecated`,
+/// that accepts what the check accepts of them (GraphQL October 2021, 3.9 Enums).
 ///
-/// An error is a refusal: its head is none, as [`object`] says, or a row is no definition of a value,
-/// with the row's first fault, or tells of itself what it can't. `RowFault::Memory` is want of memory.
+/// An error is a refusal: its head is none, as [`object`] says, or a row is no definition of a
+/// value, with the row's first fault, or tells of itself what it can't. `RowFault::Memory` is want
+/// of memory.
 pub fn enumeration<S: ScalarValue + Drop, C: Drop>(
     alloc: Global,
     head: &str,
     rows: &[&str],
     check: C,
 ) -> Result<MetaType<S, C>, RowFault>
-    ensures { Answers (spec.IsMade (row_specs.ValueMeans S.reads S.of_bool S.answer) (spec.enumeration check) head.entry rows.now)
-        (spec.Refuses (row_specs.RefusesValue S.reads S.of_bool S.answer head.now) head.entry rows.now) row_specs.IsMemory result }
+    ensures { Answers (spec.IsMade (row_specs.ValueMeans S.reads S.of_bool S.answer)
+        (spec.enumeration check) head.entry rows.now)
+        (spec.Refuses (row_specs.RefusesValue S.reads S.of_bool S.answer head.now) head.entry
+        rows.now) row_specs.IsMemory result }
 {
     let own = head_of(alloc, head)?;
     let values = NamedItems::from_items(values_of::<S>(alloc, head, rows)?)?;
@@ -113,17 +120,19 @@ pub fn enumeration<S: ScalarValue + Drop, C: Drop>(
 /// The input object of this head, with a field for each row, in order, as `first: Int = 10`, that
 /// accepts what the check accepts (GraphQL October 2021, 3.10 Input Objects).
 ///
-/// An error is a refusal: its head is none, as [`object`] says, or a row is no definition of an input
-/// field, with the row's first fault, or tells of itself what it can't. `RowFault::Memory` is want of
-/// memory.
+/// An error is a refusal: its head is none, as [`object`] says, or a row is no definition of an
+/// input field, with the row's first fault, or tells of itself what it can't. `RowFault::Memory` is
+/// want of memory.
 pub fn input_object<S: ScalarValue + Drop, C: Drop>(
     alloc: Global,
     head: &str,
     rows: &[&str],
     check: C,
 ) -> Result<MetaType<S, C>, RowFault>
-    ensures { Answers (spec.IsMade (row_specs.ArgumentMeans S.reads S.of_bool) (spec.input_object check) head.entry rows.now)
-        (spec.Refuses (row_specs.RefusesArgument S.reads S.of_bool head.now) head.entry rows.now) row_specs.IsMemory result }
+    ensures { Answers (spec.IsMade (row_specs.ArgumentMeans S.reads S.of_bool)
+        (spec.input_object check) head.entry rows.now)
+        (spec.Refuses (row_specs.RefusesArgument S.reads S.of_bool head.now) head.entry rows.now)
+        row_specs.IsMemory result }
 {
     let own = head_of(alloc, head)?;
     let fields = NamedItems::from_items(arguments_of(alloc, head, rows)?)?;
@@ -137,7 +146,8 @@ pub fn input_object<S: ScalarValue + Drop, C: Drop>(
     Ok(meta.into_meta())
 }
 
-/// The same, of which exactly one field is given, and not `null`, as `input By @oneOf { .. }` says it:
+/// The same, of which exactly one field is given, and not `null`, as `input By @oneOf { .. }` says
+/// it:
 /// so each row has to be a field with `null` and without a default, which a schema asks
 /// (`SchemaError::BadOneOf`). Errors are those of [`input_object`].
 pub fn one_of<S: ScalarValue + Drop, C: Drop>(
@@ -146,8 +156,10 @@ pub fn one_of<S: ScalarValue + Drop, C: Drop>(
     rows: &[&str],
     check: C,
 ) -> Result<MetaType<S, C>, RowFault>
-    ensures { Answers (spec.IsMade (row_specs.ArgumentMeans S.reads S.of_bool) (spec.one_of check) head.entry rows.now)
-        (spec.Refuses (row_specs.RefusesArgument S.reads S.of_bool head.now) head.entry rows.now) row_specs.IsMemory result }
+    ensures { Answers (spec.IsMade (row_specs.ArgumentMeans S.reads S.of_bool) (spec.one_of check)
+        head.entry rows.now)
+        (spec.Refuses (row_specs.RefusesArgument S.reads S.of_bool head.now) head.entry rows.now)
+        row_specs.IsMemory result }
 {
     let own = head_of(alloc, head)?;
     let fields = NamedItems::from_items(arguments_of(alloc, head, rows)?)?;

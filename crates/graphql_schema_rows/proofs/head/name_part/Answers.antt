@@ -1,6 +1,6 @@
 use Rattle.std.proofs.Common.{arith, rules}
 use Rattle.graphql_schema_rows.proofs.HeadNames.{behind_split}
-use Rattle.graphql_schema_rows.proofs.head.name_in.Goals as goal
+use Rattle.graphql_schema_rows.proofs.head.name_part.Goals as goal
 
 pub returns-in-Some : goal.returns-in-Some
 returns-in-Some c =
