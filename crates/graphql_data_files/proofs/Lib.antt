@@ -4,3 +4,5 @@ pub mod LinkLemmas
 pub mod Judging
 pub mod ReadSteps
 pub mod Placing
+pub mod FaultySteps
+pub mod ToldPlaces

@@ -14,7 +14,16 @@ use Rattle.graphql_records.specs.declared.table_type.TableType.{TableType}
 use Rattle.graphql_data_files.specs.Drafts.{Drafts, file_of, records_of}
 use Rattle.graphql_data_files.specs.Links.{all_lead, root_of}
 use Rattle.graphql_data_files.specs.declared.data_file_error.DataFileError.{DataFileError}
-use Rattle.graphql_data_files.specs.declared.data_file_error.DataFileError.TheVariants.{NotJson, BadShape, BadNumber, DuplicateId, UnknownType, UnknownField, BadLink, BadRoot}
+use Rattle.graphql_data_files.specs.declared.data_file_error.DataFileError.TheVariants.{
+  NotJson,
+  BadShape,
+  BadNumber,
+  DuplicateId,
+  UnknownType,
+  UnknownField,
+  BadLink,
+  BadRoot,
+}
 
 -- two records have one id
 abbrev pub ids_repeat : Entries → Bool

@@ -1,6 +1,8 @@
 -- The values of records' fields, as a file has them.
-use Rattle.std.specs.Prelude.{Bool, true, false, ◌&&◌, List, [], ◌∷◌, Option, Some, None, option_map}
-use Rattle.serde_json.specs.Data.{Data, null, boolean, number, string, array, object, Items, no_items, item, Members, no_members, member}
+use Rattle.std.specs.Prelude.{Bool, true, false, ◌&&◌, List, [], ◌∷◌, Option, Some, None}
+use Rattle.std.specs.Prelude.{option_map}
+use Rattle.serde_json.specs.Data.{Data, null, boolean, number, string, array, object, Items}
+use Rattle.serde_json.specs.Data.{no_items, item, Members, no_members, member}
 use Rattle.graphql_json.specs.Parts.{◌>>=◌}
 use Rattle.graphql_lines.specs.Variables.{whole_of}
 use Rattle.graphql_scalars.specs.declared.default_scalar.DefaultScalarValue.TheVariants as scalar
@@ -27,7 +29,8 @@ abbrev pub fields_have_shape : Members → Bool
 fields_have_shape no_members = true
 fields_have_shape (member k d ms) = has_shape d && fields_have_shape ms
 
--- the value of a field; none where a number in it is no whole one of 32 bits, or it has not the shape
+-- the value of a field; none where a number in it is no whole one of 32 bits, or it has not the
+-- shape
 abbrev mutual
   pub value_of : Data → Option FieldValue
   value_of null = Some value.Null

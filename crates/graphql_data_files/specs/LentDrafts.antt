@@ -7,7 +7,11 @@ use Rattle.graphql_data_files.specs.declared.drafts.Drafts.{Drafts as LentDrafts
 
 abbrev pub draft_told : LentDraft → Draft
 draft_told draft =
-    record { id = draft.id; type_name = draft.type_name; fields = members_view draft.fields.now.entries }
+    record {
+      id = draft.id;
+      type_name = draft.type_name;
+      fields = members_view draft.fields.now.entries;
+    }
 
 abbrev pub file_told : LentDrafts → Drafts
 file_told file = record { root = file.root; records = map draft_told file.records }

@@ -5,3 +5,5 @@ pub mod Refusals
 pub mod Links
 pub mod DataFiles
 pub mod RecordPlaces
+pub mod Laws
+pub mod PlaceTexts

@@ -1,5 +1,6 @@
 -- Whether links lead to records: the texts at fields of composite types, and the id of the root.
-use Rattle.std.specs.Prelude.{ℕ, Bool, true, ◌||◌, List, Option, Some, None, is_some, slice_get, if◌then◌else◌}
+use Rattle.std.specs.Prelude.{ℕ, Bool, true, ◌||◌, List, Option, Some, None, is_some, slice_get}
+use Rattle.std.specs.Prelude.{if◌then◌else◌}
 use Rattle.std.specs.List.{list_all}
 use Rattle.std.specs.Option.{option_map_or}
 use Rattle.std.specs.Str.{bytes_eq}
@@ -46,7 +47,8 @@ module _ (records : Entries) where
     -- each link in a field's value leads to a record; at a leaf type there are none
     abbrev pub field_leads : Bytes → Bytes × FieldValue → Bool
     field_leads object f =
-        option_map_or (λ known. known.is_leaf || value_leads f.1) (known_field types object f.0) true
+        option_map_or (λ known. known.is_leaf || value_leads f.1) (known_field types object f.0)
+        true
 
     abbrev pub record_leads : Record → Bool
     record_leads r = list_all (field_leads r.type_name) r.fields

@@ -1,12 +1,16 @@
 -- Where in a file of records its faults stand.
-use Rattle.std.specs.Prelude.{◌≡◌, ◌&&◌, Bool, true, false, not, List, map, Option, Some, None, is_some, option_map, if◌then◌else◌}
+use Rattle.std.specs.Prelude.{◌≡◌, ◌&&◌, Bool, true, false, not, List, map, Option, Some, None}
+use Rattle.std.specs.Prelude.{is_some, option_map, if◌then◌else◌}
 use Rattle.std.specs.List.{find}
-use Rattle.serde_json.specs.Data.{Data, null, boolean, number, string, array, object, Items, no_items, item, Members, no_members, member}
+use Rattle.serde_json.specs.Data.{Data, null, boolean, number, string, array, object, Items}
+use Rattle.serde_json.specs.Data.{no_items, item, Members, no_members, member}
 use Rattle.graphql_json.specs.Parts.{◌>>=◌}
 use Rattle.graphql_lines.specs.Request.{data_of}
 use Rattle.graphql_lines.specs.Variables.{whole_of}
 use Rattle.graphql_names.specs.Names.{Bytes, stands_twice}
 use Rattle.graphql_records.specs.Tables.{Entries}
+use Rattle.graphql_records.specs.declared.field_value.FieldValue.{FieldValue}
+use Rattle.graphql_records.specs.declared.record.Record.{Record}
 use Rattle.graphql_records.specs.declared.table_type.TableType.{TableType}
 use Rattle.graphql_data_files.specs.DataFiles.{has_field, has_fields, ids_repeat, is_of_object_type}
 use Rattle.graphql_data_files.specs.Drafts.{Draft, Drafts, file_of, records_of}
@@ -55,19 +59,28 @@ IsRepeat ids (Some _) = ⊥
 module _ (types : List TableType) where
   -- the first record whose type is no object type
   abbrev pub unknown_type : Entries → Option RecordPlace
-  unknown_type records = option_map (λ r. place.Record r.0) (find (λ r. not (is_of_object_type types r)) records)
+  unknown_type records =
+      option_map (λ r. place.Record r.0) (find (λ r. not (is_of_object_type types r)) records)
 
-  -- the first field that its record's type lacks, of the first record that has one
+  -- a record's first field that its type lacks
+  abbrev pub lacked_field : Record → Option (Bytes × FieldValue)
+  lacked_field r = find (λ f. not (has_field types r.type_name f)) r.fields
+
+  -- that field of the first record that has one
   abbrev pub unknown_field : Entries → Option RecordPlace
   unknown_field records = do
     r ← find (λ r. not (has_fields types r)) records
-    field_of r.0 (option_map (λ f. f.0) (find (λ f. not (has_field types r.1.type_name f)) r.1.fields))
+    field_of r.0 (option_map (λ f. f.0) (lacked_field r.1))
 
-  -- the first field with a link that leads to no record, of the first record that has one
+  -- a record's first field with a link that leads to none of the records
+  abbrev pub stray_field : Entries → Record → Option (Bytes × FieldValue)
+  stray_field records r = find (λ f. not (field_leads records types r.type_name f)) r.fields
+
+  -- that field of the first record that has one
   abbrev pub dead_link : Entries → Option RecordPlace
   dead_link records = do
     r ← find (λ r. not (record_leads records types r.1)) records
-    field_of r.0 (option_map (λ f. f.0) (find (λ f. not (field_leads records types r.1.type_name f)) r.1.fields))
+    field_of r.0 (option_map (λ f. f.0) (stray_field records r.1))
 
   -- where two records have one id no link is looked for
   abbrev pub bad_link : Entries → Option RecordPlace

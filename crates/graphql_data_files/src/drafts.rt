@@ -76,7 +76,8 @@ fn draft_of<'a>(json: &'a Value) -> Option<Draft<'a>>
 
 /// The records that these describe, if each has the shape of one. An error is want of memory.
 fn drafts_of<'a>(alloc: Global, items: &'a [Value]) -> Result<Option<Items<Draft<'a>>>, AllocError>
-    ensures { GivesBy (option_map (map draft_told)) result (each spec.draft_of (items_view items.now)) }
+    ensures { GivesBy (option_map (map draft_told)) result
+        (each spec.draft_of (items_view items.now)) }
 {
     let mut drafts = Items::with_capacity(alloc, items.len())?;
     'items: for item in items {

@@ -4,6 +4,7 @@
 
 mod data_file_error;
 mod drafts;
+pub mod laws;
 mod links;
 mod places;
 mod reading;

@@ -5,9 +5,9 @@ ghost use Rattle.std.specs.List.{find};
 ghost use Rattle.std.specs.Option.{option_copied};
 ghost use Rattle.graphql_text.specs.Memory.{Gives};
 ghost use Rattle.serde_json.specs.View.{items_view, members_view, view};
-ghost use Rattle.graphql_data_files.specs.DataFiles.{has_field, has_fields, is_of_object_type};
+ghost use Rattle.graphql_data_files.specs.DataFiles.{has_fields, is_of_object_type};
 ghost use Rattle.graphql_data_files.specs.Drafts.{file_of, records_of};
-ghost use Rattle.graphql_data_files.specs.Links.{field_leads, record_leads};
+ghost use Rattle.graphql_data_files.specs.Links.{record_leads};
 ghost use Rattle.graphql_data_files.specs.LentDrafts.{draft_told, file_told};
 ghost use Rattle.graphql_data_files.specs.RecordPlaces as spec;
 
@@ -24,8 +24,8 @@ use graphql_text::{Items, Text};
 use serde_json::{Map, Value};
 use std::alloc::{AllocError, Global};
 
-/// Whether each number in JSON, in its lists too, is a whole one of 32 bits. Takes stack for each level
-/// that lists nest, of which `serde_json` reads 127 at most.
+/// Whether each number in JSON, in its lists too, is a whole one of 32 bits. Takes stack for each
+/// level that lists nest, of which `serde_json` reads 127 at most.
 #[cycle(numbers)]
 fn is_whole(json: &Value) -> bool
     ensures { result ≡ spec.is_whole (view json.now) }
@@ -74,7 +74,8 @@ fn has_bad_number(draft: &Draft<'_>) -> bool
 
 /// The first record with a number that is no whole one of 32 bits.
 fn misnumbered_record<'s, 'a>(drafts: &'s [Draft<'a>]) -> Option<&'s Draft<'a>>
-    ensures { option_copied result ≡ find (λ d. is_some (spec.misnumbered (draft_told d).fields)) drafts.now }
+    ensures { option_copied result
+        ≡ find (λ d. is_some (spec.misnumbered (draft_told d).fields)) drafts.now }
 {
     drafts.iter().find(|draft| has_bad_number(draft))
 }
@@ -130,7 +131,7 @@ fn lacked<'s>(
     types: &NamedItems<TableType>,
     record: &'s (Text, Record),
 ) -> Option<&'s (Text, FieldValue)>
-    ensures { option_copied result ≡ find (λ f. not (has_field types.now record.now.1.type_name f)) record.now.1.fields }
+    ensures { option_copied result ≡ spec.lacked_field types.now record.now.1 }
 {
     let object = record.1.type_name.as_str();
     record
@@ -147,7 +148,8 @@ fn astray<'s>(
     table: &Records,
     records: &'s [(Text, Record)],
 ) -> Option<&'s (Text, Record)>
-    ensures { option_copied result ≡ find (λ r. not (record_leads table.now.entries types.now r.1)) records.now }
+    ensures { option_copied result
+        ≡ find (λ r. not (record_leads table.now.entries types.now r.1)) records.now }
 {
     records
         .iter()
@@ -160,7 +162,7 @@ fn leading_astray<'s>(
     table: &Records,
     record: &'s (Text, Record),
 ) -> Option<&'s (Text, FieldValue)>
-    ensures { option_copied result ≡ find (λ f. not (field_leads table.now.entries types.now record.now.1.type_name f)) record.now.1.fields }
+    ensures { option_copied result ≡ spec.stray_field types.now table.now.entries record.now.1 }
 {
     let object = record.1.type_name.as_str();
     record
@@ -212,15 +214,16 @@ fn unknown_field(
     }
 }
 
-/// The first field with a link that leads to no record of the table that the records make. An error is
-/// want of memory.
+/// The first field with a link that leads to no record of the table that the records make. An error
+/// is want of memory.
 fn dead_link(
     alloc: Global,
     types: &NamedItems<TableType>,
     table: &Records,
     records: &[(Text, Record)],
 ) -> Result<Option<RecordPlace>, AllocError>
-    ensures { table.now.entries ≡ records.now → Gives result (spec.dead_link types.now records.now) }
+    ensures { table.now.entries ≡ records.now
+        → Gives result (spec.dead_link types.now records.now) }
 {
     match astray(types, table, records) {
         Some(record) => {
@@ -231,7 +234,8 @@ fn dead_link(
     }
 }
 
-/// The same where no two records have one id, of which these are the copies. An error is want of memory.
+/// The same where no two records have one id, of which these are the copies. An error is want of
+/// memory.
 fn bad_link(
     alloc: Global,
     types: &NamedItems<TableType>,
@@ -253,7 +257,8 @@ fn bad_link_in(
     drafts: &[Draft<'_>],
     records: &[(Text, Record)],
 ) -> Result<Option<RecordPlace>, AllocError>
-    ensures { records_of (map draft_told drafts.now) ≡ Some records.now → Gives result (spec.bad_link types.now records.now) }
+    ensures { records_of (map draft_told drafts.now) ≡ Some records.now
+        → Gives result (spec.bad_link types.now records.now) }
 {
     match records_of(alloc, drafts)? {
         Some(copies) => bad_link(alloc, types, records, copies),
@@ -261,7 +266,8 @@ fn bad_link_in(
     }
 }
 
-/// Where a fault stands that records have by the types that a table knows. An error is want of memory.
+/// Where a fault stands that records have by the types that a table knows. An error is want of
+/// memory.
 fn place_among(
     alloc: Global,
     types: &NamedItems<TableType>,
@@ -334,11 +340,17 @@ fn place_in_json(
 ///   record that has such a field;
 /// - of `UnknownType` the first record that has the fault;
 /// - of `DuplicateId` a record whose id another one has;
-/// - of `BadRoot` the root.
+/// - of `BadRoot` the root's id.
 ///
-/// `None` where the file has not that fault, which may be asked of any, and of `NotJson`, `BadShape`
-/// and `Memory`, which stand at no record. The only error is want of memory, which tells nothing of
-/// the file.
+/// `None` of `NotJson`, `BadShape` and `Memory`, which stand at no record; and where there is no
+/// such field or record. Each fault may be asked of any file, whatever is told of it: the root's id
+/// is given of each file that has the shape, and none is given of one that has not. Of
+/// `UnknownType`, `UnknownField` and `BadLink` there is none either where a number is no whole one
+/// of 32 bits, nor of `BadLink` where two records have one id. The only error is want of memory,
+/// which tells nothing of the file.
+///
+/// Of the fault that is told of a file, if it stands at a record or at the root's id, there is a
+/// place: the law [`told_faults_have_places`](crate::laws::told_faults_have_places).
 #[tactic(auto, using(crate::proofs::Placing::not_parsed))]
 pub fn place_of_fault(
     alloc: Global,

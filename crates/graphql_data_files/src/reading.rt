@@ -7,7 +7,8 @@ ghost use Rattle.serde_json.specs.View.{view};
 ghost use Rattle.graphql_data_files.specs.DataFiles as spec;
 ghost use Rattle.graphql_data_files.specs.LentDrafts.{file_told};
 ghost use Rattle.graphql_data_files.specs.Refusals.{fault_of};
-ghost use Rattle.graphql_data_files.specs.declared.data_file_error.DataFileError.TheVariants.{Memory, NotJson};
+ghost use Rattle.graphql_data_files.specs.declared.data_file_error.DataFileError.TheVariants.{Memory};
+ghost use Rattle.graphql_data_files.specs.declared.data_file_error.DataFileError.TheVariants.{NotJson};
 
 use crate::data_file_error::DataFileError;
 use crate::drafts::{Drafts, file_of, records_of};
@@ -46,7 +47,8 @@ fn drafted(
     types: &NamedItems<TableType>,
     query: &str,
 ) -> Result<Records, DataFileError>
-    ensures { Meets (λ e. e ≡ Memory) result (spec.drafted types.now query.now (file_told file.now)) }
+    ensures { Meets (λ e. e ≡ Memory) result
+        (spec.drafted types.now query.now (file_told file.now)) }
 {
     match records_of(alloc, file.records.as_slice())? {
         Some(records) => judged(alloc, types, query, file.root.as_str(), records),

@@ -1,6 +1,7 @@
 //! Where in a file of records a fault stands.
 
 use graphql_text::Text;
+use std::fmt;
 
 /// Where in a file of records a fault stands.
 #[derive(Debug, Drop)]
@@ -13,4 +14,21 @@ pub enum RecordPlace {
 
     /// At the record of the first, its id, the field of the second, its name.
     Field(Text, Text),
+}
+
+/// Writes the place as `root "q"`, `record "h1"` or `record "h1", field "name"`: the id and the
+/// name as they stand.
+impl fmt::Display for RecordPlace {
+    ghost use Rattle.std.specs.Prelude.{Some};
+    ghost use Rattle.graphql_data_files.specs.PlaceTexts.{record_place_text};
+
+    ghost output = { λ place. Some (record_place_text place) };
+
+    fn fmt<W: fmt::Write>(&self, f: &mut fmt::Formatter<W>) -> fmt::Result {
+        match self {
+            RecordPlace::Root(id) => write!(f, "root \"{id}\""),
+            RecordPlace::Record(id) => write!(f, "record \"{id}\""),
+            RecordPlace::Field(id, name) => write!(f, "record \"{id}\", field \"{name}\""),
+        }
+    }
 }

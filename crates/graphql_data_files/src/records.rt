@@ -123,7 +123,8 @@ pub(crate) fn judged(
     ensures { Meets (λ e. e ≡ Memory) result (spec.judged types.now query.now root.now records) }
 {
     let root = Text::from_str(alloc, root)?;
-    // The table takes the records over, and tells whether ids repeat: a fault that comes before these.
+    // The table takes the records over, and tells whether ids repeat: a fault that comes before
+    // these.
     let are_typed = are_of_object_types(types, records.as_slice());
     let are_known = have_fields(types, records.as_slice());
     let Some(records) = Records::from_items(alloc, records)? else {

@@ -8,3 +8,6 @@ pub mod Described
 pub mod FirstPlaces
 pub mod Outlining
 pub mod Placing
+pub mod ToldPlaces
+pub mod ShapeTurns
+pub mod ShapeFaults

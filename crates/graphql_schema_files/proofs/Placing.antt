@@ -1,10 +1,11 @@
 -- Where declarations break a rule, as it is found.
-use Rattle.std.proofs.Common.{◌≡◌, ◌↔◌, IsTrue, true, false, Bool, Option, Some, None, is_some, Err, refl, sym, subst}
+use Rattle.std.proofs.Common.{◌≡◌, ◌↔◌, IsTrue, true, false, Bool, Option, Some, None, MatchOption, is_some, Err, refl, sym, subst}
 use Rattle.serde_json.specs.Data.{Data}
 use Rattle.graphql_json.specs.Parts.{◌>>=◌}
 use Rattle.graphql_names.specs.Names.{Bytes}
 use Rattle.graphql_literal_checks.proofs.Decided.{fails, holds, refuted}
 use Rattle.graphql_schema_files.specs.DeclarationPlaces.{ArgumentKeeps, FieldKeeps, IsArgumentPlace, IsFieldPlace, IsFirst, IsPlaceIn, IsPlaceOf, IsTypePlace, TypeKeeps}
+use Rattle.graphql_schema_files.proofs.FirstPlaces.{first_or_none}
 use Rattle.graphql_schema_files.specs.DraftedTypes.{DefaultMeans, IsDefault}
 use Rattle.graphql_schema_files.specs.Outlines.{OutlinesData, OutlinesShape}
 use Rattle.graphql_schema_files.specs.SpelledTexts.{Finds, Value}
@@ -56,6 +57,27 @@ module _ (r : Rule) where
   pub field_in_it : (draft : TypeDraft) (place : DeclarationPlace) (field : FieldPlace) (told : Bool) → told ≡ true → IsTrue told ↔ TypeKeeps r draft
       → IsFirst (IsFieldPlace r) draft.fields (Some field) → place ≡ record { type_name = draft.name; field = Some field } → IsTypePlace r draft (Some place)
   field_in_it draft place field told is means first same = subst (λ p. IsTypePlace r draft (Some p)) (sym same) (refl, (means.0 is, first))
+
+-- what gives a place does not give none
+pub field_or_none : (r : Rule) (draft : FieldDraft) (place : FieldPlace) → IsFieldPlace r draft (Some place) → IsFieldPlace r draft None → ⊥
+field_or_none r draft place gives none = at place.argument gives.1
+  where
+    at : (argument : Option Bytes) → MatchOption argument (FieldKeeps r draft → ⊥) (λ a. FieldKeeps r draft × IsFirst (IsArgumentPlace r) draft.arguments (Some a)) → ⊥
+    at None breaks = breaks none.0
+    at (Some a) keeps = first_or_none (IsArgumentPlace r) draft.arguments a keeps.1 none.1
+
+pub type_or_none : (r : Rule) (draft : TypeDraft) (place : DeclarationPlace) → IsTypePlace r draft (Some place) → IsTypePlace r draft None → ⊥
+type_or_none r draft place gives none = at place.field gives.1
+  where
+    at : (field : Option FieldPlace) → MatchOption field (TypeKeeps r draft → ⊥) (λ f. TypeKeeps r draft × IsFirst (IsFieldPlace r) draft.fields (Some f)) → ⊥
+    at None breaks = breaks none.0
+    at (Some f) keeps = first_or_none (IsFieldPlace r) draft.fields f keeps.1 none.1
+
+pub ruleset argument_steps = (argument_keeps_it, argument_breaks_it)
+
+pub ruleset field_steps = (field_breaks_it, field_keeps_it, argument_in_it)
+
+pub ruleset type_steps = (type_breaks_it, type_keeps_it, field_in_it)
 
 -- faults that stand at no declaration
 pub rest_placed : (e : SchemaFileError) (file : SchemaDraft) → (e ≡ fault.BadName → ⊥) → (e ≡ fault.BadTypeText → ⊥) → (e ≡ fault.BadDefault → ⊥) → IsPlaceIn e file None

@@ -1,9 +1,10 @@
 -- Where in a file of a schema its declarations break a rule.
-use Rattle.std.specs.Prelude.{◌≡◌, ℕ, true, List, Option, Some, None, MatchOption, slice_get, take}
+use Rattle.std.specs.Prelude.{◌≡◌, true, List, Option, Some, None, MatchOption}
 use Rattle.std.specs.List.{All}
 use Rattle.graphql_json.specs.Parts.{◌>>=◌}
 use Rattle.graphql_lines.specs.Request.{data_of}
 use Rattle.graphql_names.specs.Names.{Bytes}
+use Rattle.graphql_schema.specs.Promises.{IsFirstWithout}
 use Rattle.graphql_schema_files.specs.NamedDrafts.{is_name}
 use Rattle.graphql_schema_files.specs.DraftedTypes.{ArgumentHasDefault, ArgumentHasType}
 use Rattle.graphql_schema_files.specs.SpelledTexts.{HasType}
@@ -13,7 +14,8 @@ use Rattle.graphql_schema_files.specs.declared.drafts.TypeDraft.{TypeDraft}
 use Rattle.graphql_schema_files.specs.declared.drafts.SchemaDraft.{SchemaDraft}
 use Rattle.graphql_schema_files.specs.Shapes.{schema_of}
 use Rattle.graphql_schema_files.specs.declared.schema_file_error.SchemaFileError.{SchemaFileError}
-use Rattle.graphql_schema_files.specs.declared.schema_file_error.SchemaFileError.TheVariants as fault
+use Rattle.graphql_schema_files.specs.declared.schema_file_error.SchemaFileError.TheVariants as
+    fault
 use Rattle.graphql_schema_files.specs.declared.declaration_place.DeclarationPlace.{DeclarationPlace}
 use Rattle.graphql_schema_files.specs.declared.declaration_place.FieldPlace.{FieldPlace}
 use Rattle.graphql_schema_files.specs.declared.rule.Rule.{Rule}
@@ -22,7 +24,8 @@ use Rattle.graphql_schema_files.specs.declared.rule.Rule.TheVariants as rule
 -- what the first of the items gives that gives something, or nothing where each gives nothing
 abbrev pub IsFirst : {A B : Type 0} → (A → Option B → Type 0) → List A → Option B → Type 0
 IsFirst At items None = All (λ x. At x None) items
-IsFirst {A} At items (Some found) = (i : ℕ) × (x : A) × (slice_get items i ≡ Some x) × All (λ x. At x None) (take i items) × At x (Some found)
+IsFirst {A} At items (Some found) =
+    (x : A) × IsFirstWithout (λ x. At x None) items x × At x (Some found)
 
 abbrev pub ArgumentKeeps : Rule → ArgumentDraft → Type 0
 ArgumentKeeps rule.Names draft = is_name draft.name ≡ true
@@ -52,14 +55,16 @@ module _ (r : Rule) where
   IsFieldPlace draft None = FieldKeeps r draft × IsFirst IsArgumentPlace draft.arguments None
   IsFieldPlace draft (Some place) =
       (place.name ≡ draft.name)
-      × MatchOption place.argument (FieldKeeps r draft → ⊥) (λ argument. FieldKeeps r draft × IsFirst IsArgumentPlace draft.arguments (Some argument))
+      × MatchOption place.argument (FieldKeeps r draft → ⊥)
+      (λ argument. FieldKeeps r draft × IsFirst IsArgumentPlace draft.arguments (Some argument))
 
   -- the type itself, or else the first field in which something does
   abbrev pub IsTypePlace : TypeDraft → Option DeclarationPlace → Type 0
   IsTypePlace draft None = TypeKeeps r draft × IsFirst IsFieldPlace draft.fields None
   IsTypePlace draft (Some place) =
       (place.type_name ≡ draft.name)
-      × MatchOption place.field (TypeKeeps r draft → ⊥) (λ field. TypeKeeps r draft × IsFirst IsFieldPlace draft.fields (Some field))
+      × MatchOption place.field (TypeKeeps r draft → ⊥)
+      (λ field. TypeKeeps r draft × IsFirst IsFieldPlace draft.fields (Some field))
 
   -- the first type in which something does
   abbrev pub IsPlaceAmong : List TypeDraft → Option DeclarationPlace → Type 0

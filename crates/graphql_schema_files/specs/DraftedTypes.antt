@@ -1,4 +1,5 @@
--- The metadata that drafts describe (GraphQL October 2021, 3.6 Objects, 3.7 Interfaces, 3.8 Unions), and whether their texts are right.
+-- The metadata that drafts describe (GraphQL October 2021, 3.6 Objects, 3.7 Interfaces, 3.8
+-- Unions), and whether their texts are right.
 use Rattle.std.specs.Prelude.{◌≡◌, ◌++◌, Bool, true, false, List, Option, Some, None, MatchOption}
 use Rattle.std.specs.List.{All, AllZip}
 use Rattle.graphql_names.specs.Names.{Bytes}
@@ -79,9 +80,12 @@ pub record FieldMeans (draft : FieldDraft) (m : Field S) : Type 0 where
 module _ {C : Type 0} where
   -- an object or an interface with these fields lists its interfaces, and a union its members
   abbrev pub type_of_kind : DraftKind → Bytes → List (Field S) → List Bytes → MetaType S C
-  type_of_kind kind.Object name fields listed = meta.Object (record { name = name; description = None; fields = fields; interface_names = listed })
-  type_of_kind kind.Interface name fields listed = meta.Interface (record { name = name; description = None; fields = fields; interface_names = listed })
-  type_of_kind kind.Union name fields listed = meta.Union (record { name = name; description = None; of_type_names = listed })
+  type_of_kind kind.Object name fields listed = meta.Object
+      (record { name = name; description = None; fields = fields; interface_names = listed })
+  type_of_kind kind.Interface name fields listed = meta.Interface
+      (record { name = name; description = None; fields = fields; interface_names = listed })
+  type_of_kind kind.Union name fields listed =
+      meta.Union (record { name = name; description = None; of_type_names = listed })
 
   -- a type: its name, the fields that its drafts describe, what it lists
   pub record TypeMeans (draft : TypeDraft) (m : MetaType S C) : Type 0 where
@@ -89,7 +93,9 @@ module _ {C : Type 0} where
     pub described : AllZip FieldMeans draft.fields fields
     pub is : m ≡ type_of_kind draft.kind draft.name fields draft.listed
 
-  -- the types that drafts describe come behind those that are there; or some text is not right, and nothing comes
+  -- the types that drafts describe come behind those that are there; or some text is not right, and
+  -- nothing comes
   abbrev pub AddsTypes : List TypeDraft → List (MetaType S C) → List (MetaType S C) → Bool → Type 0
-  AddsTypes drafts old new true = (declared : List (MetaType S C)) × AllZip TypeMeans drafts declared × (new ≡ old ++ declared)
+  AddsTypes drafts old new true =
+      (declared : List (MetaType S C)) × AllZip TypeMeans drafts declared × (new ≡ old ++ declared)
   AddsTypes drafts old new false = (All TypeIsSound drafts → ⊥) × (new ≡ old)

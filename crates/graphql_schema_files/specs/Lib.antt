@@ -8,3 +8,6 @@ pub mod SpelledTexts
 pub mod DraftedTypes
 pub mod DeclarationPlaces
 pub mod Outlines
+pub mod ShapeFaults
+pub mod ShapeTexts
+pub mod Laws

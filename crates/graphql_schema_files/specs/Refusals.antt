@@ -4,7 +4,8 @@ use Rattle.graphql_lines.specs.declared.refusal.LineRefusal.TheVariants as refus
 use Rattle.graphql_schema.specs.declared.error.SchemaError.{SchemaError}
 use Rattle.graphql_schema.specs.declared.error.SchemaError.TheVariants as error
 use Rattle.graphql_schema_files.specs.declared.schema_file_error.SchemaFileError.{SchemaFileError}
-use Rattle.graphql_schema_files.specs.declared.schema_file_error.SchemaFileError.TheVariants as fault
+use Rattle.graphql_schema_files.specs.declared.schema_file_error.SchemaFileError.TheVariants as
+    fault
 
 -- a fault of the types, or want of memory
 abbrev pub refusal_of : SchemaError → SchemaFileError

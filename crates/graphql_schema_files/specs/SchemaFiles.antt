@@ -1,5 +1,6 @@
 -- The schema that a file describes, or why there is none (GraphQL October 2021, 3.3 Schema).
-use Rattle.std.specs.Prelude.{◌≡◌, ◌⊎◌, ◌++◌, true, false, List, Option, Some, None, Result, Ok, option_map}
+use Rattle.std.specs.Prelude.{◌≡◌, ◌⊎◌, ◌++◌, true, false, List, Option, Some, None, Result, Ok}
+use Rattle.std.specs.Prelude.{option_map}
 use Rattle.std.specs.Borrow.{Bor}
 use Rattle.std.specs.List.{All, AllZip, list_all}
 use Rattle.serde_json.specs.Data.{Data}
@@ -21,7 +22,8 @@ use Rattle.graphql_schema_files.specs.DraftedTypes.{S, TypeHasDefaults, TypeHasT
 use Rattle.graphql_schema_files.specs.SpelledTexts.{Value}
 use Rattle.graphql_schema_files.specs.Conforming.{DraftConforms}
 use Rattle.graphql_schema_files.specs.declared.schema_file_error.SchemaFileError.{SchemaFileError}
-use Rattle.graphql_schema_files.specs.declared.schema_file_error.SchemaFileError.TheVariants as fault
+use Rattle.graphql_schema_files.specs.declared.schema_file_error.SchemaFileError.TheVariants as
+    fault
 
 -- a text that is lent, where there is one
 abbrev pub words_of : Option (Bor Bytes) → Option Bytes
@@ -55,21 +57,26 @@ module _ {C : Type 0} (accepts : C → Value → Type 0) where
   -- a root node over the schema, or a default that does not conform in it
   abbrev pub Judges : SchemaDraft → SchemaType S C → Result (RootNode S C) SchemaFileError → Type 0
   Judges file schema result =
-      Answers (λ root. (root ≡ record { schema = schema; introspection_disabled = false }) × DefaultsConform file schema)
+      Answers (λ root. (root ≡ record { schema = schema; introspection_disabled = false })
+      × DefaultsConform file schema)
       (λ e. (e ≡ fault.BadDefault) × (DefaultsConform file schema → ⊥)) IsMemory result
 
   -- by all the types of the schema
   module _ (types : List (MetaType S C)) where
-    -- the schema of the types and the file's roots, with introspection, in which the file's defaults conform
+    -- the schema of the types and the file's roots, with introspection, in which the file's
+    -- defaults conform
     pub record IsRoot (file : SchemaDraft) (root : RootNode S C) : Type 0 where
       pub made : Makes scalar.String types (roots_of file) (Ok root.schema)
       pub told : root.introspection_disabled ≡ false
       pub conform : DefaultsConform file root.schema
 
-    -- the first fault of the types; or, where they have none, a default does not conform in their schema
+    -- the first fault of the types; or, where they have none, a default does not conform in their
+    -- schema
     abbrev pub MakingDue : SchemaDraft → SchemaFileError → Type 0
     MakingDue file (fault.Schema e) = TellsFirst (completed types file.query) (roots_of file) e
-    MakingDue file fault.BadDefault = (schema : SchemaType S C) × Makes scalar.String types (roots_of file) (Ok schema) × (DefaultsConform file schema → ⊥)
+    MakingDue file fault.BadDefault = (schema : SchemaType S C)
+        × Makes scalar.String types (roots_of file) (Ok schema)
+        × (DefaultsConform file schema → ⊥)
     MakingDue file fault.NotJson = ⊥
     MakingDue file fault.BadShape = ⊥
     MakingDue file fault.BadName = ⊥
@@ -98,7 +105,8 @@ module _ {C : Type 0} (accepts : C → Value → Type 0) where
     IsDue file fault.BadShape = ⊥
     IsDue file fault.BadName = IsNamed file → ⊥
     IsDue file fault.BadTypeText = IsNamed file × (HasTypes file → ⊥)
-    IsDue file fault.BadDefault = (IsNamed file × HasTypes file × (HasDefaults file → ⊥)) ⊎ Declares file (λ types. MakingDue types file fault.BadDefault)
+    IsDue file fault.BadDefault = (IsNamed file × HasTypes file × (HasDefaults file → ⊥))
+        ⊎ Declares file (λ types. MakingDue types file fault.BadDefault)
     IsDue file (fault.Schema e) = Declares file (λ types. MakingDue types file (fault.Schema e))
     IsDue file fault.Memory = ⊥
 
@@ -115,6 +123,7 @@ module _ {C : Type 0} (accepts : C → Value → Type 0) where
     ReadsData None result = Answers (λ root. ⊥) (λ e. e ≡ fault.NotJson) IsMemory result
     ReadsData (Some json) result = ReadsShape (schema_of json) result
 
-    -- what a reader of the file answers: the schema that it describes, or its first fault; want of memory tells nothing
+    -- what a reader of the file answers: the schema that it describes, or its first fault; want of
+    -- memory tells nothing
     abbrev pub ReadsBytes : Bytes → Result (RootNode S C) SchemaFileError → Type 0
     ReadsBytes bytes result = ReadsData (data_of bytes) result

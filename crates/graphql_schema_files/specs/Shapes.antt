@@ -7,7 +7,8 @@ use Rattle.graphql_json.specs.Parts.{◌>>=◌, text_of, text_at, text_if, list_
 use Rattle.graphql_schema_files.specs.declared.drafts.ArgumentDraft.{ArgumentDraft}
 use Rattle.graphql_schema_files.specs.declared.drafts.FieldDraft.{FieldDraft}
 use Rattle.graphql_schema_files.specs.declared.drafts.DraftKind.{DraftKind}
-use Rattle.graphql_schema_files.specs.declared.drafts.DraftKind.TheVariants.{Object, Interface, Union}
+use Rattle.graphql_schema_files.specs.declared.drafts.DraftKind.TheVariants.{Object, Interface}
+use Rattle.graphql_schema_files.specs.declared.drafts.DraftKind.TheVariants.{Union}
 use Rattle.graphql_schema_files.specs.declared.drafts.TypeDraft.{TypeDraft}
 use Rattle.graphql_schema_files.specs.declared.drafts.SchemaDraft.{SchemaDraft}
 
@@ -47,7 +48,8 @@ fields_in Object d = list_at field_of (codes "fields") d
 fields_in Interface d = list_at field_of (codes "fields") d
 fields_in Union d = Some []
 
--- the list `interfaces` of texts, if an object or an interface has one, and the list `members` of a union
+-- the list `interfaces` of texts, if an object or an interface has one, and the list `members` of a
+-- union
 abbrev pub listed_in : DraftKind → Data → Option (List Bytes)
 listed_in Object d = list_if text_of (codes "interfaces") d
 listed_in Interface d = list_if text_of (codes "interfaces") d

@@ -1,4 +1,5 @@
--- What texts spell as a whole: type references and constant literals (GraphQL October 2021, 2.9 Input Values, 2.11 Type References).
+-- What texts spell as a whole: type references and constant literals (GraphQL October 2021, 2.9
+-- Input Values, 2.11 Type References).
 use Rattle.std.specs.Prelude.{◌≡◌, true, Option, Some, None}
 use Rattle.std.specs.Str.{chars}
 use Rattle.graphql_names.specs.Names.{Bytes}

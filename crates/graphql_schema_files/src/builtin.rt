@@ -21,13 +21,14 @@ fn scalar(alloc: Global, name: &str, check: TypeCheck) -> Result<Meta, AllocErro
     Ok(ScalarMeta::new(name, check).into_meta())
 }
 
-/// The scalars of these checks, and the types of introspection (GraphQL October 2021, 3.5 Scalars, 4.2 Schema
-/// Introspection). An error is want of memory.
+/// The scalars of these checks, and the types of introspection (GraphQL October 2021, 3.5 Scalars,
+/// 4.2 Schema Introspection). An error is want of memory.
 pub(crate) fn builtin_types(
     alloc: Global,
     checks: StandardChecks,
 ) -> Result<Items<Meta>, AllocError>
-    ensures { Gives result (spec.builtin_types checks.int checks.string checks.boolean checks.id checks.introspection) }
+    ensures { Gives result (spec.builtin_types checks.int checks.string checks.boolean checks.id
+        checks.introspection) }
 {
     let mut types = Items::new(alloc);
     types.push(scalar(alloc, "Int", checks.int)?)?;

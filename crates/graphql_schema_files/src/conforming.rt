@@ -21,15 +21,16 @@ fn draft_conforms<S: SchemaScalar>(
     type_defaults_conform(alloc, schema, draft.name.as_str())
 }
 
-/// Whether the defaults conform in the types that these drafts declare, as the schema holds them. An error is
-/// want of memory.
+/// Whether the defaults conform in the types that these drafts declare, as the schema holds them.
+/// An error is want of memory.
 pub(crate) fn defaults_conform<S: SchemaScalar>(
     alloc: Global,
     schema: &SchemaType<S>,
     drafts: &[TypeDraft<'_>],
 ) -> Result<bool, AllocError>
     ensures { IfOk result (λ told.
-        IsTrue told ↔ All (spec.DraftConforms S.answer S.Check.accepts schema.now.types) drafts.now) }
+        IsTrue told
+        ↔ All (spec.DraftConforms S.answer S.Check.accepts schema.now.types) drafts.now) }
 {
     'drafts: for draft in drafts {
         if !draft_conforms(alloc, schema, draft)? {

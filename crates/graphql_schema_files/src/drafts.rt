@@ -53,8 +53,8 @@ pub struct TypeDraft<'a> {
     /// The fields, in order. A union has none.
     pub fields: Items<FieldDraft<'a>>,
 
-    /// The names of the interfaces that an object or an interface lists, or of the members of a union, in
-    /// order.
+    /// The names of the interfaces that an object or an interface lists, or of the members of a
+    /// union, in order.
     pub listed: Items<TextRef<'a>>,
 }
 

@@ -16,8 +16,8 @@ use graphql_text::{Items, Text, TextRef};
 use graphql_values::{DefaultScalarValue, InputValue};
 use std::alloc::{AllocError, Global};
 
-/// The value of a default, which an argument may lack; `None` where its text is no constant literal. An
-/// error is want of memory.
+/// The value of a default, which an argument may lack; `None` where its text is no constant
+/// literal. An error is want of memory.
 pub(crate) fn default_of(
     alloc: Global,
     text: &Option<TextRef<'_>>,
@@ -60,7 +60,8 @@ fn arguments_of(
     alloc: Global,
     drafts: &[ArgumentDraft<'_>],
 ) -> Result<Option<Items<Argument<DefaultScalarValue>>>, AllocError>
-    ensures { IfOk result (Finds (AllZip spec.ArgumentMeans) (All spec.ArgumentIsSound) drafts.now) }
+    ensures { IfOk result
+        (Finds (AllZip spec.ArgumentMeans) (All spec.ArgumentIsSound) drafts.now) }
 {
     let mut arguments = Items::with_capacity(alloc, drafts.len())?;
     'drafts: for draft in drafts {
@@ -72,12 +73,14 @@ fn arguments_of(
     Ok(Some(arguments))
 }
 
-/// The arguments that a field's draft describes, if the texts of each are right. An error is want of memory.
+/// The arguments that a field's draft describes, if the texts of each are right. An error is want
+/// of memory.
 fn arguments_in(
     alloc: Global,
     draft: &FieldDraft<'_>,
 ) -> Result<Option<Items<Argument<DefaultScalarValue>>>, AllocError>
-    ensures { IfOk result (Finds (AllZip spec.ArgumentMeans) (All spec.ArgumentIsSound) draft.now.arguments) }
+    ensures { IfOk result
+        (Finds (AllZip spec.ArgumentMeans) (All spec.ArgumentIsSound) draft.now.arguments) }
 {
     arguments_of(alloc, draft.arguments.as_slice())
 }
@@ -122,12 +125,14 @@ fn fields_of(
     Ok(Some(fields))
 }
 
-/// The fields that a type's draft describes, if the texts of each are right. An error is want of memory.
+/// The fields that a type's draft describes, if the texts of each are right. An error is want of
+/// memory.
 fn fields_in(
     alloc: Global,
     draft: &TypeDraft<'_>,
 ) -> Result<Option<Items<Field<DefaultScalarValue>>>, AllocError>
-    ensures { IfOk result (Finds (AllZip spec.FieldMeans) (All spec.FieldIsSound) draft.now.fields) }
+    ensures { IfOk result
+        (Finds (AllZip spec.FieldMeans) (All spec.FieldIsSound) draft.now.fields) }
 {
     fields_of(alloc, draft.fields.as_slice())
 }
@@ -143,8 +148,8 @@ fn names_of(alloc: Global, names: &[TextRef<'_>]) -> Result<Items<Text>, AllocEr
     Ok(copies)
 }
 
-/// The type of this kind and this name, with these fields, that lists these names. An error is want of
-/// memory.
+/// The type of this kind and this name, with these fields, that lists these names. An error is want
+/// of memory.
 fn type_of_kind<C: Drop>(
     alloc: Global,
     kind: DraftKind,
@@ -175,8 +180,8 @@ fn type_of_kind<C: Drop>(
     }
 }
 
-/// The type that a draft describes, if the texts of its fields and arguments are right. An error is want of
-/// memory.
+/// The type that a draft describes, if the texts of its fields and arguments are right. An error is
+/// want of memory.
 fn type_of<C: Drop>(
     alloc: Global,
     draft: &TypeDraft<'_>,
@@ -191,9 +196,9 @@ fn type_of<C: Drop>(
     }
 }
 
-/// The types that these describe (GraphQL October 2021, 3.6 Objects, 3.7 Interfaces, 3.8 Unions), without
-/// descriptions; `None` where the type of some field or argument in them is no type reference, or some
-/// default is no constant literal. An error is want of memory.
+/// The types that these describe (GraphQL October 2021, 3.6 Objects, 3.7 Interfaces, 3.8 Unions),
+/// without descriptions; `None` where the type of some field or argument in them is no type
+/// reference, or some default is no constant literal. An error is want of memory.
 fn types_of<C: Drop>(
     alloc: Global,
     drafts: &[TypeDraft<'_>],
@@ -210,9 +215,10 @@ fn types_of<C: Drop>(
     Ok(Some(types))
 }
 
-/// Adds the types that these describe behind those that are there (GraphQL October 2021, 3.6 Objects, 3.7
-/// Interfaces, 3.8 Unions), without descriptions. Answers whether it could: where the type of some field or argument
-/// in them is no type reference, or some default is no constant literal, it adds nothing. An error is want of memory.
+/// Adds the types that these describe behind those that are there (GraphQL October 2021, 3.6
+/// Objects, 3.7 Interfaces, 3.8 Unions), without descriptions. Answers whether it could: where the
+/// type of some field or argument in them is no type reference, or some default is no constant
+/// literal, it adds nothing. An error is want of memory.
 pub fn add_types<C: Drop>(
     alloc: Global,
     drafts: &[TypeDraft<'_>],

@@ -49,8 +49,8 @@ fn type_is_named(draft: &TypeDraft<'_>) -> bool
     is_name(draft.name.as_str()) && fields_are_named(draft.fields.as_slice())
 }
 
-/// Whether the names of the types, their fields and their arguments are names (GraphQL October 2021, 2.1.9
-/// Names). What a type lists is not judged. Takes no memory.
+/// Whether the names of the types, their fields and their arguments are names (GraphQL October
+/// 2021, 2.1.9 Names). What a type lists is not judged. Takes no memory.
 pub fn are_named(types: &[TypeDraft<'_>]) -> bool
     ensures { result ≡ list_all spec.type_is_named types.now }
 {

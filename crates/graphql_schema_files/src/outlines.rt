@@ -76,13 +76,13 @@ fn outline_in(alloc: Global, json: &Value) -> Result<Outline, SchemaFileError>
 }
 
 /// The outline of the schema that a file describes: the types that it declares, the scalars `Int`,
-/// `String`, `Boolean` and `ID` without checks, and the objects `__Schema` and `__Type` without fields.
-/// It tells where a fault stands, and judges no request: names are not judged, nor whether defaults
-/// conform.
+/// `String`, `Boolean` and `ID` without checks, and the objects `__Schema` and `__Type` without
+/// fields. It tells where a fault stands, and judges no request: names are not judged, nor whether
+/// defaults conform.
 ///
 /// Errors: `NotJson` and `BadShape` as [`SchemaFile::read`](crate::SchemaFile::read) tells them;
-/// `BadTypeText` where some type or default is not right; `Schema` with the first fault of the types;
-/// `Memory`, which tells nothing of the file.
+/// `BadTypeText` where some type or default is not right; `Schema` with the first fault of the
+/// types; `Memory`, which tells nothing of the file.
 pub fn outline(alloc: Global, bytes: &[u8]) -> Result<Outline, SchemaFileError>
     ensures { spec.OutlinesBytes bytes.now result }
 {

@@ -63,7 +63,7 @@ fn type_keeps(rule: Rule, draft: &TypeDraft<'_>) -> bool
 }
 
 /// The name of an argument that breaks a rule. An error is want of memory.
-#[tactic(auto, using(crate::proofs::Placing::argument_keeps_it, crate::proofs::Placing::argument_breaks_it))]
+#[tactic(auto, using(crate::proofs::Placing::argument_steps))]
 fn argument_place(
     alloc: Global,
     rule: Rule,
@@ -97,7 +97,7 @@ fn argument_among(
 
 /// The place of a field that breaks a rule, or of its first argument that does. An error is want of
 /// memory.
-#[tactic(auto, using(crate::proofs::Placing::field_breaks_it, crate::proofs::Placing::field_keeps_it, crate::proofs::Placing::argument_in_it))]
+#[tactic(auto, using(crate::proofs::Placing::field_steps))]
 fn field_place(
     alloc: Global,
     rule: Rule,
@@ -124,8 +124,8 @@ fn field_place(
     }
 }
 
-/// The place of the first field that breaks a rule, or in which an argument does. An error is want of
-/// memory.
+/// The place of the first field that breaks a rule, or in which an argument does. An error is want
+/// of memory.
 fn field_among(
     alloc: Global,
     rule: Rule,
@@ -142,9 +142,9 @@ fn field_among(
     Ok(None)
 }
 
-/// The place of a type that breaks a rule, or of its first field in which something does. An error is
-/// want of memory.
-#[tactic(auto, using(crate::proofs::Placing::type_breaks_it, crate::proofs::Placing::type_keeps_it, crate::proofs::Placing::field_in_it))]
+/// The place of a type that breaks a rule, or of its first field in which something does. An error
+/// is want of memory.
+#[tactic(auto, using(crate::proofs::Placing::type_steps))]
 fn type_place(
     alloc: Global,
     rule: Rule,
@@ -227,9 +227,9 @@ fn place_in_json(
 /// - of `BadTypeText`, whose type is no type reference;
 /// - of `BadDefault`, whose default is no constant literal.
 ///
-/// `None` where the file has not that fault, which may be asked of any; where a default does not conform
-/// to its argument's type; and of the other faults. The only error is want of memory, which tells nothing
-/// of the file.
+/// `None` where the file has not that fault, which may be asked of any; where a default does not
+/// conform to its argument's type; and of the other faults. The only error is want of memory, which
+/// tells nothing of the file.
 #[tactic(auto, using(crate::proofs::Placing::not_parsed))]
 pub fn place_of_fault(
     alloc: Global,

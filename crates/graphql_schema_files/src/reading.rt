@@ -10,7 +10,8 @@ ghost use Rattle.graphql_schema_files.specs.DraftedTypes.{AddsTypes};
 ghost use Rattle.graphql_schema_files.specs.Builtin as builtin;
 ghost use Rattle.graphql_schema_files.specs.Refusals.{fault_of};
 ghost use Rattle.graphql_schema_files.specs.SchemaFiles as spec;
-ghost use Rattle.graphql_schema_files.specs.declared.schema_file_error.SchemaFileError.TheVariants.{Memory, NotJson};
+ghost use Rattle.graphql_schema_files.specs.declared.schema_file_error.SchemaFileError.TheVariants.{Memory};
+ghost use Rattle.graphql_schema_files.specs.declared.schema_file_error.SchemaFileError.TheVariants.{NotJson};
 
 use crate::builtin::builtin_types;
 use crate::conforming::defaults_conform;
@@ -40,7 +41,8 @@ fn fault_of(refusal: LineRefusal) -> SchemaFileError
 
 /// The JSON of a file. `Memory` is want of memory.
 pub(crate) fn json_of(alloc: Global, bytes: &[u8]) -> Result<Value, SchemaFileError>
-    ensures { Answers (λ json. data_of bytes.now ≡ Some (view json)) (λ e. (e ≡ NotJson) × (data_of bytes.now ≡ None)) (λ e. e ≡ Memory) result }
+    ensures { Answers (λ json. data_of bytes.now ≡ Some (view json))
+        (λ e. (e ≡ NotJson) × (data_of bytes.now ≡ None)) (λ e. e ≡ Memory) result }
 {
     match json_of_line(alloc, bytes) {
         Ok(json) => Ok(json),
@@ -58,13 +60,15 @@ pub(crate) fn lent<'a>(text: &Option<TextRef<'a>>) -> Option<&'a str>
     }
 }
 
-/// The root node over a schema, if the defaults of the file conform in it. `Memory` is want of memory.
+/// The root node over a schema, if the defaults of the file conform in it. `Memory` is want of
+/// memory.
 fn rooted(
     alloc: Global,
     file: &SchemaDraft<'_>,
     schema: SchemaType<DefaultScalarValue>,
 ) -> Result<Root, SchemaFileError>
-    ensures { spec.Judges ⟦<TypeCheck as Check<DefaultScalarValue>>⟧.accepts file.now schema result }
+    ensures { spec.Judges ⟦<TypeCheck as Check<DefaultScalarValue>>⟧.accepts file.now schema
+        result }
 {
     if defaults_conform(alloc, &schema, file.types.as_slice())? {
         Ok(RootNode::new(schema))
@@ -73,10 +77,11 @@ fn rooted(
     }
 }
 
-/// The schema of all types and a file's roots, or the first of its faults; then whether the file's defaults
-/// conform. `Memory` is want of memory.
+/// The schema of all types and a file's roots, or the first of its faults; then whether the file's
+/// defaults conform. `Memory` is want of memory.
 fn made(alloc: Global, file: &SchemaDraft<'_>, types: Metadata) -> Result<Root, SchemaFileError>
-    ensures { spec.MakesRoot ⟦<TypeCheck as Check<DefaultScalarValue>>⟧.accepts types file.now result }
+    ensures { spec.MakesRoot ⟦<TypeCheck as Check<DefaultScalarValue>>⟧.accepts types file.now
+        result }
 {
     let query = file.query.as_str();
     match SchemaType::new(alloc, types, query, lent(&file.mutation), None) {
@@ -92,15 +97,16 @@ fn is_named(file: &SchemaDraft<'_>) -> bool
     are_named(file.types.as_slice())
 }
 
-/// Whether the types of the fields and arguments of a file are type references. An error is want of memory.
+/// Whether the types of the fields and arguments of a file are type references. An error is want of
+/// memory.
 fn has_types(alloc: Global, file: &SchemaDraft<'_>) -> Result<bool, AllocError>
     ensures { IfOk result (λ told. IsTrue told ↔ spec.HasTypes file.now) }
 {
     have_types(alloc, file.types.as_slice())
 }
 
-/// Adds the types that a file declares behind those that are there, and answers whether it could: where a text in it
-/// is not right it adds nothing. An error is want of memory.
+/// Adds the types that a file declares behind those that are there, and answers whether it could:
+/// where a text in it is not right it adds nothing. An error is want of memory.
 fn add_declared(
     alloc: Global,
     file: &SchemaDraft<'_>,
@@ -111,13 +117,15 @@ fn add_declared(
     add_types(alloc, file.types.as_slice(), types)
 }
 
-/// The schema of a file that has been drafted, or the first of its faults. `Memory` is want of memory.
+/// The schema of a file that has been drafted, or the first of its faults. `Memory` is want of
+/// memory.
 fn read_draft(
     alloc: Global,
     file: &SchemaDraft<'_>,
     mut types: Metadata,
 ) -> Result<Root, SchemaFileError>
-    ensures { spec.ReadsDraft ⟦<TypeCheck as Check<DefaultScalarValue>>⟧.accepts types file.now result }
+    ensures { spec.ReadsDraft ⟦<TypeCheck as Check<DefaultScalarValue>>⟧.accepts types file.now
+        result }
 {
     if !is_named(file) {
         return Err(SchemaFileError::BadName);
@@ -133,7 +141,8 @@ fn read_draft(
 
 /// The schema that JSON describes, or the first of its faults. `Memory` is want of memory.
 fn read_json(alloc: Global, json: &Value, types: Metadata) -> Result<Root, SchemaFileError>
-    ensures { spec.ReadsShape ⟦<TypeCheck as Check<DefaultScalarValue>>⟧.accepts types (schema_of (view json.now)) result }
+    ensures { spec.ReadsShape ⟦<TypeCheck as Check<DefaultScalarValue>>⟧.accepts types
+        (schema_of (view json.now)) result }
 {
     match schema_of(alloc, json)? {
         Some(file) => read_draft(alloc, &file, types),
@@ -143,7 +152,8 @@ fn read_json(alloc: Global, json: &Value, types: Metadata) -> Result<Root, Schem
 
 /// The schema that bytes describe, or the first of their faults. `Memory` is want of memory.
 fn read_bytes(alloc: Global, bytes: &[u8], types: Metadata) -> Result<Root, SchemaFileError>
-    ensures { spec.ReadsBytes ⟦<TypeCheck as Check<DefaultScalarValue>>⟧.accepts types bytes.now result }
+    ensures { spec.ReadsBytes ⟦<TypeCheck as Check<DefaultScalarValue>>⟧.accepts types bytes.now
+        result }
 {
     match json_of(alloc, bytes) {
         Ok(json) => read_json(alloc, &json, types),
@@ -156,29 +166,35 @@ fn read_bytes(alloc: Global, bytes: &[u8], types: Metadata) -> Result<Root, Sche
 pub struct SchemaFile;
 
 impl SchemaFile {
-    /// The schema that a file describes, with introspection (GraphQL October 2021, 3.3 Schema): the types that
-    /// it declares, the scalars `Int`, `String`, `Boolean` and `ID`, each with the check that is given for it,
-    /// and the types of introspection. Or the first of its faults, in the order of [`SchemaFileError`], where
-    /// `Memory` is want of memory, which tells nothing of the file.
+    /// The schema that a file describes, with introspection (GraphQL October 2021, 3.3 Schema): the
+    /// types that it declares, the scalars `Int`, `String`, `Boolean` and `ID`, each with the check
+    /// that is given for it, and the types of introspection. Or the first of its faults, in the
+    /// order of [`SchemaFileError`], where `Memory` is want of memory, which tells nothing of the
+    /// file.
     ///
-    /// The file is a JSON object with the text `query`, the text `mutation` if there is such a root, and the
-    /// list `types`. A type has the texts `kind` (`object`, `interface` or `union`) and `name`; an object or an
-    /// interface the list `fields`, and the list `interfaces` of names if it lists any; a union the list
-    /// `members` of names. A field has the texts `name` and `type`, and the list `args` if it takes any; an
-    /// argument the texts `name` and `type`, and the text `default` of a constant literal if it has one.
-    /// Members of other names are passed over; a member that may be missing is not null.
+    /// The file is a JSON object with the text `query`, the text `mutation` if there is such a
+    /// root, and the list `types`. A type has the texts `kind` (`object`, `interface` or `union`)
+    /// and `name`; an object or an interface the list `fields`, and the list `interfaces` of names
+    /// if it lists any; a union the list `members` of names. A field has the texts `name` and
+    /// `type`, and the list `args` if it takes any; an argument the texts `name` and `type`, and
+    /// the text `default` of a constant literal if it has one. Members of other names are passed
+    /// over; a member that may be missing is not null.
     pub fn read(
         alloc: Global,
         bytes: &[u8],
         checks: StandardChecks,
     ) -> Result<Root, SchemaFileError>
         // The schema that the file describes, or why there is none.
-        ensures read { let types = builtin.builtin_types checks.int checks.string checks.boolean checks.id checks.introspection in
-            spec.ReadsBytes ⟦<TypeCheck as Check<DefaultScalarValue>>⟧.accepts types bytes.now result }
+        ensures read { let types = builtin.builtin_types checks.int checks.string checks.boolean
+            checks.id checks.introspection in
+            spec.ReadsBytes ⟦<TypeCheck as Check<DefaultScalarValue>>⟧.accepts types bytes.now
+            result }
         // Each scalar has the check that is given for it.
-        ensures scalars { IfOk result (λ root. builtin.HasScalars checks.int checks.string checks.boolean checks.id root.schema.types) }
+        ensures scalars { IfOk result (λ root. builtin.HasScalars checks.int checks.string
+            checks.boolean checks.id root.schema.types) }
         // The directives `skip` and `include` are the standard's.
-        ensures conditions { IfOk result (λ root. has_standard_conditions root.schema.directives ≡ true) }
+        ensures conditions { IfOk result
+            (λ root. has_standard_conditions root.schema.directives ≡ true) }
     {
         let types = builtin_types(alloc, checks)?;
         read_bytes(alloc, bytes, types)

@@ -22,8 +22,8 @@ pub enum SchemaFileError {
     /// The type of a field or an argument is no type reference (2.11 Type References).
     BadTypeText,
 
-    /// A default is no constant literal (2.9 Input Values). Or, where there is no fault of the schema, one does
-    /// not conform to its argument's type (5.6.1 Values of Correct Type).
+    /// A default is no constant literal (2.9 Input Values). Or, where there is no fault of the
+    /// schema, one does not conform to its argument's type (5.6.1 Values of Correct Type).
     BadDefault,
 
     /// The types make no schema. It is told before a default that does not conform, and never

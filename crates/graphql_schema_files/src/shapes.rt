@@ -109,7 +109,7 @@ fn kind_named(name: &str) -> Option<DraftKind>
 }
 
 /// The kind of the type that JSON describes.
-fn kind_in(json: &Value) -> Option<DraftKind>
+pub(crate) fn kind_in(json: &Value) -> Option<DraftKind>
     ensures { result ≡ spec.kind_in (view json.now) }
 {
     match text_at(json, "kind") {
@@ -200,8 +200,9 @@ fn types_in<'a>(alloc: Global, json: &'a Value) -> Result<Option<Items<TypeDraft
     }
 }
 
-/// The schema that JSON describes, `None` where it has not the shape of one: a member is missing that has to
-/// be there, or is of another kind. Members of other keys are passed over. An error is want of memory.
+/// The schema that JSON describes, `None` where it has not the shape of one: a member is missing
+/// that has to be there, or is of another kind. Members of other keys are passed over. An error is
+/// want of memory.
 pub fn schema_of<'a>(alloc: Global, json: &'a Value) -> Result<Option<SchemaDraft<'a>>, AllocError>
     ensures { Gives result (spec.schema_of (view json.now)) }
 {

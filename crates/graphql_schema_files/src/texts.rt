@@ -45,8 +45,8 @@ fn owned(alloc: Global, found: Type<TextRef<'_>>) -> Result<Type<Text>, AllocErr
     })
 }
 
-/// The type reference that a text is, as a whole (GraphQL October 2021, 2.11 Type References); `None` where
-/// it is none. An error is want of memory.
+/// The type reference that a text is, as a whole (GraphQL October 2021, 2.11 Type References);
+/// `None` where it is none. An error is want of memory.
 pub fn type_of_text(alloc: Global, text: &str) -> Result<Option<Type<Text>>, AllocError>
     ensures { IfOk result (spec.Finds spec.IsType spec.HasType text.now) }
 {
@@ -65,8 +65,8 @@ pub fn type_of_text(alloc: Global, text: &str) -> Result<Option<Type<Text>>, All
     }
 }
 
-/// The value that a text is, as a whole, in which no variable stands (GraphQL October 2021, 2.9 Input
-/// Values); `None` where it is none. An error is want of memory.
+/// The value that a text is, as a whole, in which no variable stands (GraphQL October 2021, 2.9
+/// Input Values); `None` where it is none. An error is want of memory.
 pub fn literal_of_text(alloc: Global, text: &str) -> Result<Option<InputValue>, AllocError>
     ensures { IfOk result (spec.Finds spec.IsLiteral spec.HasLiteral text.now) }
 {

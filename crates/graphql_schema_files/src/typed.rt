@@ -32,7 +32,8 @@ fn arguments_have_types(alloc: Global, arguments: &[ArgumentDraft<'_>]) -> Resul
     Ok(true)
 }
 
-/// Whether the types of the field and its arguments are type references. An error is want of memory.
+/// Whether the types of the field and its arguments are type references. An error is want of
+/// memory.
 fn field_has_types(alloc: Global, field: &FieldDraft<'_>) -> Result<bool, AllocError>
     ensures { IfOk result (λ told. IsTrue told ↔ spec.FieldHasTypes field.now) }
 {
@@ -42,7 +43,8 @@ fn field_has_types(alloc: Global, field: &FieldDraft<'_>) -> Result<bool, AllocE
     arguments_have_types(alloc, field.arguments.as_slice())
 }
 
-/// Whether the types of each field and its arguments are type references. An error is want of memory.
+/// Whether the types of each field and its arguments are type references. An error is want of
+/// memory.
 fn fields_have_types(alloc: Global, fields: &[FieldDraft<'_>]) -> Result<bool, AllocError>
     ensures { IfOk result (λ told. IsTrue told ↔ All spec.FieldHasTypes fields.now) }
 {
@@ -54,15 +56,16 @@ fn fields_have_types(alloc: Global, fields: &[FieldDraft<'_>]) -> Result<bool, A
     Ok(true)
 }
 
-/// Whether the types of a type's fields and their arguments are type references. An error is want of memory.
+/// Whether the types of a type's fields and their arguments are type references. An error is want
+/// of memory.
 fn type_has_types(alloc: Global, draft: &TypeDraft<'_>) -> Result<bool, AllocError>
     ensures { IfOk result (λ told. IsTrue told ↔ spec.TypeHasTypes draft.now) }
 {
     fields_have_types(alloc, draft.fields.as_slice())
 }
 
-/// Whether the types of all fields and arguments of these types are type references (GraphQL October 2021,
-/// 2.11 Type References). An error is want of memory.
+/// Whether the types of all fields and arguments of these types are type references (GraphQL
+/// October 2021, 2.11 Type References). An error is want of memory.
 pub fn have_types(alloc: Global, types: &[TypeDraft<'_>]) -> Result<bool, AllocError>
     ensures { IfOk result (λ told. IsTrue told ↔ All spec.TypeHasTypes types.now) }
 {

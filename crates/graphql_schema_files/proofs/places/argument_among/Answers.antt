@@ -8,7 +8,7 @@ pub returns-in-Some : goal.returns-in-Some
 returns-in-Some c =
     let this = c.draft-item.result in
     let gives = subst (IsArgumentPlace c.args.rule this) c.in-Some.is c.in_ok-name.ensures in
-    first_found (IsArgumentPlace c.args.rule) c.args.drafts.now c.drafts.draft-index this c.in-Some.name c.drafts-test.true c.draft-item.is c.drafts.invariant gives
+    first_found (IsArgumentPlace c.args.rule) c.args.drafts.now c.drafts.draft-index this c.in-Some.name c.drafts-test.true c.draft-item.is c.drafts.invariant gives.0 gives
 
 pub drafts-preserved : goal.drafts-preserved
 drafts-preserved c =

@@ -1,0 +1,23 @@
+-- A law of where the faults of a file of records stand.
+use Rattle.std.specs.Prelude.{◌≡◌, List, Option, Err, IsSome}
+use Rattle.graphql_names.specs.Names.{Bytes}
+use Rattle.graphql_records.specs.declared.table_type.TableType.{TableType}
+use Rattle.graphql_data_files.specs.DataFiles.{read_of}
+use Rattle.graphql_data_files.specs.RecordPlaces.{IsPlace}
+use Rattle.graphql_data_files.specs.declared.data_file_error.DataFileError.{DataFileError}
+use Rattle.graphql_data_files.specs.declared.data_file_error.DataFileError.TheVariants as fault
+use Rattle.graphql_data_files.specs.declared.record_place.RecordPlace.{RecordPlace}
+
+-- a fault of a record, or of the root's id
+abbrev pub StandsAtRecord : DataFileError → Type 0
+StandsAtRecord fault.NotJson = ⊥
+StandsAtRecord fault.BadShape = ⊥
+StandsAtRecord fault.Memory = ⊥
+StandsAtRecord _ = Unit {0}
+
+-- where it is the first fault of a file, its place is found
+abbrev pub ToldFaultsHavePlaces : Type 0
+ToldFaultsHavePlaces =
+    (types : List TableType) (query bytes : Bytes) (e : DataFileError) (found : Option RecordPlace)
+    → StandsAtRecord e → read_of types query bytes ≡ Err e → IsPlace types e bytes found
+    → IsSome found
