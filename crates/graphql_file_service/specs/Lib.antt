@@ -1,2 +1,4 @@
 pub mod TableServices
 pub mod Runs
+pub mod PlaceTexts
+pub mod FaultPlaces

@@ -14,7 +14,8 @@ use Rattle.graphql_file_service.specs.TableServices.{TableService}
 use Rattle.graphql_file_service.specs.declared.run_fault.RunFault.{RunFault}
 use Rattle.graphql_file_service.specs.declared.run_fault.RunFault.TheVariants as fault
 
--- what a source has before and after, and a sink, where they are known, and how many writes had failed before and after
+-- what a source has before and after, and a sink, where they are known, and how many writes had
+-- failed before and after
 pub record Streams : Type 0 where
   pub left : Option Bytes
   pub rest : Option Bytes
@@ -25,7 +26,14 @@ pub record Streams : Type 0 where
 
 abbrev pub streams : Option Bytes → Option Bytes → Option Bytes → Option Bytes → ℕ → ℕ → Streams
 streams left rest old new faults faults_after =
-    record { left = left; rest = rest; old = old; new = new; faults = faults; faults_after = faults_after }
+    record {
+      left = left;
+      rest = rest;
+      old = old;
+      new = new;
+      faults = faults;
+      faults_after = faults_after;
+    }
 
 -- how the run ended, as far as lines were answered
 abbrev pub served : Result (Unit {0}) RunFault → Result (Unit {0}) ServeError
@@ -43,7 +51,8 @@ Ended all ends (Ok x) = all
 Ended all ends (Err e) = ends e
 
 -- by what a service answers
-module _ {C : Type 0} (answerer : TableService C → Answerer DefaultScalarValue C TableNode Table) (bytes : Streams) where
+module _ {C : Type 0} (answerer : TableService C → Answerer DefaultScalarValue C TableNode Table)
+    (bytes : Streams) where
   -- a write has failed
   abbrev failed : Type 0
   failed = HasRisen bytes.faults bytes.faults_after
@@ -51,14 +60,18 @@ module _ {C : Type 0} (answerer : TableService C → Answerer DefaultScalarValue
   -- each line was answered, or why no more lines were; the records that the lines left
   abbrev pub Answered : TableService C → Table → Result (Unit {0}) ServeError → Type 0
   Answered service after =
-      Ended (ServedAll (AnswersLine (answerer service)) service.context bytes.left bytes.rest bytes.old bytes.new after)
-      (λ e. Ends (AnswersLine (answerer service)) (BreaksAtLine (answerer service)) failed e service.context bytes.left bytes.rest bytes.old bytes.new after)
+      Ended (ServedAll (AnswersLine (answerer service)) service.context bytes.left bytes.rest
+      bytes.old bytes.new after)
+      (λ e. Ends (AnswersLine (answerer service)) (BreaksAtLine (answerer service)) failed e
+      service.context bytes.left bytes.rest bytes.old bytes.new after)
 
   -- each line was told its plain text, or why no more lines were
   abbrev pub ToldPlain : TableService C → Result (Unit {0}) ServeError → Type 0
   ToldPlain service =
-      Ended (ServedAll (PlainGives (answerer service) service.selection_limit) tt bytes.left bytes.rest bytes.old bytes.new tt)
-      (λ e. Ends (PlainGives (answerer service) service.selection_limit) (PlainBreaks (answerer service) service.selection_limit) failed e tt
+      Ended (ServedAll (PlainGives (answerer service) service.selection_limit) tt bytes.left
+      bytes.rest bytes.old bytes.new tt)
+      (λ e. Ends (PlainGives (answerer service) service.selection_limit)
+      (PlainBreaks (answerer service) service.selection_limit) failed e tt
       bytes.left bytes.rest bytes.old bytes.new tt)
 
   -- the lines were asked for plain texts, which change nothing, or for answers
@@ -68,7 +81,8 @@ module _ {C : Type 0} (answerer : TableService C → Answerer DefaultScalarValue
 
 -- by what a service answers, and by what the two files describe
 module _ {C : Type 0} (answerer : TableService C → Answerer DefaultScalarValue C TableNode Table)
-    (Described : TableService C → Type 0) (Due : RunFault → Type 0) (bytes : Streams) (plain : Bool) where
+    (Described : TableService C → Type 0) (Due : RunFault → Type 0) (bytes : Streams)
+    (plain : Bool) where
   -- nothing was read and nothing written
   abbrev pub IsUntouched : Type 0
   IsUntouched = (bytes.rest ≡ bytes.left) × (bytes.new ≡ bytes.old)

@@ -37,7 +37,8 @@ module _ {C : Type 0} where
   executable root = is_executable root.schema.types (roots_of root.schema)
 
   -- `Boolean` takes `true`, so that the schema takes the stand-in of plain texts
-  abbrev pub HasTrue : (C → InputValue DefaultScalarValue → Type 0) → RootNode DefaultScalarValue C → Type 0
+  abbrev pub HasTrue : (C → InputValue DefaultScalarValue → Type 0) → RootNode DefaultScalarValue C
+      → Type 0
   HasTrue accepts root = TakesTrue accepts (declarations_of root.schema) Boolean
 
   -- a service can be made over it, where `Boolean` takes `true`
@@ -45,7 +46,8 @@ module _ {C : Type 0} where
   IsReady root = (executable root ≡ true) × (has_standard_conditions root.schema.directives ≡ true)
 
   -- the service of these parts
-  abbrev pub IsMadeOf : (C → InputValue DefaultScalarValue → Type 0) → RootNode DefaultScalarValue C → TableResolver
+  abbrev pub IsMadeOf : (C → InputValue DefaultScalarValue → Type 0) → RootNode DefaultScalarValue C
+      → TableResolver
       → Table → Result (TableService C) RunFault → Type 0
   IsMadeOf accepts root resolver table (Ok service) =
       IsOf root resolver table 65536 10000 service × HasTrue accepts root
@@ -54,12 +56,15 @@ module _ {C : Type 0} where
   IsMadeOf accepts root resolver table (Err _) = ⊥
 
 -- by what the checks of types accept, the types that each schema has, and the bytes of both files
-module _ {C : Type 0} (accepts : C → InputValue DefaultScalarValue → Type 0) (builtin : List (MetaType DefaultScalarValue C)) (schema_file records_file : Bytes) where
+module _ {C : Type 0} (accepts : C → InputValue DefaultScalarValue → Type 0)
+    (builtin : List (MetaType DefaultScalarValue C)) (schema_file records_file : Bytes) where
   -- a root node over the schema that the first file describes, which can be executed or not
   abbrev pub Describes : Bool → RootNode DefaultScalarValue C → Type 0
-  Describes is_executable root = ReadsBytes accepts builtin schema_file (Ok root) × (executable root ≡ is_executable)
+  Describes is_executable root =
+      ReadsBytes accepts builtin schema_file (Ok root) × (executable root ≡ is_executable)
 
-  -- the service over that schema, whose `Boolean` takes `true`, and the records that the second file has for it
+  -- the service over that schema, whose `Boolean` takes `true`, and the records that the second
+  -- file has for it
   pub record IsDescribed (service : TableService C) : Type 0 where
     pub described : Describes true service.root_node
     pub truth : HasTrue accepts service.root_node
@@ -73,9 +78,14 @@ module _ {C : Type 0} (accepts : C → InputValue DefaultScalarValue → Type 0)
   IsDue (fault.Schema e) = ReadsBytes accepts builtin schema_file (Err e)
   IsDue fault.NotExecutable = (root : RootNode DefaultScalarValue C) × Describes false root
   IsDue (fault.Data e) =
-      (root : RootNode DefaultScalarValue C) × Describes true root × Meets (λ e. e ≡ error.Memory) (Err e) (records_in root.schema records_file)
+      (root : RootNode DefaultScalarValue C)
+      × Describes true root
+      × Meets (λ e. e ≡ error.Memory) (Err e) (records_in root.schema records_file)
   IsDue fault.OtherBoolean =
-      (root : RootNode DefaultScalarValue C) × (table : Table) × Describes true root × (records_in root.schema records_file ≡ Ok table)
+      (root : RootNode DefaultScalarValue C)
+      × (table : Table)
+      × Describes true root
+      × (records_in root.schema records_file ≡ Ok table)
       × (HasTrue accepts root → ⊥)
   IsDue (fault.Serve e) = ⊥
   IsDue fault.Memory = ⊥

@@ -19,11 +19,11 @@ impl DataFile {
     /// The records that a file has for a schema; or the first of the file's faults, in the order of
     /// [`DataFileError`], where `Memory` is want of memory, which tells nothing of the file.
     ///
-    /// The file is a JSON object with the object `roots`, in which the text `query` is the id of the
-    /// record from which queries start, and the list `records`. A record has the texts `id` and
-    /// `type` and the object `fields`: null, truth values, texts, whole numbers of 32 bits, and lists
-    /// of these, which may nest. At a field of a composite type each text is a link, the id of a
-    /// record. Members of other names are passed over.
+    /// The file is a JSON object with the object `roots`, in which the text `query` is the id of
+    /// the record from which queries start, and the list `records`. A record has the texts `id` and
+    /// `type` and the object `fields`: null, truth values, texts, whole numbers of 32 bits, and
+    /// lists of these, which may nest. At a field of a composite type each text is a link, the id
+    /// of a record. Members of other names are passed over.
     pub fn read(
         alloc: Global,
         bytes: &[u8],

@@ -23,7 +23,8 @@ pub enum RunFault {
     /// The file of the records has none for the schema.
     Data(DataFileError),
 
-    /// The check that is given for `Boolean` does not take `true` (GraphQL October 2021, 3.5.4 Boolean).
+    /// The check that is given for `Boolean` does not take `true` (GraphQL October 2021, 3.5.4
+    /// Boolean).
     OtherBoolean,
 
     /// A read or a write failed while lines were answered, or memory ran out.

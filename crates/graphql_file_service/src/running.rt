@@ -36,7 +36,9 @@ fn service_of(
     resolver: TableResolver,
     records: Records,
 ) -> Result<TableService, RunFault>
-    ensures { IsReady root_node → IsMadeOf ⟦<TypeCheck as Check<DefaultScalarValue>>⟧.accepts root_node resolver records result }
+    ensures { IsReady root_node
+        → IsMadeOf ⟦<TypeCheck as Check<DefaultScalarValue>>⟧.accepts root_node resolver records
+        result }
 {
     match Service::new(root_node, resolver, records, LINE_LIMIT, SELECTION_LIMIT) {
         Ok(service) => Ok(service),
@@ -55,7 +57,8 @@ fn serve_by<I: ByteSource, O: ByteSink>(
     reader: &mut I,
     writer: &mut O,
 ) -> Result<(), ServeError>
-    ensures served { let answerer = answerer_of ⟦<DefaultScalarValue as Meaning>⟧.meaning ⟦<RuleError as Ord>⟧.cmp
+    ensures served { let answerer =
+        answerer_of ⟦<DefaultScalarValue as Meaning>⟧.meaning ⟦<RuleError as Ord>⟧.cmp
         ⟦<ExecutionError<DefaultScalarValue> as Ord>⟧.cmp
         ⟦<TableResolver as Resolving<DefaultScalarValue>>⟧.resolving in
         let streams = spec.streams (I.left reader.old) (I.left reader.new)
@@ -74,17 +77,17 @@ fn serve_by<I: ByteSource, O: ByteSink>(
 
 /// Answers each line that is not empty of what is read, until it ends, over the schema and the
 /// records that two files describe; or, where `plain` is asked, tells the plain text of each, with
-/// [`SELECTION_LIMIT`] fields and inline fragments at most. The files are those of [`SchemaFile::read`], whose scalars get the
-/// checks that are given, and of [`DataFile::read`]. Both are judged before the first line is read.
-/// Lines have at most [`LINE_LIMIT`] bytes. What is read and written is as
-/// [`Service::serve`](graphql_service::Service::serve) says, or
-/// [`Service::serve_plain`](graphql_service::Service::serve_plain), and the records that the lines leave
-/// are let go at the end.
+/// [`SELECTION_LIMIT`] fields and inline fragments at most. The files are those of
+/// [`SchemaFile::read`], whose scalars get the checks that are given, and of [`DataFile::read`].
+/// Both are judged before the first line is read. Lines have at most [`LINE_LIMIT`] bytes. What is
+/// read and written is as [`Service::serve`](graphql_service::Service::serve) says, or
+/// [`Service::serve_plain`](graphql_service::Service::serve_plain), and the records that the lines
+/// leave are let go at the end.
 ///
 /// Errors: the first that stands, in the order of [`RunFault`]. `Serve` has the error of
 /// that call, and what was read and written by then is what is said there. Of any other fault
-/// nothing is read and nothing written, and want of memory, whichever fault has it, tells nothing of
-/// the files.
+/// nothing is read and nothing written, and want of memory, whichever fault has it, tells nothing
+/// of the files.
 pub fn run_files<I: ByteSource, O: ByteSink>(
     alloc: Global,
     schema: &[u8],
@@ -97,7 +100,8 @@ pub fn run_files<I: ByteSource, O: ByteSink>(
     ensures ran { let types = builtin_types checks.int checks.string checks.boolean checks.id
         checks.introspection in
         let accepts = ⟦<TypeCheck as Check<DefaultScalarValue>>⟧.accepts in
-        let answerer = answerer_of ⟦<DefaultScalarValue as Meaning>⟧.meaning ⟦<RuleError as Ord>⟧.cmp
+        let answerer =
+        answerer_of ⟦<DefaultScalarValue as Meaning>⟧.meaning ⟦<RuleError as Ord>⟧.cmp
         ⟦<ExecutionError<DefaultScalarValue> as Ord>⟧.cmp
         ⟦<TableResolver as Resolving<DefaultScalarValue>>⟧.resolving in
         let streams = spec.streams (I.left reader.old) (I.left reader.new)
