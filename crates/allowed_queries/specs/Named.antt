@@ -9,7 +9,8 @@ abbrev pub Word : Type 0
 Word = String Global
 
 -- three files, and no word behind them
-abbrev pub arguments_of : Option Word → Option Word → Option Word → Option Word → Result Arguments Failure
+abbrev pub arguments_of : Option Word → Option Word → Option Word → Option Word
+    → Result Arguments Failure
 arguments_of (Some schema) (Some records) (Some allowed) None =
     Ok (record { schema = schema; records = records; allowed = allowed })
 arguments_of (Some schema) (Some records) (Some allowed) (Some more) = Err Usage

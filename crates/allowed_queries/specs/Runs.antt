@@ -17,8 +17,8 @@ use Rattle.graphql_stores.specs.Allowing.{AnswersIfAllowed, BreaksIfAllowed}
 -- by what a service answers, and by a store
 module _ {C : Type 0} (answerer : TableService C → Answerer DefaultScalarValue C TableNode Table)
     (store : AllowedQueries) (bytes : Streams) where
-  -- each line was answered where the store allows what it asks, or why no more lines were; the records that
-  -- the lines left
+  -- each line was answered where the store allows what it asks, or why no more lines were; the
+  -- records that the lines left
   abbrev pub AnsweredAllowed : TableService C → Table → Result (Unit {0}) ServeError → Type 0
   AnsweredAllowed service after =
       Ended
@@ -26,11 +26,13 @@ module _ {C : Type 0} (answerer : TableService C → Answerer DefaultScalarValue
       bytes.left bytes.rest bytes.old bytes.new after)
       (λ e. Ends (AnswersIfAllowed (answerer service) service.selection_limit store)
       (BreaksIfAllowed (answerer service) service.selection_limit store)
-      (HasRisen bytes.faults bytes.faults_after) e service.context bytes.left bytes.rest bytes.old bytes.new after)
+      (HasRisen bytes.faults bytes.faults_after) e service.context bytes.left bytes.rest bytes.old
+      bytes.new after)
 
 -- and by what the two files describe
 module _ {C : Type 0} (answerer : TableService C → Answerer DefaultScalarValue C TableNode Table)
-    (Described : TableService C → Type 0) (Due : RunFault → Type 0) (store : AllowedQueries) (bytes : Streams) where
+    (Described : TableService C → Type 0) (Due : RunFault → Type 0) (store : AllowedQueries)
+    (bytes : Streams) where
   -- nothing was read and nothing written
   abbrev pub IsUntouched : Type 0
   IsUntouched = (bytes.rest ≡ bytes.left) × (bytes.new ≡ bytes.old)

@@ -18,8 +18,8 @@ pub struct Arguments {
     pub allowed: String,
 }
 
-/// What the first four words behind the program's name name, as far as there are so many. An error is
-/// `Failure::Usage`.
+/// What the first four words behind the program's name name, as far as there are so many. An error
+/// is `Failure::Usage`.
 pub fn arguments_of(
     schema: Option<String>,
     records: Option<String>,

@@ -1,11 +1,12 @@
 //! Why the program ended before the end of its input.
 
 ghost use Rattle.std.specs.Prelude.{◌≡◌};
+ghost use Rattle.allowed_queries.specs.Placed.{TellsPlaced};
 ghost use Rattle.allowed_queries.specs.Status.{status_of, status_of_fault};
 
-use graphql_file_service::{DataFileError, RunFault, SchemaFileError, ServeError};
+use graphql_file_service::{DataFileError, PlacedFault, RunFault, SchemaFileError, ServeError};
 use graphql_stores::AllowedFault;
-use std::alloc::AllocError;
+use std::alloc::{AllocError, Global};
 use std::error::Error;
 use std::{fmt, io};
 
@@ -18,8 +19,8 @@ pub enum Failure {
     CannotRead(String),
     /// The file of allowed queries has none.
     Allowed(AllowedFault),
-    /// The files are not served, or not to the end of the input.
-    Run(RunFault),
+    /// The files are not served, or not to the end of the input; and where in them that stands.
+    Run(PlacedFault),
     /// Memory ran out.
     Memory,
 }
@@ -31,6 +32,14 @@ pub(crate) fn unless_memory(error: io::Error, otherwise: Failure) -> Failure {
     } else {
         otherwise
     }
+}
+
+/// Why the program ends that met this fault of a run over the files of a schema and of its records:
+/// with where in them it stands, as `PlacedFault::of` tells.
+pub(crate) fn failure_of(alloc: Global, schema: &[u8], records: &[u8], fault: RunFault) -> Failure
+    ensures { TellsPlaced schema.now records.now fault result }
+{
+    Failure::Run(PlacedFault::of(alloc, schema, records, fault))
 }
 
 /// The exit status of a run that ended so.
@@ -60,13 +69,13 @@ impl Failure {
             Failure::Usage => 2,
             Failure::Allowed(AllowedFault::Line(_)) => 1,
             Failure::Allowed(AllowedFault::Memory) => 4,
-            Failure::Run(fault) => fault_status(fault),
+            Failure::Run(placed) => fault_status(&placed.fault),
             Failure::Memory => 4,
         }
     }
 }
 
-/// Writes why, in one line.
+/// Writes why, in one line; and in a second one where in the files, if that is known.
 impl fmt::Display for Failure {
     fn fmt<W: fmt::Write>(&self, f: &mut fmt::Formatter<W>) -> fmt::Result {
         match self {
@@ -75,7 +84,7 @@ impl fmt::Display for Failure {
             Failure::Allowed(AllowedFault::Line(number)) => {
                 write!(f, "allowed: line {number} tells no plain text")
             }
-            Failure::Run(fault) => write!(f, "{fault}"),
+            Failure::Run(placed) => write!(f, "{placed}"),
             Failure::Allowed(AllowedFault::Memory) | Failure::Memory => f.write_str(
                 "out of memory",
             ),
@@ -84,16 +93,6 @@ impl fmt::Display for Failure {
 }
 
 impl Error for Failure {}
-
-impl From<RunFault> for Failure {
-    ghost use Rattle.allowed_queries.specs.declared.failure.Failure.TheVariants.{Run};
-
-    ghost from_gives = { λ fault failure. failure ≡ Run fault };
-
-    fn from(fault: RunFault) -> Failure {
-        Failure::Run(fault)
-    }
-}
 
 impl From<AllowedFault> for Failure {
     ghost use Rattle.allowed_queries.specs.declared.failure.Failure.TheVariants.{Allowed};

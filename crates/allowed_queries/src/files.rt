@@ -40,7 +40,9 @@ fn service_of(
     resolver: TableResolver,
     records: Records,
 ) -> Result<TableService, RunFault>
-    ensures { IsReady root_node → IsMadeOf ⟦<TypeCheck as Check<DefaultScalarValue>>⟧.accepts root_node resolver records result }
+    ensures { IsReady root_node
+        → IsMadeOf ⟦<TypeCheck as Check<DefaultScalarValue>>⟧.accepts root_node resolver records
+        result }
 {
     match Service::new(root_node, resolver, records, LINE_LIMIT, SELECTION_LIMIT) {
         Ok(service) => Ok(service),
@@ -59,7 +61,8 @@ fn serve_allowed<I: ByteSource, O: ByteSink>(
     reader: &mut I,
     writer: &mut O,
 ) -> Result<(), ServeError>
-    ensures served { let answerer = answerer_of ⟦<DefaultScalarValue as Meaning>⟧.meaning ⟦<RuleError as Ord>⟧.cmp
+    ensures served { let answerer =
+        answerer_of ⟦<DefaultScalarValue as Meaning>⟧.meaning ⟦<RuleError as Ord>⟧.cmp
         ⟦<ExecutionError<DefaultScalarValue> as Ord>⟧.cmp
         ⟦<TableResolver as Resolving<DefaultScalarValue>>⟧.resolving in
         let streams = runs.streams (I.left reader.old) (I.left reader.new)
@@ -73,9 +76,10 @@ fn serve_allowed<I: ByteSource, O: ByteSink>(
     allowing.serve(alloc, reader, writer)
 }
 
-/// Answers each line that is not empty of what is read, until it ends, where the store allows what it asks, over
-/// the schema and the records that two files describe, as `run_files` of `graphql_file_service` answers it; else
-/// it tells that the query is not allowed, as `AllowingService::answer` says.
+/// Answers each line that is not empty of what is read, until it ends, where the store allows what
+/// it asks, over the schema and the records that two files describe, as `run_files` of
+/// `graphql_file_service` answers it; else it tells that the query is not allowed, as
+/// `AllowingService::answer` says.
 ///
 /// Errors: those of `run_files`, each where it comes there.
 pub fn run_allowed<I: ByteSource, O: ByteSink>(
@@ -90,7 +94,8 @@ pub fn run_allowed<I: ByteSource, O: ByteSink>(
     ensures ran { let types = builtin_types checks.int checks.string checks.boolean checks.id
         checks.introspection in
         let accepts = ⟦<TypeCheck as Check<DefaultScalarValue>>⟧.accepts in
-        let answerer = answerer_of ⟦<DefaultScalarValue as Meaning>⟧.meaning ⟦<RuleError as Ord>⟧.cmp
+        let answerer =
+        answerer_of ⟦<DefaultScalarValue as Meaning>⟧.meaning ⟦<RuleError as Ord>⟧.cmp
         ⟦<ExecutionError<DefaultScalarValue> as Ord>⟧.cmp
         ⟦<TableResolver as Resolving<DefaultScalarValue>>⟧.resolving in
         let streams = runs.streams (I.left reader.old) (I.left reader.new)

@@ -1,5 +1,5 @@
-//! Answers GraphQL request lines from standard input, over the schema and the records of two files, where a
-//! third file allows their plain texts.
+//! Answers GraphQL request lines from standard input, over the schema and the records of two files,
+//! where a third file allows their plain texts.
 #![tactic(auto)]
 
 mod arguments;
@@ -12,7 +12,7 @@ ghost use Rattle.graphql_scalars.specs.declared.check_error.CheckError.TheVarian
 ghost use Rattle.graphql_schema.specs.ScalarChecks.{IsBoolean, IsId, IsInt, IsString};
 
 use arguments::{Arguments, arguments_of};
-use failure::{Failure, unless_memory};
+use failure::{Failure, failure_of, unless_memory};
 use files::{bytes_at, run_allowed};
 use graphql_file_service::scalar_checks::{boolean_check, id_check, int_check, string_check};
 use graphql_file_service::{IntrospectionChecks, Piped, StandardChecks, TypeCheck};
@@ -33,8 +33,8 @@ fn read_arguments(rt: &HostRuntime) -> Result<Arguments, Failure> {
     arguments_of(words.next(), words.next(), words.next(), words.next())
 }
 
-/// Answers the lines of standard input over the files that the arguments name, with checks of the standard
-/// scalars.
+/// Answers the lines of standard input over the files that the arguments name, with checks of the
+/// standard scalars.
 fn run(rt: &HostRuntime) -> Result<(), Failure> {
     let arguments = read_arguments(rt)?;
     let alloc = rt.alloc();
@@ -103,7 +103,7 @@ fn run(rt: &HostRuntime) -> Result<(), Failure> {
     };
     let mut reader = Piped::new(rt.reader());
     let mut writer = Piped::new(io::writer(rt));
-    run_allowed(
+    let served = run_allowed(
         alloc,
         schema.as_slice(),
         records.as_slice(),
@@ -111,8 +111,11 @@ fn run(rt: &HostRuntime) -> Result<(), Failure> {
         checks,
         &mut reader,
         &mut writer,
-    )?;
-    Ok(())
+    );
+    match served {
+        Ok(()) => Ok(()),
+        Err(fault) => Err(failure_of(alloc, schema.as_slice(), records.as_slice(), fault)),
+    }
 }
 
 fn main(rt: HostRuntime) -> ExitCode {

@@ -9,7 +9,8 @@ abbrev pub Word : Type 0
 Word = String Global
 
 -- two files and a number of bytes, and no more
-abbrev pub arguments_of : Option Word → Option Word → Option Word → Option Word → Result Arguments Failure
+abbrev pub arguments_of : Option Word → Option Word → Option Word → Option Word
+    → Result Arguments Failure
 arguments_of (Some schema) (Some records) (Some bytes) None =
     Ok (record { schema = schema; records = records; bytes = bytes })
 arguments_of _ _ _ _ = Err Usage

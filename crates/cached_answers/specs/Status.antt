@@ -1,7 +1,8 @@
 -- Why the program ended, as its exit status.
 use Rattle.std.specs.Prelude.{ℕ}
 use Rattle.graphql_schema_files.specs.declared.schema_file_error.SchemaFileError.{SchemaFileError}
-use Rattle.graphql_schema_files.specs.declared.schema_file_error.SchemaFileError.TheVariants as schema_fault
+use Rattle.graphql_schema_files.specs.declared.schema_file_error.SchemaFileError.TheVariants as
+    schema_fault
 use Rattle.graphql_data_files.specs.declared.data_file_error.DataFileError.{DataFileError}
 use Rattle.graphql_data_files.specs.declared.data_file_error.DataFileError.TheVariants as data_fault
 use Rattle.graphql_streams.specs.declared.serve_error.ServeError.{ServeError}
@@ -9,7 +10,8 @@ use Rattle.graphql_streams.specs.declared.serve_error.ServeError.TheVariants as 
 use Rattle.graphql_file_service.specs.declared.run_fault.RunFault.{RunFault}
 use Rattle.graphql_file_service.specs.declared.run_fault.RunFault.TheVariants as run_fault
 use Rattle.cached_answers.specs.declared.failure.Failure.{Failure}
-use Rattle.cached_answers.specs.declared.failure.Failure.TheVariants.{Usage, CannotRead, Run, Memory}
+use Rattle.cached_answers.specs.declared.failure.Failure.TheVariants.{Usage, CannotRead, Run}
+use Rattle.cached_answers.specs.declared.failure.Failure.TheVariants.{Memory}
 
 -- a file that is bad is told by 1, a read or a write that failed by 3, and want of memory by 4
 abbrev pub status_of_schema : SchemaFileError → ℕ
@@ -36,5 +38,5 @@ status_of_fault run_fault.Memory = 4
 abbrev pub status_of : Failure → ℕ
 status_of Usage = 2
 status_of (CannotRead path) = 1
-status_of (Run fault) = status_of_fault fault
+status_of (Run placed) = status_of_fault placed.fault
 status_of Memory = 4

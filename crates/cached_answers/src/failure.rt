@@ -1,10 +1,11 @@
 //! Why the program ended before the end of its input.
 
 ghost use Rattle.std.specs.Prelude.{◌≡◌};
+ghost use Rattle.cached_answers.specs.Placed.{TellsPlaced};
 ghost use Rattle.cached_answers.specs.Status.{status_of, status_of_fault};
 
-use graphql_file_service::{DataFileError, RunFault, SchemaFileError, ServeError};
-use std::alloc::AllocError;
+use graphql_file_service::{DataFileError, PlacedFault, RunFault, SchemaFileError, ServeError};
+use std::alloc::{AllocError, Global};
 use std::error::Error;
 use std::{fmt, io};
 
@@ -15,8 +16,8 @@ pub enum Failure {
     Usage,
     /// The file at this path can't be read.
     CannotRead(String),
-    /// The files are not served, or not to the end of the input.
-    Run(RunFault),
+    /// The files are not served, or not to the end of the input; and where in them that stands.
+    Run(PlacedFault),
     /// Memory ran out.
     Memory,
 }
@@ -28,6 +29,14 @@ pub(crate) fn unless_memory(error: io::Error, otherwise: Failure) -> Failure {
     } else {
         otherwise
     }
+}
+
+/// Why the program ends that met this fault of a run over the files of a schema and of its records:
+/// with where in them it stands, as `PlacedFault::of` tells.
+pub(crate) fn failure_of(alloc: Global, schema: &[u8], records: &[u8], fault: RunFault) -> Failure
+    ensures { TellsPlaced schema.now records.now fault result }
+{
+    Failure::Run(PlacedFault::of(alloc, schema, records, fault))
 }
 
 /// The exit status of a run that ended so.
@@ -55,35 +64,25 @@ impl Failure {
         match self {
             Failure::CannotRead(_) => 1,
             Failure::Usage => 2,
-            Failure::Run(fault) => fault_status(fault),
+            Failure::Run(placed) => fault_status(&placed.fault),
             Failure::Memory => 4,
         }
     }
 }
 
-/// Writes why, in one line.
+/// Writes why, in one line; and in a second one where in the files, if that is known.
 impl fmt::Display for Failure {
     fn fmt<W: fmt::Write>(&self, f: &mut fmt::Formatter<W>) -> fmt::Result {
         match self {
             Failure::Usage => f.write_str("usage: cached_answers SCHEMA DATA BYTES"),
             Failure::CannotRead(path) => write!(f, "cannot read {path}"),
-            Failure::Run(fault) => write!(f, "{fault}"),
+            Failure::Run(placed) => write!(f, "{placed}"),
             Failure::Memory => f.write_str("out of memory"),
         }
     }
 }
 
 impl Error for Failure {}
-
-impl From<RunFault> for Failure {
-    ghost use Rattle.cached_answers.specs.declared.failure.Failure.TheVariants.{Run};
-
-    ghost from_gives = { λ fault failure. failure ≡ Run fault };
-
-    fn from(fault: RunFault) -> Failure {
-        Failure::Run(fault)
-    }
-}
 
 impl From<AllocError> for Failure {
     ghost use Rattle.cached_answers.specs.declared.failure.Failure.TheVariants.{Memory};

@@ -12,7 +12,7 @@ ghost use Rattle.graphql_scalars.specs.declared.check_error.CheckError.TheVarian
 ghost use Rattle.graphql_schema.specs.ScalarChecks.{IsBoolean, IsId, IsInt, IsString};
 
 use arguments::{Arguments, arguments_of};
-use failure::{Failure, unless_memory};
+use failure::{Failure, failure_of, unless_memory};
 use files::serve_cached;
 use graphql_file_service::scalar_checks::{boolean_check, id_check, int_check, string_check};
 use graphql_file_service::{IntrospectionChecks, Piped, StandardChecks, TypeCheck};
@@ -110,7 +110,7 @@ fn run(rt: &HostRuntime) -> Result<(), Failure> {
     };
     let mut reader = Piped::new(rt.reader());
     let mut writer = Piped::new(io::writer(rt));
-    serve_cached(
+    let served = serve_cached(
         alloc,
         schema.as_slice(),
         records.as_slice(),
@@ -118,8 +118,11 @@ fn run(rt: &HostRuntime) -> Result<(), Failure> {
         byte_limit,
         &mut reader,
         &mut writer,
-    )?;
-    Ok(())
+    );
+    match served {
+        Ok(()) => Ok(()),
+        Err(fault) => Err(failure_of(alloc, schema.as_slice(), records.as_slice(), fault)),
+    }
 }
 
 fn main(rt: HostRuntime) -> ExitCode {

@@ -1,5 +1,6 @@
 -- What the words behind the program's name ask for.
-use Rattle.std.specs.Prelude.{Bool, true, false, Option, Some, None, Result, Ok, Err, String, codes, if◌then◌else◌}
+use Rattle.std.specs.Prelude.{Bool, true, false, Option, Some, None, Result, Ok, Err, String, codes}
+use Rattle.std.specs.Prelude.{if◌then◌else◌}
 use Rattle.std.specs.Str.{bytes_eq}
 use Rattle.std.specs.String.{string_bytes}
 use Rattle.std.specs.declared.alloc.Global.{Global}
@@ -13,14 +14,17 @@ Word = String Global
 -- answers, or plain texts by the word `--plain`
 abbrev pub asks_for_plain : Option Word → Result Bool Failure
 asks_for_plain None = Ok false
-asks_for_plain (Some word) = if bytes_eq (string_bytes word) (codes "--plain") then Ok true else Err Usage
+asks_for_plain (Some word) =
+    if bytes_eq (string_bytes word) (codes "--plain") then Ok true else Err Usage
 
 abbrev pub over : Word → Word → Result Bool Failure → Result (Option Arguments) Failure
-over schema records (Ok plain) = Ok (Some (record { schema = schema; records = records; plain = plain }))
+over schema records (Ok plain) =
+    Ok (Some (record { schema = schema; records = records; plain = plain }))
 over schema records (Err failure) = Err failure
 
 -- two files and at most one word behind them, or the sample's where there is no word
-abbrev pub arguments_of : Option Word → Option Word → Option Word → Option Word → Result (Option Arguments) Failure
+abbrev pub arguments_of : Option Word → Option Word → Option Word → Option Word
+    → Result (Option Arguments) Failure
 arguments_of None records word more = Ok None
 arguments_of (Some schema) (Some records) word None = over schema records (asks_for_plain word)
 arguments_of (Some schema) (Some records) word (Some more) = Err Usage

@@ -5,7 +5,8 @@ ghost use Rattle.graphql_service_program.specs.Asked as spec;
 
 use crate::failure::Failure;
 
-/// What the program's arguments name: the paths of two files, and whether plain texts are asked for.
+/// What the program's arguments name: the paths of two files, and whether plain texts are asked
+/// for.
 #[derive(Drop)]
 pub struct Arguments {
     /// The path of the file of a schema.
@@ -32,8 +33,8 @@ fn asks_for_plain(word: Option<String>) -> Result<bool, Failure>
     }
 }
 
-/// What the first four words behind the program's name ask for, as far as there are so many: nothing
-/// where there is none. An error is `Failure::Usage`.
+/// What the first four words behind the program's name ask for, as far as there are so many:
+/// nothing where there is none. An error is `Failure::Usage`.
 pub fn arguments_of(
     schema: Option<String>,
     records: Option<String>,

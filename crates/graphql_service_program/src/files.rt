@@ -6,12 +6,14 @@ ghost use Rattle.graphql_service.specs.Answers.{answerer_of};
 ghost use Rattle.graphql_file_service.specs.Runs as runs;
 ghost use Rattle.graphql_file_service.specs.TableServices.{IsDescribed, IsDue};
 ghost use Rattle.graphql_service_program.specs.Asked.{is_plain};
+ghost use Rattle.graphql_service_program.specs.Placed.{TellsPlaced};
 
 use crate::arguments::Arguments;
 use crate::failure::{Failure, unless_memory};
 use graphql_field_results::ExecutionError;
 use graphql_file_service::{
-    ByteSink, ByteSource, RunFault, StandardChecks, TableResolver, TypeCheck, run_files, sample,
+    ByteSink, ByteSource, PlacedFault, RunFault, StandardChecks, TableResolver, TypeCheck,
+    run_files, sample,
 };
 use graphql_rule_errors::RuleError;
 use graphql_schema::Check;
@@ -20,7 +22,8 @@ use graphql_values::DefaultScalarValue;
 use std::alloc::Global;
 use std::fs;
 
-/// What is served: the bytes of a file of a schema and of one of its records; whether plain texts are asked for.
+/// What is served: the bytes of a file of a schema and of one of its records; whether plain texts
+/// are asked for.
 #[derive(Drop)]
 pub struct Files {
     schema: Vec<u8>,
@@ -36,7 +39,8 @@ fn bytes_at(rt: &HostRuntime, path: String) -> Result<Vec<u8>, Failure> {
     }
 }
 
-/// The files that arguments name, or the sample's; plain texts are asked for where the arguments do.
+/// The files that arguments name, or the sample's; plain texts are asked for where the arguments
+/// do.
 pub fn read_files(rt: &HostRuntime, arguments: Option<Arguments>) -> Result<Files, Failure>
     ensures { IfOk result (λ files. files.plain ≡ is_plain arguments) }
 {
@@ -65,8 +69,8 @@ pub fn read_files(rt: &HostRuntime, arguments: Option<Arguments>) -> Result<File
     }
 }
 
-/// Answers the lines of what is read over the files, with these checks of the standard scalars, or tells
-/// their plain texts where these are asked for, as `run_files` does.
+/// Answers the lines of what is read over the files, with these checks of the standard scalars, or
+/// tells their plain texts where these are asked for, as `run_files` does.
 pub fn serve_files<I: ByteSource, O: ByteSink>(
     alloc: Global,
     files: &Files,
@@ -77,7 +81,8 @@ pub fn serve_files<I: ByteSource, O: ByteSink>(
     ensures { let types = builtin_types checks.int checks.string checks.boolean checks.id
         checks.introspection in
         let accepts = ⟦<TypeCheck as Check<DefaultScalarValue>>⟧.accepts in
-        let answerer = answerer_of ⟦<DefaultScalarValue as Meaning>⟧.meaning ⟦<RuleError as Ord>⟧.cmp
+        let answerer =
+        answerer_of ⟦<DefaultScalarValue as Meaning>⟧.meaning ⟦<RuleError as Ord>⟧.cmp
         ⟦<ExecutionError<DefaultScalarValue> as Ord>⟧.cmp
         ⟦<TableResolver as Resolving<DefaultScalarValue>>⟧.resolving in
         let streams = runs.streams (I.left reader.old) (I.left reader.new)
@@ -90,4 +95,14 @@ pub fn serve_files<I: ByteSource, O: ByteSink>(
     let schema = files.schema.as_slice();
     let records = files.records.as_slice();
     run_files(alloc, schema, records, checks, files.plain, reader, writer)
+}
+
+/// Why the program ends that met this fault of a run over the files: with where in them it stands,
+/// as `PlacedFault::of` tells.
+pub fn failure_of(alloc: Global, files: &Files, fault: RunFault) -> Failure
+    ensures { TellsPlaced files.now.schema.items files.now.records.items fault result }
+{
+    let schema = files.schema.as_slice();
+    let records = files.records.as_slice();
+    Failure::Run(PlacedFault::of(alloc, schema, records, fault))
 }

@@ -1,5 +1,6 @@
-//! Answers GraphQL request lines from standard input, over a schema and its records: those that two files
-//! have, or the sample's. With `--plain` behind the files it tells the plain text of each request.
+//! Answers GraphQL request lines from standard input, over a schema and its records: those that two
+//! files have, or the sample's. With `--plain` behind the files it tells the plain text of each
+//! request.
 #![tactic(auto)]
 
 mod arguments;
@@ -13,7 +14,7 @@ ghost use Rattle.graphql_schema.specs.ScalarChecks.{IsBoolean, IsId, IsInt, IsSt
 
 use arguments::{Arguments, arguments_of};
 use failure::{Failure, unless_memory};
-use files::{read_files, serve_files};
+use files::{failure_of, read_files, serve_files};
 use graphql_file_service::scalar_checks::{boolean_check, id_check, int_check, string_check};
 use graphql_file_service::{IntrospectionChecks, Piped, StandardChecks, TypeCheck};
 use graphql_values::{DefaultScalarValue, InputValue};
@@ -32,8 +33,8 @@ fn read_arguments(rt: &HostRuntime) -> Result<Option<Arguments>, Failure> {
     arguments_of(words.next(), words.next(), words.next(), words.next())
 }
 
-/// Answers the lines of standard input over the files, or tells their plain texts, with checks of the
-/// standard scalars.
+/// Answers the lines of standard input over the files, or tells their plain texts, with checks of
+/// the standard scalars.
 fn run(rt: &HostRuntime) -> Result<(), Failure> {
     let files = read_files(rt, read_arguments(rt)?)?;
     let alloc = rt.alloc();
@@ -98,8 +99,10 @@ fn run(rt: &HostRuntime) -> Result<(), Failure> {
     };
     let mut reader = Piped::new(rt.reader());
     let mut writer = Piped::new(io::writer(rt));
-    serve_files(alloc, &files, checks, &mut reader, &mut writer)?;
-    Ok(())
+    match serve_files(alloc, &files, checks, &mut reader, &mut writer) {
+        Ok(()) => Ok(()),
+        Err(fault) => Err(failure_of(alloc, &files, fault)),
+    }
 }
 
 fn main(rt: HostRuntime) -> ExitCode {

@@ -1,31 +1,34 @@
 //! Files of schemas and of records, and why they are not served.
 
 use crate::service::served::{Asked, over};
-use graphql_file_service::{Piped, RunFault, StandardChecks, run_files, sample};
+use graphql_file_service::{Piped, PlacedFault, StandardChecks, run_files, sample};
 use std::alloc::Global;
 use std::io;
 use std::process::Abort;
 
-/// Files of schemas, and why they are not served. Where several faults stand, the first is told; the
-/// faults of the records come last.
+/// Files of schemas, and why they are not served, and where that stands, if it is known. Where
+/// several faults stand, the first is told; the faults of the records come last.
 const SCHEMAS: &[(&str, &str)] = &[
-    ("{", "schema: NotJson"),
-    (r#"{"query":"Query"}"#, "schema: BadShape"),
+    ("{", "schema: NotJson\nline 1, column 1"),
+    (
+        r#"{"query":"Query"}"#,
+        "schema: BadShape\n$.types: a list is wanted",
+    ),
     (
         r#"{"query":"Query","types":[{"kind":"enum","name":"1"}]}"#,
-        "schema: BadShape",
+        "schema: BadShape\n$.types[0].kind: \"object\", \"interface\" or \"union\" is wanted",
     ),
     (
         r#"{"query":"Query","types":[{"kind":"object","name":"1","fields":[{"name":"a","type":"["}]}]}"#,
-        "schema: BadName",
+        "schema: BadName\ntype \"1\"",
     ),
     (
         r#"{"query":"Query","types":[{"kind":"object","name":"Query","fields":[{"name":"a","type":"Int ]","args":[{"name":"b","type":"Int","default":"$c"}]}]}]}"#,
-        "schema: BadTypeText",
+        "schema: BadTypeText\ntype \"Query\", field \"a\"",
     ),
     (
         r#"{"query":"Query","types":[{"kind":"object","name":"Query","fields":[{"name":"a","type":"Nobody","args":[{"name":"b","type":"Int","default":"$c"}]}]}]}"#,
-        "schema: BadDefault",
+        "schema: BadDefault\ntype \"Query\", field \"a\", argument \"b\"",
     ),
     (
         r#"{"query":"Query","types":[{"kind":"object","name":"Query","fields":[{"name":"a","type":"Nobody","args":[{"name":"b","type":"Int","default":"true"}]}]}]}"#,
@@ -37,17 +40,18 @@ const SCHEMAS: &[(&str, &str)] = &[
     ),
     (
         r#"{"query":"Query","types":[{"kind":"interface","name":"Counted","fields":[{"name":"a","type":"Int!"}]},{"kind":"object","name":"Query","interfaces":["Counted"],"fields":[{"name":"a","type":"Int"}]}]}"#,
-        "schema: NotExecutable",
+        "schema: NotExecutable\ntype \"Query\", interface \"Counted\", field \"a\"",
     ),
     (
         r#"{"query":"Query","types":[{"kind":"object","name":"Query","fields":[{"name":"a","type":"Int","args":[{"name":"b","type":"[Int!]!","default":"[1, 2]"}]}]}]}"#,
-        "data: NotJson",
+        "data: NotJson\nline 1, column 1",
     ),
 ];
 
-/// Files of records of the sample's schema, and why they are not served.
+/// Files of records of the sample's schema, and why they are not served, and where that stands, if
+/// it is known.
 const RECORDS: &[(&str, &str)] = &[
-    ("[", "data: NotJson"),
+    ("[", "data: NotJson\nline 1, column 1"),
     (r#"{"roots":{"query":"q"}}"#, "data: BadShape"),
     (r#"{"roots":{},"records":[]}"#, "data: BadShape"),
     (
@@ -60,35 +64,35 @@ const RECORDS: &[(&str, &str)] = &[
     ),
     (
         r#"{"roots":{"query":"q"},"records":[{"id":"q","type":"Query","fields":{"hero":[[1.0]]}},{"id":"q","type":"Query","fields":{}}]}"#,
-        "data: BadNumber",
+        "data: BadNumber\nrecord \"q\", field \"hero\"",
     ),
     (
         r#"{"roots":{"query":"q"},"records":[{"id":"q","type":"Query","fields":{"hero":2147483648}}]}"#,
-        "data: BadNumber",
+        "data: BadNumber\nrecord \"q\", field \"hero\"",
     ),
     (
         r#"{"roots":{"query":"q"},"records":[{"id":"q","type":"Query","fields":{"hero":"h9"}},{"id":"h1","type":"Human","fields":{}},{"id":"h1","type":"Human","fields":{}}]}"#,
-        "data: DuplicateId",
+        "data: DuplicateId\nrecord \"h1\"",
     ),
     (
         r#"{"roots":{"query":"q"},"records":[{"id":"q","type":"Query","fields":{"age":1}},{"id":"h1","type":"Int","fields":{}}]}"#,
-        "data: UnknownType",
+        "data: UnknownType\nrecord \"h1\"",
     ),
     (
         r#"{"roots":{"query":"q"},"records":[{"id":"q","type":"Query","fields":{"hero":"h9"}},{"id":"h1","type":"Human","fields":{"age":1}}]}"#,
-        "data: UnknownField",
+        "data: UnknownField\nrecord \"h1\", field \"age\"",
     ),
     (
         r#"{"roots":{"query":"h1"},"records":[{"id":"h1","type":"Human","fields":{"name":"h9","friend":[5,["h1","h9"]]}}]}"#,
-        "data: BadLink",
+        "data: BadLink\nrecord \"h1\", field \"friend\"",
     ),
     (
         r#"{"roots":{"query":"h1"},"records":[{"id":"h1","type":"Human","fields":{"name":"h9","friend":[5,["h1"]]}}]}"#,
-        "data: BadRoot",
+        "data: BadRoot\nroot \"h1\"",
     ),
     (
         r#"{"roots":{"query":"q"},"records":[{"id":"h1","type":"Human","fields":{"name":["h9",null,true]}}]}"#,
-        "data: BadRoot",
+        "data: BadRoot\nroot \"q\"",
     ),
     (
         r#"{"roots":{"query":"q","mutation":5},"records":[{"id":"q","type":"Query","fields":{"hero":null},"of":{}}],"more":[]}"#,
@@ -97,13 +101,18 @@ const RECORDS: &[(&str, &str)] = &[
     (sample::RECORDS, ""),
 ];
 
-/// Serves no line over files, with these checks of the scalars.
-pub fn served(alloc: Global, files: (&str, &str), checks: StandardChecks) -> Result<(), RunFault> {
+/// Serves no line over files, with these checks of the scalars, and tells with the fault where it
+/// stands.
+pub fn served(
+    alloc: Global,
+    files: (&str, &str),
+    checks: StandardChecks,
+) -> Result<(), PlacedFault> {
     let mut reader = Piped::new(io::empty());
     let mut writer = Piped::new(io::sink());
     let schema = files.0.as_bytes();
     let records = files.1.as_bytes();
-    run_files(
+    let ended = run_files(
         alloc,
         schema,
         records,
@@ -111,15 +120,19 @@ pub fn served(alloc: Global, files: (&str, &str), checks: StandardChecks) -> Res
         false,
         &mut reader,
         &mut writer,
-    )
+    );
+    match ended {
+        Ok(()) => Ok(()),
+        Err(fault) => Err(PlacedFault::of(alloc, schema, records, fault)),
+    }
 }
 
-/// Asserts why files are not served; with the empty text, that they are.
-pub fn is_told(rt: &impl Abort, alloc: Global, served: Result<(), RunFault>, wanted: &str) {
+/// Asserts why files are not served, and where that stands; with the empty text, that they are.
+pub fn is_told(rt: &impl Abort, alloc: Global, served: Result<(), PlacedFault>, wanted: &str) {
     match served {
         Ok(()) => assert_eq!(rt; "", wanted),
-        Err(fault) => {
-            let told = format!(in alloc; "{fault}").expect(rt, "memory");
+        Err(placed) => {
+            let told = format!(in alloc; "{placed}").expect(rt, "memory");
             assert_eq!(rt; told.as_str(), wanted);
         }
     }
