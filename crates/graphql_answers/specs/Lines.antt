@@ -31,10 +31,12 @@ ValuesAreLines = (v : Value ScalarAnswer) → IsLine (line_of v)
 abbrev pub ToldInDistinctKeys : {S : Type 0} → ExecutionError S → Type 0
 ToldInDistinctKeys error = HasDistinctKeysThroughout error.error.extensions
 
--- each object in an answer has distinct keys, however deep, where those have that it takes over (7.2.2 Serialized Map Ordering)
+-- each object in an answer has distinct keys, however deep, where those have that it takes over
+-- (7.2.2 Serialized Map Ordering)
 abbrev pub AnswersHaveDistinctKeys : {S : Type 0} → (S → ScalarAnswer) → Type 0
 AnswersHaveDistinctKeys {S} answer =
-    ((answered : Value S) (errors : List (ExecutionError S)) → HasDistinctKeysThroughout answered → All ToldInDistinctKeys errors
+    ((answered : Value S) (errors : List (ExecutionError S)) → HasDistinctKeysThroughout answered
+    → All ToldInDistinctKeys errors
     → HasDistinctKeysThroughout (response_of answer answered errors))
     × ((errors : List RuleError) → HasDistinctKeysThroughout (refusal_of errors))
 

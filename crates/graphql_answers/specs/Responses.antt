@@ -1,4 +1,5 @@
--- What a request is answered, as a value whose scalars are integers, booleans and texts (GraphQL October 2021, 7.1 Response Format).
+-- What a request is answered, as a value whose scalars are integers, booleans and texts (GraphQL
+-- October 2021, 7.1 Response Format).
 use Rattle.std.specs.Prelude.{◌+◌, ℕ, pos, List, [], ◌∷◌, map, codes}
 use Rattle.graphql_text.specs.declared.position.SourcePosition.{SourcePosition}
 use Rattle.graphql_names.specs.Names.{Bytes}
@@ -24,24 +25,30 @@ number_of n = value.Scalar (integer (pos n))
 
 -- where an error points (7.1.2 Errors): places count from zero, lines and columns here from one
 abbrev pub location_of : SourcePosition → Value ScalarAnswer
-location_of place = object_of ((codes "line", number_of (place.line + 1)) ∷ (codes "column", number_of (place.column + 1)) ∷ [])
+location_of place = object_of ((codes "line", number_of (place.line + 1))
+    ∷ (codes "column", number_of (place.column + 1)) ∷ [])
 
 -- told where an error points at a place, and else left out
 abbrev pub locations_of : List SourcePosition → List (Pair (Value ScalarAnswer))
 locations_of [] = []
-locations_of (place ∷ places) = (codes "locations", value.List (map location_of (place ∷ places))) ∷ []
+locations_of (place ∷ places) =
+    (codes "locations", value.List (map location_of (place ∷ places))) ∷ []
 
 -- what is told beside an error, left out where it is null: one layer
-abbrev pub extensions_layer : {S X O : Type 0} → Value ScalarAnswer → Value-F S X O → List (Pair (Value ScalarAnswer))
+abbrev pub extensions_layer : {S X O : Type 0} → Value ScalarAnswer → Value-F S X O
+    → List (Pair (Value ScalarAnswer))
 extensions_layer beside Value-F.Null = []
 extensions_layer beside _ = (codes "extensions", beside) ∷ []
 
-abbrev pub extensions_by : {S : Type 0} → Value ScalarAnswer → Value S → List (Pair (Value ScalarAnswer))
-extensions_by {S} beside = fold-Value S (List (Pair (Value ScalarAnswer))) (List (Pair (Value ScalarAnswer))) (extensions_layer beside) (λ o. [])
+abbrev pub extensions_by : {S : Type 0} → Value ScalarAnswer → Value S
+    → List (Pair (Value ScalarAnswer))
+extensions_by {S} beside = fold-Value S (List (Pair (Value ScalarAnswer)))
+    (List (Pair (Value ScalarAnswer))) (extensions_layer beside) (λ o. [])
 
 -- why a request is not executed
 abbrev pub request_error_of : RuleError → Value ScalarAnswer
-request_error_of error = object_of ((codes "message", text_of error.message) ∷ locations_of error.locations)
+request_error_of error =
+    object_of ((codes "message", text_of error.message) ∷ locations_of error.locations)
 
 -- the answer to a request that is refused, and has no data
 abbrev pub refusal_of : List RuleError → Value ScalarAnswer
@@ -56,17 +63,21 @@ module _ {S : Type 0} (answer : S → ScalarAnswer) where
   abbrev pub extensions_of : Value S → List (Pair (Value ScalarAnswer))
   extensions_of beside = extensions_by (map_scalars answer beside) beside
 
-  -- a field that has no value: why, where it starts, and the response keys from the root of the data down to it
+  -- a field that has no value: why, where it starts, and the response keys from the root of the
+  -- data down to it
   abbrev pub field_error_of : ExecutionError S → Value ScalarAnswer
   field_error_of error =
-      object_of ((codes "message", text_of error.error.message) ∷ (codes "locations", value.List (location_of error.location ∷ []))
+      object_of ((codes "message", text_of error.error.message)
+      ∷ (codes "locations", value.List (location_of error.location ∷ []))
       ∷ (codes "path", value.List (map text_of error.path)) ∷ extensions_of error.error.extensions)
 
   -- the errors of fields, left out where there is none
   abbrev pub errors_of : List (ExecutionError S) → List (Pair (Value ScalarAnswer))
   errors_of [] = []
-  errors_of (error ∷ errors) = (codes "errors", value.List (map field_error_of (error ∷ errors))) ∷ []
+  errors_of (error ∷ errors) =
+      (codes "errors", value.List (map field_error_of (error ∷ errors))) ∷ []
 
   -- the answer to a request that is executed
   abbrev pub response_of : Value S → List (ExecutionError S) → Value ScalarAnswer
-  response_of answered errors = object_of ((codes "data", map_scalars answer answered) ∷ errors_of errors)
+  response_of answered errors =
+      object_of ((codes "data", map_scalars answer answered) ∷ errors_of errors)

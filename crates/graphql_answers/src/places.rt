@@ -34,7 +34,8 @@ pub fn push_location(out: &mut Vec<u8>, place: &SourcePosition) -> Result<(), Al
 
 /// Writes places, with a comma between any two.
 pub fn push_each_location(out: &mut Vec<u8>, places: &[SourcePosition]) -> Result<(), AllocError>
-    ensures written { OnOk result (out.new.items ≡ out.old.items ++ joined [] (map spec.location_text places.now)) }
+    ensures written { OnOk result
+        (out.new.items ≡ out.old.items ++ joined [] (map spec.location_text places.now)) }
     ensures front { KeepsFront out.old.items out.new.items }
 {
     let mut gap: &[u8] = b"";
@@ -48,7 +49,8 @@ pub fn push_each_location(out: &mut Vec<u8>, places: &[SourcePosition]) -> Resul
 
 /// Writes the member that says where an error points, if it points at a place.
 pub fn push_locations(out: &mut Vec<u8>, places: &[SourcePosition]) -> Result<(), AllocError>
-    ensures written { OnOk result (out.new.items ≡ out.old.items ++ spec.locations_text places.now) }
+    ensures written { OnOk result
+        (out.new.items ≡ out.old.items ++ spec.locations_text places.now) }
     ensures front { KeepsFront out.old.items out.new.items }
 {
     if places.is_empty() {

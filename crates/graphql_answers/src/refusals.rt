@@ -20,7 +20,9 @@ fn push_request_error(
     message: &str,
     places: &[SourcePosition],
 ) -> Result<(), AllocError>
-    ensures written { OnOk result (out.new.items ≡ out.old.items ++ spec.request_error_text (record { locations = places.now; message = message.now })) }
+    ensures written { OnOk result (out.new.items
+        ≡ out.old.items
+        ++ spec.request_error_text (record { locations = places.now; message = message.now })) }
     ensures front { KeepsFront out.old.items out.new.items }
 {
     out.extend_from_slice(b"{\"message\":")?;
@@ -31,7 +33,8 @@ fn push_request_error(
 
 /// Writes errors, with a comma between any two.
 fn push_request_errors(out: &mut Vec<u8>, errors: &[RuleError]) -> Result<(), AllocError>
-    ensures written { OnOk result (out.new.items ≡ out.old.items ++ joined [] (map spec.request_error_text errors.now)) }
+    ensures written { OnOk result
+        (out.new.items ≡ out.old.items ++ joined [] (map spec.request_error_text errors.now)) }
     ensures front { KeepsFront out.old.items out.new.items }
 {
     let mut gap: &[u8] = b"";
@@ -43,12 +46,13 @@ fn push_request_errors(out: &mut Vec<u8>, errors: &[RuleError]) -> Result<(), Al
     Ok(())
 }
 
-/// Writes the answer to a request that is refused with these errors, at the end of `out`, as JSON without
-/// spaces (GraphQL October 2021, 7.1.2 Errors): what each says and, where it has places, their lines and
-/// columns from one. An error is want of memory: then `out` may hold a part of it, behind what it
-/// held.
+/// Writes the answer to a request that is refused with these errors, at the end of `out`, as JSON
+/// without spaces (GraphQL October 2021, 7.1.2 Errors): what each says and, where it has places,
+/// their lines and columns from one. An error is want of memory: then `out` may hold a part of it,
+/// behind what it held.
 pub fn errors_to_json(out: &mut Vec<u8>, errors: &[RuleError]) -> Result<(), AllocError>
-    ensures written { OnOk result (out.new.items ≡ out.old.items ++ answer_json (refusal_of errors.now)) }
+    ensures written { OnOk result
+        (out.new.items ≡ out.old.items ++ answer_json (refusal_of errors.now)) }
     ensures front { KeepsFront out.old.items out.new.items }
 {
     out.extend_from_slice(b"{\"errors\":[")?;
@@ -56,14 +60,17 @@ pub fn errors_to_json(out: &mut Vec<u8>, errors: &[RuleError]) -> Result<(), All
     out.extend_from_slice(b"]}")
 }
 
-/// Writes the answer to a request that is refused with one error, which says this and points at these
-/// places, as `errors_to_json` does.
+/// Writes the answer to a request that is refused with one error, which says this and points at
+/// these places, as `errors_to_json` does.
 pub fn refusal_to_json(
     out: &mut Vec<u8>,
     message: &str,
     places: &[SourcePosition],
 ) -> Result<(), AllocError>
-    ensures written { OnOk result (out.new.items ≡ out.old.items ++ answer_json (refusal_of (record { locations = places.now; message = message.now } ∷ []))) }
+    ensures written { OnOk result (out.new.items
+        ≡ out.old.items
+        ++ answer_json
+        (refusal_of (record { locations = places.now; message = message.now } ∷ []))) }
     ensures front { KeepsFront out.old.items out.new.items }
 {
     out.extend_from_slice(b"{\"errors\":[")?;

@@ -18,7 +18,8 @@ use std::alloc::AllocError;
 
 /// Writes response keys, with a comma between any two.
 fn push_path(out: &mut Vec<u8>, path: &[Text]) -> Result<(), AllocError>
-    ensures written { OnOk result (out.new.items ≡ out.old.items ++ joined [] (map json_text path.now)) }
+    ensures written { OnOk result
+        (out.new.items ≡ out.old.items ++ joined [] (map json_text path.now)) }
     ensures front { KeepsFront out.old.items out.new.items }
 {
     let mut gap: &[u8] = b"";
@@ -32,7 +33,8 @@ fn push_path(out: &mut Vec<u8>, path: &[Text]) -> Result<(), AllocError>
 
 /// Writes the member of what is told beside an error, unless that is null.
 fn push_extensions<S: ScalarValue>(out: &mut Vec<u8>, beside: &Value<S>) -> Result<(), AllocError>
-    ensures written { OnOk result (out.new.items ≡ out.old.items ++ spec.extensions_text S.answer beside.now) }
+    ensures written { OnOk result
+        (out.new.items ≡ out.old.items ++ spec.extensions_text S.answer beside.now) }
     ensures front { KeepsFront out.old.items out.new.items }
 {
     if beside.is_null() {
@@ -62,7 +64,8 @@ fn push_field_error<S: ScalarValue>(
     out: &mut Vec<u8>,
     error: &ExecutionError<S>,
 ) -> Result<(), AllocError>
-    ensures written { OnOk result (out.new.items ≡ out.old.items ++ spec.field_error_text S.answer error.now) }
+    ensures written { OnOk result
+        (out.new.items ≡ out.old.items ++ spec.field_error_text S.answer error.now) }
     ensures front { KeepsFront out.old.items out.new.items }
 {
     out.extend_from_slice(b"{\"message\":")?;
@@ -77,7 +80,9 @@ fn push_field_errors<S: ScalarValue>(
     out: &mut Vec<u8>,
     errors: &[ExecutionError<S>],
 ) -> Result<(), AllocError>
-    ensures written { OnOk result (out.new.items ≡ out.old.items ++ joined [] (map (spec.field_error_text S.answer) errors.now)) }
+    ensures written { OnOk result (out.new.items
+        ≡ out.old.items
+        ++ joined [] (map (spec.field_error_text S.answer) errors.now)) }
     ensures front { KeepsFront out.old.items out.new.items }
 {
     let mut gap: &[u8] = b"";
@@ -94,7 +99,8 @@ fn push_errors<S: ScalarValue>(
     out: &mut Vec<u8>,
     errors: &[ExecutionError<S>],
 ) -> Result<(), AllocError>
-    ensures written { OnOk result (out.new.items ≡ out.old.items ++ spec.errors_text S.answer errors.now) }
+    ensures written { OnOk result
+        (out.new.items ≡ out.old.items ++ spec.errors_text S.answer errors.now) }
     ensures front { KeepsFront out.old.items out.new.items }
 {
     if errors.is_empty() {
@@ -105,17 +111,18 @@ fn push_errors<S: ScalarValue>(
     out.extend_from_slice(b"]")
 }
 
-/// Writes the answer to a request that is executed, at the end of `out`, as JSON without spaces (GraphQL
-/// October 2021, 7.1 Response Format): the value as its data and, where there are any, its errors, each with what it
-/// says, the line and the column of its field from one, the response keys down to that field and, unless
-/// that is null, what is told beside it. An error of the call is want of memory: then `out` may hold a
-/// part of it, behind what it held.
+/// Writes the answer to a request that is executed, at the end of `out`, as JSON without spaces
+/// (GraphQL October 2021, 7.1 Response Format): the value as its data and, where there are any, its
+/// errors, each with what it says, the line and the column of its field from one, the response keys
+/// down to that field and, unless that is null, what is told beside it. An error of the call is
+/// want of memory: then `out` may hold a part of it, behind what it held.
 pub fn response_to_json<S: ScalarValue>(
     out: &mut Vec<u8>,
     value: &Value<S>,
     errors: &[ExecutionError<S>],
 ) -> Result<(), AllocError>
-    ensures written { OnOk result (out.new.items ≡ out.old.items ++ answer_json (response_of S.answer value.now errors.now)) }
+    ensures written { OnOk result
+        (out.new.items ≡ out.old.items ++ answer_json (response_of S.answer value.now errors.now)) }
     ensures front { KeepsFront out.old.items out.new.items }
 {
     out.extend_from_slice(b"{\"data\":")?;

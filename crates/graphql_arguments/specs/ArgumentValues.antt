@@ -28,11 +28,13 @@ module _ {S : Type 0} where
 
   -- a written argument, at the place of its value; nothing where it is a variable without a value
   abbrev pub filled_argument : (Bytes → Option (InputValue S)) → Written S → Option (Value S)
-  filled_argument given a = option_map (λ v. (a.0.item, record { item = v; span = a.1.span })) (filled given a.1.item)
+  filled_argument given a =
+      option_map (λ v. (a.0.item, record { item = v; span = a.1.span })) (filled given a.1.item)
 
   -- the default of a declared argument that is absent, in no text
   abbrev pub default_of : Given S → Argument S → Option (Value S)
-  default_of values a = if has_value values a.name then None else option_map (λ v. (a.name, unplaced v)) a.default_value
+  default_of values a = if has_value values a.name then None
+      else option_map (λ v. (a.name, unplaced v)) a.default_value
 
   abbrev pub written_values : (Bytes → Option (InputValue S)) → List (Written S) → Given S
   written_values given written = filter_map (filled_argument given) written
@@ -41,5 +43,7 @@ module _ {S : Type 0} where
   absent_defaults declared values = filter_map (default_of values) declared
 
   -- the written arguments that have a value, then the defaults of the declared ones that are absent
-  abbrev pub argument_values : (Bytes → Option (InputValue S)) → List (Argument S) → List (Written S) → Given S
-  argument_values given declared written = written_values given written ++ absent_defaults declared (written_values given written)
+  abbrev pub argument_values : (Bytes → Option (InputValue S)) → List (Argument S)
+      → List (Written S) → Given S
+  argument_values given declared written =
+      written_values given written ++ absent_defaults declared (written_values given written)

@@ -1,4 +1,5 @@
--- Argument values that are the same, wherever they stand: in whichever order (GraphQL October 2021, 2.6 Arguments: arguments are unordered), or in one order.
+-- Argument values that are the same, wherever they stand: in whichever order (GraphQL October 2021,
+-- 2.6 Arguments: arguments are unordered), or in one order.
 use Rattle.std.specs.Prelude.{◌≡◌, Bool, List, [], ◌∷◌, Option, Some, None}
 use Rattle.graphql_names.specs.Names.{Bytes}
 use Rattle.graphql_values.specs.SameValue.{SameValue}

@@ -16,11 +16,12 @@ use graphql_values::{FromInputValue, InputValue, ScalarValue};
 use graphql_written_out::FinalVariables;
 use std::alloc::{AllocError, Global};
 
-/// The argument values of a field (GraphQL October 2021, 6.4.1 Coercing Field Arguments): names with
-/// values in which no variable of the document stands, first those that are written and have a value, in
-/// the order of the text, then the defaults of the declared arguments that are absent, in the order of the
-/// declaration. An argument is absent that is not written, or is a variable without a value; a `null` that
-/// is given stays `null`. Values are lent where they stand whole, defaults always.
+/// The argument values of a field (GraphQL October 2021, 6.4.1 Coercing Field Arguments): names
+/// with values in which no variable of the document stands, first those that are written and have a
+/// value, in the order of the text, then the defaults of the declared arguments that are absent, in
+/// the order of the declaration. An argument is absent that is not written, or is a variable
+/// without a value; a `null` that is given stays `null`. Values are lent where they stand whole,
+/// defaults always.
 #[derive(Drop)]
 pub struct Arguments<'a, S> {
     /// The values, by their names.
@@ -29,16 +30,17 @@ pub struct Arguments<'a, S> {
 
 impl<'a, S: ScalarValue + Drop> Arguments<'a, S> {
     /// The values of the arguments that are declared at a field and written at it. Takes time in
-    /// proportion to the written arguments, and to those times the declared ones. Of literals in which
-    /// variables stand within a list or an object a copy is made, which takes stack for each level that
-    /// the literal nests; all others are lent. An error is want of memory.
+    /// proportion to the written arguments, and to those times the declared ones. Of literals in
+    /// which variables stand within a list or an object a copy is made, which takes stack for each
+    /// level that the literal nests; all others are lent. An error is want of memory.
     pub fn new(
         alloc: Global,
         declared: &'a [Argument<S>],
         written: &'a [(Spanning<TextRef<'a>>, Spanning<InputValue<S>>)],
         variables: &'a FinalVariables<'a, S>,
     ) -> Result<Arguments<'a, S>, AllocError>
-        ensures { GivesBy arguments_told result (argument_values (value_in variables.now) declared.now written.now) }
+        ensures { GivesBy arguments_told result
+            (argument_values (value_in variables.now) declared.now written.now) }
     {
         let mut held = written_values(alloc, written, variables)?;
         let mut defaults = absent_defaults(alloc, declared, held.as_slice())?;
@@ -64,7 +66,8 @@ impl<'a, S> Arguments<'a, S> {
 
     /// The argument at a place, from zero: its name and its value; `None` past the end.
     pub fn get_index(&self, index: usize) -> Option<(&str, &InputValue<S>)>
-        ensures { option_map named_lent result ≡ option_map named_value (slice_get (arguments_told self.now) index) }
+        ensures { option_map named_lent result
+            ≡ option_map named_value (slice_get (arguments_told self.now) index) }
     {
         match self.held.get(index) {
             Some(pair) => Some((pair.0.as_str(), pair.1.item.value())),
@@ -72,8 +75,8 @@ impl<'a, S> Arguments<'a, S> {
         }
     }
 
-    /// The value of the argument of this name, or `None` where it has none; of several of one name, which
-    /// no valid document has, the first. Takes time in proportion to the arguments.
+    /// The value of the argument of this name, or `None` where it has none; of several of one name,
+    /// which no valid document has, the first. Takes time in proportion to the arguments.
     pub fn get_input_value(&self, name: &str) -> Option<&InputValue<S>>
         ensures { option_copied result ≡ value_named (arguments_told self.now) name.now }
     {
@@ -85,14 +88,15 @@ impl<'a, S> Arguments<'a, S> {
         None
     }
 
-    /// What the value of the argument of this name means at the type `T`, or `None` where it has none. An
-    /// error says why it means nothing, or is want of memory.
+    /// What the value of the argument of this name means at the type `T`, or `None` where it has
+    /// none. An error says why it means nothing, or is want of memory.
     pub fn get<T: FromInputValue<S>>(
         &self,
         alloc: Global,
         name: &str,
     ) -> Result<Option<T>, T::Error>
-        ensures { ReadsGiven T.means T.refuses T.is_memory (value_named (arguments_told self.now) name.now) result }
+        ensures { ReadsGiven T.means T.refuses T.is_memory
+            (value_named (arguments_told self.now) name.now) result }
     {
         match self.get_input_value(name) {
             Some(value) => match T::from_input_value(alloc, value) {

@@ -4,7 +4,13 @@ ghost use Rattle.std.specs.Prelude.{◌≡◌};
 ghost use Rattle.std.specs.Option.{option_map};
 ghost use Rattle.graphql_text.specs.Memory.{GivesBy};
 ghost use Rattle.graphql_written_out.specs.FinalVariables.{value_in};
-ghost use Rattle.graphql_arguments.specs.ArgumentValues.{absent_defaults, default_of, filled_argument, has_value, written_values};
+ghost use Rattle.graphql_arguments.specs.ArgumentValues.{
+  absent_defaults,
+  default_of,
+  filled_argument,
+  has_value,
+  written_values,
+};
 ghost use Rattle.graphql_arguments.specs.GivenValues.{pair_told, values_told};
 
 use crate::given::{GivenValue, given_value};
@@ -40,7 +46,8 @@ fn written_value<'a, S: ScalarValue + Drop>(
     argument: &'a (Spanning<TextRef<'a>>, Spanning<InputValue<S>>),
     variables: &'a FinalVariables<'a, S>,
 ) -> Result<Option<NamedValue<'a, S>>, AllocError>
-    ensures { GivesBy (option_map pair_told) result (filled_argument (value_in variables.now) argument.now) }
+    ensures { GivesBy (option_map pair_told) result
+        (filled_argument (value_in variables.now) argument.now) }
 {
     match given_value(alloc, &argument.1.item, variables)? {
         Some(item) => {
@@ -51,8 +58,8 @@ fn written_value<'a, S: ScalarValue + Drop>(
     }
 }
 
-/// The defaults of the declared arguments that are absent among these values, in order. An error is want
-/// of memory.
+/// The defaults of the declared arguments that are absent among these values, in order. An error is
+/// want of memory.
 pub fn absent_defaults<'a, S: Drop>(
     alloc: Global,
     declared: &'a [Argument<S>],

@@ -12,8 +12,8 @@ use graphql_values::{InputValue, ScalarValue};
 use graphql_written_out::FinalVariables;
 use std::alloc::{AllocError, Global};
 
-/// The value of an argument, in which each variable of the literal has its value (GraphQL October 2021,
-/// 6.4.1 Coercing Field Arguments).
+/// The value of an argument, in which each variable of the literal has its value (GraphQL October
+/// 2021, 6.4.1 Coercing Field Arguments).
 #[derive(Drop)]
 pub enum GivenValue<'a, S> {
     /// The literal itself, in which no variable stands, or the value of the variable that it is.
@@ -35,13 +35,13 @@ impl<'a, S> GivenValue<'a, S> {
     }
 }
 
-/// The literal, with the final values of variables in their stead; `None` where it is a variable without
-/// a value. In a list such a variable is `null`, and in an object the field is absent.
+/// The literal, with the final values of variables in their stead; `None` where it is a variable
+/// without a value. In a list such a variable is `null`, and in an object the field is absent.
 ///
-/// A value is made only of a list or an object in which variables stand; else it is lent. Where one is
-/// made, variables' values are copied, and it takes stack for each level that the literal and those
-/// values nest. In a valid document the type of the argument bounds that depth, but where input types
-/// hold themselves. An error is want of memory.
+/// A value is made only of a list or an object in which variables stand; else it is lent. Where one
+/// is made, variables' values are copied, and it takes stack for each level that the literal and
+/// those values nest. In a valid document the type of the argument bounds that depth, but where
+/// input types hold themselves. An error is want of memory.
 pub fn given_value<'a, S: ScalarValue + Drop>(
     alloc: Global,
     literal: &'a InputValue<S>,

@@ -11,8 +11,9 @@ use graphql_values::{InputValue, ScalarValue};
 use graphql_written_out::FinalVariables;
 use std::alloc::{AllocError, Global};
 
-/// A copy of a literal with the final values of variables in their stead; `None` where it is a variable
-/// without a value. Takes stack for each level that the literal nests. An error is want of memory.
+/// A copy of a literal with the final values of variables in their stead; `None` where it is a
+/// variable without a value. Takes stack for each level that the literal nests. An error is want of
+/// memory.
 #[cycle(made)]
 pub fn made_value<S: ScalarValue + Drop>(
     literal: &InputValue<S>,
@@ -33,7 +34,8 @@ pub fn made_value<S: ScalarValue + Drop>(
     }
 }
 
-/// A copy of the final value of the variable of this name, if it has one. An error is want of memory.
+/// A copy of the final value of the variable of this name, if it has one. An error is want of
+/// memory.
 fn copy_of_value<S: ScalarValue + Drop>(
     name: &str,
     variables: &FinalVariables<'_, S>,
@@ -65,8 +67,8 @@ fn made_items<S: ScalarValue + Drop>(
     Ok(made)
 }
 
-/// The fields of an object: one whose value is a variable without a value is absent. An error is want of
-/// memory.
+/// The fields of an object: one whose value is a variable without a value is absent. An error is
+/// want of memory.
 #[cycle(made)]
 fn made_pairs<S: ScalarValue + Drop>(
     pairs: &Items<(Spanning<Text>, Spanning<InputValue<S>>)>,

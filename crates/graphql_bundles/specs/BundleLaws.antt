@@ -12,7 +12,8 @@ use Rattle.graphql_merging.specs.Pieces.{Pieces, PieceField, IsPieceOf, HasOwnPi
 use Rattle.graphql_merging.specs.Told.{Names, later_pairs}
 use Rattle.graphql_merging.specs.Contract.{IsSound, IsDirect, IsComplete}
 use Rattle.graphql_merging.specs.Done.{IsDone, IsTold, all_sets}
-use Rattle.graphql_bundles.specs.Bundles.{Bundle, Group, IsNamed, IsGathered, Stood, IsAlike, IsPassed, MeetAll, IsReachedBundle, IsFoundAmong}
+use Rattle.graphql_bundles.specs.Bundles.{Bundle, Group, IsNamed, IsGathered, Stood, IsAlike}
+use Rattle.graphql_bundles.specs.Bundles.{IsPassed, MeetAll, IsReachedBundle, IsFoundAmong}
 
 module _ (S C : Type 0) (eq : S → S → Bool) where
   -- whatever was compared, and in which order, the errors are as the rule promises

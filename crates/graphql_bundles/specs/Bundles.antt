@@ -1,6 +1,7 @@
 -- Bundles: pieces that stand together, of which fields are compared with one of their class
 -- (GraphQL October 2021, 5.3.2 Field Selection Merging).
-use Rattle.std.specs.Prelude.{◌≡◌, ℕ, ◌<◌, Bool, true, false, not, ◌||◌, List, [], ◌∷◌, map, Option, Some, None, ◌⊎◌}
+use Rattle.std.specs.Prelude.{◌≡◌, ℕ, ◌<◌, Bool, true, false, not, ◌||◌, List, [], ◌∷◌, map, Option}
+use Rattle.std.specs.Prelude.{Some, None, ◌⊎◌}
 use Rattle.std.specs.List.{Contains}
 use Rattle.std.specs.Str.{bytes_eq}
 use Rattle.graphql_text.specs.declared.position.SourcePosition.{SourcePosition}

@@ -1,4 +1,5 @@
--- Two fields that do not agree, as they are told (GraphQL October 2021, 5.3.2 Field Selection Merging).
+-- Two fields that do not agree, as they are told (GraphQL October 2021, 5.3.2 Field Selection
+-- Merging).
 use Rattle.std.specs.Prelude.{◌≡◌, ℕ, ◌≤◌, List, [], ◌∷◌, ◌++◌, map}
 use Rattle.std.specs.List.{Contains}
 use Rattle.graphql_text.specs.declared.position.SourcePosition.{SourcePosition}

@@ -8,7 +8,9 @@ use Rattle.graphql_bundles.specs.Conflicts.{places}
 use Rattle.graphql_merging.specs.Merging.{Agree}
 use Rattle.graphql_merging.specs.Pieces.{Pieces, PieceField, StandsIn}
 use Rattle.graphql_merging.specs.Told.{Names}
-use Rattle.graphql_bundles.specs.Bundles.{Bundle, Part, Group, parts, OwnOf, StandsAmong, IsGathered, IsGroupOf, IsPassed, IsReachedBundle, IsFoundAmong}
+use Rattle.graphql_bundles.specs.Bundles.{Bundle, Part, Group, parts, OwnOf, StandsAmong}
+use Rattle.graphql_bundles.specs.Bundles.{IsGathered, IsGroupOf, IsPassed, IsReachedBundle}
+use Rattle.graphql_bundles.specs.Bundles.{IsFoundAmong}
 use Rattle.graphql_bundles.specs.declared.bundle.Progress.{Progress}
 
 -- what is told so far, which bundles are begun, and whether the bound was not met

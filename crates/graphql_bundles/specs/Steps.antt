@@ -10,7 +10,8 @@ use Rattle.graphql_merging.specs.Members.{Member}
 use Rattle.graphql_merging.specs.Merging.{Agree, SameField}
 use Rattle.graphql_merging.specs.Pieces.{Pieces, PieceField, StandsIn}
 use Rattle.graphql_merging.specs.Told.{Names}
-use Rattle.graphql_bundles.specs.Bundles.{Bundle, Part, in_part, HasShape, StandsAmong, IsGroupPassed}
+use Rattle.graphql_bundles.specs.Bundles.{Bundle, Part, in_part, HasShape, StandsAmong}
+use Rattle.graphql_bundles.specs.Bundles.{IsGroupPassed}
 use Rattle.graphql_bundles.specs.Going.{Stage, Grows, GroupLeadsTo}
 use Rattle.graphql_bundles.specs.Groups.{KeyGroup, group_of}
 

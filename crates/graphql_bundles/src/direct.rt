@@ -53,7 +53,8 @@ fn sort_out<'d, 'a, S: PartialEq, C>(
     told: &mut Items<Conflict>,
     comparisons: &mut u128,
 ) -> Result<(), AllocError>
-    ensures counted { OnOk result (comparisons.new + length split.old.alike * length split.old.others
+    ensures counted { OnOk result
+        (comparisons.new + length split.old.alike * length split.old.others
         ≤ comparisons.old + 1 + length split.new.alike * length split.new.others) }
     ensures one { OnOk result (length split.new.alike + length split.new.others
         ≡ length split.old.alike + length split.old.others + 1) }

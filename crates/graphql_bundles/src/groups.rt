@@ -78,7 +78,8 @@ fn put_at<'d, 'a, S, C>(
     groups: &mut Items<KeyGroup<'d, 'a, S, C>>,
 ) -> Result<(), AllocError>
     requires distinct { IsDistinct bytes_eq (map (λ g. g.0) groups.old) }
-    requires place { place ≡ position_or_len (bytes_eq (key_at field.now)) (map (λ g. g.0) groups.old) }
+    requires place { place
+        ≡ position_or_len (bytes_eq (key_at field.now)) (map (λ g. g.0) groups.old) }
     ensures put { OnOk result (groups.new ≡ put field.now groups.old) }
     ensures distinct { OnOk result (IsDistinct bytes_eq (map (λ g. g.0) groups.new)) }
     ensures one { OnOk result (fields_of_groups groups.new ≡ fields_of_groups groups.old + 1) }

@@ -1,6 +1,7 @@
 //! Each field of a group is compared with the first of its class.
 
-ghost use Rattle.std.specs.Prelude.{◌≡◌, ℕ, ◌+◌, ◌-◌, ◌≤◌, false, true, List, Some, length, map, filter, IfOk, OnOk, not};
+ghost use Rattle.std.specs.Prelude.{◌≡◌, ℕ, ◌+◌, ◌-◌, ◌≤◌, false, true, List, Some, length, map};
+ghost use Rattle.std.specs.Prelude.{filter, IfOk, OnOk, not};
 ghost use Rattle.std.specs.List.{Contains};
 ghost use Rattle.std.specs.Option.{option_map};
 ghost use Rattle.graphql_schema.specs.Lookups.{is_object};

@@ -1,7 +1,24 @@
 //! Laws of bundles: each function's contract is a law, and its body does nothing.
 
-ghost use Rattle.graphql_bundles.specs.BundleLaws.{AlikeAgree, BundlesMeetContract, BundlesSettle, BundlesStayTogether, DirectByClasses, DoneMeetsContract, FoundIsTold, SameFieldByAThird, SameShapeByAThird, ToldIsDirect};
-ghost use Rattle.graphql_bundles.specs.Laws.{EndMeetsContract, GoingMeetsContract, GoneMeetsContract, OneMoreIsGone, SomeToldMeetsContract};
+ghost use Rattle.graphql_bundles.specs.BundleLaws.{
+  AlikeAgree,
+  BundlesMeetContract,
+  BundlesSettle,
+  BundlesStayTogether,
+  DirectByClasses,
+  DoneMeetsContract,
+  FoundIsTold,
+  SameFieldByAThird,
+  SameShapeByAThird,
+  ToldIsDirect,
+};
+ghost use Rattle.graphql_bundles.specs.Laws.{
+  EndMeetsContract,
+  GoingMeetsContract,
+  GoneMeetsContract,
+  OneMoreIsGone,
+  SomeToldMeetsContract,
+};
 
 /// Where the rule ends, its errors are as it promises, whatever it compared and in which order.
 pub fn done_meets_contract<S: PartialEq, C>()

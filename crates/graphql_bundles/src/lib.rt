@@ -1,8 +1,8 @@
 //! Bundles of selection sets: their fields are grouped by response key, and each is compared with
 //! one of its class (GraphQL October 2021, 5.3.2 Field Selection Merging).
 //!
-//! The definitions, their laws, and going through all bundles, by which fields that do not merge are
-//! told in time near the size of a document.
+//! The definitions, their laws, and going through all bundles, by which fields that do not merge
+//! are told in time near the size of a document.
 #![tactic(auto)]
 
 mod bundle;

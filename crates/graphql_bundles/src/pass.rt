@@ -1,6 +1,7 @@
 //! Bundles are gone through, from those of the definitions on.
 
-ghost use Rattle.std.specs.Prelude.{◌≡◌, ◌↔◌, ℕ, ◌+◌, ◌-◌, ◌*◌, ◌<◌, ◌≤◌, max, false, [], List, Some, IsTrue, OnOk, length, slice_get};
+ghost use Rattle.std.specs.Prelude.{◌≡◌, ◌↔◌, ℕ, ◌+◌, ◌-◌, ◌*◌, ◌<◌, ◌≤◌, max, false, [], List};
+ghost use Rattle.std.specs.Prelude.{Some, IsTrue, OnOk, length, slice_get};
 ghost use Rattle.std.specs.List.{Contains};
 ghost use Rattle.graphql_text.specs.declared.position.SourcePosition.{SourcePosition};
 ghost use Rattle.graphql_tree.specs.declared.document.Fragment.{Fragment};
@@ -8,7 +9,8 @@ ghost use Rattle.graphql_merging.specs.Tables.{pieces_of};
 ghost use Rattle.graphql_bundles.specs.Bundles.{Bundle, IsFoundAmong, IsGathered, IsPassed};
 ghost use Rattle.graphql_bundles.specs.Counted.{repeats_in_groups};
 ghost use Rattle.graphql_bundles.specs.Going.{IsFoundIn, IsGoing, LeadsTo, stage_of};
-ghost use Rattle.graphql_bundles.specs.Steps.{FoundInGroups, Goes, GroupsLeadTo, GroupsPassed, HoldsSets, KeepsTold, OfDefinitions};
+ghost use Rattle.graphql_bundles.specs.Steps.{FoundInGroups, Goes, GroupsLeadTo, GroupsPassed};
+ghost use Rattle.graphql_bundles.specs.Steps.{HoldsSets, KeepsTold, OfDefinitions};
 
 use crate::bundle::Progress;
 use crate::definitions::begin_definitions;

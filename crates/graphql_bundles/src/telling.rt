@@ -1,6 +1,7 @@
 //! Two fields of one response key are compared.
 
-ghost use Rattle.std.specs.Prelude.{◌≡◌, ◌+◌, ◌-◌, ◌<◌, ◌≤◌, [], ◌∷◌, List, Some, length, map, slice_get, OnOk};
+ghost use Rattle.std.specs.Prelude.{◌≡◌, ◌+◌, ◌-◌, ◌<◌, ◌≤◌, [], ◌∷◌, List, Some, length, map};
+ghost use Rattle.std.specs.Prelude.{slice_get, OnOk};
 ghost use Rattle.graphql_bundles.specs.Conflicts.{AddsConflict, places};
 ghost use Rattle.graphql_tree.specs.declared.document.Fragment.{Fragment};
 ghost use Rattle.graphql_merging.specs.Merging.{Agree};
@@ -57,9 +58,9 @@ pub fn tell<S, C>(
     tell_in_order(alloc, difference, left, right, told)
 }
 
-/// The same of two fields of which this is the first difference where `around` says whether fields around
-/// them have parents that are different objects. Told is the first one where `said` says it, if there is
-/// one. An error of the call is want of memory.
+/// The same of two fields of which this is the first difference where `around` says whether fields
+/// around them have parents that are different objects. Told is the first one where `said` says it,
+/// if there is one. An error of the call is want of memory.
 fn tell_as<S: PartialEq, C>(
     alloc: Global,
     schema: &SchemaType<S, C>,

@@ -1,7 +1,8 @@
 //! The sets of a document, each gone to once, and what is told of the fields that stand directly in
 //! them.
 
-ghost use Rattle.std.specs.Prelude.{◌↔◌, ◌+◌, ◌*◌, ◌<◌, ◌≤◌, ◌++◌, ℕ, List, length, IfOk, OnOk, map};
+ghost use Rattle.std.specs.Prelude.{◌↔◌, ◌+◌, ◌*◌, ◌<◌, ◌≤◌, ◌++◌, ℕ, List, length, IfOk, OnOk};
+ghost use Rattle.std.specs.Prelude.{map};
 ghost use Rattle.std.specs.List.{Contains};
 ghost use Rattle.graphql_bundles.specs.Conflicts.{places};
 ghost use Rattle.graphql_tree.specs.declared.document.Fragment.{Fragment};

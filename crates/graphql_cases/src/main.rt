@@ -8,8 +8,9 @@
 //! - Groups of cases stand below a line `== ` with what is asked of them (`asked`). What stands
 //!   behind a colon there is for readers.
 //! - Cases are parted by empty lines, so none has one within. A document is a case by itself.
-//!   Values of variables stand behind their document, in a line `with a: 1 b: [2]`. A literal stands
-//!   behind its type, `[Int!] = [1]`; a number behind the type is how many items the list has.
+//!   Values of variables stand behind their document, in a line `with a: 1 b: [2]`. A literal
+//!   stands behind its type, `[Int!] = [1]`; a number behind the type is how many items the list
+//!   has.
 //! - In literals, and where documents are counted, lines follow each other without line feeds, and
 //!   a line `30 * words` stands for the words thirty times (`repeated`).
 //!

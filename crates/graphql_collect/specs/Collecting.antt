@@ -1,4 +1,5 @@
--- What a selection brings to its set where fragments were entered, and what a walk leaves, in a request.
+-- What a selection brings to its set where fragments were entered, and what a walk leaves, in a
+-- request.
 use Rattle.graphql_scalars.specs.ScalarAnswers.{ScalarAnswer}
 use Rattle.std.specs.Prelude.{◌≡◌, ◌⊎◌, ◌<◌, ℕ, true, false, List, [], ◌∷◌, map, Option, Some, None}
 use Rattle.std.specs.List.{list_any}
@@ -12,7 +13,8 @@ use Rattle.graphql_written_out.specs.Trees.{Tree, none, height}
 use Rattle.graphql_names.specs.Names.{Bytes}
 use Rattle.graphql_written_out.specs.Written.{fragment_meant}
 use Rattle.graphql_written_out.specs.Fields.{Found}
-use Rattle.graphql_collected.specs.Requests.{drops_in, is_below_in, fragments_in, fields_in, written_in, found_at}
+use Rattle.graphql_collected.specs.Requests.{drops_in, is_below_in, fragments_in, fields_in}
+use Rattle.graphql_collected.specs.Requests.{written_in, found_at}
 use Rattle.graphql_collect.specs.Grouped.{Lent, all_found}
 use Rattle.graphql_collect.specs.declared.collecting.Brought.{Brought}
 use Rattle.graphql_collect.specs.declared.collecting.Brought.TheVariants as brought
@@ -41,7 +43,8 @@ module _ {S C : Type 0} where
   below_in request x = (found_at request x.field.now).below
 
   abbrev pub state : Request S C → List Bytes → Lent S → Walk S
-  state request visited found = record { visited = visited; found = all_found (fragments_in request) found }
+  state request visited found =
+      record { visited = visited; found = all_found (fragments_in request) found }
 
   -- what is left of open sets, the innermost first
   abbrev pub trees_in : Request S C → Open S → List (Tree S)
@@ -49,22 +52,28 @@ module _ {S C : Type 0} where
 
   module _ (answer : S → ScalarAnswer) (request : Request S C) (object : Bytes) where
     abbrev pub ReadyIn : ℕ → List Bytes → Lent S → Type 0
-    ReadyIn h visited found = Ready (drops_in answer request) (is_below_in request object) (means_in request) h (state request visited found)
+    ReadyIn h visited found = Ready (drops_in answer request) (is_below_in request object)
+        (means_in request) h (state request visited found)
 
     abbrev pub CompleteIn : List Bytes → Lent S → Type 0
-    CompleteIn visited found = Complete (drops_in answer request) (is_below_in request object) (means_in request) (state request visited found)
+    CompleteIn visited found = Complete (drops_in answer request) (is_below_in request object)
+        (means_in request) (state request visited found)
 
     abbrev pub WalkedIn : List (Found S) → List Bytes → Lent S → List Bytes → Lent S → Type 0
     WalkedIn xs visited found visited_then found_then =
-        Walked (drops_in answer request) (is_below_in request object) (means_in request) xs (state request visited found) (state request visited_then found_then)
+        Walked (drops_in answer request) (is_below_in request object) (means_in request) xs
+        (state request visited found) (state request visited_then found_then)
 
     abbrev pub LeadsIn : List (Found S) → Walk S → List (Tree S) → List Bytes → Lent S → Type 0
-    LeadsIn xs start ts visited found = Leads (drops_in answer request) (is_below_in request object) (means_in request) xs start ts (state request visited found)
+    LeadsIn xs start ts visited found = Leads (drops_in answer request) (is_below_in request object)
+        (means_in request) xs start ts (state request visited found)
 
     -- a step: whatever the walk of these sets led to, that of those does
-    abbrev pub Steps : List (Tree S) → List Bytes → Lent S → List (Tree S) → List Bytes → Lent S → Type 0
+    abbrev pub Steps : List (Tree S) → List Bytes → Lent S → List (Tree S) → List Bytes → Lent S
+        → Type 0
     Steps ts visited found us visited_then found_then =
-        (xs : List (Found S)) (start : Walk S) → LeadsIn xs start ts visited found → LeadsIn xs start us visited_then found_then
+        (xs : List (Found S)) (start : Walk S) → LeadsIn xs start ts visited found
+        → LeadsIn xs start us visited_then found_then
 
     -- a fragment that was entered brings nothing more
     pub record Entered (visited : List Bytes) (t : Tree S) : Type 0 where
@@ -72,7 +81,8 @@ module _ {S C : Type 0} where
       pub is_visited : list_any (bytes_eq name) visited ≡ true
       pub applies : is_below_in request object (means_in request name).0 ≡ true
       pub lower : height (means_in request name).1 < height t
-      pub same : fields_in answer request object t ≡ fields_in answer request object (means_in request name).1
+      pub same : fields_in answer request object t
+          ≡ fields_in answer request object (means_in request name).1
 
     -- a set that stands for a selection
     pub record Stands (t inner : Tree S) : Type 0 where
@@ -87,6 +97,8 @@ module _ {S C : Type 0} where
 
     abbrev pub Brings : List Bytes → Tree S → Brought S → Type 0
     Brings visited t brought.Nothing = (fields_in answer request object t ≡ []) ⊎ Entered visited t
-    Brings visited t (brought.Field x) = fields_in answer request object t ≡ found_at request x.now ∷ []
+    Brings visited t (brought.Field x) =
+        fields_in answer request object t ≡ found_at request x.now ∷ []
     Brings visited t (brought.Set set) = Stands t (written_in request set.now)
-    Brings visited t (brought.Fragment x set) = Enters visited t (written_in request set.now) x.now.item.name.item
+    Brings visited t (brought.Fragment x set) =
+        Enters visited t (written_in request set.now) x.now.item.name.item

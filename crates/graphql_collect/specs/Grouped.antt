@@ -31,7 +31,8 @@ module _ {S : Type 0} where
 
   -- the groups, with an empty one for the field's key if it has none
   abbrev pub begun : CollectedField S → List (Group S) → List (Group S)
-  begun x gs = if list_any (bytes_eq (key_at x)) (map (λ g. g.0) gs) then gs else gs ++ (key_at x, []) ∷ []
+  begun x gs =
+      if list_any (bytes_eq (key_at x)) (map (λ g. g.0) gs) then gs else gs ++ (key_at x, []) ∷ []
 
   -- a group takes the field of its key
   abbrev pub takes : CollectedField S → Group S → Group S
@@ -42,4 +43,5 @@ module _ {S : Type 0} where
   put x gs = map (takes x) (begun x gs)
 
   abbrev pub IsGrouped : Lent S → List (Group S) → Type 0
-  IsGrouped xs gs = (fragments : List (Fragment S)) → map (group_found fragments) gs ≡ groups (all_found fragments xs)
+  IsGrouped xs gs = (fragments : List (Fragment S))
+      → map (group_found fragments) gs ≡ groups (all_found fragments xs)

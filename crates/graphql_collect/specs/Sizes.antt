@@ -39,7 +39,9 @@ module _ {S : Type 0} where
   -- what the sets of the fragments measure that are not entered yet
   abbrev pub left_by : (List (Selection S) → ℕ) → List Bytes → List (Fragment S) → ℕ
   left_by measure visited [] = 0
-  left_by measure visited (f ∷ fs) = (if list_any (bytes_eq f.name.item) visited then 0 else measure f.selection_set) + left_by measure visited fs
+  left_by measure visited (f ∷ fs) =
+      (if list_any (bytes_eq f.name.item) visited then 0 else measure f.selection_set)
+      + left_by measure visited fs
 
   -- how many fields they have
   abbrev pub left_in : List Bytes → List (Fragment S) → ℕ
@@ -62,7 +64,10 @@ module _ {S : Type 0} where
   abbrev pub IsSized : List (Fragment S) → List Bytes → Selection S → Brought S → Type 0
   IsSized fragments visited x brought.Nothing = Unit {0}
   IsSized fragments visited x (brought.Field f) = 1 ≤ size (x ∷ [])
-  IsSized fragments visited x (brought.Set set) = (size set.now ≤ size (x ∷ [])) × (turns set.now < selection_turns x)
+  IsSized fragments visited x (brought.Set set) =
+      (size set.now ≤ size (x ∷ [])) × (turns set.now < selection_turns x)
   IsSized fragments visited x (brought.Fragment spread set) =
-      (size set.now + left_in (visited ++ spread.now.item.name.item ∷ []) fragments ≤ left_in visited fragments)
-      × (turns set.now + left_by turns (visited ++ spread.now.item.name.item ∷ []) fragments ≤ left_by turns visited fragments)
+      (size set.now + left_in (visited ++ spread.now.item.name.item ∷ []) fragments
+      ≤ left_in visited fragments)
+      × (turns set.now + left_by turns (visited ++ spread.now.item.name.item ∷ []) fragments
+      ≤ left_by turns visited fragments)

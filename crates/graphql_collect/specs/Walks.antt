@@ -1,4 +1,5 @@
--- What a walk over selection sets holds (GraphQL October 2021, 6.3.2 Field Collection, CollectFields).
+-- What a walk over selection sets holds (GraphQL October 2021, 6.3.2 Field Collection,
+-- CollectFields).
 use Rattle.std.specs.Prelude.{Bool, List, [], ◌∷◌, ◌++◌}
 use Rattle.std.specs.List.{list_any}
 use Rattle.std.specs.Str.{bytes_eq}

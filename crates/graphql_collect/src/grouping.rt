@@ -43,7 +43,8 @@ fn begin_at<'d, 'a, S>(
     place: usize,
     groups: &mut Items<Group<'d, 'a, S>>,
 ) -> Result<(), AllocError>
-    requires { place ≡ position_or_len (bytes_eq (key_at occurrence.now)) (map (λ g. g.0) groups.old) }
+    requires { place
+        ≡ position_or_len (bytes_eq (key_at occurrence.now)) (map (λ g. g.0) groups.old) }
     ensures { OnOk result (groups.new ≡ begun occurrence.now groups.old) }
 {
     if place == groups.len() {
@@ -61,7 +62,8 @@ fn put_at<'d, 'a, S>(
     groups: &mut Items<Group<'d, 'a, S>>,
 ) -> Result<(), AllocError>
     requires distinct { IsDistinct bytes_eq (map (λ g. g.0) groups.old) }
-    requires place { place ≡ position_or_len (bytes_eq (key_at occurrence.now)) (map (λ g. g.0) groups.old) }
+    requires place { place
+        ≡ position_or_len (bytes_eq (key_at occurrence.now)) (map (λ g. g.0) groups.old) }
     ensures put { OnOk result (groups.new ≡ put occurrence.now groups.old) }
     ensures distinct { OnOk result (IsDistinct bytes_eq (map (λ g. g.0) groups.new)) }
 {
@@ -118,8 +120,9 @@ fn grouped_many<'d, 'a, S>(
     Ok(groups)
 }
 
-/// The fields by their response keys, in order of first appearance (GraphQL October 2021, 6.3.2 Field
-/// Collection). Takes time and memory in proportion to the fields. An error is want of memory.
+/// The fields by their response keys, in order of first appearance (GraphQL October 2021, 6.3.2
+/// Field Collection). Takes time and memory in proportion to the fields. An error is want of
+/// memory.
 pub fn grouped<'d, 'a, S>(
     alloc: Global,
     found: &[CollectedField<'d, 'a, S>],

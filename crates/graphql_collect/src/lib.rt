@@ -1,5 +1,5 @@
-//! The fields of selection sets that apply to an object type, by their response keys (GraphQL October 2021,
-//! 6.3.2 Field Collection).
+//! The fields of selection sets that apply to an object type, by their response keys (GraphQL
+//! October 2021, 6.3.2 Field Collection).
 #![tactic(auto)]
 
 mod collecting;

@@ -10,8 +10,8 @@ mod lookups;
 use graphql_tree::{Definition, Fragment};
 use std::collections::HashMap;
 
-/// The fragments of a document, found by their names (GraphQL October 2021, 2.8 Fragments). Of several of
-/// one name, which no valid document has, the first counts. They are lent.
+/// The fragments of a document, found by their names (GraphQL October 2021, 2.8 Fragments). Of
+/// several of one name, which no valid document has, the first counts. They are lent.
 #[derive(Drop)]
 pub struct Fragments<'d, 'a, S> {
     /// The document.
@@ -20,5 +20,6 @@ pub struct Fragments<'d, 'a, S> {
     /// The first fragment of each name.
     pub(crate) first: HashMap<&'d str, &'d Fragment<'a, S>>,
 
-    ghost firsts: { (name : List ℕ) → found first name ≡ fragment_meant (fragments_listed document.now) name },
+    ghost firsts: { (name : List ℕ)
+        → found first name ≡ fragment_meant (fragments_listed document.now) name },
 }

@@ -10,7 +10,8 @@ use graphql_text::{Items, Spanning};
 use graphql_tree::Directive;
 use graphql_written_out::left_out;
 
-/// Whether the directives leave out what they stand at (GraphQL October 2021, 3.13.1 @skip, 3.13.2 @include).
+/// Whether the directives leave out what they stand at (GraphQL October 2021, 3.13.1 @skip, 3.13.2
+/// @include).
 pub fn drops<S: SchemaScalar>(
     request: &Request<'_, '_, S>,
     directives: &Option<Items<Spanning<Directive<'_, S>>>>,

@@ -11,7 +11,10 @@ use Rattle.graphql_document_walk.specs.declared.walk.tasks.Task.{Task}
 use Rattle.graphql_document_walk.specs.declared.walk.tasks.Work.{Work}
 use Rattle.graphql_document_walk.specs.declared.walk.tasks.Work.TheVariants as work
 use Rattle.graphql_document_walk.specs.declared.walk.Walk.{Walk}
-use Rattle.graphql_occurrences.specs.Events.{seen, each, events, definition_events, variable_events, directives_events, arguments_events, set_events, selection_events, value_events, item_events, pair_events}
+use Rattle.graphql_occurrences.specs.Events.{seen, each, events, definition_events, variable_events}
+use Rattle.graphql_occurrences.specs.Events.{directives_events, arguments_events, set_events}
+use Rattle.graphql_occurrences.specs.Events.{selection_events, value_events, item_events}
+use Rattle.graphql_occurrences.specs.Events.{pair_events}
 use Rattle.graphql_occurrences.specs.Lent.{arguments_lent, node_of, around_of, owner_of}
 use Rattle.graphql_occurrences.specs.Nodes.{Enter, Leave}
 use Rattle.graphql_occurrences.specs.Nodes as spec
@@ -44,7 +47,8 @@ module _ {S C : Type 0} (schema : Declarations S C) where
   part_events (part.Definitions ds) around = flat_map (definition_events schema) ds.now
   part_events (part.Variables vs) around = each (variable_events schema) vs.now around
   part_events (part.Directives place ds) around = directives_events schema place ds.now around
-  part_events (part.Arguments owner declared xs) around = arguments_events schema (owner_of owner) (option_map arguments_lent declared) xs.now around
+  part_events (part.Arguments owner declared xs) around =
+      arguments_events schema (owner_of owner) (option_map arguments_lent declared) xs.now around
   part_events (part.Set xs) around = set_events schema xs.now around
   part_events (part.Selections xs) around = each (selection_events schema) xs.now around
   part_events (part.Value x) around = value_events schema x.now around

@@ -1,5 +1,5 @@
-//! A walk over a document, event by event, with the types around each: what is entered and left, from the
-//! document itself to each value (GraphQL October 2021, 2 Language, 5 Validation);
+//! A walk over a document, event by event, with the types around each: what is entered and left,
+//! from the document itself to each value (GraphQL October 2021, 2 Language, 5 Validation);
 //! and [`visit`], by which a visitor steps over a document.
 #![tactic(auto)]
 

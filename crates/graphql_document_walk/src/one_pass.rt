@@ -10,14 +10,16 @@ use crate::walk::Walk;
 use graphql_schema::SchemaScalar;
 use graphql_visitors::{ValidatorContext, Visitor};
 
-/// The visitor steps over every event of the context's document, in order, and what it reports comes
-/// behind the errors that are there. Where memory runs out the context has failed. Takes no stack for
-/// the depth of the document, and one pass over it.
+/// The visitor steps over every event of the context's document, in order, and what it reports
+/// comes behind the errors that are there. Where memory runs out the context has failed. Takes no
+/// stack for the depth of the document, and one pass over it.
 pub fn visit<'a, 't, S: SchemaScalar, V: Visitor<S>>(
     visitor: &mut V,
     context: &mut ValidatorContext<'a, 't, S>,
 )
-    ensures visited { Visited V.step (events (subject_of context.old).schema (subject_of context.old).document) visitor.old visitor.new context.old context.new }
+    ensures visited { Visited V.step
+        (events (subject_of context.old).schema (subject_of context.old).document) visitor.old
+        visitor.new context.old context.new }
     ensures around { context.new.around ≡ context.old.around }
 {
     let around = context.around();

@@ -43,7 +43,8 @@ impl<'a, 't, S, C> Walk<'a, 't, S, C> {
         document: &'a [Definition<'t, S>],
     ) -> Result<Walk<'a, 't, S, C>, AllocError>
         ensures schema { IfOk result (λ walk. walk.schema ≡ schema.entry) }
-        ensures events { IfOk result (λ walk. ahead walk ≡ events (declarations_of schema.now) document.now) }
+        ensures events { IfOk result
+            (λ walk. ahead walk ≡ events (declarations_of schema.now) document.now) }
     {
         let mut tasks = Items::with_capacity(alloc, AHEAD)?;
         add(
@@ -58,7 +59,8 @@ impl<'a, 't, S, C> Walk<'a, 't, S, C> {
     /// The next event, or `None` at the end of the document. An error is want of memory.
     pub fn next(&mut self) -> Result<Option<Seen<'a, 't, S, C>>, AllocError>
         ensures schema { IfOk result (λ _. self.new.schema ≡ self.old.schema) }
-        ensures events { IfOk result (λ next. MatchOption next (ahead self.old ≡ []) (λ first. ahead self.old ≡ seen_of first ∷ ahead self.new)) }
+        ensures events { IfOk result (λ next. MatchOption next (ahead self.old ≡ [])
+            (λ first. ahead self.old ≡ seen_of first ∷ ahead self.new)) }
     {
         'tasks: while let Some(task) = self.tasks.pop() {
             let around = task.around;
@@ -76,15 +78,16 @@ impl<'a, 't, S, C> Walk<'a, 't, S, C> {
     }
 }
 
-/// Opens a part: puts its first event on top, if there is one, and below it what comes after. An error
-/// is want of memory.
+/// Opens a part: puts its first event on top, if there is one, and below it what comes after. An
+/// error is want of memory.
 fn open<'a, 't, S, C>(
     schema: &'a SchemaType<S, C>,
     tasks: &mut Items<Task<'a, 't, S, C>>,
     around: Around<'a, S, C>,
     part: Part<'a, 't, S>,
 ) -> Result<(), AllocError>
-    ensures { OnOk result (OpensAny (declarations_of schema.now) (part_events (declarations_of schema.now) part.entry (around_of around.entry)) tasks.old tasks.new) }
+    ensures { OnOk result (OpensAny (declarations_of schema.now) (part_events
+        (declarations_of schema.now) part.entry (around_of around.entry)) tasks.old tasks.new) }
 {
     match part {
         Part::Document(document) => open_document(schema, tasks, document),

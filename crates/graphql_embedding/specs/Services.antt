@@ -1,4 +1,5 @@
--- The service over a schema in rows, and what became of a run over it (GraphQL October 2021, 3.3 Schema, 6.1 Executing Requests).
+-- The service over a schema in rows, and what became of a run over it (GraphQL October 2021, 3.3
+-- Schema, 6.1 Executing Requests).
 use Rattle.std.specs.Prelude.{◌≡◌, ◌++◌, false, List, Option, Result, Ok, Err}
 use Rattle.std.specs.List.{All, AllZip}
 use Rattle.graphql_text.specs.Memory.{UnlessMemory}
@@ -48,8 +49,10 @@ root_over schema = record { schema = schema; introspection_disabled = false }
 abbrev pub HasFitDefaults : {S C : Type 0} → Scalars S C → SchemaType S C → Bytes → Type 0
 HasFitDefaults s schema name = NamedConforms s.answer s.accepts schema.types name
 
--- by what scalars mean, of the roots that are named, the names of the types whose defaults are judged, a resolver, and a context
-module _ {S C R X : Type 0} (s : Scalars S C) (roots : Roots) (names : List Bytes) (by : R) (over : X) where
+-- by what scalars mean, of the roots that are named, the names of the types whose defaults are
+-- judged, a resolver, and a context
+module _ {S C R X : Type 0} (s : Scalars S C) (roots : Roots) (names : List Bytes) (by : R)
+    (over : X) where
   -- the service over the schema of these types, with introspection
   pub record IsServiceOf (types : List (MetaType S C)) (service : Service S R X C) : Type 0 where
     pub schema : SchemaType S C
@@ -58,33 +61,43 @@ module _ {S C R X : Type 0} (s : Scalars S C) (roots : Roots) (names : List Byte
     pub parts : IsOf (root_over schema) by over 65536 10000 service
     pub truth : TakesStandIn s schema
 
-  -- why there is none: the first fault of the types, the first whose defaults do not conform, or that of their schema
+  -- why there is none: the first fault of the types, the first whose defaults do not conform, or
+  -- that of their schema
   abbrev pub TypesDue : List (MetaType S C) → ServeRowsFault → Type 0
   TypesDue types (fault.Schema e) = schemas.Makes s.of_text types roots (Err e)
   TypesDue types (fault.BadDefault name) =
-      (schema : SchemaType S C) × schemas.Makes s.of_text types roots (Ok schema) × IsFirstWithout (HasFitDefaults s schema) names name
+      (schema : SchemaType S C)
+      × schemas.Makes s.of_text types roots (Ok schema)
+      × IsFirstWithout (HasFitDefaults s schema) names name
   TypesDue types (fault.Service e) =
-      (node : RootNode S C) × (schema : SchemaType S C) × (node ≡ root_over schema) × schemas.Makes s.of_text types roots (Ok schema)
+      (node : RootNode S C)
+      × (schema : SchemaType S C)
+      × (node ≡ root_over schema)
+      × schemas.Makes s.of_text types roots (Ok schema)
       × All (HasFitDefaults s schema) names × services.Makes node by over 65536 10000 s (Err e)
   TypesDue types (fault.Row e) = ⊥
   TypesDue types (fault.Serve e) = ⊥
   TypesDue types fault.Memory = ⊥
 
 -- what is told of the defaults of the types of these names
-abbrev pub Judged : {S C : Type 0} → Scalars S C → SchemaType S C → List Bytes → Result (Unit {0}) ServeRowsFault → Type 0
+abbrev pub Judged : {S C : Type 0} → Scalars S C → SchemaType S C → List Bytes
+    → Result (Unit {0}) ServeRowsFault → Type 0
 Judged s schema names (Ok x) = All (HasFitDefaults s schema) names
-Judged s schema names (Err (fault.BadDefault name)) = IsFirstWithout (HasFitDefaults s schema) names name
+Judged s schema names (Err (fault.BadDefault name)) =
+    IsFirstWithout (HasFitDefaults s schema) names name
 Judged s schema names (Err fault.Memory) = Unit {0}
 Judged s schema names (Err _) = ⊥
 
 -- ---- of rows
 
 -- the types that rows and their checks are
-abbrev pub Declare : {S C : Type 0} → Scalars S C → List (CheckedRow C) → List (MetaType S C) → Type 0
+abbrev pub Declare : {S C : Type 0} → Scalars S C → List (CheckedRow C) → List (MetaType S C)
+    → Type 0
 Declare s rows declared = AllZip (IsTypeOf s.reads s.of_bool s.answer) rows declared
 
 -- over the types that each schema has, and those of rows
-module _ {S C R X : Type 0} (s : Scalars S C) (roots : Roots) (by : R) (over : X) (each : List (MetaType S C)) (rows : List (CheckedRow C)) where
+module _ {S C R X : Type 0} (s : Scalars S C) (roots : Roots) (by : R) (over : X)
+    (each : List (MetaType S C)) (rows : List (CheckedRow C)) where
   pub record IsServiceOfRows (service : Service S R X C) : Type 0 where
     pub declared : List (MetaType S C)
     pub declare : Declare s rows declared
@@ -92,10 +105,13 @@ module _ {S C R X : Type 0} (s : Scalars S C) (roots : Roots) (by : R) (over : X
 
   -- all rows are types, and this is due of them
   abbrev pub DeclaredDue : ServeRowsFault → Type 0
-  DeclaredDue e = (declared : List (MetaType S C)) × Declare s rows declared × TypesDue s roots (row_names rows) by over (each ++ declared) e
+  DeclaredDue e = (declared : List (MetaType S C))
+      × Declare s rows declared
+      × TypesDue s roots (row_names rows) by over (each ++ declared) e
 
-  -- why there is none: the first row that is refused, else the first fault of the types, else the first of which a default
-  -- does not conform, else that of their schema; want of memory tells nothing of the rows
+  -- why there is none: the first row that is refused, else the first fault of the types, else the
+  -- first of which a default does not conform, else that of their schema; want of memory tells
+  -- nothing of the rows
   abbrev pub RowsDue : ServeRowsFault → Type 0
   RowsDue (fault.Row e) = UnlessMemory IsMemory e (IsFirstRefused s.reads s.of_bool s.answer rows e)
   RowsDue (fault.Schema e) = DeclaredDue (fault.Schema e)
@@ -111,9 +127,10 @@ abbrev pub Ended : Type 0 → (ServeError → Type 0) → Result (Unit {0}) Serv
 Ended all ends (Ok x) = all
 Ended all ends (Err e) = ends e
 
--- by what a service answers; a source has `left` before and `rest` after, a sink `old` and `new`, where they are known;
--- `failed`: a write has failed
-module _ {S C N X R : Type 0} (answerer : Service S R X C → Answerer S C N X) (Described : Service S R X C → Type 0)
+-- by what a service answers; a source has `left` before and `rest` after, a sink `old` and `new`,
+-- where they are known; `failed`: a write has failed
+module _ {S C N X R : Type 0} (answerer : Service S R X C → Answerer S C N X)
+    (Described : Service S R X C → Type 0)
     (Due : ServeRowsFault → Type 0) (failed : Type 0) (left rest old new : Option Bytes) where
   -- nothing was read and nothing written
   abbrev pub IsUntouched : Type 0
@@ -129,7 +146,8 @@ module _ {S C N X R : Type 0} (answerer : Service S R X C → Answerer S C N X) 
     pub after : X
     pub run :
         Ended (ServedAll (AnswersLine (answerer service)) service.context left rest old new after)
-        (λ e. Ends (AnswersLine (answerer service)) (BreaksAtLine (answerer service)) failed e service.context left rest old new after)
+        (λ e. Ends (AnswersLine (answerer service)) (BreaksAtLine (answerer service)) failed e
+        service.context left rest old new after)
         ended
 
   -- what became of the run; want of memory before it tells nothing

@@ -1,7 +1,13 @@
 //! Why a schema in rows is not served.
 
 ghost use Rattle.std.specs.Prelude.{◌≡◌};
-ghost use Rattle.graphql_embedding.specs.declared.fault.ServeRowsFault.TheVariants.{Memory, Row, Schema, Serve, Service};
+ghost use Rattle.graphql_embedding.specs.declared.fault.ServeRowsFault.TheVariants.{
+  Memory,
+  Row,
+  Schema,
+  Serve,
+  Service,
+};
 
 use graphql_schema::SchemaError;
 use graphql_schema_rows::RowFault;
@@ -21,7 +27,8 @@ pub enum ServeRowsFault {
     #[error("{0}")]
     Schema(SchemaError),
 
-    /// In the type of this name a default does not conform to the type of its argument or input field.
+    /// In the type of this name a default does not conform to the type of its argument or input
+    /// field.
     #[error("Type \"{0}\": a default does not conform to its type")]
     BadDefault(Text),
 

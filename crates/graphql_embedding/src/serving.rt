@@ -79,7 +79,8 @@ fn judge_defaults(
     schema: &SchemaType<DefaultScalarValue>,
     names: &[&str],
 ) -> Result<(), ServeRowsFault>
-    ensures { spec.Judged ⟦<DefaultScalarValue as Meaning>⟧.meaning schema.now (map (λ name. name.now) names.now) result }
+    ensures { spec.Judged ⟦<DefaultScalarValue as Meaning>⟧.meaning schema.now
+        (map (λ name. name.now) names.now) result }
 {
     match first_with_bad_default(alloc, schema, names)? {
         Some(name) => Err(ServeRowsFault::BadDefault(Text::from_str(alloc, name)?)),
@@ -102,13 +103,17 @@ where
     R: MutationResolver + Drop,
     R::Context: Drop,
     ensures ran { let s = ⟦<DefaultScalarValue as Meaning>⟧.meaning in
-        let answerer = answerer_of s ⟦<RuleError as Ord>⟧.cmp ⟦<ExecutionError<DefaultScalarValue> as Ord>⟧.cmp
+        let answerer =
+        answerer_of s ⟦<RuleError as Ord>⟧.cmp ⟦<ExecutionError<DefaultScalarValue> as Ord>⟧.cmp
         ⟦<SimpleResolver<R> as Resolving<DefaultScalarValue>>⟧.resolving in
-        let named = roots_named names.entry.query.now (option_map (λ name. name.now) names.entry.mutation) None in
+        let named = roots_named names.entry.query.now
+        (option_map (λ name. name.now) names.entry.mutation) None in
         let declared = map (λ name. name.now) names.entry.declared.now in
         let by = spec.in_service resolver in
-        spec.Ran answerer (spec.IsServiceOf s named declared by context types) (spec.TypesDue s named declared by context types)
-        (HasRisen (O.faults writer.old) (O.faults writer.new)) (I.left reader.old) (I.left reader.new) (O.written writer.old) (O.written writer.new) result }
+        spec.Ran answerer (spec.IsServiceOf s named declared by context types)
+        (spec.TypesDue s named declared by context types)
+        (HasRisen (O.faults writer.old) (O.faults writer.new)) (I.left reader.old)
+        (I.left reader.new) (O.written writer.old) (O.written writer.new) result }
     ensures reads { I.faults reader.new ≡ reads_after (spec.served result) (I.faults reader.old) }
     ensures writes { WritesAfter (spec.served result) (O.faults writer.old) (O.faults writer.new) }
 {
@@ -129,8 +134,8 @@ where
 /// The context that the lines leave is let go at the end.
 ///
 /// Errors: the first that stands, in the order of [`ServeRowsFault`]. `Serve` has the error of that
-/// call. Of any other fault nothing is read and nothing written. Want of memory tells nothing of the
-/// rows, whichever fault has it.
+/// call. Of any other fault nothing is read and nothing written. Want of memory tells nothing of
+/// the rows, whichever fault has it.
 pub fn serve_checked_rows<R, I: ByteSource, O: ByteSink>(
     alloc: Global,
     rows: CheckedRows<'_>,
@@ -143,15 +148,19 @@ where
     R: MutationResolver + Drop,
     R::Context: Drop,
     ensures ran { let s = ⟦<DefaultScalarValue as Meaning>⟧.meaning in
-        let answerer = answerer_of s ⟦<RuleError as Ord>⟧.cmp ⟦<ExecutionError<DefaultScalarValue> as Ord>⟧.cmp
+        let answerer =
+        answerer_of s ⟦<RuleError as Ord>⟧.cmp ⟦<ExecutionError<DefaultScalarValue> as Ord>⟧.cmp
         ⟦<SimpleResolver<R> as Resolving<DefaultScalarValue>>⟧.resolving in
-        let roots = roots_named rows.entry.query.now (option_map (λ name. name.now) rows.entry.mutation) None in
+        let roots =
+        roots_named rows.entry.query.now (option_map (λ name. name.now) rows.entry.mutation) None in
         let by = spec.in_service resolver in
         let checks = rows.entry.checks in
-        let each = built_in.built_ins checks.int checks.string checks.boolean checks.id checks.introspection in
+        let each =
+        built_in.built_ins checks.int checks.string checks.boolean checks.id checks.introspection in
         spec.Ran answerer (spec.IsServiceOfRows s roots by context each rows.entry.types.items)
         (spec.RowsDue s roots by context each rows.entry.types.items)
-        (HasRisen (O.faults writer.old) (O.faults writer.new)) (I.left reader.old) (I.left reader.new) (O.written writer.old) (O.written writer.new) result }
+        (HasRisen (O.faults writer.old) (O.faults writer.new)) (I.left reader.old)
+        (I.left reader.new) (O.written writer.old) (O.written writer.new) result }
     ensures reads { I.faults reader.new ≡ reads_after (spec.served result) (I.faults reader.old) }
     ensures writes { WritesAfter (spec.served result) (O.faults writer.old) (O.faults writer.new) }
 {
@@ -168,11 +177,11 @@ where
 }
 
 /// Answers each line that is not empty of what is read, until it ends, over the schema that rows
-/// describe, as [`serve_checked_rows`] does, whose contract says what is read, answered and written,
-/// and whose errors are those of this call. `Int`, `String`, `Boolean` and `ID` accept what the
-/// standard says (GraphQL October 2021, 3.5 Scalars), an enum accepts each value that it declares,
-/// and an input object what its fields accept. A contract can't name checks that the call makes
-/// itself.
+/// describe, as [`serve_checked_rows`] does, whose contract says what is read, answered and
+/// written, and whose errors are those of this call. `Int`, `String`, `Boolean` and `ID` accept
+/// what the standard says (GraphQL October 2021, 3.5 Scalars), an enum accepts each value that it
+/// declares, and an input object what its fields accept. A contract can't name checks that the call
+/// makes itself.
 pub fn serve_rows<R, I: ByteSource, O: ByteSink>(
     alloc: Global,
     rows: &SchemaRows<'_>,

@@ -36,7 +36,8 @@ impl<R: Resolver> GraphQLValue<DefaultScalarValue> for SimpleResolver<R> {
         with_reason (R.answer r.resolver context node field (inputs_of given)) };
 
     ghost respects = { λ r context node field a b same.
-        ap (λ given. with_reason (R.answer r.resolver context node field given)) (same-inputs a b same) };
+        ap (λ given. with_reason (R.answer r.resolver context node field given))
+        (same-inputs a b same) };
 
     ghost tells_distinct_keys = { λ r context node field given.
         tells_reason (R.answer r.resolver context node field (inputs_of given)) };
@@ -78,12 +79,14 @@ impl<R: MutationResolver> GraphQLMutationValue<DefaultScalarValue> for SimpleRes
     ghost use Rattle.graphql_resolvers.proofs.SameGiven.{same-in-order};
 
     ghost changes = { λ r. record {
-      answer = λ context field given. with_reason (R.change_answer r.resolver context field (inputs_of given));
+      answer = λ context field given.
+          with_reason (R.change_answer r.resolver context field (inputs_of given));
       after = λ context field given. R.change_after r.resolver context field (inputs_of given);
     } };
 
     ghost respects_root = { λ r context field a b same. (
-      ap (λ given. with_reason (R.change_answer r.resolver context field given)) (same-in-order a b same),
+      ap (λ given. with_reason (R.change_answer r.resolver context field given))
+          (same-in-order a b same),
       ap (R.change_after r.resolver context field) (same-in-order a b same),
     ) };
 
@@ -99,7 +102,8 @@ impl<R: MutationResolver> GraphQLMutationValue<DefaultScalarValue> for SimpleRes
         arguments: &Arguments<'_, DefaultScalarValue>,
     ) -> FieldResult<Resolved<DefaultScalarValue, R::Node>, DefaultScalarValue>
         ensures answer { let given = inputs_of (arguments_told arguments.now) in
-            Answered (with_reason (R.change_answer self.now.resolver context.old field.now given)) result }
+            Answered (with_reason (R.change_answer self.now.resolver context.old field.now given))
+            result }
         ensures after { let given = inputs_of (arguments_told arguments.now) in
             let after = R.change_after self.now.resolver context.old field.now given in
             Leaves context.old after result context.new }

@@ -2,7 +2,8 @@
 use Rattle.std.specs.Prelude.{◌++◌, [], codes}
 use Rattle.graphql_names.specs.Names.{Bytes}
 use Rattle.graphql_executor.specs.declared.introspection_query.IntrospectionFormat.{IntrospectionFormat}
-use Rattle.graphql_executor.specs.declared.introspection_query.IntrospectionFormat.TheVariants as format
+use Rattle.graphql_executor.specs.declared.introspection_query.IntrospectionFormat.TheVariants as
+    format
 
 -- `d`: the field of the description, or nothing, at each place where there is one
 abbrev pub query_with : Bytes → Bytes
@@ -16,7 +17,8 @@ query_with d =
     ++ codes "inputFields { ...Input } interfaces { ...Ref } "
     ++ codes "enumValues(includeDeprecated: true) { name " ++ d
     ++ codes "isDeprecated deprecationReason } possibleTypes { ...Ref } } "
-    ++ codes "fragment Input on __InputValue { name " ++ d ++ codes "type { ...Ref } defaultValue } "
+    ++ codes "fragment Input on __InputValue { name " ++ d
+    ++ codes "type { ...Ref } defaultValue } "
     ++ codes "fragment Ref on __Type "
     ++ codes "{ kind name ofType { kind name ofType { kind name ofType { kind name } } } }"
 

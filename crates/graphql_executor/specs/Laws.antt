@@ -15,11 +15,14 @@ module _ {S C : Type 0} (s : Scalars S C) where
   abbrev pub AnswersAreOne : Type 0 → Type 0 → Type 0
   AnswersAreOne N X =
       (a : Asking S C) (r : Resolver S N X) (cmp : ExecutionError S → ExecutionError S → Ordering)
-      → (c one_after other_after : X) (one other : Value S) (errors others : List (ExecutionError S))
-      → IsAnswered s a r cmp c one errors one_after → IsAnswered s a r cmp c other others other_after
+      → (c one_after other_after : X) (one other : Value S)
+      (errors others : List (ExecutionError S))
+      → IsAnswered s a r cmp c one errors one_after
+      → IsAnswered s a r cmp c other others other_after
       → (one ≡ other) × (one_after ≡ other_after)
 
-  -- the data that are answered fit what is selected, and there is an error exactly where something fails
+  -- the data that are answered fit what is selected, and there is an error exactly where something
+  -- fails
   abbrev pub AnswersFit : Type 0 → Type 0 → Type 0
   AnswersFit N X =
       (a : Asking S C) (r : Resolver S N X) (cmp : ExecutionError S → ExecutionError S → Ordering)

@@ -42,10 +42,11 @@ fn query_text(format: IntrospectionFormat) -> &'static str
     }
 }
 
-/// What the introspection query is answered (GraphQL October 2021, 4.2 Schema Introspection): the types and the
-/// directives of the schema, as the request of a tool that asks for them gets them. No operation is named, and no
-/// value is given for variables. All is as `execute_sync` has it: where the root node has introspection disabled,
-/// the query is refused by the rule against it, and `GraphQLError::Memory` comes only where memory ran out.
+/// What the introspection query is answered (GraphQL October 2021, 4.2 Schema Introspection): the
+/// types and the directives of the schema, as the request of a tool that asks for them gets them.
+/// No operation is named, and no value is given for variables. All is as `execute_sync` has it:
+/// where the root node has introspection disabled, the query is refused by the rule against it, and
+/// `GraphQLError::Memory` comes only where memory ran out.
 pub fn introspect<S: SchemaScalar + Drop, R: GraphQLMutationValue<S>>(
     alloc: Global,
     root_node: &RootNode<S>,
@@ -56,7 +57,8 @@ pub fn introspect<S: SchemaScalar + Drop, R: GraphQLMutationValue<S>>(
     ensures answered { let root = root_node.now in
         let text = chars (spec.introspection_query format) in
         let asked = asking root.schema root.introspection_disabled text None (λ _. None) in
-        IfOk result (λ r. IsAnswered ⟦<S as Meaning>⟧.meaning asked (⟦<R as Resolving<S>>⟧.resolving resolver.now)
+        IfOk result (λ r.
+        IsAnswered ⟦<S as Meaning>⟧.meaning asked (⟦<R as Resolving<S>>⟧.resolving resolver.now)
         ⟦<ExecutionError<S> as Ord>⟧.cmp context.old r.0 r.1 context.new) }
     ensures refused { let root = root_node.now in
         let text = chars (spec.introspection_query format) in
@@ -66,7 +68,8 @@ pub fn introspect<S: SchemaScalar + Drop, R: GraphQLMutationValue<S>>(
         let text = chars (spec.introspection_query format) in
         let asked = asking root.schema root.introspection_disabled text None (λ _. None) in
         let resolving = ⟦<R as Resolving<S>>⟧.resolving resolver.now in
-        IfErr result (λ error. LeftUnanswered ⟦<S as Meaning>⟧.meaning asked resolving error context.old context.new) }
+        IfErr result (λ error.
+        LeftUnanswered ⟦<S as Meaning>⟧.meaning asked resolving error context.old context.new) }
 {
     let query = query_text(format);
     let variables = Variables::new(alloc);

@@ -12,16 +12,17 @@ pub use graphql_requests::laws::{
 use graphql_schema::SchemaScalar;
 use graphql_semantics::laws::{data_fit, failures_are_exact, no_data_fails};
 
-/// Two answers to one request, over one resolver and one context, have the same data, and leave the same
-/// context.
+/// Two answers to one request, over one resolver and one context, have the same data, and leave the
+/// same context.
 pub fn answers_are_one<S: SchemaScalar, R: GraphQLMutationValue<S>>()
     ensures { AnswersAreOne ⟦<S as Meaning>⟧.meaning R.Node R.Context }
 {}
 
-/// The data that a request is answered fit what it selects, of a query and of a mutation: an object has a member for
-/// each response key, in order, and at each place stands a value of the type that is declared there. So no null stands
-/// at a place that is declared without null. There is an error exactly where something fails, and where there are no
-/// data there is one (GraphQL October 2021, 6.4.3 Value Completion, 6.4.4 Handling Field Errors).
+/// The data that a request is answered fit what it selects, of a query and of a mutation: an object
+/// has a member for each response key, in order, and at each place stands a value of the type that
+/// is declared there. So no null stands at a place that is declared without null. There is an error
+/// exactly where something fails, and where there are no data there is one (GraphQL October 2021,
+/// 6.4.3 Value Completion, 6.4.4 Handling Field Errors).
 pub fn answers_fit<'d, S: SchemaScalar + 'd, R: GraphQLMutationValue<S>>()
 where
     R::Node: 'd,

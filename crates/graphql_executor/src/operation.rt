@@ -11,7 +11,8 @@ ghost use Rattle.graphql_execution_walk.specs.Engines.{engine_of};
 ghost use Rattle.graphql_execution_walk.specs.declared.asked.Asked.TheVariants as asked;
 ghost use Rattle.graphql_mutation.specs.Mutations.{mutation_of, mutation_over};
 ghost use Rattle.graphql_mutation.specs.Serial.{AfterBeginning, mutate, root_groups};
-ghost use Rattle.graphql_executor.specs.Executed.{IsBegun, IsBegunAt, IsResponse, Responds, run_at, runs};
+ghost use Rattle.graphql_executor.specs.Executed.{IsBegun, IsBegunAt, IsResponse, Responds, run_at};
+ghost use Rattle.graphql_executor.specs.Executed.{runs};
 
 use crate::resolving::Resolving;
 use graphql_collected::{Fragments, Request};
@@ -29,11 +30,12 @@ use graphql_values::Variables;
 use graphql_written_out::FinalVariables;
 use std::alloc::{AllocError, Global};
 
-/// Data, and the errors of fields without a value, in order (GraphQL October 2021, 7.1 Response Format).
+/// Data, and the errors of fields without a value, in order (GraphQL October 2021, 7.1 Response
+/// Format).
 pub type Response<S> = (Value<S>, Items<ExecutionError<S>>);
 
-/// What the selection set of a query that starts at this place gives on a resolver's root, an object of the type
-/// of this name, from which queries start. An error is want of memory.
+/// What the selection set of a query that starts at this place gives on a resolver's root, an
+/// object of the type of this name, from which queries start. An error is want of memory.
 fn answer_query<'d, 'a, S: SchemaScalar + Drop, R: GraphQLValue<S>>(
     alloc: Global,
     request: &'d Request<'d, 'a, S>,
@@ -58,8 +60,8 @@ fn answer_query<'d, 'a, S: SchemaScalar + Drop, R: GraphQLValue<S>>(
     Ok((or_null(value), in_order(report.errors)))
 }
 
-/// What the selection set of a mutation that starts at this place gives and changes, on an object of the type of
-/// this name, from which mutations start. An error is want of memory.
+/// What the selection set of a mutation that starts at this place gives and changes, on an object
+/// of the type of this name, from which mutations start. An error is want of memory.
 fn answer_mutation<'d, 'a, S: SchemaScalar + Drop, R: GraphQLMutationValue<S>>(
     alloc: Global,
     request: &'d Request<'d, 'a, S>,
@@ -86,8 +88,8 @@ fn answer_mutation<'d, 'a, S: SchemaScalar + Drop, R: GraphQLMutationValue<S>>(
     Ok((or_null(value), in_order(errors)))
 }
 
-/// What a selection set that starts at this place gives and changes: at the root of mutations where there is one,
-/// else at the root of queries. An error is want of memory.
+/// What a selection set that starts at this place gives and changes: at the root of mutations where
+/// there is one, else at the root of queries. An error is want of memory.
 fn answer_operation<'d, 'a, S: SchemaScalar + Drop, R: GraphQLMutationValue<S>>(
     alloc: Global,
     request: &'d Request<'d, 'a, S>,
@@ -102,14 +104,16 @@ fn answer_operation<'d, 'a, S: SchemaScalar + Drop, R: GraphQLMutationValue<S>>(
         (R.type_of resolver.now) (R.answer resolver.now) (R.changes resolver.now) in
         let sets = written_in request.now set.now ∷ [] in
         let root = option_map (λ name. name.now) mutation_root.entry in
-        let run = run_at m request.now.schema.now.query (asked.Own (R.root_node resolver.now)) sets root context.old in
+        let run = run_at m request.now.schema.now.query (asked.Own (R.root_node resolver.now)) sets
+        root context.old in
         IfOk result (λ r. Responds ⟦<ExecutionError<S> as Ord>⟧.cmp run r.0 r.1 context.new) }
     ensures begun { let m = mutation_of S.of_text S.of_bool S.answer request.now
         (R.type_of resolver.now) (R.answer resolver.now) (R.changes resolver.now) in
         let sets = written_in request.now set.now ∷ [] in
         let root = option_map (λ name. name.now) mutation_root.entry in
         let query = request.now.schema.now.query in
-        OnErr result (IsBegunAt m query (asked.Own (R.root_node resolver.now)) sets root context.old context.new) }
+        OnErr result (IsBegunAt m query (asked.Own (R.root_node resolver.now)) sets root context.old
+        context.new) }
 {
     match mutation_root {
         None => {
@@ -120,8 +124,9 @@ fn answer_operation<'d, 'a, S: SchemaScalar + Drop, R: GraphQLMutationValue<S>>(
     }
 }
 
-/// What an operation of a document gives and changes over the final values of its variables: on the root of
-/// mutations where there is one, else on a resolver's root for queries. An error is want of memory.
+/// What an operation of a document gives and changes over the final values of its variables: on the
+/// root of mutations where there is one, else on a resolver's root for queries. An error is want of
+/// memory.
 fn answer_over<'d, 'a, S: SchemaScalar + Drop, R: GraphQLMutationValue<S>>(
     alloc: Global,
     schema: &'d SchemaType<S>,
@@ -133,17 +138,21 @@ fn answer_over<'d, 'a, S: SchemaScalar + Drop, R: GraphQLMutationValue<S>>(
     context: &mut R::Context,
 ) -> Result<Response<S>, AllocError>
     requires { Settled (fragments_listed document.now) }
-    ensures responds { let m = mutation_over S.of_text S.of_bool S.answer schema.now (value_in variables.entry)
+    ensures responds { let m =
+        mutation_over S.of_text S.of_bool S.answer schema.now (value_in variables.entry)
         (R.type_of resolver.now) (R.answer resolver.now) (R.changes resolver.now) in
         let sets = written (fragments_listed document.now) operation.now.item.selection_set ∷ [] in
         let root = option_map (λ name. name.now) mutation_root.entry in
-        let run = run_at m schema.now.query (asked.Own (R.root_node resolver.now)) sets root context.old in
+        let run =
+        run_at m schema.now.query (asked.Own (R.root_node resolver.now)) sets root context.old in
         IfOk result (λ r. Responds ⟦<ExecutionError<S> as Ord>⟧.cmp run r.0 r.1 context.new) }
-    ensures begun { let m = mutation_over S.of_text S.of_bool S.answer schema.now (value_in variables.entry)
+    ensures begun { let m =
+        mutation_over S.of_text S.of_bool S.answer schema.now (value_in variables.entry)
         (R.type_of resolver.now) (R.answer resolver.now) (R.changes resolver.now) in
         let sets = written (fragments_listed document.now) operation.now.item.selection_set ∷ [] in
         let root = option_map (λ name. name.now) mutation_root.entry in
-        OnErr result (IsBegunAt m schema.now.query (asked.Own (R.root_node resolver.now)) sets root context.old context.new) }
+        OnErr result (IsBegunAt m schema.now.query (asked.Own (R.root_node resolver.now)) sets root
+        context.old context.new) }
 {
     let fragments = Fragments::new(alloc, document)?;
     let request = Request {
@@ -165,9 +174,9 @@ fn answer_over<'d, 'a, S: SchemaScalar + Drop, R: GraphQLMutationValue<S>>(
     Ok(response)
 }
 
-/// What an operation of a document gives and changes, over the values that a request gives for its variables
-/// (GraphQL October 2021, 6.2 Executing Operations): on the root of mutations where there is one, else on a
-/// resolver's root for queries. An error is want of memory.
+/// What an operation of a document gives and changes, over the values that a request gives for its
+/// variables (GraphQL October 2021, 6.2 Executing Operations): on the root of mutations where there
+/// is one, else on a resolver's root for queries. An error is want of memory.
 pub(crate) fn execute_operation<'d, 'a, S: SchemaScalar + Drop, R: GraphQLMutationValue<S>>(
     alloc: Global,
     schema: &'d SchemaType<S>,
@@ -180,11 +189,13 @@ pub(crate) fn execute_operation<'d, 'a, S: SchemaScalar + Drop, R: GraphQLMutati
 ) -> Result<Response<S>, AllocError>
     requires { Settled (fragments_listed document.now) }
     ensures responds { let root = option_map (λ name. name.now) mutation_root.entry in
-        let run = runs ⟦<S as Meaning>⟧.meaning schema.now (⟦<R as Resolving<S>>⟧.resolving resolver.now)
+        let run =
+        runs ⟦<S as Meaning>⟧.meaning schema.now (⟦<R as Resolving<S>>⟧.resolving resolver.now)
         document.now (get_by_text variables.now) operation.now.item root context.old in
         IfOk result (λ r. Responds ⟦<ExecutionError<S> as Ord>⟧.cmp run r.0 r.1 context.new) }
     ensures begun { let root = option_map (λ name. name.now) mutation_root.entry in
-        OnErr result (IsBegun ⟦<S as Meaning>⟧.meaning schema.now (⟦<R as Resolving<S>>⟧.resolving resolver.now)
+        OnErr result
+        (IsBegun ⟦<S as Meaning>⟧.meaning schema.now (⟦<R as Resolving<S>>⟧.resolving resolver.now)
         document.now (get_by_text variables.now) operation.now.item root context.old context.new) }
 {
     let values = FinalVariables::new(alloc, variables, &operation.item)?;

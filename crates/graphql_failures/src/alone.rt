@@ -46,7 +46,8 @@ fn is_renamed(response: &Response<DefaultScalarValue>) -> bool {
     }
 }
 
-/// How a mutation ends by `execute_sync`, over this root node of the sample, after so many requests for memory.
+/// How a mutation ends by `execute_sync`, over this root node of the sample, after so many requests
+/// for memory.
 pub fn executed(
     alloc: Global,
     root_node: &RootNode<DefaultScalarValue>,
@@ -75,7 +76,8 @@ pub fn executed(
     }
 }
 
-/// How a query ends by `plain_request`, over this root node of the sample, after so many requests for memory.
+/// How a query ends by `plain_request`, over this root node of the sample, after so many requests
+/// for memory.
 pub fn told_plain(
     alloc: Global,
     root_node: &RootNode<DefaultScalarValue>,

@@ -46,8 +46,8 @@ fn with_checks(alloc: Global, checks: StandardChecks, asked: Asked<'_>) -> Resul
     }
 }
 
-/// How a run over the sample ends, with the checks of the standard's scalars, and those of the enums of
-/// introspection, each of which accepts what the enum declares.
+/// How a run over the sample ends, with the checks of the standard's scalars, and those of the
+/// enums of introspection, each of which accepts what the enum declares.
 pub fn ended(alloc: Global, asked: Asked<'_>) -> Result<Ending, Unmade> {
     let int = TypeCheck::new(Box::new(
         alloc,

@@ -9,7 +9,8 @@ pub enum Ending {
     /// Nothing failed: each line has its answer, and left what it should.
     Answered,
 
-    /// What failed was told. The answers before it are written, and what is left is what their lines leave.
+    /// What failed was told. The answers before it are written, and what is left is what their
+    /// lines leave.
     Stopped,
 
     /// Another error was told.

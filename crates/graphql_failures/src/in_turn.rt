@@ -1,4 +1,5 @@
-//! Each read, each write and each call of the resolver fails, one in each run, until a run meets none.
+//! Each read, each write and each call of the resolver fails, one in each run, until a run meets
+//! none.
 
 use crate::asked::{Asked, ended};
 use crate::ending::Ending;
@@ -41,7 +42,8 @@ const ANSWERS: &[Row] = &[
     (PLAIN_TEXTS, ALL, Failing::Answer, 0),
 ];
 
-/// How many runs ended by the call that failed in them, another one in each, and how the run ended that met none.
+/// How many runs ended by the call that failed in them, another one in each, and how the run ended
+/// that met none.
 fn ended_in_turn(alloc: Global, row: &Row) -> Result<(u64, Ending), Unmade> {
     for number in 1..MOST {
         let run = Run {

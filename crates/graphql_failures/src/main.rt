@@ -1,10 +1,12 @@
-//! Runs over the sample in which something fails: a request for memory, a read, a write, or a call of the
-//! resolver. What is run is made by calls that hand their errors on, so that a refusal is met wherever it falls.
+//! Runs over the sample in which something fails: a request for memory, a read, a write, or a call
+//! of the resolver. What is run is made by calls that hand their errors on, so that a refusal is
+//! met wherever it falls.
 //!
-//! Reads, writes and calls of the resolver fail in the tests (`in_turn`), one in each run. Requests for memory
-//! are refused from outside: the program is asked, by lines of standard input, for runs by their names, each
-//! with how many requests are to be made and let go before it, and tells how each ended. So one number, that of
-//! the request that is refused, meets another request of the run in each case (`refuse-memory`).
+//! Reads, writes and calls of the resolver fail in the tests (`in_turn`), one in each run. Requests
+//! for memory are refused from outside: the program is asked, by lines of standard input, for runs
+//! by their names, each with how many requests are to be made and let go before it, and tells how
+//! each ended. So one number, that of the request that is refused, meets another request of the run
+//! in each case (`refuse-memory`).
 #![tactic(auto)]
 
 pub mod alone;

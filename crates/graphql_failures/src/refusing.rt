@@ -62,7 +62,8 @@ impl GraphQLValue<DefaultScalarValue> for Refusing {
 
     ghost answer = { λ _ context n field given. Ok (spec.answer context.records n field given) };
 
-    ghost respects = { λ _ context n field a b same. ap Ok (answered-alike context.records a b same n field) };
+    ghost respects = { λ _ context n field a b same.
+        ap Ok (answered-alike context.records a b same n field) };
 
     ghost tells_distinct_keys = { λ _ _ _ _ _. record { beside = tt } };
 
@@ -108,7 +109,8 @@ impl GraphQLMutationValue<DefaultScalarValue> for Refusing {
 
     ghost changes = { λ _. spec.changes };
 
-    ghost respects_root = { λ _ c field a b same. (answers-same c field a b same, leaves-same c field a b same) };
+    ghost respects_root = { λ _ c field a b same.
+        (answers-same c field a b same, leaves-same c field a b same) };
 
     ghost root_tells_distinct_keys = { λ _ _ _ _. record { beside = tt } };
 

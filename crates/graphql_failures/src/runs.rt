@@ -55,8 +55,8 @@ fn words_for(ended: Result<Ending, Unmade>) -> &'static str {
     }
 }
 
-/// How the run ended that a line asks for by its name, a space, and how many requests for memory are to be
-/// spent before it: where it is to be made, before anything is; else when all is made.
+/// How the run ended that a line asks for by its name, a space, and how many requests for memory
+/// are to be spent before it: where it is to be made, before anything is; else when all is made.
 pub fn told(alloc: Global, line: &str) -> &'static str {
     let Some((name, spent)) = line.split_once(' ') else {
         return "not a run";

@@ -60,7 +60,8 @@ pub struct Run {
     pub spent: u32,
 }
 
-/// How many calls succeed: those before the one that fails, where it is one of these; else as many as there are.
+/// How many calls succeed: those before the one that fails, where it is one of these; else as many
+/// as there are.
 fn succeeding(run: &Run, fails: bool) -> u64 {
     if fails {
         run.number.saturating_sub(1)
@@ -93,8 +94,8 @@ fn why_ended(
     }
 }
 
-/// How a run ended that told of a want of memory: whole answer lines are written, and the line behind them has
-/// left what it does or has changed nothing.
+/// How a run ended that told of a want of memory: whole answer lines are written, and the line
+/// behind them has left what it does or has changed nothing.
 fn memory_ending(lines: &Lines, written: &[u8], records: &SampleRecords) -> Ending {
     match lines.answered_by(written) {
         Some(count) => {

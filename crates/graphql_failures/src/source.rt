@@ -4,7 +4,8 @@ ghost use Rattle.std.specs.Prelude.{◌≡◌, Some};
 
 use graphql_service::{ByteSource, ReadFailed};
 
-/// Bytes that are there already, of which each read gives a few, until one fails. It takes no memory.
+/// Bytes that are there already, of which each read gives a few, until one fails. It takes no
+/// memory.
 #[derive(Drop)]
 pub struct Source<'a> {
     /// What is still to be read.

@@ -1,4 +1,5 @@
-//! Requests for memory that are made and let go before a run, so that the one that is refused is another one of it.
+//! Requests for memory that are made and let go before a run, so that the one that is refused is
+//! another one of it.
 
 use crate::unmade::Unmade;
 use std::alloc::Global;

@@ -5,9 +5,11 @@ use Rattle.graphql_scalars.specs.declared.check_error.CheckError.{CheckError}
 use Rattle.graphql_scalars.specs.declared.check_error.CheckError.TheVariants as check
 use Rattle.graphql_output_values.specs.declared.value.Value.TheVariants as value
 use Rattle.graphql_values.specs.declared.conversions.arrays.FromInputValueArrayError.{FromInputValueArrayError}
-use Rattle.graphql_values.specs.declared.conversions.arrays.FromInputValueArrayError.TheVariants as array_error
+use Rattle.graphql_values.specs.declared.conversions.arrays.FromInputValueArrayError.TheVariants as
+    array_error
 use Rattle.graphql_values.specs.declared.conversions.lists.FromInputValueVecError.{FromInputValueVecError}
-use Rattle.graphql_values.specs.declared.conversions.lists.FromInputValueVecError.TheVariants as vec_error
+use Rattle.graphql_values.specs.declared.conversions.lists.FromInputValueVecError.TheVariants as
+    vec_error
 use Rattle.graphql_field_results.specs.declared.field_error.FieldError.{FieldError}
 use Rattle.graphql_field_results.specs.declared.field_fault.FieldFault.{FieldFault}
 use Rattle.graphql_field_results.specs.declared.field_fault.FieldFault.TheVariants as fault
@@ -27,7 +29,9 @@ IsReason error text = text ≡ Some error.message
 
 -- another number of items than the wanted one
 abbrev pub wrong_count : ℕ → ℕ → List ℕ
-wrong_count actual expected = codes "Failed to convert into exact-size array: wrong elements count: " ++ decimal actual ++ codes " instead of " ++ decimal expected
+wrong_count actual expected =
+    codes "Failed to convert into exact-size array: wrong elements count: " ++ decimal actual
+    ++ codes " instead of " ++ decimal expected
 
 -- what is wrong with a value is the reason; want of memory stays so
 abbrev pub check_fault : {S : Type 0} → CheckError → FieldFault S
@@ -43,7 +47,8 @@ module _ {F S T E : Type 0} (becomes : E → FieldError F) where
 
   -- the same of a list of one length
   abbrev pub of_array_error : FromInputValueArrayError T S E → FieldError F
-  of_array_error array_error.Null = told (codes "Failed to convert into exact-size array: Value cannot be `null`")
+  of_array_error array_error.Null =
+      told (codes "Failed to convert into exact-size array: Value cannot be `null`")
   of_array_error (array_error.WrongCount actual expected) = told (wrong_count actual expected)
   of_array_error (array_error.Item e) = becomes e
   of_array_error array_error.Memory = told (codes "Out of memory")

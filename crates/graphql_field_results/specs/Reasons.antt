@@ -10,7 +10,9 @@ use Rattle.graphql_field_results.specs.Answered.{TellsInDistinctKeys}
 use Rattle.graphql_field_results.specs.IntoFieldErrors.{told}
 
 -- so it tells nothing that has a key
-pub reason_alone : {S A : Type 0} (message : List ℕ) → TellsInDistinctKeys {S = S} {A = A} (Err (told message))
+pub reason_alone : {S A : Type 0} (message : List ℕ)
+    → TellsInDistinctKeys {S = S} {A = A} (Err (told message))
 reason_alone message = record {
-  beside = subst (All (IsDistinct bytes_eq)) (sym (fold_null keys_layer keys_fields_layer)) (All-nil (IsDistinct bytes_eq));
+  beside = subst (All (IsDistinct bytes_eq)) (sym (fold_null keys_layer keys_fields_layer))
+      (All-nil (IsDistinct bytes_eq));
 }

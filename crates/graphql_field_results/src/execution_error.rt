@@ -9,10 +9,10 @@ use graphql_scalars::ScalarValue;
 use graphql_text::{Items, SourcePosition, Text};
 use std::alloc::{AllocError, Global};
 
-/// A field that has no value (GraphQL October 2021, 7.1.2 Errors): where it stands in the request's text,
-/// its path, which is the response keys from the root of the data down to it, and why. Errors are ordered
-/// by their places, errors of one place by their paths, key by key, and errors of one path by the bytes of
-/// their reasons. What is told beside a reason does not count.
+/// A field that has no value (GraphQL October 2021, 7.1.2 Errors): where it stands in the request's
+/// text, its path, which is the response keys from the root of the data down to it, and why. Errors
+/// are ordered by their places, errors of one place by their paths, key by key, and errors of one
+/// path by the bytes of their reasons. What is told beside a reason does not count.
 #[derive(Drop)]
 #[derive_where(PartialEq, Eq, PartialOrd, Ord)]
 pub struct ExecutionError<S> {
@@ -69,8 +69,8 @@ impl<S> ExecutionError<S> {
 impl<S: ScalarValue + Drop> Clone for ExecutionError<S> {
     ghost is_clone = { λ error copy. copy ≡ error };
 
-    /// The same error. An error of the call is want of memory. It takes stack for each level of what is told
-    /// beside the reason.
+    /// The same error. An error of the call is want of memory. It takes stack for each level of
+    /// what is told beside the reason.
     fn clone(&self) -> Result<ExecutionError<S>, AllocError> {
         let path = self.path.clone()?;
         let error = self.error.clone()?;
@@ -78,7 +78,8 @@ impl<S: ScalarValue + Drop> Clone for ExecutionError<S> {
     }
 }
 
-/// The same errors in order: by their places, then by their paths, then by their reasons. Takes no memory.
+/// The same errors in order: by their places, then by their paths, then by their reasons. Takes no
+/// memory.
 pub fn in_order<S: Drop>(errors: Items<ExecutionError<S>>) -> Items<ExecutionError<S>>
     ensures permutation { IsPermutation errors result }
     ensures sorted { IsSorted ⟦<ExecutionError<S> as Ord>⟧.cmp result }

@@ -11,9 +11,9 @@ use graphql_text::Text;
 use std::alloc::{AllocError, Global};
 use std::fmt::{self, Display};
 
-/// Why a field has no value (GraphQL October 2021, 6.4.4 Handling Field Errors): a reason in words, and
-/// what is told beside it (7.1.2 Errors). Errors are ordered by their reasons alone, and `==` is that of
-/// this order; `tells_the_same` compares what is told beside the reasons too.
+/// Why a field has no value (GraphQL October 2021, 6.4.4 Handling Field Errors): a reason in words,
+/// and what is told beside it (7.1.2 Errors). Errors are ordered by their reasons alone, and `==`
+/// is that of this order; `tells_the_same` compares what is told beside the reasons too.
 #[derive(Drop)]
 #[derive_where(PartialEq, Eq, PartialOrd, Ord)]
 pub struct FieldError<S> {
@@ -23,8 +23,8 @@ pub struct FieldError<S> {
 }
 
 impl<S> FieldError<S> {
-    /// The error whose reason is what `{}` writes of the value, with what is told beside it: `null` where
-    /// that is nothing. An error of the call is want of memory.
+    /// The error whose reason is what `{}` writes of the value, with what is told beside it: `null`
+    /// where that is nothing. An error of the call is want of memory.
     pub fn new<T: Display>(
         alloc: Global,
         error: &T,
@@ -32,14 +32,15 @@ impl<S> FieldError<S> {
     ) -> Result<FieldError<S>, AllocError>
     where
         S: Drop,
-        ensures { IfSome (T.output error.now) (λ text. Gives result (record { message = text; extensions = extensions })) }
+        ensures { IfSome (T.output error.now)
+            (λ text. Gives result (record { message = text; extensions = extensions })) }
     {
         let message = Text::from_string(error.to_string(alloc)?);
         Ok(FieldError::with_extensions(message, extensions))
     }
 
-    /// The error of this reason, with what is told beside it: `null` where that is nothing. Takes no
-    /// memory.
+    /// The error of this reason, with what is told beside it: `null` where that is nothing. Takes
+    /// no memory.
     pub fn with_extensions(message: Text, extensions: Value<S>) -> FieldError<S>
         ensures { result ≡ record { message = message; extensions = extensions } }
     {
@@ -70,18 +71,19 @@ impl<S> FieldError<S> {
         &self.extensions
     }
 
-    /// Whether the errors have the same reason, and equal values are told beside it: objects are equal in
-    /// whatever order their keys stand. It takes stack for each level of what both tell.
+    /// Whether the errors have the same reason, and equal values are told beside it: objects are
+    /// equal in whatever order their keys stand. It takes stack for each level of what both tell.
     pub fn tells_the_same(&self, other: &FieldError<S>) -> bool
     where
         S: PartialEq,
-        ensures { IsTrue result ↔ ((self.now.message ≡ other.now.message) × IsTrue (⟦<Value<S> as PartialEq>⟧.eq self.now.extensions other.now.extensions)) }
+        ensures { IsTrue result ↔ ((self.now.message ≡ other.now.message)
+            × IsTrue (⟦<Value<S> as PartialEq>⟧.eq self.now.extensions other.now.extensions)) }
     {
         self.message.is(other.message()) && self.extensions == other.extensions
     }
 
-    /// The error with another reason: the one that the function makes of its own. What is told beside it
-    /// stays.
+    /// The error with another reason: the one that the function makes of its own. What is told
+    /// beside it stays.
     pub fn map_message<F: FnOnce(Text) -> Text>(self, turn: F) -> FieldError<S>
         requires { F.pre turn self.message }
         ensures message { F.post turn self.message result.message }
@@ -90,8 +92,8 @@ impl<S> FieldError<S> {
         FieldError::with_extensions(turn(self.message), self.extensions)
     }
 
-    /// The error with each scalar mapped in what is told beside the reason, whose keys stay as they are. An
-    /// error of the call is want of memory. It takes stack for each level of what is told.
+    /// The error with each scalar mapped in what is told beside the reason, whose keys stay as they
+    /// are. An error of the call is want of memory. It takes stack for each level of what is told.
     pub fn map_scalar_value<T: Drop, F: Fn(S) -> T + Drop>(
         self,
         turn: F,
@@ -99,7 +101,9 @@ impl<S> FieldError<S> {
     where
         S: Drop,
         requires { (s : S) → F.pre turn s }
-        ensures { (f : S → T) → Turns (F.post turn) f → Gives result (record { message = self.message; extensions = map_scalars f self.extensions }) }
+        ensures { (f : S → T) → Turns (F.post turn) f
+            → Gives result
+            (record { message = self.message; extensions = map_scalars f self.extensions }) }
     {
         let extensions = self.extensions.map_scalar_value(turn)?;
         Ok(FieldError::with_extensions(self.message, extensions))
@@ -109,8 +113,8 @@ impl<S> FieldError<S> {
 impl<S: ScalarValue + Drop> Clone for FieldError<S> {
     ghost is_clone = { λ error copy. copy ≡ error };
 
-    /// The same error. An error of the call is want of memory. It takes stack for each level of what is told
-    /// beside the reason.
+    /// The same error. An error of the call is want of memory. It takes stack for each level of
+    /// what is told beside the reason.
     fn clone(&self) -> Result<FieldError<S>, AllocError> {
         let message = self.message.clone()?;
         let extensions = self.extensions.clone()?;

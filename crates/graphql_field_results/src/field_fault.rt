@@ -1,14 +1,15 @@
 //! Errors of fields, or want of memory.
 
 ghost use Rattle.std.specs.Prelude.{◌≡◌};
-ghost use Rattle.graphql_field_results.specs.declared.field_fault.FieldFault.TheVariants.{Error, Memory};
+ghost use Rattle.graphql_field_results.specs.declared.field_fault.FieldFault.TheVariants.{Error};
+ghost use Rattle.graphql_field_results.specs.declared.field_fault.FieldFault.TheVariants.{Memory};
 
 use crate::field_error::FieldError;
 use graphql_output_values::Value;
 use std::alloc::{AllocError, AllocFailed};
 
-/// Why a resolver has no answer: the error of the field, or want of memory, which tells nothing of the
-/// field.
+/// Why a resolver has no answer: the error of the field, or want of memory, which tells nothing of
+/// the field.
 #[derive(Drop)]
 pub enum FieldFault<S> {
     /// The field's error.

@@ -7,7 +7,14 @@ ghost use Rattle.graphql_scalars.specs.CheckErrors.{error_text, wrong_type};
 ghost use Rattle.graphql_scalars.specs.ScalarText.{scalar_text};
 ghost use Rattle.graphql_values.specs.declared.conversions.arrays.FromInputValueArrayError.TheVariants as array_error;
 ghost use Rattle.graphql_values.specs.declared.conversions.lists.FromInputValueVecError.TheVariants as vec_error;
-ghost use Rattle.graphql_field_results.specs.IntoFieldErrors.{IsFaultOf, check_fault, of_array_error, of_list_error, told, wrong_count};
+ghost use Rattle.graphql_field_results.specs.IntoFieldErrors.{
+  IsFaultOf,
+  check_fault,
+  of_array_error,
+  of_list_error,
+  told,
+  wrong_count,
+};
 ghost use Rattle.graphql_field_results.specs.declared.field_error.FieldError.{FieldError};
 ghost use Rattle.graphql_field_results.specs.declared.field_fault.FieldFault.TheVariants as fault;
 
@@ -98,7 +105,8 @@ impl<S> IntoFieldError<S> for Text {
     }
 }
 
-/// What is wrong with the value is the reason. Want of memory stays want of memory. Takes no memory.
+/// What is wrong with the value is the reason. Want of memory stays want of memory. Takes no
+/// memory.
 impl<S> IntoFieldError<S> for CheckError {
     ghost becomes = { λ error. told (error_text error) };
 
@@ -114,7 +122,8 @@ impl<S> IntoFieldError<S> for CheckError {
 
 /// The reason tells which type was expected, and which scalar was found.
 impl<'a, S: ScalarValue, T> IntoFieldError<T> for WrongInputScalarTypeError<'a, S> {
-    ghost becomes = { λ error. told (wrong_type error.type_name (scalar_text (S.answer error.input))) };
+    ghost becomes = { λ error.
+        told (wrong_type error.type_name (scalar_text (S.answer error.input))) };
 
     fn into_field_error(self, alloc: Global) -> FieldFault<T> {
         match self.to_string(alloc) {
@@ -158,8 +167,8 @@ fn count_told<S>(alloc: Global, actual: usize, expected: usize) -> FieldFault<S>
     }
 }
 
-/// That null is refused, which number of items was found in place of which, or what the item's error
-/// becomes. Want of memory stays want of memory.
+/// That null is refused, which number of items was found in place of which, or what the item's
+/// error becomes. Want of memory stays want of memory.
 impl<S, T: FromInputValue<S>> IntoFieldError<S> for FromInputValueArrayError<T, S>
 where
     T::Error: IntoFieldError<S>,

@@ -1,5 +1,5 @@
-//! What resolvers answer, and why a field has no value (GraphQL October 2021, 6.4.2 Value Resolution, 6.4.4
-//! Handling Field Errors).
+//! What resolvers answer, and why a field has no value (GraphQL October 2021, 6.4.2 Value
+//! Resolution, 6.4.4 Handling Field Errors).
 #![tactic(auto)]
 
 mod execution_error;

@@ -17,7 +17,8 @@ abbrev pub Corresponding : List Located → List Located → Span → Span → T
 Corresponding (a ∷ ts) (b ∷ us) s u = ((s ≡ a.span) × (u ≡ b.span)) ⊎ (Corresponding ts us s u)
 Corresponding _ _ s u = ⊥
 
--- Both read what a function sees as the same, with the same tokens left, or both find the same fault.
+-- Both read what a function sees as the same, with the same tokens left, or both find the same
+-- fault.
 abbrev pub SameOutcome : {A B : Type 0} → (A → B) → Outcome A → Outcome A → Type 0
 SameOutcome see (Ok p) (Ok q) = (see p.0 ≡ see q.0) × (SameTokens p.1.ahead q.1.ahead)
 SameOutcome see (Err e) (Err f) = e.item ≡ f.item

@@ -64,8 +64,10 @@ module _ {S : Type 0} (reads : ScalarToken → Result S ParseError) where
 abbrev pub Reading : Type 0 → Type 0
 Reading S = ScalarToken → Result S ParseError
 
--- Which tokens spell which tree hangs on what scalars mean. A scalar can stand behind these tokens: by some reading of scalars some tree begins with them and it.
-pub record TakesScalar {S A : Type 0} (Tree : Reading S → List Located → A → Type 0) (ts : List Located) : Type 0 where
+-- Which tokens spell which tree hangs on what scalars mean. A scalar can stand behind these tokens:
+-- by some reading of scalars some tree begins with them and it.
+pub record TakesScalar {S A : Type 0} (Tree : Reading S → List Located → A → Type 0)
+    (ts : List Located) : Type 0 where
   pub reading : Reading S
   pub at : Located
   pub scalar : IsScalar at
@@ -74,22 +76,28 @@ pub record TakesScalar {S A : Type 0} (Tree : Reading S → List Located → A �
 module _ {S A : Type 0} (reads : Reading S) (Tree : Reading S → List Located → A → Type 0) where
   -- where no tree can have the next token, its fault
   pub data FaultOf (f : Span) (before rest : List Located) (e : Fault) : Type 0 where
-    -- No scalar can stand there, or none stands there: the token's source text, or the end of the text.
-    unexpected_token : e ≡ refused_at f rest → ((a : Located) (more : List Located) → rest ≡ a ∷ more → IsScalar a → TakesScalar Tree before → ⊥) → FaultOf f before rest e
+    -- No scalar can stand there, or none stands there: the token's source text, or the end of the
+    -- text.
+    unexpected_token : e ≡ refused_at f rest → ((a : Located) (more : List Located)
+        → rest ≡ a ∷ more → IsScalar a → TakesScalar Tree before → ⊥) → FaultOf f before rest e
     -- A scalar can stand there, and the type refuses this one: the type's own fault.
-    refused_scalar : (a : Located) (more : List Located) → rest ≡ a ∷ more → BadScalar reads a e → TakesScalar Tree before → FaultOf f before rest e
+    refused_scalar : (a : Located) (more : List Located) → rest ≡ a ∷ more → BadScalar reads a e
+        → TakesScalar Tree before → FaultOf f before rest e
 
-  -- The fault of the first token that no tree could have there. With no such token the text ends too early.
+  -- The fault of the first token that no tree could have there. With no such token the text ends
+  -- too early.
   pub record FirstFaultyToken (i : Input) (e : Fault) : Type 0 where
     pub before : List Located
     pub rest : List Located
     pub front : i.ahead ≡ before ++ rest
     pub possible : Begins reads (Tree reads) before
-    pub impossible : (a : Located) (more : List Located) → rest ≡ a ∷ more → Begins reads (Tree reads) (before ++ a ∷ []) → ⊥
+    pub impossible : (a : Located) (more : List Located) → rest ≡ a ∷ more
+        → Begins reads (Tree reads) (before ++ a ∷ []) → ⊥
     pub too_short : rest ≡ [] → (x : A) → Tree reads before x → ⊥
     pub fault : FaultOf i.finish before rest e
 
-  -- what is read where a tree is looked for: the longest front that spells one, else the first faulty token
+  -- what is read where a tree is looked for: the longest front that spells one, else the first
+  -- faulty token
   abbrev pub Sought : Input → Outcome A → Type 0
   Sought i (Ok p) = Spelled reads (Tree reads) i p.0 p.1 × Longest reads (Tree reads) i p.0 p.1
   Sought i (Err e) = FirstFaultyToken i e

@@ -6,7 +6,8 @@ use Rattle.graphql_text.specs.declared.spanning.Spanning.{Spanning}
 use Rattle.graphql_text.specs.declared.token.Token.{Token}
 use Rattle.graphql_text.specs.declared.token.Token.TheVariants as t
 use Rattle.graphql_text.specs.declared.parse_error.ParseError.{ParseError}
-use Rattle.graphql_text.specs.declared.parse_error.ParseError.TheVariants.{UnexpectedToken, UnexpectedEndOfFile}
+use Rattle.graphql_text.specs.declared.parse_error.ParseError.TheVariants.{UnexpectedToken}
+use Rattle.graphql_text.specs.declared.parse_error.ParseError.TheVariants.{UnexpectedEndOfFile}
 use Rattle.graphql_text.specs.Spelling.{source_of}
 pub use Rattle.graphql_text.specs.Refusals.{Fault, IsMemory}
 use Rattle.graphql_text.specs.Memory.{UnlessMemory, MeetsBy}

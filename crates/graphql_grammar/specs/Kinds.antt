@@ -1,5 +1,7 @@
--- The kinds of token that the grammar tells apart, and sets of them (GraphQL October 2021, appendix B).
-use Rattle.std.specs.Prelude.{ℕ, Bool, true, false, if◌then◌else◌, List, [], ◌∷◌, codes, ◌||◌, ◌&&◌, not}
+-- The kinds of token that the grammar tells apart, and sets of them (GraphQL October 2021, appendix
+-- B).
+use Rattle.std.specs.Prelude.{ℕ, Bool, true, false, if◌then◌else◌, List, [], ◌∷◌, codes, ◌||◌, ◌&&◌}
+use Rattle.std.specs.Prelude.{not}
 use Rattle.std.specs.Str.{bytes_eq}
 use Rattle.graphql_text.specs.declared.token.Token.{Token}
 use Rattle.graphql_text.specs.declared.token.Token.TheVariants as t
@@ -81,8 +83,10 @@ enum_names k.Null = false
 enum_names w = names w
 
 abbrev pub all_kinds : List Kind
-all_kinds = k.Name ∷ k.On ∷ k.Query ∷ k.Mutation ∷ k.Subscription ∷ k.Fragment ∷ k.True ∷ k.False ∷ k.Null ∷ k.Scalar ∷ k.ExclamationMark ∷ k.Dollar ∷ k.ParenOpen ∷ k.ParenClose
-    ∷ k.BracketOpen ∷ k.BracketClose ∷ k.CurlyOpen ∷ k.CurlyClose ∷ k.Ellipsis ∷ k.Colon ∷ k.Equals ∷ k.At ∷ k.Pipe ∷ k.EndOfFile ∷ []
+all_kinds = k.Name ∷ k.On ∷ k.Query ∷ k.Mutation ∷ k.Subscription ∷ k.Fragment ∷ k.True ∷ k.False
+    ∷ k.Null ∷ k.Scalar ∷ k.ExclamationMark ∷ k.Dollar ∷ k.ParenOpen ∷ k.ParenClose
+    ∷ k.BracketOpen ∷ k.BracketClose ∷ k.CurlyOpen ∷ k.CurlyClose ∷ k.Ellipsis ∷ k.Colon ∷ k.Equals
+    ∷ k.At ∷ k.Pipe ∷ k.EndOfFile ∷ []
 
 abbrev pub each : Kinds → List Kind → Bool
 each s [] = true

@@ -20,7 +20,8 @@ abbrev pub span_of : Located → List Located → Span
 span_of a rest = record { start = a.span.start; end = end_of a.span.end rest }
 
 -- one token of these kinds, by what it means
-pub record TokenOf {A : Type 0} (kinds : Kinds) (meaning : Token → A) (ts : List Located) (x : A) : Type 0 where
+pub record TokenOf {A : Type 0} (kinds : Kinds) (meaning : Token → A) (ts : List Located)
+    (x : A) : Type 0 where
   pub at : Located
   pub alone : ts ≡ at ∷ []
   pub of_kind : kinds (kind at.item) ≡ true
@@ -36,7 +37,8 @@ pub record Nothing {A : Type 0} (wanted : A) (ts : List Located) (x : A) : Type 
   pub is : x ≡ wanted
 
 -- one part, then another, which may depend on what the first spells
-pub record Then {A B : Type 0} (P : Rel A) (Q : A → Rel B) (ts : List Located) (y : B) : Type 0 where
+pub record Then {A B : Type 0} (P : Rel A) (Q : A → Rel B) (ts : List Located)
+    (y : B) : Type 0 where
   pub front : List Located
   pub back : List Located
   pub is : ts ≡ front ++ back
@@ -66,7 +68,8 @@ pub data OptionOf {A : Type 0} (P : Rel A) : List Located → Option A → Type 
 -- any number of items behind those that were found
 pub data AllFrom {A : Type 0} (P : Rel A) (found : List A) : List Located → List A → Type 0 where
   none_more : AllFrom P found [] found
-  one_more : (ts us : List Located) (xs : List A) (x : A) → AllFrom P found ts xs → P us x → AllFrom P found (ts ++ us) (xs ++ x ∷ [])
+  one_more : (ts us : List Located) (xs : List A) (x : A) → AllFrom P found ts xs → P us x
+      → AllFrom P found (ts ++ us) (xs ++ x ∷ [])
 
 -- any number of items
 abbrev pub AllOf : {A : Type 0} → Rel A → Rel (List A)
@@ -85,7 +88,8 @@ pub record Ended {A : Type 0} (P : Rel A) (close : Kind) (ts : List Located) (x 
   pub spells : P inside x
 
 -- between two tokens
-pub record Between {A : Type 0} (P : Rel A) (w close : Kind) (ts : List Located) (x : A) : Type 0 where
+pub record Between {A : Type 0} (P : Rel A) (w close : Kind) (ts : List Located)
+    (x : A) : Type 0 where
   pub first : Located
   pub inside : List Located
   pub last : Located

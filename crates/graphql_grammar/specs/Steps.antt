@@ -1,5 +1,6 @@
 -- The steps that productions are made of.
-use Rattle.std.specs.Prelude.{ℕ, zero, suc, Bool, if◌then◌else◌, List, [], ◌∷◌, ◌++◌, Result, Ok, Err, Option, Some, None}
+use Rattle.std.specs.Prelude.{ℕ, zero, suc, Bool, if◌then◌else◌, List, [], ◌∷◌, ◌++◌, Result, Ok}
+use Rattle.std.specs.Prelude.{Err, Option, Some, None}
 use Rattle.graphql_text.specs.declared.token.Token.{Token}
 use Rattle.graphql_text.specs.declared.token.Token.TheVariants as t
 use Rattle.graphql_text.specs.declared.token.ScalarToken.{ScalarToken}
@@ -7,7 +8,8 @@ use Rattle.graphql_text.specs.declared.parse_error.ParseError.{ParseError}
 use Rattle.graphql_grammar.specs.declared.kind.Kind.{Kind}
 use Rattle.graphql_grammar.specs.declared.kind.Kind.TheVariants as k
 use Rattle.graphql_grammar.specs.Kinds.{Kinds, only, names}
-use Rattle.graphql_grammar.specs.Input.{At, Input, Parser, and_then, ◌>>=◌, pure, refuse, peek, peek_kind, next, left}
+use Rattle.graphql_grammar.specs.Input.{At, Input, Parser, and_then, ◌>>=◌, pure, refuse, peek}
+use Rattle.graphql_grammar.specs.Input.{peek_kind, next, left}
 
 -- whether one of these kinds stands next
 unfoldable pub sees : Kinds → Input → Bool
@@ -50,7 +52,8 @@ module _ {S : Type 0} (reads : ScalarToken → Result S ParseError) where
 
 -- with the place from its first token to its last
 abbrev pub placed : {A : Type 0} → Input → A → Parser (At A)
-placed i x = λ j. Ok (record { item = x; span = record { start = (peek i).span.start; end = j.end } }, j)
+placed i x =
+    λ j. Ok (record { item = x; span = record { start = (peek i).span.start; end = j.end } }, j)
 
 abbrev pub located : {A : Type 0} → Parser A → Parser (At A)
 located p = λ i. and_then (p i) (placed i)
@@ -59,10 +62,12 @@ located p = λ i. and_then (p i) (placed i)
 abbrev pub optional : {A : Type 0} → Kinds → Parser A → Parser (Option A)
 optional kinds p = when kinds (p >>= (λ x. pure (Some x))) (pure None)
 
--- All that begin with one of these kinds. Each takes a token, so the count of those that are left is enough.
+-- All that begin with one of these kinds. Each takes a token, so the count of those that are left
+-- is enough.
 unfoldable pub all_from : {A : Type 0} → Kinds → Parser A → ℕ → List A → Parser (List A)
 all_from kinds item zero found = pure found
-all_from kinds item (suc n) found = when kinds (item >>= (λ x. all_from kinds item n (found ++ x ∷ []))) (pure found)
+all_from kinds item (suc n) found =
+    when kinds (item >>= (λ x. all_from kinds item n (found ++ x ∷ []))) (pure found)
 
 abbrev pub all : {A : Type 0} → Kinds → Parser A → List A → Parser (List A)
 all kinds item found = λ i. all_from kinds item (left i) found i
@@ -70,7 +75,8 @@ all kinds item found = λ i. all_from kinds item (left i) found i
 -- items up to the token that closes them
 unfoldable pub until_from : {A : Type 0} → Kind → Parser A → ℕ → List A → Parser (List A)
 until_from close item zero found = refuse
-until_from close item (suc n) found = when (only close) (λ i. Ok (found, next i)) (item >>= (λ x. until_from close item n (found ++ x ∷ [])))
+until_from close item (suc n) found = when (only close) (λ i. Ok (found, next i))
+    (item >>= (λ x. until_from close item n (found ++ x ∷ [])))
 
 abbrev pub until : {A : Type 0} → Kind → Parser A → List A → Parser (List A)
 until close item found = λ i. until_from close item (left i) found i

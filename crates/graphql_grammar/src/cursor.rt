@@ -1,12 +1,14 @@
 //! Reads the tokens of a text, one behind the other.
 
-ghost use Rattle.std.specs.Prelude.{◌≡◌, ◌≢◌, ◌-◌, ◌<◌, ◌≤◌, [], ◌∷◌, ◌++◌, slice_get, IfOk, IfErr, OnOk, OnErr};
+ghost use Rattle.std.specs.Prelude.{◌≡◌, ◌≢◌, ◌-◌, ◌<◌, ◌≤◌, [], ◌∷◌, ◌++◌, slice_get, IfOk, IfErr};
+ghost use Rattle.std.specs.Prelude.{OnOk, OnErr};
 ghost use Rattle.std.specs.Str.{chars};
 ghost use Rattle.graphql_text.specs.Memory.{UnlessMemory};
 ghost use Rattle.graphql_grammar.specs.declared.kind.Kind.TheVariants as k;
 ghost use Rattle.graphql_grammar.specs.Kinds.{only, fragment_names};
 ghost use Rattle.graphql_grammar.specs.Input as spec;
-ghost use Rattle.graphql_grammar.specs.Input.{IsMemory, Reads, StandsFor, StandsAt, end_after, left, next, refusal};
+ghost use Rattle.graphql_grammar.specs.Input.{IsMemory, Reads, StandsFor, StandsAt, end_after};
+ghost use Rattle.graphql_grammar.specs.Input.{left, next, refusal};
 ghost use Rattle.graphql_grammar.specs.Steps as steps;
 ghost use Rattle.graphql_grammar.specs.Steps.{sees};
 ghost use Rattle.graphql_grammar.specs.Cursor.{IsStart, IsLexical, after, start_of};
@@ -40,7 +42,11 @@ impl<'a> Model for Cursor<'a> {
 
     ghost Value = { Input };
 
-    ghost view = { λ c. record { ahead = drop c.read (recorded c.kept).tokens; finish = (recorded c.kept).finish; end = c.end } };
+    ghost view = { λ c. record {
+      ahead = drop c.read (recorded c.kept).tokens;
+      finish = (recorded c.kept).finish;
+      end = c.end;
+    } };
 
     ghost invariant = { λ c. c.read ≤ length (recorded c.kept).tokens };
 }
@@ -51,7 +57,8 @@ impl<'a> Cursor<'a> {
     /// An error is the text's first lexical fault, or `ParseError::Memory` where memory ran out.
     pub fn new(alloc: Global, source: &'a str) -> Result<Cursor<'a>, Fault>
         ensures start { IfOk result (λ cursor. IsStart (chars source.now) cursor) }
-        ensures fault { IfErr result (λ e. UnlessMemory IsMemory e (IsLexical (chars source.now) e)) }
+        ensures fault { IfErr result
+            (λ e. UnlessMemory IsMemory e (IsLexical (chars source.now) e)) }
     {
         let records = TokenRecords::new(alloc, source)?;
         Ok(Cursor {
@@ -61,7 +68,8 @@ impl<'a> Cursor<'a> {
         })
     }
 
-    /// The start of a text whose tokens are lent, so that it is read no second time. Takes no memory.
+    /// The start of a text whose tokens are lent, so that it is read no second time. Takes no
+    /// memory.
     pub fn from_records(records: &'a TokenRecords<'a>) -> Cursor<'a>
         ensures { result ≡ start_of records.now }
     {
@@ -238,7 +246,8 @@ impl<'a> Cursor<'a> {
 
     /// A value in the part of the text from a place to the end of the last token that was read.
     pub fn closed<T>(&self, start: SourcePosition, item: T) -> Spanning<T>
-        ensures { result ≡ record { item = item; span = record { start = start; end = self.now.end } } }
+        ensures { result
+            ≡ record { item = item; span = record { start = start; end = self.now.end } } }
     {
         Spanning::start_end(start, self.end, item)
     }

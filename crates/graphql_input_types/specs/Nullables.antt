@@ -1,4 +1,5 @@
--- Values that may be null, where it is told apart whether null was given (GraphQL October 2021, 2.9.5 Null Value: "two semantically different ways to represent the lack of a value").
+-- Values that may be null, where it is told apart whether null was given (GraphQL October 2021,
+-- 2.9.5 Null Value: "two semantically different ways to represent the lack of a value").
 use Rattle.std.specs.Prelude.{◌≡◌, ◌≢◌, Bool, true, false, Option, Some, None, IsSomeAnd}
 use Rattle.std.specs.declared.cmp.Ordering.{Ordering}
 use Rattle.std.specs.declared.cmp.Ordering.TheVariants.{Less, Equal, Greater}
@@ -41,7 +42,8 @@ MatchNullable (nullable.Some x) P Q R = R x
 
 -- both are the same null, or both have a value and R ties them
 abbrev pub IsSameBy : {T U : Type 0} → (T → U → Type 0) → Nullable T → Nullable U → Type 0
-IsSameBy R x y = MatchNullable x (y ≡ nullable.ImplicitNull) (y ≡ nullable.ExplicitNull) (λ value. IsSomeAnd (some y) (R value))
+IsSameBy R x y = MatchNullable x (y ≡ nullable.ImplicitNull) (y ≡ nullable.ExplicitNull)
+    (λ value. IsSomeAnd (some y) (R value))
 
 -- the same null, or what the value becomes
 abbrev pub mapped : {T U : Type 0} → (T → U) → Nullable T → Nullable U
@@ -75,22 +77,27 @@ order cmp (nullable.Some x) nullable.ImplicitNull = Greater
 order cmp (nullable.Some x) nullable.ExplicitNull = Greater
 order cmp (nullable.Some x) (nullable.Some y) = cmp x y
 
--- a null that is given is one, and any other value is what it means where it may not be null (3.12 Non-Null)
-abbrev pub MeansNullable : {S T : Type 0} → (InputValue S → T → Type 0) → InputValue S → Nullable T → Type 0
+-- a null that is given is one, and any other value is what it means where it may not be null (3.12
+-- Non-Null)
+abbrev pub MeansNullable : {S T : Type 0} → (InputValue S → T → Type 0) → InputValue S → Nullable T
+    → Type 0
 MeansNullable means v nullable.ImplicitNull = ⊥
 MeansNullable means v nullable.ExplicitNull = v ≡ value.Null
 MeansNullable means v (nullable.Some x) = (v ≢ value.Null) × means v x
 
 -- a value that is not null may be refused
-abbrev pub RefusesNullable : {S E : Type 0} → (InputValue S → E → Type 0) → InputValue S → E → Type 0
+abbrev pub RefusesNullable : {S E : Type 0} → (InputValue S → E → Type 0) → InputValue S → E
+    → Type 0
 RefusesNullable refuses v e = (v ≢ value.Null) × refuses v e
 
 pub nullable_apart :
     {S T E : Type 0} (means : InputValue S → T → Type 0) (refuses : InputValue S → E → Type 0)
-    → Apart means refuses → (v : InputValue S) (x : Nullable T) (e : E) → MeansNullable means v x → RefusesNullable refuses v e → ⊥
+    → Apart means refuses → (v : InputValue S) (x : Nullable T) (e : E) → MeansNullable means v x
+    → RefusesNullable refuses v e → ⊥
 nullable_apart means refuses apart v nullable.ImplicitNull e meant refused = meant
 nullable_apart means refuses apart v nullable.ExplicitNull e is refused = refused.0 is
-nullable_apart means refuses apart v (nullable.Some x) e meant refused = apart v x e meant.1 refused.1
+nullable_apart means refuses apart v (nullable.Some x) e meant refused =
+    apart v x e meant.1 refused.1
 
 -- null stands for both nulls
 abbrev pub nullable_of : {S T : Type 0} → (T → InputValue S) → Nullable T → InputValue S

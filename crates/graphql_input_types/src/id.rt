@@ -10,7 +10,8 @@ ghost use Rattle.graphql_scalars.specs.Conversions.{Refused};
 ghost use Rattle.graphql_scalars.specs.ScalarText.{scalar_text};
 ghost use Rattle.graphql_scalars.specs.ScalarAnswers.{as_text};
 ghost use Rattle.graphql_text.specs.Memory.{Answers};
-ghost use Rattle.graphql_scalars.specs.declared.check_error.CheckError.TheVariants.{Message, Memory};
+ghost use Rattle.graphql_scalars.specs.declared.check_error.CheckError.TheVariants.{Message};
+ghost use Rattle.graphql_scalars.specs.declared.check_error.CheckError.TheVariants.{Memory};
 ghost use Rattle.std.proofs.Common.{rules};
 ghost use Rattle.graphql_input_types.specs.Identifiers as spec;
 
@@ -96,7 +97,8 @@ impl<'s, S: ScalarValue> FromScalarValue<'s, S> for ID {
 
     ghost means = { λ s id. spec.as_id (S.answer s) ≡ Some id.text };
 
-    ghost refuses = { λ s e. Refused (codes "String` or `Int") (scalar_text (S.answer s)) (spec.as_id (S.answer s)) e };
+    ghost refuses = { λ s e.
+        Refused (codes "String` or `Int") (scalar_text (S.answer s)) (spec.as_id (S.answer s)) e };
 
     ghost is_memory = { λ e. e ≡ Memory };
 
@@ -117,7 +119,9 @@ impl<'s, S: ScalarValue> FromScalarValue<'s, S> for ID {
 /// The decimal text of the integer that a scalar answers, which answers no text.
 fn of_integer<S: ScalarValue>(alloc: Global, scalar: &S) -> Result<ID, CheckError>
     requires { as_text (S.answer scalar.now) ≡ None }
-    ensures { Answers (λ id. spec.as_id (S.answer scalar.now) ≡ Some id.text) (Refused (codes "String` or `Int") (scalar_text (S.answer scalar.now)) (spec.as_id (S.answer scalar.now))) (λ e. e ≡ Memory) result }
+    ensures { Answers (λ id. spec.as_id (S.answer scalar.now) ≡ Some id.text)
+        (Refused (codes "String` or `Int") (scalar_text (S.answer scalar.now))
+        (spec.as_id (S.answer scalar.now))) (λ e. e ≡ Memory) result }
 {
     match scalar.try_to_int() {
         Some(number) => Ok(ID::new(format!(in alloc; "{number}")?)),
@@ -127,7 +131,8 @@ fn of_integer<S: ScalarValue>(alloc: Global, scalar: &S) -> Result<ID, CheckErro
 
 /// The refusal of a scalar that is of none of the types of these names.
 fn refusal<S: ScalarValue>(alloc: Global, type_names: &str, scalar: &S) -> CheckError
-    ensures { result ≢ Memory → result ≡ Message (wrong_type type_names.now (scalar_text (S.answer scalar.now))) }
+    ensures { result ≢ Memory
+        → result ≡ Message (wrong_type type_names.now (scalar_text (S.answer scalar.now))) }
 {
     let error = WrongInputScalarTypeError {
         type_name: TextRef::new(type_names),

@@ -1,4 +1,5 @@
-//! The law of values that may be null: the function's contract is the law, and its body does nothing.
+//! The law of values that may be null: the function's contract is the law, and its body does
+//! nothing.
 
 ghost use Rattle.std.specs.Prelude.{◌≡◌};
 ghost use Rattle.graphql_input_types.specs.Nullables as spec;

@@ -1,6 +1,7 @@
 //! Values that may be null, where it is told apart whether null was given.
 
-ghost use Rattle.std.specs.Prelude.{◌≡◌, not, is_some, is_ok, IsSome, IsSomeAnd, IsErrAnd, MatchOption, MatchResult, Ok};
+ghost use Rattle.std.specs.Prelude.{◌≡◌, not, is_some, is_ok, IsSome, IsSomeAnd, IsErrAnd};
+ghost use Rattle.std.specs.Prelude.{MatchOption, MatchResult, Ok};
 ghost use Rattle.std.specs.Borrow.{sem};
 ghost use Rattle.std.specs.Option.{unwrap_or, ok_or, option_copied_mut, ForSome, ForNone};
 ghost use Rattle.graphql_input_types.specs.NullableLending.{LendsValue};
@@ -11,8 +12,8 @@ use graphql_values::{FromInputValue, InputValue, ToInputValue};
 use std::alloc::{AllocError, Global};
 
 /// A value that may be null, where it is told apart whether null was given or nothing was (GraphQL
-/// October 2021, 2.9.5 Null Value). What was not given stands first, then null, then values by their
-/// own order.
+/// October 2021, 2.9.5 Null Value). What was not given stands first, then null, then values by
+/// their own order.
 #[derive(Clone, Copy, Debug, Drop, PartialEq, Eq, PartialOrd, Ord, Hash)]
 pub enum Nullable<T> {
     /// Nothing was given.
@@ -193,7 +194,8 @@ impl<T> Nullable<T> {
     where
         U: Drop,
         requires { ForSome (spec.some self) (F.pre turn) }
-        ensures { MatchOption (spec.some self) (result ≡ default) (λ given. F.post turn given result) }
+        ensures { MatchOption (spec.some self) (result ≡ default)
+            (λ given. F.post turn given result) }
     {
         self.some().map_or(default, turn)
     }
@@ -202,7 +204,8 @@ impl<T> Nullable<T> {
     pub fn map_or_else<U, D: FnOnce() -> U, F: FnOnce(T) -> U>(self, default: D, turn: F) -> U
         requires default_callable { ForNone (spec.some self) (D.pre default) }
         requires turn_callable { ForSome (spec.some self) (λ given. F.pre turn given) }
-        ensures { MatchOption (spec.some self) (D.post default result) (λ given. F.post turn given result) }
+        ensures { MatchOption (spec.some self) (D.post default result)
+            (λ given. F.post turn given result) }
     {
         self.some().map_or_else(default, turn)
     }
@@ -210,7 +213,8 @@ impl<T> Nullable<T> {
     /// The value, or the error that the closure gives where it is null.
     pub fn ok_or_else<E, F: FnOnce() -> E>(self, error: F) -> Result<T, E>
         requires { ForNone (spec.some self) (F.pre error) }
-        ensures cases { MatchOption (spec.some self) (IsErrAnd result (F.post error)) (λ given. result ≡ Ok given) }
+        ensures cases { MatchOption (spec.some self) (IsErrAnd result (F.post error))
+            (λ given. result ≡ Ok given) }
         ensures variant { is_ok result ≡ is_some (spec.some self) }
     {
         self.some().ok_or_else(error)
@@ -219,7 +223,8 @@ impl<T> Nullable<T> {
     /// This one, or what the closure gives where this one is null.
     pub fn or_else<F: FnOnce() -> Nullable<T>>(self, other: F) -> Nullable<T>
         requires { ForNone (spec.some self) (F.pre other) }
-        ensures { MatchOption (spec.some self) (F.post other result) (λ given. result ≡ nullable.Some given) }
+        ensures { MatchOption (spec.some self) (F.post other result)
+            (λ given. result ≡ nullable.Some given) }
     {
         match self {
             Nullable::Some(given) => Nullable::Some(given),
@@ -257,7 +262,8 @@ impl<T: Copy> Nullable<&mut T> {
 impl<T: Clone> Nullable<&T> {
     /// The same with a clone of the value that is lent. An error is want of memory.
     pub fn cloned(self) -> Result<Nullable<T>, AllocError>
-        ensures { MatchResult result (spec.IsSameBy (λ lent x. T.is_clone lent.now x) self.entry) (λ _. IsSomeAnd (spec.some self.entry) (λ lent. ¬ (T.is_infallible lent.now))) }
+        ensures { MatchResult result (spec.IsSameBy (λ lent x. T.is_clone lent.now x) self.entry)
+            (λ _. IsSomeAnd (spec.some self.entry) (λ lent. ¬ (T.is_infallible lent.now))) }
     {
         match self {
             Nullable::Some(given) => Ok(Nullable::Some(given.clone()?)),
@@ -270,7 +276,8 @@ impl<T: Clone> Nullable<&T> {
 impl<T: Clone> Nullable<&mut T> {
     /// The same with a clone of the value that is lent. An error is want of memory.
     pub fn cloned(self) -> Result<Nullable<T>, AllocError>
-        ensures { MatchResult result (spec.IsSameBy (λ lent x. T.is_clone lent.now x) self.entry) (λ _. IsSomeAnd (spec.some self.entry) (λ lent. ¬ (T.is_infallible lent.now))) }
+        ensures { MatchResult result (spec.IsSameBy (λ lent x. T.is_clone lent.now x) self.entry)
+            (λ _. IsSomeAnd (spec.some self.entry) (λ lent. ¬ (T.is_infallible lent.now))) }
     {
         match self {
             Nullable::Some(given) => Ok(Nullable::Some((*given).clone()?)),

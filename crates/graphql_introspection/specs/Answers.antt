@@ -41,7 +41,8 @@ module _ {S C : Type 0} where
   type_asked answer types given = found types (name_asked answer given)
 
 -- `of_text`, `of_bool`: the scalar of a text, of a truth value; `answer`: what a scalar answers
-module _ {S C : Type 0} (of_text : Bytes → S) (of_bool : Bool → S) (answer : S → ScalarAnswer) (schema : SchemaType S C) where
+module _ {S C : Type 0} (of_text : Bytes → S) (of_bool : Bool → S) (answer : S → ScalarAnswer)
+    (schema : SchemaType S C) where
   -- what a part answers for a field
   abbrev pub answer_of : SchemaPart S C → Bytes → Given S → Answer S C
   answer_of part.Schema field given = of_schema of_text schema field

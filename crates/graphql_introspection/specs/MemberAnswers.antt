@@ -7,7 +7,8 @@ use Rattle.graphql_names.specs.Names.{Bytes}
 use Rattle.graphql_scalars.specs.ScalarAnswers.{ScalarAnswer}
 use Rattle.graphql_values.specs.InputValueText.{input_value_text}
 use Rattle.graphql_schema.specs.declared.directive.DirectiveType.{DirectiveType}
-use Rattle.graphql_schema.specs.declared.directive_location.DirectiveLocation.TheVariants as location
+use Rattle.graphql_schema.specs.declared.directive_location.DirectiveLocation.TheVariants as
+    location
 use Rattle.graphql_schema.specs.declared.meta.argument.Argument.{Argument}
 use Rattle.graphql_schema.specs.declared.meta.enum_value.EnumValue.{EnumValue}
 use Rattle.graphql_schema.specs.declared.meta.field.Field.{Field}
@@ -21,7 +22,8 @@ use Rattle.graphql_introspection.specs.Nodes.{Answer, arguments, referred}
 use Rattle.graphql_introspection.specs.Told.{is_deprecated}
 
 -- `of_text`, `of_bool`: the scalar of a text, of a truth value; `types`: those of the schema
-module _ {S C : Type 0} (of_text : Bytes → S) (of_bool : Bool → S) (types : List (MetaType S C)) where
+module _ {S C : Type 0} (of_text : Bytes → S) (of_bool : Bool → S)
+    (types : List (MetaType S C)) where
   -- 4.2.3 The __Field Type
   abbrev pub of_field : Field S → Bytes → Answer S C
   of_field f field =
@@ -36,7 +38,8 @@ module _ {S C : Type 0} (of_text : Bytes → S) (of_bool : Bool → S) (types : 
       else resolved.Null
 
 -- `answer`: what a scalar answers
-module _ {S C : Type 0} (of_text : Bytes → S) (answer : S → ScalarAnswer) (types : List (MetaType S C)) where
+module _ {S C : Type 0} (of_text : Bytes → S) (answer : S → ScalarAnswer)
+    (types : List (MetaType S C)) where
   -- 4.2.4 The __InputValue Type
   abbrev pub of_input_value : Argument S → Bytes → Answer S C
   of_input_value a field =

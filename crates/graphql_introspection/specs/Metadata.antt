@@ -7,7 +7,8 @@ use Rattle.graphql_values.specs.declared.input_value.InputValue.TheVariants as v
 use Rattle.graphql_names.specs.declared.type_modifier.TypeModifier.{TypeModifier}
 use Rattle.graphql_names.specs.declared.type_modifier.TypeModifier.TheVariants as modifier
 use Rattle.graphql_schema.specs.declared.directive_location.DirectiveLocation.{DirectiveLocation}
-use Rattle.graphql_schema.specs.declared.directive_location.DirectiveLocation.TheVariants as location
+use Rattle.graphql_schema.specs.declared.directive_location.DirectiveLocation.TheVariants as
+    location
 use Rattle.graphql_schema.specs.declared.introspection_checks.IntrospectionChecks.{IntrospectionChecks}
 use Rattle.graphql_schema.specs.declared.meta.argument.Argument.{Argument}
 use Rattle.graphql_schema.specs.declared.meta.deprecation.DeprecationStatus.{DeprecationStatus}
@@ -205,5 +206,6 @@ module _ {S C : Type 0} where
   introspection_types of_bool checks =
       map (object_of of_bool) objects
       ++ enumeration (codes "__TypeKind") (map kind_value kinds) checks.type_kind
-      ∷ enumeration (codes "__DirectiveLocation") (map location_value places) checks.directive_location
+      ∷ enumeration (codes "__DirectiveLocation") (map location_value places)
+      checks.directive_location
       ∷ []

@@ -5,7 +5,8 @@ use Rattle.graphql_names.specs.Names.{Bytes}
 use Rattle.graphql_schema.specs.declared.meta.type_kind.TypeKind.{TypeKind}
 use Rattle.graphql_schema.specs.declared.meta.type_kind.TypeKind.TheVariants as kind
 use Rattle.graphql_schema.specs.declared.directive_location.DirectiveLocation.{DirectiveLocation}
-use Rattle.graphql_schema.specs.declared.directive_location.DirectiveLocation.TheVariants as location
+use Rattle.graphql_schema.specs.declared.directive_location.DirectiveLocation.TheVariants as
+    location
 
 abbrev pub kind_name : TypeKind → Bytes
 kind_name kind.Scalar = codes "SCALAR"

@@ -58,7 +58,8 @@ module _ {S C : Type 0} (types : List (MetaType S C)) where
   possible_types_of _ = resolved.Null
 
 -- a named type
-module _ {S C : Type 0} (of_text : Bytes → S) (of_bool : Bool → S) (answer : S → ScalarAnswer) (types : List (MetaType S C)) where
+module _ {S C : Type 0} (of_text : Bytes → S) (of_bool : Bool → S) (answer : S → ScalarAnswer)
+    (types : List (MetaType S C)) where
   abbrev pub of_named : MetaType S C → Bytes → Given S → Answer S C
   of_named m field given =
       if bytes_eq field (codes "kind") then kind_or_null of_text (kind_of m) else
@@ -93,7 +94,8 @@ of_wrapped of_text m wraps field =
     if bytes_eq field (codes "kind") then kind_or_null of_text (Some (kind_of_wrap wraps.0)) else
     if bytes_eq field (codes "ofType") then wrapped wraps.1 m else resolved.Null
 
-module _ {S C : Type 0} (of_text : Bytes → S) (of_bool : Bool → S) (answer : S → ScalarAnswer) (types : List (MetaType S C)) where
+module _ {S C : Type 0} (of_text : Bytes → S) (of_bool : Bool → S) (answer : S → ScalarAnswer)
+    (types : List (MetaType S C)) where
   abbrev pub of_apart : MetaType S C → Option Unwrapped → Bytes → Given S → Answer S C
   of_apart m None field given = of_named of_text of_bool answer types m field given
   of_apart m (Some wraps) field given = of_wrapped of_text m wraps field

@@ -37,7 +37,8 @@ pub fn text_or_null<'s, S: SchemaScalar>(
     alloc: Global,
     words: Option<&str>,
 ) -> Result<SchemaAnswer<'s, S>, AllocError>
-    ensures { Gives result (spec.text_or_null S.of_text (option_map (λ text. text.now) words.entry)) }
+    ensures { Gives result
+        (spec.text_or_null S.of_text (option_map (λ text. text.now) words.entry)) }
 {
     match words {
         Some(words) => text(alloc, words),
@@ -63,7 +64,8 @@ pub fn default_text<'s, S: SchemaScalar>(
     alloc: Global,
     value: &Option<InputValue<S>>,
 ) -> Result<SchemaAnswer<'s, S>, AllocError>
-    ensures { Gives result (spec.text_or_null S.of_text (option_map (input_value_text S.answer) value.now)) }
+    ensures { Gives result
+        (spec.text_or_null S.of_text (option_map (input_value_text S.answer) value.now)) }
 {
     match value {
         Some(value) => Ok(Resolved::Scalar(S::from_displayable(alloc, value)?)),

@@ -38,7 +38,8 @@ pub fn of_input_value<'s, S: SchemaScalar + Drop>(
     of: &'s Argument<S>,
     field: &str,
 ) -> Result<SchemaAnswer<'s, S>, AllocError>
-    ensures { Gives result (spec.of_input_value S.of_text S.answer schema.now.types of.now field.now) }
+    ensures { Gives result
+        (spec.of_input_value S.of_text S.answer schema.now.types of.now field.now) }
 {
     match field {
         "name" => text(alloc, of.name.as_str()),

@@ -17,8 +17,8 @@ use graphql_text::{Items, Text};
 use graphql_values::InputValue;
 use std::alloc::{AllocError, Global};
 
-/// A reference to the type of this name within these wraps, the innermost first (GraphQL October 2021, 2.11
-/// Type References). An error is want of memory.
+/// A reference to the type of this name within these wraps, the innermost first (GraphQL October
+/// 2021, 2.11 Type References). An error is want of memory.
 pub fn type_reference(
     alloc: Global,
     name: &str,

@@ -76,7 +76,8 @@ fn types_of_names<'s, S: SchemaScalar>(
     schema: &'s SchemaType<S>,
     names: &[Text],
 ) -> Result<Items<&'s MetaType<S>>, AllocError>
-    ensures { GivesBy (map (λ m. m.now)) result (filter_map (type_named schema.now.types) names.now) }
+    ensures { GivesBy (map (λ m. m.now)) result
+        (filter_map (type_named schema.now.types) names.now) }
 {
     let mut found = Items::new(alloc);
     'names: for name in names {
@@ -143,7 +144,8 @@ fn of_named<'s, S: SchemaScalar + Drop>(
     field: &str,
     arguments: &Arguments<'_, S>,
 ) -> Result<SchemaAnswer<'s, S>, AllocError>
-    ensures { Gives result (spec.of_named S.of_text S.of_bool S.answer schema.now.types meta.now field.now (arguments_told arguments.now)) }
+    ensures { Gives result (spec.of_named S.of_text S.of_bool S.answer schema.now.types meta.now
+        field.now (arguments_told arguments.now)) }
 {
     match field {
         "kind" => kind_or_null(alloc, meta.type_kind()),
@@ -198,7 +200,8 @@ pub fn of_type<'s, S: SchemaScalar + Drop>(
     field: &str,
     arguments: &Arguments<'_, S>,
 ) -> Result<SchemaAnswer<'s, S>, AllocError>
-    ensures { Gives result (spec.of_type S.of_text S.of_bool S.answer schema.now.types meta.now wraps.now field.now (arguments_told arguments.now)) }
+    ensures { Gives result (spec.of_type S.of_text S.of_bool S.answer schema.now.types meta.now
+        wraps.now field.now (arguments_told arguments.now)) }
 {
     match wraps.split_last() {
         None => of_named(alloc, schema, meta, field, arguments),

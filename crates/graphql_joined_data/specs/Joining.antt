@@ -1,5 +1,6 @@
 -- What joining two data answers (GraphQL October 2021, 6.4.3 Value Completion, MergeSelectionSets).
-use Rattle.std.specs.Prelude.{◌≡◌, true, Bool, not, is_some, List, ◌∷◌, Option, Some, None, Result, Ok, Err}
+use Rattle.std.specs.Prelude.{◌≡◌, true, Bool, not, is_some, List, ◌∷◌, Option, Some, None, Result}
+use Rattle.std.specs.Prelude.{Ok, Err}
 use Rattle.std.specs.List.{filter}
 use Rattle.graphql_names.specs.Names.{Bytes}
 use Rattle.graphql_output_values.specs.Objects.{Pair, field_value}

@@ -2,12 +2,14 @@
 
 ghost use Rattle.std.specs.Prelude.{◌≡◌, ◌++◌, ◌∷◌, [], Some, None, IfOk, IfSome, OnOk, is_some};
 ghost use Rattle.std.specs.List.{All};
-ghost use Rattle.graphql_output_values.specs.DistinctKeys.{HasDistinctKeysThroughout, ObjectHasDistinctKeysThroughout};
+ghost use Rattle.graphql_output_values.specs.DistinctKeys.{HasDistinctKeysThroughout};
+ghost use Rattle.graphql_output_values.specs.DistinctKeys.{ObjectHasDistinctKeysThroughout};
 ghost use Rattle.std.specs.Option.{option_copied};
 ghost use Rattle.graphql_output_values.specs.Lookups.{IsIndex, indexed};
 ghost use Rattle.graphql_text.specs.Memory.{Gives};
 ghost use Rattle.graphql_output_values.specs.declared.value.Value.TheVariants as value;
-ghost use Rattle.graphql_joined_data.specs.Joining.{FieldJoinsOrDiffers, JoinsOrDiffers, new_fields};
+ghost use Rattle.graphql_joined_data.specs.Joining.{FieldJoinsOrDiffers, JoinsOrDiffers};
+ghost use Rattle.graphql_joined_data.specs.Joining.{new_fields};
 
 use crate::join_fault::JoinFault;
 use graphql_output_values::{Object, ScalarValue, Value};
@@ -18,13 +20,13 @@ use std::collections::HashMap;
 /// The values of an object by their keys.
 type Index<'v, S> = HashMap<&'v str, &'v Value<S>>;
 
-/// The join of two data: null with anything is null, objects are joined key by key with new keys last,
-/// lists item by item, and a scalar with the same scalar is it (GraphQL October 2021, 6.4.3 Value
-/// Completion, MergeSelectionSets). No object in either has two fields of one key, and none in the join
-/// has. Takes stack for each level that both nest.
+/// The join of two data: null with anything is null, objects are joined key by key with new keys
+/// last, lists item by item, and a scalar with the same scalar is it (GraphQL October 2021, 6.4.3
+/// Value Completion, MergeSelectionSets). No object in either has two fields of one key, and none
+/// in the join has. Takes stack for each level that both nest.
 ///
-/// An error is `JoinFault::Disagree` exactly where there is no join, with the response keys down to a
-/// place where the two differ; or want of memory.
+/// An error is `JoinFault::Disagree` exactly where there is no join, with the response keys down to
+/// a place where the two differ; or want of memory.
 #[cycle(joins)]
 pub fn join_data<S: ScalarValue + Drop>(
     alloc: Global,
@@ -212,8 +214,8 @@ fn has<S>(values: &Index<'_, S>, key: &str) -> bool
     found(values, key).is_some()
 }
 
-/// The values of an object by their keys: of fields of one key, the first one's. An error is want of
-/// memory.
+/// The values of an object by their keys: of fields of one key, the first one's. An error is want
+/// of memory.
 fn index_of<'v, S>(alloc: Global, object: &'v Object<S>) -> Result<Index<'v, S>, AllocError>
     ensures { IfOk result (λ values. IsIndex values object.now.fields) }
 {

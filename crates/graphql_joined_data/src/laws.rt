@@ -10,8 +10,8 @@ pub fn differing_have_no_join<S: Eq>()
     ensures { DifferingHaveNoJoin S.eq }
 {}
 
-/// Scalars of the default type that are equal are one, so that [`crate::join_data`] gives the join of
-/// their data.
+/// Scalars of the default type that are equal are one, so that [`crate::join_data`] gives the join
+/// of their data.
 pub fn default_scalars_are_one_where_equal()
     ensures { AreOneWhereEqual ⟦<DefaultScalarValue as PartialEq>⟧.eq }
 {}

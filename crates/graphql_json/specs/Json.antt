@@ -1,8 +1,11 @@
--- JSON texts, byte by byte (RFC 8259; GraphQL October 2021, 7.2 Serialization Format, 7.2.2 Serialized Map Ordering).
-use Rattle.std.specs.Prelude.{ℕ, ◌+◌, ◌-◌, ◌/◌, ◌%◌, ◌==◌, nat_lt, ℤ, Bool, true, false, List, [], ◌∷◌, ◌++◌, map, if◌then◌else◌, codes, Option, Some, None}
+-- JSON texts, byte by byte (RFC 8259; GraphQL October 2021, 7.2 Serialization Format, 7.2.2
+-- Serialized Map Ordering).
+use Rattle.std.specs.Prelude.{ℕ, ◌+◌, ◌-◌, ◌/◌, ◌%◌, ◌==◌, nat_lt, ℤ, Bool, true, false, List, []}
+use Rattle.std.specs.Prelude.{◌∷◌, ◌++◌, map, if◌then◌else◌, codes, Option, Some, None}
 use Rattle.std.specs.Fmt.{signed_decimal}
 use Rattle.std.specs.List.{flat_map}
-use Rattle.graphql_output_values.specs.Steps.{Step, Null, Scalar, ListOpens, ListCloses, ObjectOpens, ObjectCloses, Key, Gap}
+use Rattle.graphql_output_values.specs.Steps.{Step, Null, Scalar, ListOpens, ListCloses}
+use Rattle.graphql_output_values.specs.Steps.{ObjectOpens, ObjectCloses, Key, Gap}
 use Rattle.graphql_output_values.specs.declared.object.Object.{Object, fold-Object}
 use Rattle.graphql_output_values.specs.declared.value.Value.{Value, fold-Value}
 use Rattle.graphql_output_values.specs.declared.value.Value.TheOpen.{Value-F, Object-F}
@@ -14,9 +17,13 @@ hex_digit n = if nat_lt n 10 then 48 + n else 97 + (n - 10)
 -- a byte of a text: the quote, the backslash and the controls are escaped, and nothing else is
 abbrev pub escaped : ℕ → List ℕ
 escaped b =
-    if b == 34 then codes "\\\"" else (if b == 92 then codes "\\\\" else (if b == 8 then codes "\\b" else (if b == 12 then codes "\\f"
-    else (if b == 10 then codes "\\n" else (if b == 13 then codes "\\r" else (if b == 9 then codes "\\t"
-    else (if nat_lt b 32 then codes "\\u00" ++ hex_digit (b / 16) ∷ hex_digit (b % 16) ∷ [] else b ∷ [])))))))
+    if b == 34 then codes "\\\"" else (if b == 92 then codes "\\\\"
+    else (if b == 8 then codes "\\b" else (if b == 12 then codes "\\f"
+    else (if b == 10 then codes "\\n"
+    else (if b == 13 then codes "\\r" else (if b == 9 then codes "\\t"
+    else (if nat_lt b 32 then codes "\\u00"
+    ++ hex_digit (b / 16) ∷ hex_digit (b % 16) ∷ []
+    else b ∷ [])))))))
 
 -- a text between quotes
 abbrev pub json_text : List ℕ → List ℕ
@@ -47,7 +54,8 @@ module _ {S : Type 0} (answer : S → ScalarAnswer) where
 
   -- a scalar is asked for an integer, then for a boolean, then for a text
   abbrev pub scalar_json : S → List ℕ
-  scalar_json s = int_or (as_int (answer s)) (bool_or (as_bool (answer s)) (text_or_null (as_text (answer s))))
+  scalar_json s =
+      int_or (as_int (answer s)) (bool_or (as_bool (answer s)) (text_or_null (as_text (answer s))))
 
   -- one layer, the JSON of whose parts stands
   abbrev pub json_layer : Value-F S (List ℕ) (List ℕ) → List ℕ
@@ -66,7 +74,8 @@ module _ {S : Type 0} (answer : S → ScalarAnswer) where
   abbrev pub object_json : Object S → List ℕ
   object_json = fold-Object S (List ℕ) (List ℕ) json_layer fields_layer
 
-  -- the JSON of one step of a value: that of its steps, one after the other, is the JSON of the value
+  -- the JSON of one step of a value: that of its steps, one after the other, is the JSON of the
+  -- value
   abbrev pub step_json : Step S → List ℕ
   step_json Null = codes "null"
   step_json (Scalar s) = scalar_json s

@@ -1,7 +1,9 @@
 -- What JSON keeps of values (GraphQL October 2021, 7.2 Serialization Format; RFC 8259).
-use Rattle.std.specs.Prelude.{◌≡◌, ◌≤◌, ℕ, suc, max, Bool, true, IsTrue, List, [], ◌∷◌, map, fold, Some, option_map, unwrap_or}
+use Rattle.std.specs.Prelude.{◌≡◌, ◌≤◌, ℕ, suc, max, Bool, true, IsTrue, List, [], ◌∷◌, map, fold}
+use Rattle.std.specs.Prelude.{Some, option_map, unwrap_or}
 use Rattle.std.specs.List.{list_all}
-use Rattle.serde_json.specs.Data.{Data, null, boolean, number, string, array, object, Members, no_members, put}
+use Rattle.serde_json.specs.Data.{Data, null, boolean, number, string, array, object, Members}
+use Rattle.serde_json.specs.Data.{no_members, put}
 use Rattle.serde_json.specs.Find.{of_integer, get}
 use Rattle.serde_json.specs.View.{items_of}
 use Rattle.serde_json.specs.Read.{read, max_depth}
@@ -54,10 +56,12 @@ module _ {S : Type 0} (answer : S → ScalarAnswer) where
   fits_32_bits = fold-Value S Bool Bool fits_layer fits_fields
 
 module _ {S : Type 0} (answer : S → ScalarAnswer) where
-  -- a scalar is asked for an integer, then for a boolean, then for a text, and is null where it has none of them
+  -- a scalar is asked for an integer, then for a boolean, then for a text, and is null where it has
+  -- none of them
   abbrev pub data_of_scalar : S → Data
   data_of_scalar s =
-      unwrap_or (option_map (λ z. number (of_integer z)) (as_int (answer s))) (unwrap_or (option_map boolean (as_bool (answer s))) (unwrap_or (option_map string (as_text (answer s))) null))
+      unwrap_or (option_map (λ z. number (of_integer z)) (as_int (answer s))) (unwrap_or (option_map
+      boolean (as_bool (answer s))) (unwrap_or (option_map string (as_text (answer s))) null))
 
   -- one layer, of whose parts the data stands, and an object
   abbrev pub data_layer : Value-F S Data Data → Data
@@ -73,10 +77,15 @@ module _ {S : Type 0} (answer : S → ScalarAnswer) where
   abbrev pub data_of_value : Value S → Data
   data_of_value = fold-Value S Data Data data_layer data_fields
 
-  -- what is written of a value is read as the value's data, unless it nests deeper than is read, or an integer has more than 32 bits
+  -- what is written of a value is read as the value's data, unless it nests deeper than is read, or
+  -- an integer has more than 32 bits
   abbrev pub JsonReadsBack : Type 0
-  JsonReadsBack = (v : Value S) → nesting v ≤ max_depth → IsTrue (fits_32_bits answer v) → read (json answer v) ≡ Some (data_of_value v)
+  JsonReadsBack = (v : Value S) → nesting v ≤ max_depth → IsTrue (fits_32_bits answer v)
+      → read (json answer v) ≡ Some (data_of_value v)
 
-  -- where an object's keys are distinct, each stands for its own value (7.2.2 Serialized Map Ordering)
+  -- where an object's keys are distinct, each stands for its own value (7.2.2 Serialized Map
+  -- Ordering)
   abbrev pub KeysKeepValues : Type 0
-  KeysKeepValues = (o : Object S) (key : List ℕ) → HasDistinctKeys o.fields → get key (data_of_value (value.Object o)) ≡ option_map data_of_value (field_value o.fields key)
+  KeysKeepValues = (o : Object S) (key : List ℕ) → HasDistinctKeys o.fields
+      → get key
+      (data_of_value (value.Object o)) ≡ option_map data_of_value (field_value o.fields key)

@@ -1,5 +1,5 @@
-//! JSON texts: what is written of values, and texts and lists under the keys of objects that are read
-//! (GraphQL October 2021, 7.2 Serialization Format; RFC 8259).
+//! JSON texts: what is written of values, and texts and lists under the keys of objects that are
+//! read (GraphQL October 2021, 7.2 Serialization Format; RFC 8259).
 #![tactic(auto)]
 
 pub mod laws;

@@ -44,7 +44,8 @@ pub fn text_if<'a>(json: &'a Value, key: &str) -> Option<Option<TextRef<'a>>>
 
 /// The list under a key, if one stands there.
 pub fn list_at<'a>(json: &'a Value, key: &str) -> Option<&'a Vec<Value>>
-    ensures { option_map (λ items. items_view items.now.items) result ≡ spec.array_at key.now (view json.now) }
+    ensures { option_map (λ items. items_view items.now.items) result
+        ≡ spec.array_at key.now (view json.now) }
 {
     match json.get(key) {
         Some(value) => value.as_array(),
@@ -80,8 +81,8 @@ pub fn texts_at<'a>(
     }
 }
 
-/// The texts of the list under a key, where one may be missing, which is the same as no text; `None` where
-/// something else stands there. An error is want of memory.
+/// The texts of the list under a key, where one may be missing, which is the same as no text;
+/// `None` where something else stands there. An error is want of memory.
 pub fn texts_if<'a>(
     alloc: Global,
     json: &'a Value,

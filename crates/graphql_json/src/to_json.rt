@@ -64,8 +64,8 @@ fn plain_len(bytes: &[u8]) -> usize
 }
 
 /// Writes a text between quotes, at the end of `out`. The quote, the backslash and the characters
-/// below the space are escaped, and no others. An error is want of memory: then `out` may hold a part
-/// of it, behind what it held.
+/// below the space are escaped, and no others. An error is want of memory: then `out` may hold a
+/// part of it, behind what it held.
 pub fn text_to_json(out: &mut Vec<u8>, text: &str) -> Result<(), AllocError>
     ensures written { OnOk result (out.new.items ≡ out.old.items ++ spec.json_text text.now) }
     ensures front { KeepsFront out.old.items out.new.items }
@@ -87,7 +87,8 @@ pub fn text_to_json(out: &mut Vec<u8>, text: &str) -> Result<(), AllocError>
 
 /// Writes a scalar by what it answers: an integer, else a boolean, else a text, else `null`.
 fn scalar_to_json<S: ScalarValue>(out: &mut Vec<u8>, scalar: &S) -> Result<(), AllocError>
-    ensures written { OnOk result (out.new.items ≡ out.old.items ++ spec.scalar_json S.answer scalar.now) }
+    ensures written { OnOk result
+        (out.new.items ≡ out.old.items ++ spec.scalar_json S.answer scalar.now) }
     ensures front { KeepsFront out.old.items out.new.items }
 {
     if let Some(value) = scalar.try_to_int() {
@@ -106,7 +107,8 @@ fn scalar_to_json<S: ScalarValue>(out: &mut Vec<u8>, scalar: &S) -> Result<(), A
 
 /// Writes what a walk tells next.
 fn step_to_json<S: ScalarValue>(out: &mut Vec<u8>, step: Step<'_, S>) -> Result<(), AllocError>
-    ensures written { OnOk result (out.new.items ≡ out.old.items ++ spec.step_json S.answer (told step.entry)) }
+    ensures written { OnOk result
+        (out.new.items ≡ out.old.items ++ spec.step_json S.answer (told step.entry)) }
     ensures front { KeepsFront out.old.items out.new.items }
 {
     match step {
@@ -126,7 +128,8 @@ fn step_to_json<S: ScalarValue>(out: &mut Vec<u8>, step: Step<'_, S>) -> Result<
 
 /// Writes what a walk has yet to tell.
 fn steps_to_json<S: ScalarValue>(out: &mut Vec<u8>, walk: Walk<'_, S>) -> Result<(), AllocError>
-    ensures written { OnOk result (out.new.items ≡ out.old.items ++ flat_map (spec.step_json S.answer) (ahead walk.entry)) }
+    ensures written { OnOk result
+        (out.new.items ≡ out.old.items ++ flat_map (spec.step_json S.answer) (ahead walk.entry)) }
     ensures front { KeepsFront out.old.items out.new.items }
 {
     let mut walk = walk;
@@ -138,8 +141,8 @@ fn steps_to_json<S: ScalarValue>(out: &mut Vec<u8>, walk: Walk<'_, S>) -> Result
 
 /// Writes a value as JSON, at the end of `out`: without spaces, the fields of an object in their
 /// order, a scalar by what it answers (an integer, else a boolean, else a text). What is yet to be
-/// written stands on the heap, so a deep value takes no more stack. An error is want of memory: then
-/// `out` may hold a part of it, behind what it held.
+/// written stands on the heap, so a deep value takes no more stack. An error is want of memory:
+/// then `out` may hold a part of it, behind what it held.
 pub fn value_to_json<S: ScalarValue>(out: &mut Vec<u8>, value: &Value<S>) -> Result<(), AllocError>
     ensures written { OnOk result (out.new.items ≡ out.old.items ++ spec.json S.answer value.now) }
     ensures front { KeepsFront out.old.items out.new.items }

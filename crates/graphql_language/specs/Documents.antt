@@ -1,4 +1,5 @@
--- Documents, production by production (GraphQL October 2021, 2.2 Document, 2.3 Operations, 2.8 Fragments).
+-- Documents, production by production (GraphQL October 2021, 2.2 Document, 2.3 Operations, 2.8
+-- Fragments).
 use Rattle.std.specs.Prelude.{Bool, false, List, Result}
 use Rattle.graphql_text.specs.declared.token.ScalarToken.{ScalarToken}
 use Rattle.graphql_text.specs.declared.parse_error.ParseError.{ParseError}
@@ -16,8 +17,16 @@ use Rattle.graphql_language.specs.Selections.{FragmentNamed, TypeConditionOf, Se
 module _ (S : Type 0) (reads : ScalarToken → Result S ParseError) (of_bool : Bool → S) where
   -- OperationType Name? VariableDefinitions? Directives? SelectionSet
   abbrev pub FullOperationOf : List Located → Operation S → Type 0
-  FullOperationOf = Then (TokenOf operation_words operation_type_of) (λ t. Then (OptionOf Named) (λ n. Then (OptionOf (VariableDefinitionsOf S reads of_bool)) (λ vs. Then (DirectivesOf S reads of_bool false) (λ ds.
-      Made (λ ss. record { operation_type = t; name = n; variable_definitions = vs; directives = ds; selection_set = ss }) (SetOf S reads of_bool)))))
+  FullOperationOf = Then (TokenOf operation_words operation_type_of)
+      (λ t. Then (OptionOf Named) (λ n. Then (OptionOf (VariableDefinitionsOf S reads of_bool))
+      (λ vs. Then (DirectivesOf S reads of_bool false) (λ ds.
+      Made (λ ss. record {
+        operation_type = t;
+        name = n;
+        variable_definitions = vs;
+        directives = ds;
+        selection_set = ss;
+      }) (SetOf S reads of_bool)))))
 
   -- OperationDefinition : the above, or SelectionSet, which is a query
   abbrev pub OperationOf : List Located → At (Operation S) → Type 0
@@ -25,8 +34,10 @@ module _ (S : Type 0) (reads : ScalarToken → Result S ParseError) (of_bool : B
 
   -- FragmentDefinition : `fragment` FragmentName TypeCondition Directives? SelectionSet
   abbrev pub FragmentOf : List Located → At (fragments.Fragment S) → Type 0
-  FragmentOf = Placed (Then (Sign k.Fragment) (λ u. Then FragmentNamed (λ n. Then TypeConditionOf (λ c. Then (DirectivesOf S reads of_bool false) (λ ds.
-      Made (λ ss. record { name = n; type_condition = c; directives = ds; selection_set = ss }) (SetOf S reads of_bool))))))
+  FragmentOf = Placed (Then (Sign k.Fragment) (λ u. Then FragmentNamed
+      (λ n. Then TypeConditionOf (λ c. Then (DirectivesOf S reads of_bool false) (λ ds.
+      Made (λ ss. record { name = n; type_condition = c; directives = ds; selection_set = ss })
+      (SetOf S reads of_bool))))))
 
   -- Definition : FragmentDefinition, OperationDefinition
   abbrev pub DefinitionOf : List Located → Definition S → Type 0

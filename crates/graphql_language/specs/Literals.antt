@@ -1,4 +1,5 @@
--- What is read where a value or a type reference stands next (GraphQL October 2021, 2.9 Input Values, 2.11 Type References).
+-- What is read where a value or a type reference stands next (GraphQL October 2021, 2.9 Input
+-- Values, 2.11 Type References).
 use Rattle.std.specs.Prelude.{◌≡◌, ◌⊎◌, Bool, Ok, Err}
 use Rattle.graphql_values.specs.declared.input_value.InputValue.{InputValue}
 use Rattle.graphql_grammar.specs.Input.{At, Input, Fault}
@@ -15,7 +16,8 @@ module _ {S A : Type 0} (reads : Reading S) (Tree : Reading S → Rel A) where
   abbrev pub NoneInFront : Input → Type 0
   NoneInFront i = (x : A) (j : Input) → Spelled reads (Tree reads) i x j → ⊥
 
-  -- The fault of the first token that no tree could have there, where no tokens in front spell one. From that token on the input is left.
+  -- The fault of the first token that no tree could have there, where no tokens in front spell one.
+  -- From that token on the input is left.
   abbrev pub Missing : Input → Fault → Input → Type 0
   Missing i e j = FirstFaultyToken reads Tree i e × NoneInFront i × LeftAt i e j
 
@@ -45,7 +47,9 @@ NeverBoth {A} rule = (i j k : Input) (x : A) (e : Fault) → rule i (Ok x) j →
 
 -- and always one or the other
 abbrev pub ReadOrRefused : {A : Type 0} → Rule A → Type 0
-ReadOrRefused {A} rule = (i : Input) → ((x : A) × (j : Input) × rule i (Ok x) j) ⊎ ((e : Fault) × (j : Input) × rule i (Err e) j)
+ReadOrRefused {A} rule = (i : Input)
+    → ((x : A) × (j : Input) × rule i (Ok x) j)
+    ⊎ ((e : Fault) × (j : Input) × rule i (Err e) j)
 
 -- it is refused by one fault
 abbrev pub OneRefusal : {A : Type 0} → Rule A → Type 0

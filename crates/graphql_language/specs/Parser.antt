@@ -3,7 +3,8 @@ use Rattle.std.specs.Prelude.{◌≡◌, ◌≢◌, ℕ, List, Option, Some, Non
 use Rattle.graphql_text.specs.declared.token.Token.{Token}
 use Rattle.graphql_text.specs.declared.token.Token.TheVariants.{Name, EndOfFile}
 use Rattle.graphql_text.specs.Memory.{UnlessMemory}
-use Rattle.graphql_grammar.specs.Input.{At, Input, Located, Fault, IsMemory, StandsFor, peek, next, refusal}
+use Rattle.graphql_grammar.specs.Input.{At, Input, Located, Fault, IsMemory, StandsFor, peek, next}
+use Rattle.graphql_grammar.specs.Input.{refusal}
 
 pub record State : Type 0 where
   pub input : Input
@@ -22,18 +23,22 @@ NextToken i (Err e) j = ((peek i).item ≡ EndOfFile) × (e ≡ refusal i) × (j
 
 -- the next token, which is this one, and not the end of the text
 abbrev pub ThisToken : Token → Rule Located
-ThisToken wanted i (Ok token) j = ((peek i).item ≡ wanted) × ((peek i).item ≢ EndOfFile) × (token ≡ peek i) × (j ≡ next i)
-ThisToken wanted i (Err e) j = ((peek i).item ≡ wanted → (peek i).item ≡ EndOfFile) × (e ≡ refusal i) × (j ≡ i)
+ThisToken wanted i (Ok token) j =
+    ((peek i).item ≡ wanted) × ((peek i).item ≢ EndOfFile) × (token ≡ peek i) × (j ≡ next i)
+ThisToken wanted i (Err e) j =
+    ((peek i).item ≡ wanted → (peek i).item ≡ EndOfFile) × (e ≡ refusal i) × (j ≡ i)
 
 -- the next token if it is this one, and else nothing; the text has a next one
 abbrev pub MaybeToken : Token → Rule (Option Located)
-MaybeToken wanted i (Ok (Some token)) j = ((peek i).item ≡ wanted) × ((peek i).item ≢ EndOfFile) × (token ≡ peek i) × (j ≡ next i)
+MaybeToken wanted i (Ok (Some token)) j =
+    ((peek i).item ≡ wanted) × ((peek i).item ≢ EndOfFile) × (token ≡ peek i) × (j ≡ next i)
 MaybeToken wanted i (Ok None) j = ((peek i).item ≢ wanted) × ((peek i).item ≢ EndOfFile) × (j ≡ i)
 MaybeToken wanted i (Err e) j = ((peek i).item ≡ EndOfFile) × (e ≡ refusal i) × (j ≡ i)
 
 -- the next token, which is a name, as that name at its place
 abbrev pub NextName : Rule (At (List ℕ))
-NextName i (Ok name) j = ((peek i).item ≡ Name name.item) × (name.span ≡ (peek i).span) × (j ≡ next i)
+NextName i (Ok name) j =
+    ((peek i).item ≡ Name name.item) × (name.span ≡ (peek i).span) × (j ≡ next i)
 NextName i (Err e) j = ((name : List ℕ) → (peek i).item ≢ Name name) × (e ≡ refusal i) × (j ≡ i)
 
 -- ---- what calls ensure, want of memory aside
@@ -58,7 +63,8 @@ CallsFresh rule i (Err f) new = Fails rule i f new
 
 -- a parser that has failed answers its refusal again, and stays
 abbrev pub Calls : {A : Type 0} → Rule A → State → Result A Fault → State → Type 0
-Calls rule old result new = MatchOption old.refused (CallsFresh rule old.input result new) (λ e. RefusesAgain e result × (new ≡ old))
+Calls rule old result new = MatchOption old.refused (CallsFresh rule old.input result new)
+    (λ e. RefusesAgain e result × (new ≡ old))
 
 -- ---- the parts of a call
 
@@ -77,8 +83,10 @@ abbrev pub first_of : Option Fault → Fault → Fault
 first_of None e = e
 first_of (Some first) e = first
 
--- the same answer; of a fault the parser keeps that it has failed by it, unless it had failed before: the first refusal stays
+-- the same answer; of a fault the parser keeps that it has failed by it, unless it had failed
+-- before: the first refusal stays
 abbrev pub KeepsRefusal : {A : Type 0} → Result A Fault → State → Result A Fault → State → Type 0
 KeepsRefusal (Ok x) old result new = (result ≡ Ok x) × (new ≡ old)
 KeepsRefusal (Err e) old result new =
-    RefusesAgain e result × (new ≡ record { input = old.input; refused = Some (first_of old.refused e) })
+    RefusesAgain e result
+    × (new ≡ record { input = old.input; refused = Some (first_of old.refused e) })

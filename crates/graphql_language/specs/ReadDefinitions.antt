@@ -1,4 +1,5 @@
--- The parts of definitions, each under a name (GraphQL October 2021, 2.2 Document, 2.3 Operations, 2.8 Fragments).
+-- The parts of definitions, each under a name (GraphQL October 2021, 2.2 Document, 2.3 Operations,
+-- 2.8 Fragments).
 use Rattle.std.specs.Prelude.{ℕ, Bool, false, List, [], ◌∷◌, Option, Result}
 use Rattle.graphql_text.specs.declared.token.ScalarToken.{ScalarToken}
 use Rattle.graphql_text.specs.declared.parse_error.ParseError.{ParseError}
@@ -14,7 +15,15 @@ use Rattle.graphql_grammar.specs.Input.{At, Parser, ◌>>=◌, ◌>>◌, pure}
 use Rattle.graphql_grammar.specs.Steps.{when, token, expect, name, name_in, located, optional, all}
 use Rattle.graphql_value_syntax.specs.ReadDirectives.{directives}
 use Rattle.graphql_language.specs.ReadSelections.{type_condition}
-use Rattle.graphql_language.specs.ReadDocuments.{operation_words, operation_type_of, definition_kinds, set, query_of, full_operation, definition}
+use Rattle.graphql_language.specs.ReadDocuments.{
+  operation_words,
+  operation_type_of,
+  definition_kinds,
+  set,
+  query_of,
+  full_operation,
+  definition,
+}
 
 abbrev pub operation_type : Parser OperationType
 operation_type = token operation_words operation_type_of
@@ -25,7 +34,8 @@ operation_name = optional names (located name)
 module _ {S : Type 0} (reads : ScalarToken → Result S ParseError) (of_bool : Bool → S) where
   -- an operation, without its place
   unfoldable pub operation_parts : Parser (Operation S)
-  operation_parts = when (only k.CurlyOpen) (do ss ← set reads of_bool; pure (query_of ss)) (full_operation reads of_bool)
+  operation_parts = when (only k.CurlyOpen) (do ss ← set reads of_bool; pure (query_of ss))
+      (full_operation reads of_bool)
 
   -- the directives and the selection set that end a definition
   unfoldable pub body : Parser (Option (List (At (Directive S))) × List (Selection S))

@@ -14,7 +14,8 @@ use Rattle.graphql_grammar.specs.declared.kind.Kind.{Kind}
 use Rattle.graphql_grammar.specs.declared.kind.Kind.TheVariants as k
 use Rattle.graphql_grammar.specs.Kinds.{Kinds, kind, only, names, fragment_names}
 use Rattle.graphql_grammar.specs.Input.{At, Parser, ◌>>=◌, ◌>>◌, pure}
-use Rattle.graphql_grammar.specs.Steps.{when, token, expect, name, name_in, located, optional, all, finished}
+use Rattle.graphql_grammar.specs.Steps.{when, token, expect, name, name_in, located, optional, all}
+use Rattle.graphql_grammar.specs.Steps.{finished}
 use Rattle.graphql_value_syntax.specs.ReadDirectives.{directives, variable_definitions}
 use Rattle.graphql_language.specs.ReadSelections.{selection, selection_set, type_condition}
 
@@ -44,7 +45,13 @@ definition_kinds w = false
 
 -- a selection set alone is a query without name
 abbrev pub query_of : {S : Type 0} → List (Selection S) → Operation S
-query_of ss = record { operation_type = o.Query; name = None; variable_definitions = None; directives = None; selection_set = ss }
+query_of ss = record {
+  operation_type = o.Query;
+  name = None;
+  variable_definitions = None;
+  directives = None;
+  selection_set = ss;
+}
 
 module _ {S : Type 0} (reads : ScalarToken → Result S ParseError) (of_bool : Bool → S) where
   abbrev pub set : Parser (List (Selection S))
@@ -57,7 +64,13 @@ module _ {S : Type 0} (reads : ScalarToken → Result S ParseError) (of_bool : B
     vs ← optional (only k.ParenOpen) (variable_definitions reads of_bool)
     ds ← directives reads of_bool false
     ss ← set
-    pure (record { operation_type = t; name = n; variable_definitions = vs; directives = ds; selection_set = ss })
+    pure (record {
+      operation_type = t;
+      name = n;
+      variable_definitions = vs;
+      directives = ds;
+      selection_set = ss;
+    })
 
   unfoldable pub operation : Parser (At (Operation S))
   operation = located (when (only k.CurlyOpen) (do ss ← set; pure (query_of ss)) full_operation)
@@ -72,7 +85,8 @@ module _ {S : Type 0} (reads : ScalarToken → Result S ParseError) (of_bool : B
     pure (record { name = n; type_condition = c; directives = ds; selection_set = ss })
 
   unfoldable pub definition : Parser (Definition S)
-  definition = when (only k.Fragment) (do x ← fragment; pure (d.Fragment x)) (do x ← operation; pure (d.Operation x))
+  definition = when (only k.Fragment) (do x ← fragment; pure (d.Fragment x))
+      (do x ← operation; pure (d.Operation x))
 
   -- one definition at least, and then the end of the text
   unfoldable pub document : Parser (List (Definition S))

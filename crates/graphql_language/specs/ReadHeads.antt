@@ -1,4 +1,5 @@
--- How a selection begins: all of it, or what stands before its selection set (GraphQL October 2021, 2.4 Selection Sets, 2.5 Fields, 2.8 Fragments).
+-- How a selection begins: all of it, or what stands before its selection set (GraphQL October 2021,
+-- 2.4 Selection Sets, 2.5 Fields, 2.8 Fragments).
 use Rattle.std.specs.Prelude.{Bool, false, List, Option, Some, None, Result, Ok}
 use Rattle.graphql_text.specs.declared.position.SourcePosition.{SourcePosition}
 use Rattle.graphql_text.specs.declared.token.ScalarToken.{ScalarToken}
@@ -19,18 +20,32 @@ use Rattle.graphql_grammar.specs.Kinds.{only, fragment_names}
 use Rattle.graphql_grammar.specs.Input.{At, Parser, ◌>>=◌, ◌>>◌, pure, peek}
 use Rattle.graphql_grammar.specs.Steps.{when, expect, name_in, located, optional}
 use Rattle.graphql_value_syntax.specs.ReadDirectives.{arguments, directives}
-use Rattle.graphql_language.specs.ReadSelections.{Names, field_names, type_condition, made_field, selection_set}
+use Rattle.graphql_language.specs.ReadSelections.{Names, field_names, type_condition, made_field}
+use Rattle.graphql_language.specs.ReadSelections.{selection_set}
 
 module _ {S : Type 0} where
-  abbrev pub head_of : SourcePosition → Names → Option (At (Arguments S)) → Option (List (At (Directive S))) → FieldHead S
-  head_of p ns args ds = record { start = p; alias = ns.0; name = ns.1; arguments = args; directives = ds }
+  abbrev pub head_of : SourcePosition → Names → Option (At (Arguments S))
+      → Option (List (At (Directive S))) → FieldHead S
+  head_of p ns args ds =
+      record { start = p; alias = ns.0; name = ns.1; arguments = args; directives = ds }
 
   -- a field that ends there
   abbrev pub field_with : FieldHead S → Option (List (Selection S)) → SourcePosition → Selection S
-  field_with x ss e = s.Field (record { item = made_field (x.alias, x.name) x.arguments x.directives ss; span = record { start = x.start; end = e } })
+  field_with x ss e =
+      s.Field (record {
+        item = made_field (x.alias, x.name) x.arguments x.directives ss;
+        span = record { start = x.start; end = e };
+      })
 
   abbrev pub inline_with : InlineHead S → List (Selection S) → SourcePosition → Selection S
-  inline_with x ss e = s.InlineFragment (record { item = record { type_condition = x.type_condition; directives = x.directives; selection_set = ss }; span = record { start = x.start; end = e } })
+  inline_with x ss e = s.InlineFragment (record {
+    item = record {
+      type_condition = x.type_condition;
+      directives = x.directives;
+      selection_set = ss;
+    };
+    span = record { start = x.start; end = e };
+  })
 
   abbrev pub spread_of : FragmentSpread S → SourcePosition → SourcePosition → Selection S
   spread_of x p e = s.FragmentSpread (record { item = x; span = record { start = p; end = e } })
@@ -73,7 +88,8 @@ module _ {S : Type 0} (reads : ScalarToken → Result S ParseError) (of_bool : B
   unfoldable pub spread_begun : SourcePosition → Parser (Begun S)
   spread_begun p = do
     expect k.Ellipsis
-    when fragment_names (do x ← spread_parts; whole_ending (spread_of x p)) (do x ← inline_head p; pure (how.Opens (h.InlineFragment x)))
+    when fragment_names (do x ← spread_parts; whole_ending (spread_of x p))
+        (do x ← inline_head p; pure (how.Opens (h.InlineFragment x)))
 
   unfoldable pub field_begun : Parser (Begun S)
   field_begun = do

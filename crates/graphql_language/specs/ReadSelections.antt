@@ -12,7 +12,8 @@ use Rattle.graphql_tree.specs.declared.selection.Selection.TheVariants as s
 use Rattle.graphql_grammar.specs.declared.kind.Kind.TheVariants as k
 use Rattle.graphql_grammar.specs.Kinds.{only, fragment_names}
 use Rattle.graphql_grammar.specs.Input.{At, Parser, ◌>>=◌, ◌>>◌, pure, refuse, left}
-use Rattle.graphql_grammar.specs.Steps.{when, expect, name, name_in, located, optional, some_between}
+use Rattle.graphql_grammar.specs.Steps.{when, expect, name, name_in, located, optional}
+use Rattle.graphql_grammar.specs.Steps.{some_between}
 use Rattle.graphql_value_syntax.specs.ReadDirectives.{arguments, directives}
 
 -- an alias and a name, or a name alone
@@ -43,8 +44,10 @@ module _ {S : Type 0} where
   abbrev pub selection_of : At (Spread S) → Selection S
   selection_of at = made_spread at.item at
 
-  abbrev pub made_field : Names → Option (At (Arguments S)) → Option (List (At (Directive S))) → Option (List (Selection S)) → Field S
-  made_field ns args ds ss = record { alias = ns.0; name = ns.1; arguments = args; directives = ds; selection_set = ss }
+  abbrev pub made_field : Names → Option (At (Arguments S)) → Option (List (At (Directive S)))
+      → Option (List (Selection S)) → Field S
+  made_field ns args ds ss =
+      record { alias = ns.0; name = ns.1; arguments = args; directives = ds; selection_set = ss }
 
 module _ {S : Type 0} (reads : ScalarToken → Result S ParseError) (of_bool : Bool → S) where
   unfoldable pub fragment_spread : Parser (Spread S)
@@ -78,7 +81,8 @@ module _ {S : Type 0} (reads : ScalarToken → Result S ParseError) (of_bool : B
       pure (made_field ns args ds ss)
 
     unfoldable pub selection_layer : Parser (Selection S)
-    selection_layer = when (only k.Ellipsis) (do x ← spread; pure (selection_of x)) (do x ← located field; pure (s.Field x))
+    selection_layer = when (only k.Ellipsis) (do x ← spread; pure (selection_of x))
+        (do x ← located field; pure (s.Field x))
 
   unfoldable pub selection_from : ℕ → Parser (Selection S)
   selection_from zero = refuse

@@ -16,7 +16,8 @@ use Rattle.graphql_language.specs.Documents.{DocumentOf}
 
 -- the tokens of a text: these, and then its end
 abbrev pub IsCut : List ℕ → List Located → Span → Type 0
-IsCut text tokens finish = IsDivided text (tokens ++ record { item = EndOfFile; span = finish } ∷ [])
+IsCut text tokens finish =
+    IsDivided text (tokens ++ record { item = EndOfFile; span = finish } ∷ [])
 
 module _ (S : Type 0) (reads : ScalarToken → Result S ParseError) (of_bool : Bool → S) where
   -- the tokens of the text spell the document
@@ -48,13 +49,18 @@ module _ (S : Type 0) (reads : ScalarToken → Result S ParseError) (of_bool : B
   -- ---- laws
 
   abbrev pub OneDocument : Type 0
-  OneDocument = (text : List ℕ) (tree other : List (Definition S)) → IsDocument text tree → IsDocument text other → tree ≡ other
+  OneDocument = (text : List ℕ) (tree other : List (Definition S)) → IsDocument text tree
+      → IsDocument text other → tree ≡ other
 
   abbrev pub DocumentOrRefused : Type 0
-  DocumentOrRefused = (text : List ℕ) → ((tree : List (Definition S)) × IsDocument text tree) ⊎ ((fault : Fault) × IsRefused text fault)
+  DocumentOrRefused = (text : List ℕ)
+      → ((tree : List (Definition S)) × IsDocument text tree)
+      ⊎ ((fault : Fault) × IsRefused text fault)
 
   abbrev pub NotBoth : Type 0
-  NotBoth = (text : List ℕ) (tree : List (Definition S)) (fault : Fault) → IsDocument text tree → IsRefused text fault → ⊥
+  NotBoth = (text : List ℕ) (tree : List (Definition S)) (fault : Fault) → IsDocument text tree
+      → IsRefused text fault → ⊥
 
   abbrev pub OneFault : Type 0
-  OneFault = (text : List ℕ) (fault other : Fault) → IsRefused text fault → IsRefused text other → fault ≡ other
+  OneFault = (text : List ℕ) (fault other : Fault) → IsRefused text fault → IsRefused text other
+      → fault ≡ other

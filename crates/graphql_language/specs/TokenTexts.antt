@@ -1,4 +1,5 @@
--- The source texts of the tokens within a part of a text (GraphQL October 2021, 2.1.6 Lexical Tokens).
+-- The source texts of the tokens within a part of a text (GraphQL October 2021, 2.1.6 Lexical
+-- Tokens).
 use Rattle.std.specs.Prelude.{◌≡◌, ℕ, List}
 use Rattle.graphql_text.specs.declared.position.Span.{Span}
 use Rattle.graphql_lexer.specs.declared.token_text.TokenText.{TokenText}

@@ -1,5 +1,5 @@
-//! Laws of documents, and those of what stands next and of lists: each function's contract is a law, and
-//! its body does nothing.
+//! Laws of documents, and those of what stands next and of lists: each function's contract is a
+//! law, and its body does nothing.
 
 ghost use Rattle.graphql_language.specs.Alike.{DifferInPlaces, RefusedAlike};
 ghost use Rattle.graphql_language.specs.Texts.{OneDocument, DocumentOrRefused, NotBoth, OneFault};

@@ -2,15 +2,15 @@
 //! here or from the crates below: places, tokens and faults; the trees of documents; values that go
 //! in and come out, and how they are made of others.
 //!
-//! [`parse_document_source`] gives the tree of a text, or the text's first fault; who needs a text's
-//! tokens beside its tree makes [`TokenRecords`] once, and takes both of them. What a document is,
-//! production by production, is said by the relations in `specs/Documents.antt` and the files that it
-//! names, in the words of the standard's grammar.
+//! [`parse_document_source`] gives the tree of a text, or the text's first fault; who needs a
+//! text's tokens beside its tree makes [`TokenRecords`] once, and takes both of them. What a
+//! document is, production by production, is said by the relations in `specs/Documents.antt` and
+//! the files that it names, in the words of the standard's grammar.
 //!
-//! [`Parser`] is what users call token by token: single tokens and names, lists between two tokens by
-//! a function that reads an item, values and type references. After a refusal it has failed, and
-//! answers that refusal again. What a call may answer, and what it leaves of the text, is said by the
-//! relations in `specs/Parser.antt` and `specs/Lists.antt`.
+//! [`Parser`] is what users call token by token: single tokens and names, lists between two tokens
+//! by a function that reads an item, values and type references. After a refusal it has failed, and
+//! answers that refusal again. What a call may answer, and what it leaves of the text, is said by
+//! the relations in `specs/Parser.antt` and `specs/Lists.antt`.
 #![tactic(auto)]
 
 pub mod laws;

@@ -7,7 +7,8 @@ ghost use Rattle.graphql_grammar.specs.Input as spec;
 ghost use Rattle.graphql_grammar.specs.Input.{IsMemory, StandsFor, left};
 ghost use Rattle.graphql_lexer.specs.Records.{IsRecorded};
 ghost use Rattle.graphql_grammar.specs.Cursor.{IsStart, IsLexical, start_of};
-ghost use Rattle.graphql_language.specs.Parser.{Calls, NextToken, ThisToken, MaybeToken, NextName, Ready, KeepsRefusal};
+ghost use Rattle.graphql_language.specs.Parser.{Calls, NextToken, ThisToken, MaybeToken, NextName};
+ghost use Rattle.graphql_language.specs.Parser.{Ready, KeepsRefusal};
 
 mod lists;
 mod literals;
@@ -55,7 +56,8 @@ impl<'a> Parser<'a> {
     pub fn new(alloc: Global, source: &'a str) -> Result<Parser<'a>, Fault>
         ensures start { IfOk result (λ parser. IsStart (chars source.now) parser.input) }
         ensures fresh { IfOk result (λ parser. parser.refused ≡ None) }
-        ensures fault { IfErr result (λ e. UnlessMemory IsMemory e (IsLexical (chars source.now) e)) }
+        ensures fault { IfErr result
+            (λ e. UnlessMemory IsMemory e (IsLexical (chars source.now) e)) }
     {
         Ok(Parser {
             alloc,
@@ -64,8 +66,8 @@ impl<'a> Parser<'a> {
         })
     }
 
-    /// A parser at the start of a text whose tokens are lent, so that it is read no second time. Takes
-    /// no memory.
+    /// A parser at the start of a text whose tokens are lent, so that it is read no second time.
+    /// Takes no memory.
     pub fn from_records(alloc: Global, records: &'a TokenRecords<'a>) -> Parser<'a>
         ensures start { (text : List ℕ) → IsRecorded text records.now → IsStart text result.input }
         ensures input { result.input ≡ start_of records.now }
@@ -97,8 +99,8 @@ impl<'a> Parser<'a> {
         self.keep_refusal(answer)
     }
 
-    /// The next token where it is this one, and goes behind it; refuses any other, and the end of the
-    /// text.
+    /// The next token where it is this one, and goes behind it; refuses any other, and the end of
+    /// the text.
     pub fn expect(&mut self, expected: &Token<'_>) -> ParseResult<Token<'a>>
         ensures calls { Calls (ThisToken expected.now) self.old result self.new }
         ensures fewer { OnOk result (left self.new.input < left self.old.input) }
@@ -142,7 +144,8 @@ impl<'a> Parser<'a> {
         }
     }
 
-    /// The same answer. By a refusal the parser has failed, and where it had failed before, the first refusal stays.
+    /// The same answer. By a refusal the parser has failed, and where it had failed before, the
+    /// first refusal stays.
     pub(crate) fn keep_refusal<T>(&mut self, answer: Result<T, Fault>) -> Result<T, Fault>
         ensures { KeepsRefusal answer self.old result self.new }
     {

@@ -1,9 +1,11 @@
-//! Laws of what stands next, and of lists: each function's contract is a law, and its body does nothing.
+//! Laws of what stands next, and of lists: each function's contract is a law, and its body does
+//! nothing.
 
 ghost use Rattle.std.specs.Prelude.{Bool, List};
 ghost use Rattle.graphql_grammar.specs.Input.{Located};
 ghost use Rattle.graphql_language.specs.Leaves.{ListsLeaveRest, SomeListsLeaveRest};
-ghost use Rattle.graphql_language.specs.Literals.{NextValue, NextType, NeverBoth, ReadOrRefused, OneRefusal};
+ghost use Rattle.graphql_language.specs.Literals.{NextValue, NextType, NeverBoth, ReadOrRefused};
+ghost use Rattle.graphql_language.specs.Literals.{OneRefusal};
 ghost use Rattle.graphql_language.specs.SpelledLists.{ListsAreSpelled, SomeListsAreSpelled};
 
 use crate::parser::Parser;
@@ -32,8 +34,8 @@ pub fn value_or_refused<S: ScalarValue>()
 {}
 
 /// What stands next is a type reference or refused, by one fault, and never both (GraphQL October
-/// 2021, 2.11 Type References). So where tokens in front spell a type reference one is read, whatever
-/// follows it.
+/// 2021, 2.11 Type References). So where tokens in front spell a type reference one is read,
+/// whatever follows it.
 pub fn type_or_refused()
     ensures one { ReadOrRefused NextType }
     ensures never_both { NeverBoth NextType }
@@ -48,9 +50,9 @@ pub fn lists_are_spelled<'a, T, F: Fn(&mut Parser<'a>) -> Result<T, Fault>, P: P
     ensures some { SomeListsAreSpelled F.Fn P.spells }
 {}
 
-/// Where the function that reads an item leaves what stands behind the tokens that it read, and by a
-/// refusal stops at the token that its fault is about, so does a list between two tokens: what is left
-/// then is the rest of the text from that token on.
+/// Where the function that reads an item leaves what stands behind the tokens that it read, and by
+/// a refusal stops at the token that its fault is about, so does a list between two tokens: what is
+/// left then is the rest of the text from that token on.
 pub fn lists_leave_the_rest<'a, T, F: Fn(&mut Parser<'a>) -> Result<T, Fault>>()
     ensures any { ListsLeaveRest F.Fn }
     ensures some { SomeListsLeaveRest F.Fn }

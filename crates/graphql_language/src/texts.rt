@@ -12,11 +12,13 @@ use graphql_lexer::{TokenRecords, TokenText};
 use graphql_text::{Items, Span, UnlocatedParseResult};
 use std::alloc::Global;
 
-/// The tokens of a text that stand within a part of it, as within the span of a node of its tree, each
-/// with its source text, in order: a string's with its quotes, and escapes as they are written. What
-/// is ignored, as commas and comments, is no token (GraphQL October 2021, 2.1.7 Ignored Tokens).
+/// The tokens of a text that stand within a part of it, as within the span of a node of its tree,
+/// each with its source text, in order: a string's with its quotes, and escapes as they are
+/// written. What is ignored, as commas and comments, is no token (GraphQL October 2021, 2.1.7
+/// Ignored Tokens).
 ///
-/// Who asks for several parts of one text makes its `TokenRecords` once, and asks these for `texts`.
+/// Who asks for several parts of one text makes its `TokenRecords` once, and asks these for
+/// `texts`.
 ///
 /// An error is the text's first lexical fault, wherever it stands, or `ParseError::Memory` where
 /// memory ran out.

@@ -11,9 +11,13 @@ module _ {A : Type 0} (rule : Rule A) (i : Input) where
 
   -- nothing is read there, and it is refused by no other fault
   abbrev pub RefusedAlone : Fault → Type 0
-  RefusedAlone fault = ((x : A) (j : Input) → rule i (Ok x) j → ⊥) × ((e : Fault) (j : Input) → rule i (Err e) j → e ≡ fault)
+  RefusedAlone fault = ((x : A) (j : Input) → rule i (Ok x) j → ⊥)
+      × ((e : Fault) (j : Input) → rule i (Err e) j → e ≡ fault)
 
-  -- what a call answers, and the parser that it leaves; the fault is what the parser keeps, want of memory aside
+  -- what a call answers, and the parser that it leaves; the fault is what the parser keeps, want of
+  -- memory aside
   abbrev pub AnsweredAlone : Result A Fault → State → Type 0
   AnsweredAlone (Ok x) left = NeverRefused
-  AnsweredAlone (Err f) left = (fault : Fault) × (left.refused ≡ Some fault) × UnlessMemory IsMemory fault (RefusedAlone fault)
+  AnsweredAlone (Err f) left = (fault : Fault)
+      × (left.refused ≡ Some fault)
+      × UnlessMemory IsMemory fault (RefusedAlone fault)

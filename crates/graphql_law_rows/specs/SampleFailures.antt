@@ -29,7 +29,14 @@ refusing = record {
 
 -- `{ nick }`
 abbrev pub nick : Head ℕ
-nick = record { key = codes "nick"; name = codes "nick"; is_aliased = false; arguments = []; has_set = false; place = at 9 0 9 }
+nick = record {
+  key = codes "nick";
+  name = codes "nick";
+  is_aliased = false;
+  arguments = [];
+  has_set = false;
+  place = at 9 0 9;
+}
 
 abbrev pub nick_set : Tree ℕ
 nick_set = field nick [] none none

@@ -3,7 +3,8 @@ use Rattle.std.specs.Prelude.{ℕ, List, [], ◌∷◌, ◌++◌, true, codes, O
 use Rattle.graphql_text.specs.declared.position.SourcePosition.{SourcePosition}
 use Rattle.graphql_text.specs.declared.position.Span.{Span}
 use Rattle.graphql_text.specs.declared.token.Token.{Token}
-use Rattle.graphql_text.specs.declared.token.Token.TheVariants.{Name, CurlyOpen, CurlyClose, EndOfFile}
+use Rattle.graphql_text.specs.declared.token.Token.TheVariants.{Name, CurlyOpen, CurlyClose}
+use Rattle.graphql_text.specs.declared.token.Token.TheVariants.{EndOfFile}
 use Rattle.graphql_text.specs.declared.token.LexerError.TheVariants.{UnknownCharacter}
 use Rattle.graphql_text.specs.Reading.{Refusal}
 use Rattle.graphql_text.specs.Tokens.{Located}

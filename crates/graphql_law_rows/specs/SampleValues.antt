@@ -41,7 +41,10 @@ pairs = one ∷ listed ∷ (codes "b", output.Null) ∷ []
 abbrev pub put : {A : Type 0} → ℕ → A → Placed A
 put n x = record {
   item = x;
-  span = record { start = record { index = n; line = 0; column = n }; end = record { index = n; line = 0; column = n } };
+  span = record {
+    start = record { index = n; line = 0; column = n };
+    end = record { index = n; line = 0; column = n };
+  };
 }
 
 -- `[$v]` and `[7]`

@@ -55,7 +55,8 @@ pub fn nothing_ends_too_early<S: ScalarValue>()
     ensures refused { IsRefused S S.reads S.of_bool spec.nothing spec.fault }
     ensures only { (other : Fault) → IsRefused S S.reads S.of_bool spec.nothing other
         → other ≡ spec.fault }
-    ensures no_document { (tree : List (Definition S)) → IsDocument S S.reads S.of_bool spec.nothing tree
+    ensures no_document { (tree : List (Definition S))
+        → IsDocument S S.reads S.of_bool spec.nothing tree
         → ⊥ }
 {
     reading_is_division();

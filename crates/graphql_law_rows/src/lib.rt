@@ -1,8 +1,8 @@
 //! Laws where their premises are met: small functions that call a law with a premise and draw its
 //! conclusion at a value, of a sample or of what a call has given.
 //!
-//! A law whose premise nothing meets says nothing. The laws with a premise that no other crate calls at a
-//! value are called here. Tests alone stand on this crate.
+//! A law whose premise nothing meets says nothing. The laws with a premise that no other crate
+//! calls at a value are called here. Tests alone stand on this crate.
 #![tactic(auto)]
 
 pub mod documents;

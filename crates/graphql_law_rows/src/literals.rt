@@ -16,8 +16,8 @@ use graphql_values::InputValue;
 use graphql_written_out::laws::{agrees_with_constants, constants_stay};
 use std::alloc::{AllocError, Global};
 
-/// A list with a variable becomes the list with the variable's value, in which no variable stands, so that
-/// it stays as it is where no variable has a value.
+/// A list with a variable becomes the list with the variable's value, in which no variable stands,
+/// so that it stays as it is where no variable has a value.
 pub fn variables_get_their_values()
     ensures filled { filled spec.seven spec.one_and_x ≡ Some spec.one_and_seven }
     ensures stays { filled spec.no_values spec.one_and_seven ≡ Some spec.one_and_seven }
@@ -26,8 +26,8 @@ pub fn variables_get_their_values()
     constants_stay::<u8>();
 }
 
-/// Whether a literal conforms to a type of the schema: it does exactly where the same literal at other
-/// places does. An error is want of memory.
+/// Whether a literal conforms to a type of the schema: it does exactly where the same literal at
+/// other places does. An error is want of memory.
 pub fn conforms_wherever_it_stands<S: SchemaScalar>(
     alloc: Global,
     schema: &SchemaType<S>,

@@ -9,9 +9,10 @@ use graphql_language::{Parser, parse_type, parse_value_literal};
 use graphql_text::{ParseResult, TextRef};
 use graphql_values::{InputValue, ScalarValue, Type};
 
-/// The value that stands next, as `parse_value_literal` gives it. Of a parser that has not failed, what is
-/// answered is all that may be: where a value is read nothing is refused there, and where it is refused no
-/// value is read, and there is no other fault. Errors are those of `parse_value_literal`.
+/// The value that stands next, as `parse_value_literal` gives it. Of a parser that has not failed,
+/// what is answered is all that may be: where a value is read nothing is refused there, and where
+/// it is refused no value is read, and there is no other fault. Errors are those of
+/// `parse_value_literal`.
 pub fn value_alone<S: ScalarValue>(
     parser: &mut Parser<'_>,
     is_const: bool,
@@ -25,7 +26,8 @@ pub fn value_alone<S: ScalarValue>(
 
 /// The same of the type reference that stands next, as `parse_type` gives it.
 pub fn type_alone<'a>(parser: &mut Parser<'a>) -> ParseResult<Type<TextRef<'a>>>
-    ensures { parser.old.refused ≡ None → AnsweredAlone NextType parser.old.input result parser.new }
+    ensures { parser.old.refused ≡ None
+        → AnsweredAlone NextType parser.old.input result parser.new }
 {
     type_or_refused();
     parse_type(parser)

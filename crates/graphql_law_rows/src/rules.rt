@@ -11,7 +11,8 @@ ghost use Rattle.graphql_schema.specs.Declarations.{declarations_of};
 ghost use Rattle.graphql_validation.specs.FirstStage.{parts};
 ghost use Rattle.graphql_validation.specs.Valid.{HasNoFault, HasNoFaultInScopes};
 ghost use Rattle.graphql_visitors.specs.Subjects.{Subject};
-ghost use Rattle.graphql_law_rows.specs.KeptRules.{KeepsTheRules, ScopesKeepTheRules, TypesAreOfTheirKinds, fragments};
+ghost use Rattle.graphql_law_rows.specs.KeptRules.{KeepsTheRules, ScopesKeepTheRules};
+ghost use Rattle.graphql_law_rows.specs.KeptRules.{TypesAreOfTheirKinds, fragments};
 
 use graphql_schema::{SchemaScalar, SchemaType};
 use graphql_tree::Definition;
@@ -32,10 +33,11 @@ use graphql_validation::{first_stage_errors, visit_introspection_rule};
 use graphql_visitors::ValidatorContext;
 use std::alloc::{AllocError, Global};
 
-/// Whether a document keeps all rules for documents but the one that fields merge: it does exactly where
-/// the rules of the first stage find no fault. Then its fragments have ranks that fall from each fragment
-/// to all that it spreads, what is spread ends within as many levels as there are fragments, and each
-/// field is declared, with a set that fits its type. An error is want of memory.
+/// Whether a document keeps all rules for documents but the one that fields merge: it does exactly
+/// where the rules of the first stage find no fault. Then its fragments have ranks that fall from
+/// each fragment to all that it spreads, what is spread ends within as many levels as there are
+/// fragments, and each field is declared, with a set that fits its type. An error is want of
+/// memory.
 pub fn keeps_the_rules<'t, S: SchemaScalar>(
     alloc: Global,
     schema: &SchemaType<S>,
@@ -107,8 +109,8 @@ fn faultless_scopes_keep_the_rules<S, C>()
     uses_in_allowed_position_are_allowed::<S, C>();
 }
 
-/// Whether a document asks nothing of the schema itself: no field is `__schema` or `__type`. An error is
-/// want of memory.
+/// Whether a document asks nothing of the schema itself: no field is `__schema` or `__type`. An
+/// error is want of memory.
 pub fn introspects_nothing<'t, S: SchemaScalar>(
     alloc: Global,
     schema: &SchemaType<S>,

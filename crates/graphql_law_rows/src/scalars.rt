@@ -33,10 +33,11 @@ pub fn name_is_a_token()
     name_laws::names_are_tokens();
 }
 
-/// A string of a letter, an escape and a code is read as their characters; one with an escape that is
-/// none is refused, and that one is told.
+/// A string of a letter, an escape and a code is read as their characters; one with an escape that
+/// is none is refused, and that one is told.
 pub fn strings_are_read_by_their_pieces()
-    ensures read { reads (token.String spec.written) ≡ Ok (scalar.String (encode_utf8_all spec.meant)) }
+    ensures read { reads (token.String spec.written)
+        ≡ Ok (scalar.String (encode_utf8_all spec.meant)) }
     ensures refused { reads (token.String spec.bad) ≡ Err spec.told }
 {
     scalar_laws::strings_mean_their_pieces();

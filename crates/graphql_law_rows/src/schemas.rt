@@ -25,8 +25,8 @@ pub fn is_subtype_of_itself<S, C>(schema: &SchemaType<S, C>, reference: &Type<Te
     schema.is_subtype(reference, reference)
 }
 
-/// Whether requests can be executed against the schema, and the first type is a subtype of the second, and
-/// this one of the third: then the first is one of the third.
+/// Whether requests can be executed against the schema, and the first type is a subtype of the
+/// second, and this one of the third: then the first is one of the third.
 pub fn is_subtype_by_way_of<S, C>(
     schema: &SchemaType<S, C>,
     lowest: &Type<Text>,
@@ -57,9 +57,9 @@ pub fn overlaps_either_way<S, C>(
     schema.type_overlap(a, b) == schema.type_overlap(b, a)
 }
 
-/// Whether the object type of the one name is possible at the type of the other: exactly where the one
-/// name is a subtype of the other. `None` where the schema has no type of a name, or the first is no
-/// object.
+/// Whether the object type of the one name is possible at the type of the other: exactly where the
+/// one name is a subtype of the other. `None` where the schema has no type of a name, or the first
+/// is no object.
 pub fn is_possible_at<S, C>(schema: &SchemaType<S, C>, object: &str, of: &str) -> Option<bool>
     ensures known { let types = schema.now.types in
         is_some result ≡ (passes is_object (type_named types object.now)

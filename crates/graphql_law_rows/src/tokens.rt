@@ -16,7 +16,8 @@ use graphql_lexer::laws;
 /// A text of two lines is divided into its four tokens and no others, and has no fault.
 pub fn two_lines_are_divided()
     ensures divided { IsDivided spec.two_lines spec.tokens }
-    ensures only { (tokens : List Located) → IsDivided spec.two_lines tokens → tokens ≡ spec.tokens }
+    ensures only { (tokens : List Located) → IsDivided spec.two_lines tokens
+        → tokens ≡ spec.tokens }
     ensures no_fault { (fault : Refusal) → IsBroken spec.two_lines fault → ⊥ }
 {
     laws::reading_is_division();
@@ -29,10 +30,13 @@ pub fn tokens_stand_in_two_lines()
     ensures few { length spec.tokens ≤ length spec.two_lines + 1 }
     ensures in_order { InOrder 0 spec.tokens (length spec.two_lines) }
     ensures positions { let at = position_at spec.two_lines in
-        Every (λ t. (t.span.start ≡ at t.span.start.index) × (t.span.end ≡ at t.span.end.index)) spec.tokens }
+        Every (λ t. (t.span.start ≡ at t.span.start.index) × (t.span.end ≡ at t.span.end.index))
+        spec.tokens }
     ensures spelled { Every (λ t. Spells t.item (slice_of spec.two_lines t)) spec.tokens }
-    ensures sources { Every (λ t. source_of t.item ≡ encode_utf8_all (slice_of spec.two_lines t)) spec.tokens }
-    ensures wide { Every (λ t. is_end t.item ≡ false → t.span.start.index < t.span.end.index) spec.tokens }
+    ensures sources { Every (λ t. source_of t.item ≡ encode_utf8_all (slice_of spec.two_lines t))
+        spec.tokens }
+    ensures wide { Every (λ t. is_end t.item ≡ false → t.span.start.index < t.span.end.index)
+        spec.tokens }
     ensures in_a_line { Every (λ t. t.span.end.line ≡ t.span.start.line) spec.tokens }
 {
     two_lines_are_divided();
@@ -54,15 +58,19 @@ pub fn one_line_differs_in_places()
     laws::differ_in_places();
 }
 
-/// A text with a question mark has that fault and no other, at its place, and no list of tokens. One by
-/// one its tokens are given until the fault, and then nothing more.
+/// A text with a question mark has that fault and no other, at its place, and no list of tokens.
+/// One by one its tokens are given until the fault, and then nothing more.
 pub fn question_mark_is_the_fault()
     ensures is_broken { IsBroken spec.broken spec.fault }
     ensures only { (fault : Refusal) → IsBroken spec.broken fault → fault ≡ spec.fault }
     ensures no_tokens { (tokens : List Located) → IsDivided spec.broken tokens → ⊥ }
     ensures position { spec.fault.span.start ≡ position_at spec.broken spec.fault.span.start.index }
-    ensures in_turn { ((tokens : List Located) × (spec.answers ≡ map Ok tokens) × IsDivided spec.broken tokens)
-        ⊎ ((front : List Located) × (fault : Refusal) × (spec.answers ≡ map Ok front ++ (Err fault) ∷ [])
+    ensures in_turn { ((tokens : List Located)
+        × (spec.answers ≡ map Ok tokens)
+        × IsDivided spec.broken tokens)
+        ⊎ ((front : List Located)
+        × (fault : Refusal)
+        × (spec.answers ≡ map Ok front ++ (Err fault) ∷ [])
         × IsBroken spec.broken fault) }
     ensures nothing_more { (answer : Answer) → GivesNext spec.done (Some answer) spec.done → ⊥ }
 {

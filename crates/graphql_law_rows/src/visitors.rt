@@ -1,5 +1,5 @@
-//! What visitors tell over a document, each in a walk of its own, and what holds of a document without a
-//! fault.
+//! What visitors tell over a document, each in a walk of its own, and what holds of a document
+//! without a fault.
 
 ghost use Rattle.std.specs.Prelude.{◌≡◌, ◌++◌, IfOk, IsPermutation, false, true};
 ghost use Rattle.graphql_rules_document.specs.NoUnusedFragments.{no_unused_fragments_faults};
@@ -42,15 +42,16 @@ use std::alloc::{AllocError, Global};
 
 /// Reports the spreads of fragments that the document has not: what the rule says of its parts.
 pub fn report_unknown_fragments<'a, 't, S: SchemaScalar>(context: &mut ValidatorContext<'a, 't, S>)
-    ensures { Reports (places_of (subject_of context.old) known_fragment_names_faults) context.old context.new }
+    ensures { Reports (places_of (subject_of context.old) known_fragment_names_faults) context.old
+        context.new }
 {
     local_rules_tell_of_occurrences::<S, KnownFragmentNames>();
     let mut rule = known_fragment_names::factory();
     visit(&mut rule, context);
 }
 
-/// Reports the arguments whose values do not conform. Whatever the checks answer, nothing else may be
-/// told of them.
+/// Reports the arguments whose values do not conform. Whatever the checks answer, nothing else may
+/// be told of them.
 pub fn report_arguments<'a, 't, S: SchemaScalar>(context: &mut ValidatorContext<'a, 't, S>)
     ensures { let may_tell = ArgumentsTold S.answer S.Check.accepts (subject_of context.old) in
         ReportsBy (IsOnlyTold may_tell) context.old context.new }
@@ -72,8 +73,8 @@ pub fn report_defaults<'a, 't, S: SchemaScalar>(context: &mut ValidatorContext<'
     visit(&mut rule, context);
 }
 
-/// Reports unknown fields and unknown fragments in one walk: what both rules say of the document's parts,
-/// in some order.
+/// Reports unknown fields and unknown fragments in one walk: what both rules say of the document's
+/// parts, in some order.
 pub fn report_unknown_names<'a, 't, S: SchemaScalar>(context: &mut ValidatorContext<'a, 't, S>)
     ensures { let told = places_of (subject_of context.old) in
         let both = told fields_on_correct_type_faults ++ told known_fragment_names_faults in
@@ -94,10 +95,11 @@ pub fn report_unknown_names<'a, 't, S: SchemaScalar>(context: &mut ValidatorCont
     visit(&mut rules, context);
 }
 
-/// Reports the spreads and inline fragments that can apply to nothing where they stand: what the rule says
-/// of the document's parts.
+/// Reports the spreads and inline fragments that can apply to nothing where they stand: what the
+/// rule says of the document's parts.
 pub fn report_impossible_spreads<'a, 't, S: SchemaScalar>(context: &mut ValidatorContext<'a, 't, S>)
-    ensures { Reports (places_of (subject_of context.old) possible_fragment_spreads_faults) context.old context.new }
+    ensures { Reports (places_of (subject_of context.old) possible_fragment_spreads_faults)
+        context.old context.new }
 {
     possible_spreads_tell_of_occurrences::<S>();
     let mut rule = possible_fragment_spreads::factory(context.alloc(), context.schema());
@@ -106,7 +108,8 @@ pub fn report_impossible_spreads<'a, 't, S: SchemaScalar>(context: &mut Validato
 
 /// Reports the fragments that no operation reaches: what the rule says of the document.
 pub fn report_unused_fragments<'a, 't, S: SchemaScalar>(context: &mut ValidatorContext<'a, 't, S>)
-    ensures { let said = said_of (λ types operations fragments. no_unused_fragments_faults operations fragments) in
+    ensures { let said =
+        said_of (λ types operations fragments. no_unused_fragments_faults operations fragments) in
         Reports (said (subject_of context.old)) context.old context.new }
 {
     document_rules_tell_of_documents::<S, NoUnusedFragments>();
@@ -123,8 +126,8 @@ pub fn report_overlapping_fields<'a, 't, S: SchemaScalar>(context: &mut Validato
     visit(&mut rule, context);
 }
 
-/// How many times the rule that fields merge compares two fields of a document: at most twice the square
-/// of its field nodes, unless memory runs out. What the rule tells is reported.
+/// How many times the rule that fields merge compares two fields of a document: at most twice the
+/// square of its field nodes, unless memory runs out. What the rule tells is reported.
 pub fn count_comparisons<'a, 't, S: SchemaScalar>(context: &mut ValidatorContext<'a, 't, S>) -> u128
     ensures { context.new.failed ≡ false → IsCounted (subject_of context.old) 0 result }
 {
@@ -134,8 +137,8 @@ pub fn count_comparisons<'a, 't, S: SchemaScalar>(context: &mut ValidatorContext
     rule.comparisons()
 }
 
-/// Whether the rules of the first stage find no fault in a document: then it is well-formed. An error is
-/// want of memory.
+/// Whether the rules of the first stage find no fault in a document: then it is well-formed. An
+/// error is want of memory.
 pub fn is_without_fault<'t, S: SchemaScalar>(
     alloc: Global,
     schema: &SchemaType<S>,

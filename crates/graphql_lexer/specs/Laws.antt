@@ -1,5 +1,6 @@
 -- Laws of the tokens and faults of a text.
-use Rattle.std.specs.Prelude.{◌≡◌, ◌≤◌, ◌<◌, ◌⊎◌, ◌↔◌, ℕ, ◌+◌, true, false, List, [], ◌∷◌, ◌++◌, length, map, slice_range, encode_utf8_all, Some, Ok, Err}
+use Rattle.std.specs.Prelude.{◌≡◌, ◌≤◌, ◌<◌, ◌⊎◌, ◌↔◌, ℕ, ◌+◌, true, false, List, [], ◌∷◌, ◌++◌}
+use Rattle.std.specs.Prelude.{length, map, slice_range, encode_utf8_all, Some, Ok, Err}
 use Rattle.graphql_text.specs.declared.position.Span.{Span}
 use Rattle.graphql_text.specs.declared.token.Token.{Token}
 use Rattle.graphql_text.specs.declared.token.LexerError.TheVariants.{Memory}
@@ -26,13 +27,15 @@ abbrev pub OneList : Type 0
 OneList = (text : List ℕ) (ts us : List Located) → IsDivided text ts → IsDivided text us → ts ≡ us
 
 abbrev pub NotBoth : Type 0
-NotBoth = (text : List ℕ) (ts : List Located) (e : Refusal) → IsDivided text ts → IsBroken text e → ⊥
+NotBoth =
+    (text : List ℕ) (ts : List Located) (e : Refusal) → IsDivided text ts → IsBroken text e → ⊥
 
 abbrev pub OneFault : Type 0
 OneFault = (text : List ℕ) (e f : Refusal) → IsBroken text e → IsBroken text f → e ≡ f
 
 abbrev pub EitherWay : Type 0
-EitherWay = (text : List ℕ) → ((ts : List Located) × IsDivided text ts) ⊎ ((e : Refusal) × IsBroken text e)
+EitherWay =
+    (text : List ℕ) → ((ts : List Located) × IsDivided text ts) ⊎ ((e : Refusal) × IsBroken text e)
 
 -- ---- what the tokens of a text are
 
@@ -40,12 +43,14 @@ EitherWay = (text : List ℕ) → ((ts : List Located) × IsDivided text ts) ⊎
 abbrev pub FewTokens : Type 0
 FewTokens = (text : List ℕ) (ts : List Located) → IsDivided text ts → length ts ≤ length text + 1
 
--- no token begins before this index, nor before the end of the one before it, none ends behind that index, and each but the end of the text is wider than nothing
+-- no token begins before this index, nor before the end of the one before it, none ends behind that
+-- index, and each but the end of the text is wider than nothing
 abbrev pub InOrder : ℕ → List Located → ℕ → Type 0
 InOrder from [] to = from ≤ to
 InOrder from (t ∷ ts) to =
     (from ≤ t.span.start.index) × (t.span.start.index ≤ t.span.end.index)
-    × (is_end t.item ≡ false → t.span.start.index < t.span.end.index) × InOrder t.span.end.index ts to
+    × (is_end t.item ≡ false → t.span.start.index < t.span.end.index)
+    × InOrder t.span.end.index ts to
 
 abbrev pub SpansInOrder : Type 0
 SpansInOrder = (text : List ℕ) (ts : List Located) → IsDivided text ts → InOrder 0 ts (length text)
@@ -57,12 +62,15 @@ Every P (t ∷ ts) = P t × Every P ts
 -- each place is the position of its index
 abbrev pub PlacesArePositions : Type 0
 PlacesArePositions = (text : List ℕ) (ts : List Located) → IsDivided text ts →
-    Every (λ t. (t.span.start ≡ position_at text t.span.start.index) × (t.span.end ≡ position_at text t.span.end.index)) ts
+    Every (λ t. (t.span.start ≡ position_at text t.span.start.index)
+    × (t.span.end ≡ position_at text t.span.end.index)) ts
 
 -- the place of a fault is the position of its index
 abbrev pub FaultIsPosition : Type 0
 FaultIsPosition = (text : List ℕ) (e : Refusal) → IsBroken text e →
-    (e.span.start ≡ position_at text e.span.start.index) × (e.span.end ≡ e.span.start) × (e.span.start.index ≤ length text)
+    (e.span.start ≡ position_at text e.span.start.index)
+    × (e.span.end ≡ e.span.start)
+    × (e.span.start.index ≤ length text)
 
 -- the characters of a token: those of the text between its places
 abbrev pub slice_of : List ℕ → Located → List ℕ
@@ -70,19 +78,23 @@ slice_of text t = slice_range text t.span.start.index t.span.end.index
 
 -- each token is spelled by the characters between its places
 abbrev pub SlicesSpell : Type 0
-SlicesSpell = (text : List ℕ) (ts : List Located) → IsDivided text ts → Every (λ t. Spells t.item (slice_of text t)) ts
+SlicesSpell = (text : List ℕ) (ts : List Located) → IsDivided text ts
+    → Every (λ t. Spells t.item (slice_of text t)) ts
 
 -- the source text of a token, a punctuator's too, is its slice
 abbrev pub SourcesAreSlices : Type 0
-SourcesAreSlices = (text : List ℕ) (ts : List Located) → IsDivided text ts → Every (λ t. source_of t.item ≡ encode_utf8_all (slice_of text t)) ts
+SourcesAreSlices = (text : List ℕ) (ts : List Located) → IsDivided text ts
+    → Every (λ t. source_of t.item ≡ encode_utf8_all (slice_of text t)) ts
 
 -- a token is at least one character wide, but for the end of the text
 abbrev pub TokensAreWide : Type 0
-TokensAreWide = (text : List ℕ) (ts : List Located) → IsDivided text ts → Every (λ t. is_end t.item ≡ false → t.span.start.index < t.span.end.index) ts
+TokensAreWide = (text : List ℕ) (ts : List Located) → IsDivided text ts
+    → Every (λ t. is_end t.item ≡ false → t.span.start.index < t.span.end.index) ts
 
 -- a token ends in the line where it starts
 abbrev pub TokensInALine : Type 0
-TokensInALine = (text : List ℕ) (ts : List Located) → IsDivided text ts → Every (λ t. t.span.end.line ≡ t.span.start.line) ts
+TokensInALine = (text : List ℕ) (ts : List Located) → IsDivided text ts
+    → Every (λ t. t.span.end.line ≡ t.span.start.line) ts
 
 -- the same tokens at other places
 abbrev pub placed : List Token → List Span → List Located
@@ -92,8 +104,10 @@ placed (t ∷ ts) (s ∷ ss) = record { item = t; span = s } ∷ placed ts ss
 
 -- two texts whose tokens have the same kinds and texts have tokens that differ in places alone
 abbrev pub DifferInPlaces : Type 0
-DifferInPlaces = (text other : List ℕ) (ts us : List Located) → IsDivided text ts → IsDivided other us →
-    map (λ t. t.item) ts ≡ map (λ t. t.item) us → us ≡ placed (map (λ t. t.item) ts) (map (λ t. t.span) us)
+DifferInPlaces =
+    (text other : List ℕ) (ts us : List Located) → IsDivided text ts → IsDivided other us →
+    map (λ t. t.item) ts ≡ map (λ t. t.item) us
+    → us ≡ placed (map (λ t. t.item) ts) (map (λ t. t.span) us)
 
 -- ---- one by one
 
@@ -110,9 +124,14 @@ HadMemory ((Err e) ∷ others) = (e.item ≡ Memory → ⊥) × HadMemory others
 
 -- a lexer that was asked until it had done gave all tokens, or some tokens and the first fault
 abbrev pub SameOneByOne : Type 0
-SameOneByOne = (text : List ℕ) (answers : List Answer) (t : Remains) → GivesInTurn (record { place = start_of text; is_done = false }) answers t → t.is_done ≡ true → HadMemory answers →
+SameOneByOne = (text : List ℕ) (answers : List Answer) (t : Remains)
+    → GivesInTurn (record { place = start_of text; is_done = false }) answers t → t.is_done ≡ true
+    → HadMemory answers →
     ((ts : List Located) × (answers ≡ map Ok ts) × IsDivided text ts)
-    ⊎ ((front : List Located) × (e : Refusal) × (answers ≡ map Ok front ++ (Err e) ∷ []) × IsBroken text e)
+    ⊎ ((front : List Located)
+    × (e : Refusal)
+    × (answers ≡ map Ok front ++ (Err e) ∷ [])
+    × IsBroken text e)
 
 -- a lexer that has done gives nothing more
 abbrev pub NothingMore : Type 0

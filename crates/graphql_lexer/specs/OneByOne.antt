@@ -1,5 +1,6 @@
 -- The tokens of a text, given one by one.
-use Rattle.std.specs.Prelude.{◌≡◌, ℕ, ◌+◌, Bool, true, false, length, if◌then◌else◌, Option, Some, None, Result, Ok, Err}
+use Rattle.std.specs.Prelude.{◌≡◌, ℕ, ◌+◌, Bool, true, false, length, if◌then◌else◌, Option, Some}
+use Rattle.std.specs.Prelude.{None, Result, Ok, Err}
 use Rattle.graphql_text.specs.Memory.{UnlessMemory}
 use Rattle.graphql_text.specs.Reading.{Place, Refusal, IsMemory}
 use Rattle.graphql_text.specs.Tokens.{Located, cut, is_end}
@@ -15,8 +16,10 @@ Answer = Result Located Refusal
 -- what a lexer gives next: the next token, or what refuses it; nothing after the end or a refusal
 abbrev pub GivesNext : Remains → Option Answer → Remains → Type 0
 GivesNext s None t = (s.is_done ≡ true) × (t ≡ s)
-GivesNext s (Some (Ok x)) t = (s.is_done ≡ false) × (cut s.place ≡ Ok (x, t.place)) × (t.is_done ≡ is_end x.item)
-GivesNext s (Some (Err e)) t = (s.is_done ≡ false) × UnlessMemory IsMemory e (cut s.place ≡ Err e) × (t.is_done ≡ true)
+GivesNext s (Some (Ok x)) t =
+    (s.is_done ≡ false) × (cut s.place ≡ Ok (x, t.place)) × (t.is_done ≡ is_end x.item)
+GivesNext s (Some (Err e)) t =
+    (s.is_done ≡ false) × UnlessMemory IsMemory e (cut s.place ≡ Err e) × (t.is_done ≡ true)
 
 -- no more answers than characters, and the end
 abbrev pub items_left : Remains → ℕ

@@ -1,5 +1,7 @@
--- Tokens of a text as records: what each is and where it stands, its text left in the source (GraphQL October 2021, 2.1.6 Lexical Tokens).
-use Rattle.std.specs.Prelude.{◌≡◌, ◌≤◌, ◌<◌, ◌+◌, ◌-◌, ◌^◌, ℕ, List, [], ◌∷◌, ◌++◌, length, map, get_or, slice_range}
+-- Tokens of a text as records: what each is and where it stands, its text left in the source
+-- (GraphQL October 2021, 2.1.6 Lexical Tokens).
+use Rattle.std.specs.Prelude.{◌≡◌, ◌≤◌, ◌<◌, ◌+◌, ◌-◌, ◌^◌, ℕ, List, [], ◌∷◌, ◌++◌, length, map}
+use Rattle.std.specs.Prelude.{get_or, slice_range}
 use Rattle.std.specs.List.{All}
 use Rattle.std.specs.Str.{IsCharBoundary}
 use Rattle.graphql_text.specs.declared.position.Span.{Span}
@@ -74,7 +76,14 @@ text_at source r = slice_range source r.offset (r.offset + r.len)
 
 -- the part of a text in which a record's token stands, which is one line's
 abbrev pub span_of : TokenRecord → Span
-span_of r = record { start = r.start; end = record { index = r.start.index + r.width; line = r.start.line; column = r.start.column + r.width } }
+span_of r = record {
+  start = r.start;
+  end = record {
+    index = r.start.index + r.width;
+    line = r.start.line;
+    column = r.start.column + r.width;
+  };
+}
 
 -- the place behind a record's token is a place that can be told
 abbrev pub HasRoom : TokenRecord → Type 0
@@ -84,7 +93,8 @@ HasRoom r = (r.start.index + r.width < 2 ^ 64) × (r.start.column ≤ r.start.in
 unfoldable pub token_of : List ℕ → TokenRecord → Located
 token_of source r = record { item = token_from r.kind (text_at source r); span = span_of r }
 
--- a record's token can be cut from the text, its end can be told, and what is cut is its source text
+-- a record's token can be cut from the text, its end can be told, and what is cut is its source
+-- text
 pub record Fits (source : List ℕ) (r : TokenRecord) : Type 0 where
   pub begins : IsCharBoundary source r.offset
   pub ends : IsCharBoundary source (r.offset + r.len)

@@ -8,7 +8,8 @@ use Rattle.graphql_text.specs.Tokens.{Located}
 
 -- it stands within the part
 abbrev pub is_within : Span → Located → Bool
-is_within span t = nat_le span.start.index t.span.start.index && nat_le t.span.end.index span.end.index
+is_within span t =
+    nat_le span.start.index t.span.start.index && nat_le t.span.end.index span.end.index
 
 -- the tokens that stand within the part
 abbrev pub within : List Located → Span → List Located
@@ -29,4 +30,6 @@ texts_until end tokens = map with_text (filter (λ t. nat_le t.span.end.index en
 -- each begins where the one before it ends or behind, and the first no sooner than at an index
 abbrev pub Rises : ℕ → List Located → Type 0
 Rises from [] = Unit {0}
-Rises from (t ∷ ts) = (from ≤ t.span.start.index) × (t.span.start.index ≤ t.span.end.index) × Rises t.span.end.index ts
+Rises from (t ∷ ts) = (from ≤ t.span.start.index)
+    × (t.span.start.index ≤ t.span.end.index)
+    × Rises t.span.end.index ts

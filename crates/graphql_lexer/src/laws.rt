@@ -1,6 +1,10 @@
 //! Laws of the definitions: each function's contract is a law, and its body does nothing.
 
-ghost use Rattle.graphql_lexer.specs.Laws.{ReadingIsDivision, ReadingIsBreak, OneList, NotBoth, OneFault, EitherWay, FewTokens, SpansInOrder, PlacesArePositions, FaultIsPosition, SlicesSpell, SourcesAreSlices, TokensAreWide, TokensInALine, DifferInPlaces, SameOneByOne, NothingMore};
+ghost use Rattle.graphql_lexer.specs.Laws.{ReadingIsDivision, ReadingIsBreak, OneList, NotBoth};
+ghost use Rattle.graphql_lexer.specs.Laws.{OneFault, EitherWay, FewTokens, SpansInOrder};
+ghost use Rattle.graphql_lexer.specs.Laws.{PlacesArePositions, FaultIsPosition, SlicesSpell};
+ghost use Rattle.graphql_lexer.specs.Laws.{SourcesAreSlices, TokensAreWide, TokensInALine};
+ghost use Rattle.graphql_lexer.specs.Laws.{DifferInPlaces, SameOneByOne, NothingMore};
 
 /// What is read of a text, character by character, are the tokens into which the lexical grammar
 /// divides it, and no other list is.
@@ -39,7 +43,8 @@ pub fn few_tokens()
     ensures { FewTokens }
 {}
 
-/// Spans come in order and do not overlap, and each but that of the text's end is wider than nothing.
+/// Spans come in order and do not overlap, and each but that of the text's end is wider than
+/// nothing.
 pub fn spans_in_order()
     ensures { SpansInOrder }
 {}

@@ -1,8 +1,8 @@
 //! The lexer: a text read into its tokens, by the lexical grammar of `graphql_text`.
 //!
-//! `TokenRecords` reads a whole text into records of its tokens, `lex_all` into the tokens themselves,
-//! and `Lexer` gives them one by one; `TokenTexts` gives the tokens within a span with their source
-//! texts. `laws` holds the laws of the grammar that they rest on.
+//! `TokenRecords` reads a whole text into records of its tokens, `lex_all` into the tokens
+//! themselves, and `Lexer` gives them one by one; `TokenTexts` gives the tokens within a span with
+//! their source texts. `laws` holds the laws of the grammar that they rest on.
 #![tactic(auto)]
 
 pub mod laws;

@@ -13,13 +13,19 @@ use crate::tokens::{ahead, token};
 use graphql_text::{Cursor, LexerError, Span, Spanning};
 use std::alloc::Global;
 
-/// The record of a token of this kind, which stands in this part of a text: from where the text goes
-/// on as `start` to where it goes on as `end`.
+/// The record of a token of this kind, which stands in this part of a text: from where the text
+/// goes on as `start` to where it goes on as `end`.
 fn record_between(kind: TokenKind, span: Span, source: &str, start: &str, end: &str) -> TokenRecord
     requires wide { span.start.index ≤ span.end.index }
     requires before { IsTail (chars source.now) (chars start.now) }
     requires own { IsTail (chars start.now) (chars end.now) }
-    ensures record { result ≡ record { kind = kind; offset = length source.now - length start.now; len = length start.now - length end.now; width = span.end.index - span.start.index; start = span.start } }
+    ensures record { result ≡ record {
+      kind = kind;
+      offset = length source.now - length start.now;
+      len = length start.now - length end.now;
+      width = span.end.index - span.start.index;
+      start = span.start;
+    } }
     ensures texts { IsUtf8 source.now × IsUtf8 start.now × IsUtf8 end.now }
 {
     TokenRecord {
@@ -39,7 +45,8 @@ fn cut_record<'a>(
     cursor: Cursor<'a>,
 ) -> Result<(TokenRecord, Cursor<'a>), Spanning<LexerError>>
     requires { IsTail (chars source.now) (chars cursor.rest.now) }
-    ensures token { MeetsBy (λ r. (token_of source.now r.0, place_of r.1)) IsMemory result (spec.cut (place_of cursor.entry)) }
+    ensures token { MeetsBy (λ r. (token_of source.now r.0, place_of r.1)) IsMemory result
+        (spec.cut (place_of cursor.entry)) }
     ensures fits { IfOk result (λ r. Fits source.now r.0) }
     ensures tail { IfOk result (λ r. IsTail (chars source.now) (chars r.1.rest.now)) }
 {
@@ -60,7 +67,8 @@ pub(crate) fn record_all(
     alloc: Global,
     source: &str,
 ) -> Result<Vec<TokenRecord>, Spanning<LexerError>>
-    ensures tokens { IfOk result (λ v. IsDivided (chars source.now) (tokens_of source.now v.items)) }
+    ensures tokens { IfOk result
+        (λ v. IsDivided (chars source.now) (tokens_of source.now v.items)) }
     ensures fit { IfOk result (λ v. AllFit source.now v.items) }
     ensures fault { IfErr result (λ e. UnlessMemory IsMemory e (IsBroken (chars source.now) e)) }
 {

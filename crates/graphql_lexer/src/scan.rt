@@ -2,7 +2,8 @@
 
 ghost use Rattle.std.specs.Prelude.{◌≡◌, encode_utf8_all};
 ghost use Rattle.std.specs.Str.{chars};
-ghost use Rattle.graphql_text.specs.Reading.{place_of, is_in, past, begins, past_one, between, IsTail};
+ghost use Rattle.graphql_text.specs.Reading.{place_of, is_in, past, begins, past_one, between};
+ghost use Rattle.graphql_text.specs.Reading.{IsTail};
 
 use graphql_text::{Class, Cursor, TextRef, continues_name};
 

@@ -4,7 +4,9 @@ ghost use Rattle.std.specs.Prelude.{◌≡◌, ◌∷◌, ◌<◌, IfOk, option_
 ghost use Rattle.std.specs.Str.{chars};
 ghost use Rattle.graphql_text.specs.Reading.{place_of, between, IsTail, IsMemory};
 ghost use Rattle.graphql_text.specs.Memory.{UnlessMemory, MeetsBy};
-ghost use Rattle.graphql_text.specs.Strings.{is_escape, is_code, bad_escape, turn_plain, turn_escape, turn_code, turn, string_from, plain, string};
+ghost use Rattle.graphql_text.specs.Strings.{is_escape, is_code, bad_escape, turn_plain};
+ghost use Rattle.graphql_text.specs.Strings.{turn_escape, turn_code, turn, string_from, plain};
+ghost use Rattle.graphql_text.specs.Strings.{string};
 ghost use Rattle.graphql_lexer.specs.Modes.{mode_of, IsModeAt};
 
 use crate::scan::{between, past_one};
@@ -70,7 +72,8 @@ fn with_backslash(alloc: Global, text: TextRef) -> Result<Text, AllocError>
 fn bad_escape(alloc: Global, from: Cursor, end: Cursor) -> Spanning<LexerError>
     requires { IsTail (chars from.rest.now) (chars end.rest.now) }
     ensures place { result.span ≡ record { start = from.entry.at; end = from.entry.at } }
-    ensures item { UnlessMemory IsMemory result (result.item ≡ bad_escape (chars from.entry.rest.now) (chars end.entry.rest.now)) }
+    ensures item { UnlessMemory IsMemory result
+        (result.item ≡ bad_escape (chars from.entry.rest.now) (chars end.entry.rest.now)) }
 {
     let item = match with_backslash(alloc, between(from.rest, end.rest)) {
         Ok(text) => LexerError::UnknownEscapeSequence(text),
@@ -105,7 +108,8 @@ fn turn_escape<'a>(
     next: Cursor<'a>,
 ) -> Result<Option<Mode<'a>>, Spanning<LexerError>>
     requires { chars here.rest.now ≡ c ∷ chars next.rest.now }
-    ensures { MeetsBy (option_map mode_of) IsMemory result (turn_escape here.entry.at c (chars next.entry.rest.now)) }
+    ensures { MeetsBy (option_map mode_of) IsMemory result
+        (turn_escape here.entry.at c (chars next.entry.rest.now)) }
 {
     if is_escape(c) {
         Ok(Some(Mode::Plain))
@@ -128,7 +132,8 @@ fn turn_code<'a>(
 ) -> Result<Option<Mode<'a>>, Spanning<LexerError>>
     requires tail { IsTail (chars from.rest.now) (chars here.rest.now) }
     requires next { chars here.rest.now ≡ c ∷ chars next.rest.now }
-    ensures { MeetsBy (option_map mode_of) IsMemory result (turn_code (place_of from.entry) n c (chars next.entry.rest.now)) }
+    ensures { MeetsBy (option_map mode_of) IsMemory result
+        (turn_code (place_of from.entry) n c (chars next.entry.rest.now)) }
 {
     if !c.is_ascii_alphanumeric() {
         Err(bad_escape(alloc, from, here))
@@ -152,7 +157,8 @@ fn turn<'a>(
 ) -> Result<Option<Mode<'a>>, Spanning<LexerError>>
     requires tail { IsModeAt (mode_of mode) (chars here.rest.now) }
     requires next { chars here.rest.now ≡ c ∷ chars next.rest.now }
-    ensures { MeetsBy (option_map mode_of) IsMemory result (turn (mode_of mode.entry) here.entry.at c (chars next.entry.rest.now)) }
+    ensures { MeetsBy (option_map mode_of) IsMemory result
+        (turn (mode_of mode.entry) here.entry.at c (chars next.entry.rest.now)) }
 {
     match mode {
         Mode::Plain => turn_plain(here.at, c),
@@ -163,7 +169,8 @@ fn turn<'a>(
 
 /// The place of the closing quote.
 fn closing<'a>(alloc: Global, start: Cursor<'a>) -> Result<Cursor<'a>, Spanning<LexerError>>
-    ensures { MeetsBy place_of IsMemory result (string_from plain start.entry.at (chars start.entry.rest.now)) }
+    ensures { MeetsBy place_of IsMemory result
+        (string_from plain start.entry.at (chars start.entry.rest.now)) }
 {
     let mut here = start;
     let mut mode = Mode::Plain;

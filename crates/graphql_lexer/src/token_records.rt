@@ -43,7 +43,8 @@ impl<'a> TokenRecords<'a> {
     /// An error is the text's first lexical fault, or `ParseError::Memory` where memory ran out.
     pub fn new(alloc: Global, source: &'a str) -> Result<TokenRecords<'a>, Spanning<ParseError>>
         ensures tokens { IfOk result (λ records. IsRecorded (chars source.now) records) }
-        ensures fault { IfErr result (λ e. UnlessMemory IsMemory e (IsLexical (chars source.now) e)) }
+        ensures fault { IfErr result
+            (λ e. UnlessMemory IsMemory e (IsLexical (chars source.now) e)) }
     {
         let mut records = record_all(alloc, source)?;
         let Some(last) = records.pop() else {
@@ -70,8 +71,8 @@ impl<'a> TokenRecords<'a> {
         self.finish
     }
 
-    /// The token at `index`, counted from zero, at its place; `None` at the end of the text and past
-    /// it. Takes no memory.
+    /// The token at `index`, counted from zero, at its place; `None` at the end of the text and
+    /// past it. Takes no memory.
     pub fn get(&self, index: usize) -> Option<Spanning<Token<'a>>>
         ensures { result ≡ slice_get self.now.tokens index }
     {

@@ -11,7 +11,8 @@ use crate::token_text::TokenText;
 use graphql_text::{SourcePosition, Span};
 use std::marker::Model;
 
-/// The tokens within a part of a text that have yet to be read, each with its source text, in order.
+/// The tokens within a part of a text that have yet to be read, each with its source text, in
+/// order.
 #[derive(Debug, Drop)]
 pub struct TokenTexts<'s, 'a> {
     source: &'a str,
@@ -37,7 +38,9 @@ impl<'s, 'a> Model for TokenTexts<'s, 'a> {
 /// How many tokens start before a place, where starts rise.
 fn starting_before(records: &[TokenRecord], place: SourcePosition) -> usize
     ensures bound { result ≤ length records.now }
-    ensures split { IsNonDecreasingBy (λ r. r.start.index) records.now → IsPartitionPoint (λ r. r.start.index < place.index) (λ r. place.index ≤ r.start.index) records.now result }
+    ensures split { IsNonDecreasingBy (λ r. r.start.index) records.now
+        → IsPartitionPoint
+        (λ r. r.start.index < place.index) (λ r. place.index ≤ r.start.index) records.now result }
 {
     records.partition_point(|found| found.start.index() < place.index())
 }

@@ -4,7 +4,8 @@ ghost use Rattle.std.specs.Prelude.{◌≡◌};
 ghost use Rattle.std.specs.Str.{chars};
 ghost use Rattle.graphql_text.specs.Reading.{place_of, IsTail, IsMemory};
 ghost use Rattle.graphql_text.specs.Memory.{MeetsBy};
-ghost use Rattle.graphql_text.specs.Tokens.{name_from, punctuator_of, point, ellipsis, token, ahead, cut, is_end};
+ghost use Rattle.graphql_text.specs.Tokens.{name_from, punctuator_of, point, ellipsis, token};
+ghost use Rattle.graphql_text.specs.Tokens.{ahead, cut, is_end};
 
 use crate::number::number;
 use crate::scan::{between, is_in, past};
@@ -16,7 +17,8 @@ use std::alloc::Global;
 #[tactic(auto, unfolding(graphql_text::specs::Tokens::name_from))]
 fn name<'a>(cursor: Cursor<'a>, next: Cursor<'a>) -> (Token<'a>, Cursor<'a>)
     requires { IsTail (chars cursor.rest.now) (chars next.rest.now) }
-    ensures { (result.0, place_of result.1) ≡ name_from (place_of cursor.entry) (place_of next.entry) }
+    ensures { (result.0, place_of result.1)
+        ≡ name_from (place_of cursor.entry) (place_of next.entry) }
 {
     let end = past(Class::NameContinue, next);
     (Token::Name(between(cursor.rest, end.rest)), end)
@@ -58,7 +60,8 @@ fn point<'a>(first: SourcePosition, cursor: Cursor<'a>) -> Result<Cursor<'a>, Sp
 /// The three points that begin here.
 #[tactic(auto, unfolding(graphql_text::specs::Tokens::ellipsis))]
 fn ellipsis<'a>(cursor: Cursor<'a>) -> Result<(Token<'a>, Cursor<'a>), Spanning<LexerError>>
-    ensures { MeetsBy (λ r. (r.0, place_of r.1)) IsMemory result (ellipsis (place_of cursor.entry)) }
+    ensures { MeetsBy (λ r. (r.0, place_of r.1)) IsMemory result
+        (ellipsis (place_of cursor.entry)) }
 {
     let second = point(cursor.at, cursor)?;
     let third = point(cursor.at, second)?;

@@ -1,6 +1,7 @@
 -- Which values JSON gives (GraphQL October 2021, 7.2 Serialization Format; RFC 8259).
 use Rattle.std.specs.Prelude.{◌≡◌, ◌↔◌, ℕ, ℤ, Bool, List, [], ◌∷◌, ◌++◌, Contains, Some, None}
-use Rattle.serde_json.specs.Data.{Num, Data, null, boolean, number, string, array, object, Items, no_items, item, Members, no_members, member}
+use Rattle.serde_json.specs.Data.{Num, Data, null, boolean, number, string, array, object, Items}
+use Rattle.serde_json.specs.Data.{no_items, item, Members, no_members, member}
 use Rattle.graphql_values.specs.declared.input_value.InputValue.{InputValue}
 use Rattle.graphql_values.specs.Variables.{variables_in}
 use Rattle.graphql_lines.specs.Variables.{whole_of, input_of, fields_of}
@@ -28,12 +29,15 @@ abbrev pub HasBadNumber : List Num → Type 0
 HasBadNumber ns = (n : Num) × Contains ns n × (whole_of n ≡ None)
 
 module _ {S : Type 0} (of_bool : Bool → S) (of_int : ℤ → S) (of_text : List ℕ → S) where
-  -- data stands for no value exactly where a number anywhere in it is no whole one of 32 bits, and so do the members of variables (3.5.1 Int)
+  -- data stands for no value exactly where a number anywhere in it is no whole one of 32 bits, and
+  -- so do the members of variables (3.5.1 Int)
   abbrev pub BadNumbersAreRefused : Type 0
   BadNumbersAreRefused =
       ((d : Data) → (input_of of_bool of_int of_text d ≡ None) ↔ HasBadNumber (numbers_in d))
-      × ((ms : Members) → (fields_of of_bool of_int of_text ms ≡ None) ↔ HasBadNumber (numbers_in_members ms))
+      × ((ms : Members)
+      → (fields_of of_bool of_int of_text ms ≡ None) ↔ HasBadNumber (numbers_in_members ms))
 
   -- in a value that data stands for stands no variable (2.10 Variables)
   abbrev pub JsonHoldsNoVariable : Type 0
-  JsonHoldsNoVariable = (d : Data) (v : InputValue S) → input_of of_bool of_int of_text d ≡ Some v → variables_in v ≡ []
+  JsonHoldsNoVariable = (d : Data) (v : InputValue S) → input_of of_bool of_int of_text d ≡ Some v
+      → variables_in v ≡ []

@@ -1,7 +1,10 @@
--- The request that a line describes, as `serde_json` reads it (GraphQL October 2021, 6.1 Executing Requests).
-use Rattle.std.specs.Prelude.{◌≡◌, ◌≢◌, ℕ, ℤ, Bool, List, if◌then◌else◌, Option, Some, None, Result, option_map, option_and_then, codes, string_bytes}
+-- The request that a line describes, as `serde_json` reads it (GraphQL October 2021, 6.1 Executing
+-- Requests).
+use Rattle.std.specs.Prelude.{◌≡◌, ◌≢◌, ℕ, ℤ, Bool, List, if◌then◌else◌, Option, Some, None, Result}
+use Rattle.std.specs.Prelude.{option_map, option_and_then, codes, string_bytes}
 use Rattle.std.specs.Str.{is_utf8}
-use Rattle.serde_json.specs.Data.{Data, null, boolean, number, string, array, object, Members, no_members}
+use Rattle.serde_json.specs.Data.{Data, null, boolean, number, string, array, object, Members}
+use Rattle.serde_json.specs.Data.{no_members}
 use Rattle.serde_json.specs.Read.{read}
 use Rattle.serde_json.specs.Find.{get, get_member, as_str}
 use Rattle.graphql_lines.specs.declared.refusal.LineRefusal.{LineRefusal}
@@ -16,7 +19,8 @@ pub record Request : Type 0 where
 
 -- the values of names other than this one stay
 abbrev pub KeepsOthers : List ℕ → Members → Members → Type 0
-KeepsOthers name old new = (other : List ℕ) → other ≢ name → get_member other new ≡ get_member other old
+KeepsOthers name old new =
+    (other : List ℕ) → other ≢ name → get_member other new ≡ get_member other old
 
 -- the data of a line that is UTF-8 and JSON
 abbrev pub data_of : List ℕ → Option Data
@@ -43,8 +47,10 @@ query_in d = option_and_then as_str (get (codes "query") d)
 -- the request that data describes; none where it is no object or a member is of another kind
 abbrev pub request_in : Data → Option Request
 request_in d =
-    option_and_then (λ query. option_and_then (λ name. option_map (λ ms. record { query = query; operation_name = name; variables = ms })
-    (variables_in (get (codes "variables") d))) (name_in (get (codes "operationName") d))) (query_in d)
+    option_and_then (λ query. option_and_then
+    (λ name. option_map (λ ms. record { query = query; operation_name = name; variables = ms })
+    (variables_in (get (codes "variables") d))) (name_in (get (codes "operationName") d)))
+    (query_in d)
 
 -- the request of a line; none where it is no JSON, no object, or a member is of another kind
 abbrev pub request_of : List ℕ → Option Request
@@ -54,9 +60,11 @@ module _ {S : Type 0} (of_bool : Bool → S) (of_int : ℤ → S) (of_text : Lis
   -- the request holds what was asked, its variables as values
   pub record HoldsRequest (asked : Request) (r : GraphQLRequest S) : Type 0 where
     pub query : string_bytes r.query ≡ asked.query
-    pub operation_name : option_map (λ name. string_bytes name) r.operation_name ≡ asked.operation_name
+    pub operation_name : option_map (λ name. string_bytes name) r.operation_name
+        ≡ asked.operation_name
     pub variables : HasValues of_bool of_int of_text asked.variables r.variables
 
   -- the request that may be asked, or the refusal that is due; want of memory tells nothing
   abbrev pub AnswersRequest : Result (GraphQLRequest S) LineRefusal → Option Request → Type 0
-  AnswersRequest result asked = AnswersAsked of_bool of_int of_text HoldsRequest (λ q. q.variables) result asked
+  AnswersRequest result asked =
+      AnswersAsked of_bool of_int of_text HoldsRequest (λ q. q.variables) result asked

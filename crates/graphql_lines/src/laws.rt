@@ -5,9 +5,9 @@ ghost use Rattle.graphql_lines.specs.Laws.{BadNumbersAreRefused, JsonHoldsNoVari
 
 use graphql_scalars::ScalarValue;
 
-/// JSON data stand for no input value exactly where a number anywhere in them is not held as a whole
-/// one, or lies outside 32 bits (GraphQL October 2021, 3.5.1 Int); and so do the members of an object of
-/// variables, so that `BadNumber` is told of no other.
+/// JSON data stand for no input value exactly where a number anywhere in them is not held as a
+/// whole one, or lies outside 32 bits (GraphQL October 2021, 3.5.1 Int); and so do the members of
+/// an object of variables, so that `BadNumber` is told of no other.
 pub fn bad_numbers_are_refused<S: ScalarValue>()
     ensures { BadNumbersAreRefused S.of_bool S.of_int S.of_text }
 {}

@@ -57,15 +57,18 @@ fn members_of(value: Value) -> Option<Map<String, Value>>
 
 /// Takes the value of this name out of an object's members, which keep the values of other names.
 fn taken(members: &mut Map<String, Value>, name: &str) -> Option<Value>
-    ensures value { option_map view result ≡ get_member name.now (members_view members.old.entries) }
-    ensures others { spec.KeepsOthers name.now (members_view members.old.entries) (members_view members.new.entries) }
+    ensures value { option_map view result
+        ≡ get_member name.now (members_view members.old.entries) }
+    ensures others { spec.KeepsOthers name.now (members_view members.old.entries)
+        (members_view members.new.entries) }
 {
     members.remove(name)
 }
 
 /// The text of a query, of which there must be one.
 fn query_in(value: Option<Value>) -> Option<String>
-    ensures { option_map (λ text. string_bytes text) result ≡ option_and_then as_str (option_map view value) }
+    ensures { option_map (λ text. string_bytes text) result
+        ≡ option_and_then as_str (option_map view value) }
 {
     match value {
         Some(Value::String(query)) => Some(query),
@@ -73,7 +76,8 @@ fn query_in(value: Option<Value>) -> Option<String>
     }
 }
 
-/// The name of an operation, which may be missing or null; `NotARequest` where it is of another kind.
+/// The name of an operation, which may be missing or null; `NotARequest` where it is of another
+/// kind.
 fn name_in(value: Option<Value>) -> Result<Option<String>, LineRefusal>
     ensures { let asked = spec.name_in (option_map view value) in
         Answers (λ name. Some (option_map (λ text. string_bytes text) name) ≡ asked)
@@ -86,12 +90,14 @@ fn name_in(value: Option<Value>) -> Result<Option<String>, LineRefusal>
     }
 }
 
-/// The values of variables, which may be missing or null. They take over the texts of the JSON value.
+/// The values of variables, which may be missing or null. They take over the texts of the JSON
+/// value.
 fn variables_in<S: ScalarValue>(
     alloc: Global,
     value: Option<Value>,
 ) -> Result<Variables<S>, LineRefusal>
-    ensures { AnswersVariables S.of_bool S.of_int S.of_text result (spec.variables_in (option_map view value)) }
+    ensures { AnswersVariables S.of_bool S.of_int S.of_text result
+        (spec.variables_in (option_map view value)) }
 {
     match value {
         None => Ok(HashMap::new(alloc)),
@@ -104,13 +110,14 @@ fn variables_in<S: ScalarValue>(
 ///
 /// `NotARequest` where the value is no object, its `query` is missing or no text, its
 /// `operationName` neither text nor null, or its `variables` neither object nor null; else
-/// `BadNumber` where a number anywhere in `variables` is not held as a whole one, or lies outside 32
-/// bits; `Memory` where memory ran out, which only values of variables take.
+/// `BadNumber` where a number anywhere in `variables` is not held as a whole one, or lies outside
+/// 32 bits; `Memory` where memory ran out, which only values of variables take.
 pub fn request_in<S: ScalarValue>(
     alloc: Global,
     value: Value,
 ) -> Result<GraphQLRequest<S>, LineRefusal>
-    ensures { spec.AnswersRequest S.of_bool S.of_int S.of_text result (spec.request_in (view value)) }
+    ensures { spec.AnswersRequest S.of_bool S.of_int S.of_text result
+        (spec.request_in (view value)) }
 {
     let Some(mut members) = members_of(value) else {
         return Err(LineRefusal::NotARequest);
@@ -130,14 +137,15 @@ pub fn request_in<S: ScalarValue>(
 }
 
 /// The request that a line describes, as `serde_json` reads the line (RFC 8259): a JSON object with
-/// the text `query` and, where they are not missing or null, the text `operationName` and the object
-/// `variables`. Members of other names are passed over; of members of one name the last counts.
+/// the text `query` and, where they are not missing or null, the text `operationName` and the
+/// object `variables`. Members of other names are passed over; of members of one name the last
+/// counts.
 ///
 /// The first refusal that stands: `NotARequest` where the line is not UTF-8, no JSON, nested deeper
 /// than 127, no object, or a member is of another kind; `BadNumber` where a number anywhere in
 /// `variables` is not held as a whole one, or lies outside 32 bits. `Memory` where memory ran out,
-/// which tells nothing of the line. `LineTooLong` is never answered: a line's length is its caller's
-/// to judge.
+/// which tells nothing of the line. `LineTooLong` is never answered: a line's length is its
+/// caller's to judge.
 pub fn request_from_line<S: ScalarValue>(
     alloc: Global,
     line: &[u8],

@@ -16,8 +16,8 @@ use serde_json::{Map, Number, Value};
 use std::alloc::{AllocError, Global};
 use std::collections::HashMap;
 
-/// The integer of 32 bits that a number of JSON is; `None` where it is not held as a whole one, or is none of
-/// 32 bits. Takes no memory.
+/// The integer of 32 bits that a number of JSON is; `None` where it is not held as a whole one, or
+/// is none of 32 bits. Takes no memory.
 pub fn whole(number: &Number) -> Option<i32>
     ensures { result ≡ spec.whole_of (number_view number.now) }
 {
@@ -58,7 +58,8 @@ fn list<S: ScalarValue>(
     alloc: Global,
     items: Vec<Value>,
 ) -> Result<Option<InputValue<S>>, AllocError>
-    ensures { Gives result (option_map value.List (spec.inputs_of S.of_bool S.of_int S.of_text (items_view items.items))) }
+    ensures { Gives result (option_map value.List
+        (spec.inputs_of S.of_bool S.of_int S.of_text (items_view items.items))) }
 {
     let mut found = Items::with_capacity(alloc, items.len())?;
     'items: for item in items {
@@ -76,7 +77,8 @@ fn object<S: ScalarValue>(
     alloc: Global,
     members: Map<String, Value>,
 ) -> Result<Option<InputValue<S>>, AllocError>
-    ensures { Gives result (option_map value.Object (spec.fields_of S.of_bool S.of_int S.of_text (members_view members.entries))) }
+    ensures { Gives result (option_map value.Object
+        (spec.fields_of S.of_bool S.of_int S.of_text (members_view members.entries))) }
 {
     let mut found = Items::with_capacity(alloc, members.len())?;
     'members: for (key, member) in members {
@@ -115,7 +117,8 @@ fn values_by_name<S: ScalarValue>(
 ) -> Result<Variables<S>, LineRefusal>
     ensures { let ms = members_view members.entries in
         Answers (λ variables. spec.HasValues S.of_bool S.of_int S.of_text ms variables)
-        (λ e. (e ≡ BadNumber) × (spec.fields_of S.of_bool S.of_int S.of_text ms ≡ None)) (λ e. e ≡ Memory) result }
+        (λ e. (e ≡ BadNumber) × (spec.fields_of S.of_bool S.of_int S.of_text ms ≡ None))
+        (λ e. e ≡ Memory) result }
 {
     let mut variables = HashMap::new(alloc);
     'members: for (key, member) in members {
@@ -127,16 +130,17 @@ fn values_by_name<S: ScalarValue>(
     Ok(variables)
 }
 
-/// The values of a request's variables, of their JSON value, whose texts and keys they take over: an
-/// object, or null, which has none. No value holds a variable.
+/// The values of a request's variables, of their JSON value, whose texts and keys they take over:
+/// an object, or null, which has none. No value holds a variable.
 ///
-/// `NotARequest` where the JSON value is of another kind; else `BadNumber` where a number anywhere in
-/// it is not held as a whole one, or lies outside 32 bits; `Memory` where memory ran out.
+/// `NotARequest` where the JSON value is of another kind; else `BadNumber` where a number anywhere
+/// in it is not held as a whole one, or lies outside 32 bits; `Memory` where memory ran out.
 pub fn variables_of_json<S: ScalarValue>(
     alloc: Global,
     json: Value,
 ) -> Result<Variables<S>, LineRefusal>
-    ensures { spec.AnswersVariables S.of_bool S.of_int S.of_text result (spec.members_of_variables (view json)) }
+    ensures { spec.AnswersVariables S.of_bool S.of_int S.of_text result
+        (spec.members_of_variables (view json)) }
 {
     match json {
         Value::Null => Ok(HashMap::new(alloc)),
@@ -147,13 +151,14 @@ pub fn variables_of_json<S: ScalarValue>(
     }
 }
 
-/// The values of a request's variables, as `variables_of_json` gives them, of a JSON value that is lent
-/// and copied.
+/// The values of a request's variables, as `variables_of_json` gives them, of a JSON value that is
+/// lent and copied.
 pub fn variables_from_json<S: ScalarValue>(
     alloc: Global,
     json: &Value,
 ) -> Result<Variables<S>, LineRefusal>
-    ensures { spec.AnswersVariables S.of_bool S.of_int S.of_text result (spec.members_of_variables (view json.now)) }
+    ensures { spec.AnswersVariables S.of_bool S.of_int S.of_text result
+        (spec.members_of_variables (view json.now)) }
 {
     variables_of_json(alloc, json.clone()?)
 }

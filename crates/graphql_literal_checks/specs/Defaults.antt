@@ -1,4 +1,5 @@
--- Whether the defaults of arguments and input fields conform to their types (GraphQL October 2021, 5.6.1 Values of Correct Type).
+-- Whether the defaults of arguments and input fields conform to their types (GraphQL October 2021,
+-- 5.6.1 Values of Correct Type).
 use Rattle.std.specs.Prelude.{List, Option, Some, None, IfSome}
 use Rattle.std.specs.Borrow.{Bor}
 use Rattle.std.specs.List.{All}
@@ -15,10 +16,12 @@ use Rattle.graphql_literal_checks.specs.Conforms.{Conforms}
 use Rattle.graphql_literal_checks.specs.declared.source.Source.TheVariants.{Literal}
 
 -- by what a scalar answers, what the checks of types accept, and the types of a schema
-module _ {S C : Type 0} (answer : S → ScalarAnswer) (accepts : C → InputValue S → Type 0) (types : List (MetaType S C)) where
+module _ {S C : Type 0} (answer : S → ScalarAnswer) (accepts : C → InputValue S → Type 0)
+    (types : List (MetaType S C)) where
   -- its default, where it has one, conforms to its type
   abbrev pub ArgumentConforms : Argument S → Type 0
-  ArgumentConforms argument = IfSome argument.default_value (Conforms answer accepts types Literal argument.arg_type)
+  ArgumentConforms argument =
+      IfSome argument.default_value (Conforms answer accepts types Literal argument.arg_type)
 
   abbrev pub FieldConforms : Field S → Type 0
   FieldConforms field = All ArgumentConforms (arguments_of field)
@@ -31,7 +34,8 @@ module _ {S C : Type 0} (answer : S → ScalarAnswer) (accepts : C → InputValu
   abbrev pub NamedConforms : Bytes → Type 0
   NamedConforms name = IfSome (type_named types name) TypeConforms
 
-  -- each default in the types of these names conforms, or this is the first name of a type of which one does not
+  -- each default in the types of these names conforms, or this is the first name of a type of which
+  -- one does not
   abbrev pub IsFirstUnfit : List Bytes → Option (Bor Bytes) → Type 0
   IsFirstUnfit names None = All NamedConforms names
   IsFirstUnfit names (Some name) = IsFirstWithout NamedConforms names name.now

@@ -1,5 +1,7 @@
--- What a type asks of the values that are given to it (GraphQL October 2021, 3.11 List, 3.12 Non-Null: input coercion; 3.9 Enums; 3.10 Input Objects).
-use Rattle.std.specs.Prelude.{◌≡◌, ◌||◌, ℕ, Bool, true, false, if◌then◌else◌, nat_eq, List, [], ◌∷◌, map, Option, Some, None}
+-- What a type asks of the values that are given to it (GraphQL October 2021, 3.11 List, 3.12
+-- Non-Null: input coercion; 3.9 Enums; 3.10 Input Objects).
+use Rattle.std.specs.Prelude.{◌≡◌, ◌||◌, ℕ, Bool, true, false, if◌then◌else◌, nat_eq, List, [], ◌∷◌}
+use Rattle.std.specs.Prelude.{map, Option, Some, None}
 use Rattle.std.specs.List.{list_all, list_any}
 use Rattle.graphql_names.specs.TypeReference.{outermost, is_non_null}
 use Rattle.graphql_names.specs.declared.type_modifier.TypeModifier.{TypeModifier}
@@ -28,7 +30,8 @@ abbrev pub may_hold_one : TypeModifier → Bool
 may_hold_one modifier.NonNull = true
 may_hold_one (modifier.List size) = allows size 1
 
--- a value that is no list may stand there, as the one item of each list around the named type (3.11)
+-- a value that is no list may stand there, as the one item of each list around the named type
+-- (3.11)
 abbrev pub may_stand_alone : TypeOf → Bool
 may_stand_alone t = list_all may_hold_one t.modifiers
 
@@ -57,10 +60,15 @@ module _ {S C : Type 0} where
   abbrev pub is_one_if_asked : InputObjectMeta S C → List (Pair (InputValue S)) → Bool
   is_one_if_asked m pairs = if m.exactly_one then is_one_given pairs else true
 
-  -- as many fields are given as the input object asks for: exactly one, or each that has to be given (3.10)
+  -- as many fields are given as the input object asks for: exactly one, or each that has to be
+  -- given (3.10)
   abbrev pub is_complete : InputObjectMeta S C → List (Pair (InputValue S)) → Bool
-  is_complete m pairs = if m.exactly_one then is_one_given pairs else none_missing m.input_fields (map (λ p. p.0.item) pairs)
+  is_complete m pairs = if m.exactly_one then is_one_given pairs
+      else none_missing m.input_fields (map (λ p. p.0.item) pairs)
 
-  -- what the input object asks of an object beside its fields: they are complete, and its check accepts it where no variable stands in it
-  abbrev pub WholeFits : (C → InputValue S → Type 0) → InputObjectMeta S C → InputValue S → List (Pair (InputValue S)) → Type 0 → Type 0
-  WholeFits accepts m v pairs NoVariable = (is_complete m pairs ≡ true) × (NoVariable → accepts m.check v)
+  -- what the input object asks of an object beside its fields: they are complete, and its check
+  -- accepts it where no variable stands in it
+  abbrev pub WholeFits : (C → InputValue S → Type 0) → InputObjectMeta S C → InputValue S
+      → List (Pair (InputValue S)) → Type 0 → Type 0
+  WholeFits accepts m v pairs NoVariable =
+      (is_complete m pairs ≡ true) × (NoVariable → accepts m.check v)

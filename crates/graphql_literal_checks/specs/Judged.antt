@@ -1,5 +1,7 @@
--- What is judged of a value at a type, by the kind of the type, and what an answer tells (GraphQL October 2021, 5.6.1 Values of Correct Type).
-use Rattle.std.specs.Prelude.{◌≡◌, ◌++◌, ◌⊎◌, ◌∷◌, ℕ, Bool, true, false, List, [], length, Option, Some, Result}
+-- What is judged of a value at a type, by the kind of the type, and what an answer tells (GraphQL
+-- October 2021, 5.6.1 Values of Correct Type).
+use Rattle.std.specs.Prelude.{◌≡◌, ◌++◌, ◌⊎◌, ◌∷◌, ℕ, Bool, true, false, List, [], length, Option}
+use Rattle.std.specs.Prelude.{Some, Result}
 use Rattle.std.specs.Borrow.{Bor}
 use Rattle.std.specs.List.{list_all}
 use Rattle.graphql_text.specs.Memory.{Answers}
@@ -26,7 +28,8 @@ use Rattle.graphql_literal_checks.specs.declared.source.Source.TheVariants.{Sent
 use Rattle.graphql_literal_checks.specs.declared.misfit.Misfit.{Misfit}
 use Rattle.graphql_literal_checks.specs.declared.misfit.Misfit.TheVariants as misfit
 use Rattle.graphql_literal_checks.specs.Conforms.{Conforms, FieldsConform, EachConforms}
-use Rattle.graphql_literal_checks.specs.InputTypes.{WholeFits, allows, argument_named, declares, may_stand_alone}
+use Rattle.graphql_literal_checks.specs.InputTypes.{WholeFits, allows, argument_named, declares}
+use Rattle.graphql_literal_checks.specs.InputTypes.{may_stand_alone}
 
 -- a type that is lent
 abbrev pub lent : «Type» Bytes (Bor (List TypeModifier)) → TypeOf
@@ -54,9 +57,11 @@ module _ {S : Type 0} where
 abbrev pub IsMemory : Misfit → Type 0
 IsMemory m = m ≡ misfit.Memory
 
--- a value tells that the fact holds, and whether it is of a constant; a misfit, that the fact does not hold
+-- a value tells that the fact holds, and whether it is of a constant; a misfit, that the fact does
+-- not hold
 abbrev pub Judged : Type 0 → Bool → Result Bool Misfit → Type 0
-Judged Fact constant result = Answers (λ told. Fact × (told ≡ constant)) (λ _. Fact → ⊥) IsMemory result
+Judged Fact constant result =
+    Answers (λ told. Fact × (told ≡ constant)) (λ _. Fact → ⊥) IsMemory result
 
 -- an object of whose fields this holds
 abbrev pub IsObject : {S : Type 0} → (List (Pair (InputValue S)) → Type 0) → InputValue S → Type 0
@@ -64,10 +69,12 @@ IsObject {S} P v = (pairs : List (Pair (InputValue S))) × (v ≡ value.Object p
 
 -- the value is of an enum's name: a literal of the name, or a text that was sent (3.9)
 abbrev pub Names : {S : Type 0} → (S → ScalarAnswer) → Source → InputValue S → Bytes → Type 0
-Names {S} answer source v name = (v ≡ value.Enum name) ⊎ ((source ≡ Sent) × ((s : S) × (v ≡ value.Scalar s) × (as_text (answer s) ≡ Some name)))
+Names {S} answer source v name = (v ≡ value.Enum name)
+    ⊎ ((source ≡ Sent) × ((s : S) × (v ≡ value.Scalar s) × (as_text (answer s) ≡ Some name)))
 
 -- the value is one that the enum declares
-abbrev pub IsOfEnum : {S C : Type 0} → (S → ScalarAnswer) → Source → EnumMeta C → InputValue S → Type 0
+abbrev pub IsOfEnum : {S C : Type 0} → (S → ScalarAnswer) → Source → EnumMeta C → InputValue S
+    → Type 0
 IsOfEnum answer source m v = (name : Bytes) × Names answer source v name × (declares m name ≡ true)
 
 module _ {S C : Type 0} (accepts : C → InputValue S → Type 0) where
@@ -77,9 +84,11 @@ module _ {S C : Type 0} (accepts : C → InputValue S → Type 0) where
   abbrev pub EnumFits : (S → ScalarAnswer) → Source → EnumMeta C → InputValue S → Type 0
   EnumFits answer source m v = IsOfEnum answer source m v × accepts m.check v
 
-module _ {S C : Type 0} (answer : S → ScalarAnswer) (accepts : C → InputValue S → Type 0) (types : List (MetaType S C)) (source : Source) where
+module _ {S C : Type 0} (answer : S → ScalarAnswer) (accepts : C → InputValue S → Type 0)
+    (types : List (MetaType S C)) (source : Source) where
   abbrev pub ObjectFits : InputObjectMeta S C → List (Pair (InputValue S)) → Type 0
-  ObjectFits m pairs = FieldsConform answer accepts types source m.input_fields pairs × WholeFits accepts m (value.Object pairs) pairs (IsConstant (value.Object pairs))
+  ObjectFits m pairs = FieldsConform answer accepts types source m.input_fields pairs
+      × WholeFits accepts m (value.Object pairs) pairs (IsConstant (value.Object pairs))
 
   -- the value fits the named type, of which this is known
   abbrev pub NamedFits : Option (MetaType S C) → InputValue S → Type 0
@@ -94,8 +103,15 @@ module _ {S C : Type 0} (answer : S → ScalarAnswer) (accepts : C → InputValu
 
   abbrev pub ListFits : TypeOf → List (Placed (InputValue S)) → Type 0
   ListFits t items =
-      (size : Option ℕ) × (within : List TypeModifier) × IsListOf t.modifiers size within × (allows size (length items) ≡ true) × EachConforms answer accepts types source (record { name = t.name; modifiers = within }) items
+      (size : Option ℕ)
+      × (within : List TypeModifier)
+      × IsListOf t.modifiers size within
+      × (allows size (length items) ≡ true)
+      × EachConforms answer accepts types source
+      (record { name = t.name; modifiers = within }) items
 
   -- a field of this name is declared, and the value conforms to its type
   abbrev pub FieldFits : List (Argument S) → Bytes → InputValue S → Type 0
-  FieldFits declared name v = (a : Argument S) × (argument_named declared name ≡ Some a) × Conforms answer accepts types source a.arg_type v
+  FieldFits declared name v = (a : Argument S)
+      × (argument_named declared name ≡ Some a)
+      × Conforms answer accepts types source a.arg_type v

@@ -13,4 +13,5 @@ module _ {S C : Type 0} (answer : S → ScalarAnswer) (accepts : C → InputValu
   abbrev pub ConformsWithoutPlaces : Type 0
   ConformsWithoutPlaces =
       (types : List (MetaType S C)) (source : Source) (t : TypeOf) (v : InputValue S)
-      → Conforms answer accepts types source t v ↔ Conforms answer accepts types source t (unlocated v)
+      → Conforms answer accepts types source t v
+      ↔ Conforms answer accepts types source t (unlocated v)

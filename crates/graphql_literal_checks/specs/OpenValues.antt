@@ -1,4 +1,5 @@
--- What is still asked of the lists and objects around the part of a value that is being judged (GraphQL October 2021, 5.6.1 Values of Correct Type).
+-- What is still asked of the lists and objects around the part of a value that is being judged
+-- (GraphQL October 2021, 5.6.1 Values of Correct Type).
 use Rattle.std.specs.Prelude.{◌≡◌, ◌↔◌, ◌&&◌, ◌+◌, ◌*◌, ℕ, Bool, true, List, [], ◌∷◌, Result}
 use Rattle.std.specs.List.{sum_by}
 use Rattle.graphql_text.specs.Memory.{Answers}
@@ -18,7 +19,8 @@ use Rattle.graphql_literal_checks.specs.InputTypes.{WholeFits}
 use Rattle.graphql_literal_checks.specs.Judged.{IsMemory, lent, are_constant, have_constants}
 
 module _ {S : Type 0} where
-  -- no variable stands in a list: not in the items that were judged, in the one that is being judged (here), or in the rest
+  -- no variable stands in a list: not in the items that were judged, in the one that is being
+  -- judged (here), or in the rest
   abbrev pub list_constant : Bool → OpenList S → Bool
   list_constant here l = (l.constant && here) && are_constant l.rest.now
 
@@ -50,14 +52,17 @@ module _ {S C : Type 0} where
   abbrev pub all_left : List (Open S C) → ℕ
   all_left fs = sum_by left_in fs
 
-module _ {S C : Type 0} (answer : S → ScalarAnswer) (accepts : C → InputValue S → Type 0) (types : List (MetaType S C)) (source : Source) where
+module _ {S C : Type 0} (answer : S → ScalarAnswer) (accepts : C → InputValue S → Type 0)
+    (types : List (MetaType S C)) (source : Source) where
   -- the rest of the items conform
   abbrev pub ListOwes : OpenList S → Type 0
   ListOwes l = EachConforms answer accepts types source (lent l.asked) l.rest.now
 
-  -- the rest of the fields conform, none is missing, and the type accepts the object where no variable stands in it
+  -- the rest of the fields conform, none is missing, and the type accepts the object where no
+  -- variable stands in it
   abbrev pub ObjectOwes : Bool → OpenObject S C → Type 0
-  ObjectOwes here o = FieldsConform answer accepts types source o.meta.now.input_fields o.rest.now × WholeFits accepts o.meta.now o.value.now o.pairs.now (object_constant here o ≡ true)
+  ObjectOwes here o = FieldsConform answer accepts types source o.meta.now.input_fields o.rest.now
+      × WholeFits accepts o.meta.now o.value.now o.pairs.now (object_constant here o ≡ true)
 
   abbrev pub Owes : Bool → Open S C → Type 0
   Owes here (around.List l) = ListOwes l
@@ -68,6 +73,8 @@ module _ {S C : Type 0} (answer : S → ScalarAnswer) (accepts : C → InputValu
   Owed here [] = Unit {0}
   Owed here (f ∷ fs) = Owes (all_constant here fs) f × Owed here fs
 
-  -- a value tells whether no variable stood in what was judged, and then the fact and what was asked before are what is asked now; a misfit, that the fact does not hold
+  -- a value tells whether no variable stood in what was judged, and then the fact and what was
+  -- asked before are what is asked now; a misfit, that the fact does not hold
   abbrev pub Opens : Type 0 → Bool → Result Bool Misfit → List (Open S C) → List (Open S C) → Type 0
-  Opens Fact constant result old new = Answers (λ told. Owed told new ↔ (Fact × Owed constant old)) (λ _. Fact → ⊥) IsMemory result
+  Opens Fact constant result old new =
+      Answers (λ told. Owed told new ↔ (Fact × Owed constant old)) (λ _. Fact → ⊥) IsMemory result

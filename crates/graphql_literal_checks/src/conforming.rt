@@ -4,8 +4,13 @@ ghost use Rattle.std.specs.Prelude.{◌≡◌, ◌<◌, ◌+◌, ◌*◌, OnOk};
 ghost use Rattle.graphql_text.specs.Memory.{Told};
 ghost use Rattle.graphql_values.specs.Counts.{value_count};
 ghost use Rattle.graphql_literal_checks.specs.Conforms.{Conforms};
-ghost use Rattle.graphql_literal_checks.specs.Judged.{AloneFits, FieldFits, IsMemory, IsObject, ListFits, ObjectFits, are_constant, is_constant, lent};
-ghost use Rattle.graphql_literal_checks.specs.OpenValues.{ListOwes, ObjectOwes, Opens, Owes, all_left, fields_left, items_left, left_in, list_constant, object_constant, stays_constant};
+ghost use Rattle.graphql_literal_checks.specs.Judged.{AloneFits, FieldFits, IsMemory, IsObject};
+ghost use Rattle.graphql_literal_checks.specs.Judged.{ListFits, ObjectFits, are_constant};
+ghost use Rattle.graphql_literal_checks.specs.Judged.{is_constant, lent};
+ghost use Rattle.graphql_literal_checks.specs.OpenValues.{ListOwes, ObjectOwes, Opens, Owes};
+ghost use Rattle.graphql_literal_checks.specs.OpenValues.{all_left, fields_left, items_left};
+ghost use Rattle.graphql_literal_checks.specs.OpenValues.{left_in, list_constant, object_constant};
+ghost use Rattle.graphql_literal_checks.specs.OpenValues.{stays_constant};
 
 use crate::input_fields::declared_field;
 use crate::judging::{judge_enum, judge_scalar, judge_whole, no_list, one_if_asked};
@@ -36,7 +41,8 @@ impl<'a, S: SchemaScalar> Judge<'a, S> {
         asked: &BorrowedType<'a>,
         value: &'a InputValue<S>,
     ) -> Result<(), Misfit>
-        ensures { Told IsMemory result (Conforms S.answer S.Check.accepts self.now.schema.now.types self.now.source (lent asked.now) value.now) }
+        ensures { Told IsMemory result (Conforms S.answer S.Check.accepts self.now.schema.now.types
+            self.now.source (lent asked.now) value.now) }
     {
         let mut opened: Items<Open<'a, S>> = Items::new(self.alloc);
         let mut constant = self.enter(&mut opened, asked, value)?;
@@ -49,16 +55,19 @@ impl<'a, S: SchemaScalar> Judge<'a, S> {
         Ok(())
     }
 
-    /// Begins with a value: opens it where it has parts that are yet to be judged, and judges it whole
-    /// otherwise. `Ok` tells whether no variable stands in what was judged.
+    /// Begins with a value: opens it where it has parts that are yet to be judged, and judges it
+    /// whole otherwise. `Ok` tells whether no variable stands in what was judged.
     fn enter(
         &self,
         opened: &mut Items<Open<'a, S>>,
         asked: &BorrowedType<'a>,
         value: &'a InputValue<S>,
     ) -> Result<bool, Misfit>
-        ensures fits { Opens S.answer S.Check.accepts self.now.schema.now.types self.now.source (Conforms S.answer S.Check.accepts self.now.schema.now.types self.now.source (lent asked.now) value.now) (is_constant value.now) result opened.old opened.new }
-        ensures ends { OnOk result (all_left opened.new < all_left opened.old + 2 * value_count value.now) }
+        ensures fits { Opens S.answer S.Check.accepts self.now.schema.now.types self.now.source
+            (Conforms S.answer S.Check.accepts self.now.schema.now.types self.now.source
+            (lent asked.now) value.now) (is_constant value.now) result opened.old opened.new }
+        ensures ends { OnOk result
+            (all_left opened.new < all_left opened.old + 2 * value_count value.now) }
     {
         match value {
             InputValue::Null => {
@@ -82,8 +91,11 @@ impl<'a, S: SchemaScalar> Judge<'a, S> {
         items: &'a [Spanning<InputValue<S>>],
         value: &InputValue<S>,
     ) -> Result<bool, Misfit>
-        ensures fits { Opens S.answer S.Check.accepts self.now.schema.now.types self.now.source (ListFits S.answer S.Check.accepts self.now.schema.now.types self.now.source (lent asked.now) items.now) (are_constant items.now) result opened.old opened.new }
-        ensures ends { OnOk result (all_left opened.new ≡ all_left opened.old + items_left items.now) }
+        ensures fits { Opens S.answer S.Check.accepts self.now.schema.now.types self.now.source
+            (ListFits S.answer S.Check.accepts self.now.schema.now.types self.now.source
+            (lent asked.now) items.now) (are_constant items.now) result opened.old opened.new }
+        ensures ends { OnOk result
+            (all_left opened.new ≡ all_left opened.old + items_left items.now) }
     {
         match list_within(asked.modifiers) {
             Some((size, modifiers)) => {
@@ -108,16 +120,19 @@ impl<'a, S: SchemaScalar> Judge<'a, S> {
         }
     }
 
-    /// Begins with a value that is no list: it may stand as the one item of each list, and is of the
-    /// named type.
+    /// Begins with a value that is no list: it may stand as the one item of each list, and is of
+    /// the named type.
     fn enter_alone(
         &self,
         opened: &mut Items<Open<'a, S>>,
         asked: &BorrowedType<'a>,
         value: &'a InputValue<S>,
     ) -> Result<bool, Misfit>
-        ensures fits { Opens S.answer S.Check.accepts self.now.schema.now.types self.now.source (AloneFits S.answer S.Check.accepts self.now.schema.now.types self.now.source (lent asked.now) value.now) (is_constant value.now) result opened.old opened.new }
-        ensures ends { OnOk result (all_left opened.new < all_left opened.old + 2 * value_count value.now) }
+        ensures fits { Opens S.answer S.Check.accepts self.now.schema.now.types self.now.source
+            (AloneFits S.answer S.Check.accepts self.now.schema.now.types self.now.source
+            (lent asked.now) value.now) (is_constant value.now) result opened.old opened.new }
+        ensures ends { OnOk result
+            (all_left opened.new < all_left opened.old + 2 * value_count value.now) }
     {
         if let Some(size) = size_but_one(asked.modifiers) {
             return Err(wrong_size(self.alloc, size, 1));
@@ -131,16 +146,19 @@ impl<'a, S: SchemaScalar> Judge<'a, S> {
         }
     }
 
-    /// Opens an object of an input object's fields (3.10 Input Objects). That not exactly one is given
-    /// where exactly one is asked for is told before what is wrong with their values.
+    /// Opens an object of an input object's fields (3.10 Input Objects). That not exactly one is
+    /// given where exactly one is asked for is told before what is wrong with their values.
     fn enter_object(
         &self,
         opened: &mut Items<Open<'a, S>>,
         meta: &'a InputObjectMeta<S, S::Check>,
         value: &'a InputValue<S>,
     ) -> Result<bool, Misfit>
-        ensures fits { Opens S.answer S.Check.accepts self.now.schema.now.types self.now.source (IsObject (ObjectFits S.answer S.Check.accepts self.now.schema.now.types self.now.source meta.now) value.now) (is_constant value.now) result opened.old opened.new }
-        ensures ends { OnOk result (all_left opened.new < all_left opened.old + 2 * value_count value.now) }
+        ensures fits { Opens S.answer S.Check.accepts self.now.schema.now.types self.now.source
+            (IsObject (ObjectFits S.answer S.Check.accepts self.now.schema.now.types self.now.source
+            meta.now) value.now) (is_constant value.now) result opened.old opened.new }
+        ensures ends { OnOk result
+            (all_left opened.new < all_left opened.old + 2 * value_count value.now) }
     {
         match value {
             InputValue::Object(fields) => {
@@ -165,16 +183,20 @@ impl<'a, S: SchemaScalar> Judge<'a, S> {
         }
     }
 
-    /// Goes on with the innermost list or object that is open. It is told whether no variable stood in
-    /// its part that was judged, and `Ok` tells the same of what was judged then.
+    /// Goes on with the innermost list or object that is open. It is told whether no variable stood
+    /// in its part that was judged, and `Ok` tells the same of what was judged then.
     fn resume(
         &self,
         opened: &mut Items<Open<'a, S>>,
         innermost: Open<'a, S>,
         constant: bool,
     ) -> Result<bool, Misfit>
-        ensures fits { Opens S.answer S.Check.accepts self.now.schema.now.types self.now.source (Owes S.answer S.Check.accepts self.now.schema.now.types self.now.source constant innermost.entry) (stays_constant constant innermost.entry) result opened.old opened.new }
-        ensures ends { OnOk result (all_left opened.new < all_left opened.old + left_in innermost.entry) }
+        ensures fits { Opens S.answer S.Check.accepts self.now.schema.now.types self.now.source
+            (Owes S.answer S.Check.accepts self.now.schema.now.types self.now.source constant
+            innermost.entry) (stays_constant constant innermost.entry) result opened.old
+            opened.new }
+        ensures ends { OnOk result
+            (all_left opened.new < all_left opened.old + left_in innermost.entry) }
     {
         match innermost {
             Open::List(list) => self.next_item(opened, list, constant),
@@ -189,8 +211,11 @@ impl<'a, S: SchemaScalar> Judge<'a, S> {
         list: OpenList<'a, S>,
         constant: bool,
     ) -> Result<bool, Misfit>
-        ensures fits { Opens S.answer S.Check.accepts self.now.schema.now.types self.now.source (ListOwes S.answer S.Check.accepts self.now.schema.now.types self.now.source list.entry) (list_constant constant list.entry) result opened.old opened.new }
-        ensures ends { OnOk result (all_left opened.new < all_left opened.old + items_left list.entry.rest.now) }
+        ensures fits { Opens S.answer S.Check.accepts self.now.schema.now.types self.now.source
+            (ListOwes S.answer S.Check.accepts self.now.schema.now.types self.now.source list.entry)
+            (list_constant constant list.entry) result opened.old opened.new }
+        ensures ends { OnOk result
+            (all_left opened.new < all_left opened.old + items_left list.entry.rest.now) }
     {
         let constant = list.constant & constant;
         match list.rest.split_first() {
@@ -220,8 +245,11 @@ impl<'a, S: SchemaScalar> Judge<'a, S> {
         object: OpenObject<'a, S>,
         constant: bool,
     ) -> Result<bool, Misfit>
-        ensures fits { Opens S.answer S.Check.accepts self.now.schema.now.types self.now.source (ObjectOwes S.answer S.Check.accepts self.now.schema.now.types self.now.source constant object.entry) (object_constant constant object.entry) result opened.old opened.new }
-        ensures ends { OnOk result (all_left opened.new < all_left opened.old + fields_left object.entry.rest.now) }
+        ensures fits { Opens S.answer S.Check.accepts self.now.schema.now.types self.now.source
+            (ObjectOwes S.answer S.Check.accepts self.now.schema.now.types self.now.source constant
+            object.entry) (object_constant constant object.entry) result opened.old opened.new }
+        ensures ends { OnOk result
+            (all_left opened.new < all_left opened.old + fields_left object.entry.rest.now) }
     {
         let constant = object.constant & constant;
         match object.rest.split_first() {
@@ -247,16 +275,23 @@ impl<'a, S: SchemaScalar> Judge<'a, S> {
         }
     }
 
-    /// Begins with a field of an object, of which the other fields are yet to be judged: the field is
-    /// declared (5.6.2 Input Object Field Names).
+    /// Begins with a field of an object, of which the other fields are yet to be judged: the field
+    /// is declared (5.6.2 Input Object Field Names).
     fn enter_field(
         &self,
         opened: &mut Items<Open<'a, S>>,
         object: OpenObject<'a, S>,
         field: &'a Pair<S>,
     ) -> Result<bool, Misfit>
-        ensures fits { Opens S.answer S.Check.accepts self.now.schema.now.types self.now.source (FieldFits S.answer S.Check.accepts self.now.schema.now.types self.now.source object.entry.meta.now.input_fields field.now.0.item field.now.1.item × ObjectOwes S.answer S.Check.accepts self.now.schema.now.types self.now.source (is_constant field.now.1.item) object.entry) (object_constant (is_constant field.now.1.item) object.entry) result opened.old opened.new }
-        ensures ends { OnOk result (all_left opened.new < all_left opened.old + fields_left object.entry.rest.now + 2 * value_count field.now.1.item) }
+        ensures fits { Opens S.answer S.Check.accepts self.now.schema.now.types self.now.source
+            (FieldFits S.answer S.Check.accepts self.now.schema.now.types self.now.source
+            object.entry.meta.now.input_fields field.now.0.item field.now.1.item
+            × ObjectOwes S.answer S.Check.accepts self.now.schema.now.types
+            self.now.source (is_constant field.now.1.item) object.entry)
+            (object_constant (is_constant field.now.1.item) object.entry) result opened.old
+            opened.new }
+        ensures ends { OnOk result (all_left opened.new < all_left opened.old
+            + fields_left object.entry.rest.now + 2 * value_count field.now.1.item) }
     {
         let name = field.0.item.as_str();
         match declared_field(object.meta, name) {

@@ -21,7 +21,8 @@ fn value_conforms<S: SchemaScalar>(
     value: &InputValue<S>,
 ) -> Result<bool, AllocError>
     ensures { IfOk result (λ told.
-        IsTrue told ↔ Conforms S.answer S.Check.accepts schema.now.types Literal asked.now value.now) }
+        IsTrue told
+        ↔ Conforms S.answer S.Check.accepts schema.now.types Literal asked.now value.now) }
 {
     match validate_literal_value(alloc, schema, asked, value)? {
         Some(_) => Ok(false),
@@ -37,7 +38,8 @@ fn argument_conforms<S: SchemaScalar>(
     argument: &Argument<S>,
 ) -> Result<bool, AllocError>
     ensures { IfOk result (λ told.
-        IsTrue told ↔ spec.ArgumentConforms S.answer S.Check.accepts schema.now.types argument.now) }
+        IsTrue told
+        ↔ spec.ArgumentConforms S.answer S.Check.accepts schema.now.types argument.now) }
 {
     match &argument.default_value {
         Some(value) => value_conforms(alloc, schema, &argument.arg_type, value),
@@ -52,7 +54,8 @@ fn arguments_conform<S: SchemaScalar>(
     arguments: &[Argument<S>],
 ) -> Result<bool, AllocError>
     ensures { IfOk result (λ told.
-        IsTrue told ↔ All (spec.ArgumentConforms S.answer S.Check.accepts schema.now.types) arguments.now) }
+        IsTrue told
+        ↔ All (spec.ArgumentConforms S.answer S.Check.accepts schema.now.types) arguments.now) }
 {
     'arguments: for argument in arguments {
         if !argument_conforms(alloc, schema, argument)? {
@@ -81,7 +84,8 @@ fn fields_conform<S: SchemaScalar>(
     fields: &[Field<S>],
 ) -> Result<bool, AllocError>
     ensures { IfOk result (λ told.
-        IsTrue told ↔ All (spec.FieldConforms S.answer S.Check.accepts schema.now.types) fields.now) }
+        IsTrue told
+        ↔ All (spec.FieldConforms S.answer S.Check.accepts schema.now.types) fields.now) }
 {
     'fields: for field in fields {
         if !field_conforms(alloc, schema, field)? {
@@ -134,7 +138,8 @@ pub fn first_with_bad_default<'a, S: SchemaScalar>(
     schema: &SchemaType<S>,
     names: &[&'a str],
 ) -> Result<Option<&'a str>, AllocError>
-    ensures { IfOk result (spec.IsFirstUnfit S.answer S.Check.accepts schema.now.types (map (λ name. name.now) names.now)) }
+    ensures { IfOk result (spec.IsFirstUnfit S.answer S.Check.accepts schema.now.types
+        (map (λ name. name.now) names.now)) }
 {
     'names: for name in names {
         if !type_defaults_conform(alloc, schema, *name)? {

@@ -1,5 +1,5 @@
-//! The declared fields of an input object, and those that are given (GraphQL October 2021, 3.10 Input
-//! Objects).
+//! The declared fields of an input object, and those that are given (GraphQL October 2021, 3.10
+//! Input Objects).
 
 ghost use Rattle.std.specs.Prelude.{◌≡◌, ◌||◌, ℕ, List, IfOk, MatchOption, map, true, false};
 ghost use Rattle.std.specs.List.{list_all};
@@ -52,14 +52,16 @@ fn is_settled<S>(field: &Argument<S>, given: &HashSet<&str>) -> bool
     is_optional(field) || given.contains(field.name.as_str())
 }
 
-/// The first declared field that has to be given, and is not. Takes time in proportion to the fields.
-/// An error is want of memory.
+/// The first declared field that has to be given, and is not. Takes time in proportion to the
+/// fields. An error is want of memory.
 pub(crate) fn missing<'s, S>(
     alloc: Global,
     declared: &'s [Argument<S>],
     pairs: &[(Spanning<Text>, Spanning<InputValue<S>>)],
 ) -> Result<Option<&'s Argument<S>>, AllocError>
-    ensures { IfOk result (λ found. MatchOption found (spec.none_missing declared.now (map (λ p. p.0.item) pairs.now) ≡ true) (λ _. spec.none_missing declared.now (map (λ p. p.0.item) pairs.now) ≡ false)) }
+    ensures { IfOk result
+        (λ found. MatchOption found (spec.none_missing declared.now (map (λ p. p.0.item) pairs.now)
+        ≡ true) (λ _. spec.none_missing declared.now (map (λ p. p.0.item) pairs.now) ≡ false)) }
 {
     let given = names_of(alloc, pairs)?;
     Ok(first_unsettled(declared, &given))
@@ -70,7 +72,9 @@ fn first_unsettled<'s, S>(
     declared: &'s [Argument<S>],
     given: &HashSet<&str>,
 ) -> Option<&'s Argument<S>>
-    ensures { MatchOption result (list_all (λ a. spec.is_optional a || has_name given.now a.name) declared.now ≡ true) (λ _. list_all (λ a. spec.is_optional a || has_name given.now a.name) declared.now ≡ false) }
+    ensures { MatchOption result
+        (list_all (λ a. spec.is_optional a || has_name given.now a.name) declared.now ≡ true) (λ _.
+        list_all (λ a. spec.is_optional a || has_name given.now a.name) declared.now ≡ false) }
 {
     for field in declared {
         if !is_settled(field, given) {
@@ -85,7 +89,8 @@ fn names_of<'a, S>(
     alloc: Global,
     pairs: &'a [(Spanning<Text>, Spanning<InputValue<S>>)],
 ) -> Result<HashSet<&'a str>, AllocError>
-    ensures { IfOk result (λ names. (q : List ℕ) → has_name names q ≡ is_one_of (map (λ p. p.0.item) pairs.now) q) }
+    ensures { IfOk result
+        (λ names. (q : List ℕ) → has_name names q ≡ is_one_of (map (λ p. p.0.item) pairs.now) q) }
 {
     let mut names: HashSet<&str> = HashSet::new(alloc);
     'pairs: for pair in pairs {

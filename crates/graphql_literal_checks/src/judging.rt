@@ -6,7 +6,8 @@ ghost use Rattle.std.specs.List.{list_any};
 ghost use Rattle.graphql_names.specs.Names.{is_named};
 ghost use Rattle.graphql_literal_checks.specs.InputTypes as spec;
 ghost use Rattle.graphql_literal_checks.specs.InputTypes.{WholeFits, is_complete};
-ghost use Rattle.graphql_literal_checks.specs.Judged.{EnumFits, IsMemory, IsOfEnum, Judged, Names, ScalarFits, is_constant};
+ghost use Rattle.graphql_literal_checks.specs.Judged.{EnumFits, IsMemory, IsOfEnum, Judged, Names};
+ghost use Rattle.graphql_literal_checks.specs.Judged.{ScalarFits, is_constant};
 
 use crate::input_fields::{first_undeclared, missing};
 use crate::misfit::Misfit;
@@ -29,7 +30,8 @@ pub(crate) fn judge_scalar<S: SchemaScalar>(
     meta: &ScalarMeta<S::Check>,
     value: &InputValue<S>,
 ) -> Result<bool, Misfit>
-    ensures { Judged (ScalarFits S.Check.accepts meta.now value.now) (is_constant value.now) result }
+    ensures { Judged (ScalarFits S.Check.accepts meta.now value.now) (is_constant value.now)
+        result }
 {
     match value {
         InputValue::Scalar(_) => match meta.check.check(value) {
@@ -42,7 +44,8 @@ pub(crate) fn judge_scalar<S: SchemaScalar>(
 
 /// The name of an enum's value: that of a literal, or a text that was sent (3.9 Enums).
 fn enum_name<S: SchemaScalar>(source: Source, value: &InputValue<S>) -> Option<&str>
-    ensures name { MatchOption result ((name : List ℕ) → Names S.answer source value.now name → ⊥) (λ name. Names S.answer source value.now name.now) }
+    ensures name { MatchOption result ((name : List ℕ) → Names S.answer source value.now name → ⊥)
+        (λ name. Names S.answer source value.now name.now) }
     ensures constant { IfSome result (λ _. is_constant value.now ≡ true) }
 {
     match value {
@@ -84,7 +87,8 @@ pub(crate) fn judge_enum<S: SchemaScalar>(
     meta: &EnumMeta<S::Check>,
     value: &InputValue<S>,
 ) -> Result<bool, Misfit>
-    ensures { Judged (EnumFits S.Check.accepts S.answer source meta.now value.now) (is_constant value.now) result }
+    ensures { Judged (EnumFits S.Check.accepts S.answer source meta.now value.now)
+        (is_constant value.now) result }
 {
     if !is_of_enum(source, meta, value) {
         return Err(invalid_enum_value(alloc, meta.name.as_str(), value));
@@ -106,8 +110,8 @@ fn is_one_given<S>(pairs: &[Pair<S>]) -> bool
     }
 }
 
-/// That exactly one field is given where the input object asks for that: `Ok` where it is. Of several
-/// fields one that is not declared is told first.
+/// That exactly one field is given where the input object asks for that: `Ok` where it is. Of
+/// several fields one that is not declared is told first.
 pub(crate) fn one_if_asked<S, C>(
     alloc: Global,
     meta: &InputObjectMeta<S, C>,
@@ -143,8 +147,8 @@ fn complete<S, C>(
     }
 }
 
-/// What is asked of an object whose fields conform: no field is missing, and where no variable stands
-/// in it, the type accepts it.
+/// What is asked of an object whose fields conform: no field is missing, and where no variable
+/// stands in it, the type accepts it.
 pub(crate) fn judge_whole<S: SchemaScalar>(
     alloc: Global,
     meta: &InputObjectMeta<S, S::Check>,
@@ -152,7 +156,8 @@ pub(crate) fn judge_whole<S: SchemaScalar>(
     value: &InputValue<S>,
     constant: bool,
 ) -> Result<bool, Misfit>
-    ensures { Judged (WholeFits S.Check.accepts meta.now value.now pairs.now (constant ≡ true)) constant result }
+    ensures { Judged (WholeFits S.Check.accepts meta.now value.now pairs.now (constant ≡ true))
+        constant result }
 {
     complete(alloc, meta, pairs)?;
     if !constant {

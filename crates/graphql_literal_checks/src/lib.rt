@@ -1,6 +1,6 @@
-//! Which values conform to a type of a schema, and why others do not; and whether the defaults that a
-//! schema's types declare conform to the types of what they are given to (GraphQL October 2021, 5.6.1
-//! Values of Correct Type, 3 Type System: input coercion).
+//! Which values conform to a type of a schema, and why others do not; and whether the defaults that
+//! a schema's types declare conform to the types of what they are given to (GraphQL October 2021,
+//! 5.6.1 Values of Correct Type, 3 Type System: input coercion).
 #![tactic(auto)]
 
 mod conforming;

@@ -21,7 +21,8 @@ pub(crate) fn allows(size: Option<usize>, count: usize) -> bool
 
 /// The size that lists of this wrap are to have, where it is not one.
 fn other_size(wrap: TypeModifier) -> Option<usize>
-    ensures { MatchOption result (spec.may_hold_one wrap ≡ true) (λ _. spec.may_hold_one wrap ≡ false) }
+    ensures { MatchOption result (spec.may_hold_one wrap ≡ true)
+        (λ _. spec.may_hold_one wrap ≡ false) }
 {
     match wrap {
         TypeModifier::List(Some(size)) if size != 1 => Some(size),
@@ -32,7 +33,8 @@ fn other_size(wrap: TypeModifier) -> Option<usize>
 /// The first size of a list, from the named type outward, that is not one: a value that is no list
 /// may stand as the one item of each list where there is none.
 pub(crate) fn size_but_one(wraps: &[TypeModifier]) -> Option<usize>
-    ensures { MatchOption result (list_all spec.may_hold_one wraps.now ≡ true) (λ _. list_all spec.may_hold_one wraps.now ≡ false) }
+    ensures { MatchOption result (list_all spec.may_hold_one wraps.now ≡ true)
+        (λ _. list_all spec.may_hold_one wraps.now ≡ false) }
 {
     for wrap in wraps {
         if let Some(size) = other_size(*wrap) {
@@ -55,7 +57,8 @@ fn nullable(wraps: &[TypeModifier]) -> &[TypeModifier]
 /// The size that the list is to have, where it is to have one, and the wraps of its items; `None`
 /// where the type is no list.
 pub(crate) fn list_within(wraps: &[TypeModifier]) -> Option<(Option<usize>, &[TypeModifier])>
-    ensures { MatchOption result ((size : Option ℕ) (within : List TypeModifier) → IsListOf wraps.now size within → ⊥) (λ list. IsListOf wraps.now list.0 list.1.now) }
+    ensures { MatchOption result ((size : Option ℕ) (within : List TypeModifier)
+        → IsListOf wraps.now size within → ⊥) (λ list. IsListOf wraps.now list.0 list.1.now) }
 {
     let wraps = nullable(wraps);
     match wraps.last() {

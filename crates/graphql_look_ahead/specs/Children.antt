@@ -1,4 +1,6 @@
--- The children of a list of selections: the fields that stand in it, also through spreads and inline fragments, in order, but for what is left out (GraphQL October 2021, 2.4 Selection Sets, 2.8 Fragments).
+-- The children of a list of selections: the fields that stand in it, also through spreads and
+-- inline fragments, in order, but for what is left out (GraphQL October 2021, 2.4 Selection Sets,
+-- 2.8 Fragments).
 use Rattle.std.specs.Prelude.{◌≡◌, true, false, List, [], ◌∷◌, ◌++◌, Bool, Option, Some, None}
 use Rattle.graphql_names.specs.Names.{Bytes}
 use Rattle.graphql_values.specs.InputValues.{Placed}
@@ -17,7 +19,8 @@ use Rattle.graphql_look_ahead.specs.Applies.{bound}
 abbrev pub Opened : Type 0 → Type 0
 Opened S = Selection-F S (Selection S) (Field S) (InlineFragment S)
 
--- what is looked at: a field, and the type to which it is bound, if to one; or what stands for a field of which only the response key is known, and what is selected below it
+-- what is looked at: a field, and the type to which it is bound, if to one; or what stands for a
+-- field of which only the response key is known, and what is selected below it
 pub data Ahead (S : Type 0) : Type 0 where
   a_field : Placed (Field S) → Option Bytes → Ahead S
   a_key : Bytes → List (Selection S) → Ahead S
@@ -37,20 +40,30 @@ module _ {S : Type 0} (drops : Directives S → Bool) (fragments : List (Fragmen
   -- the children of a list that stands where things are bound to a type, or to none
   pub data Children : Option Bytes → List (Selection S) → List (Ahead S) → Type 0 where
     no_more : (only : Option Bytes) → Children only [] []
-    left_out : (only : Option Bytes) (x : Selection S) (xs : List (Selection S)) (cs : List (Ahead S)) → drops (directives_of x) ≡ true
+    left_out : (only : Option Bytes) (x : Selection S) (xs : List (Selection S))
+        (cs : List (Ahead S)) → drops (directives_of x) ≡ true
         → Children only xs cs → Children only (x ∷ xs) cs
     -- a field is a child
-    of_field : (only : Option Bytes) (x : Placed (Field S)) (xs : List (Selection S)) (cs : List (Ahead S)) → drops (listed x.item.directives) ≡ false
+    of_field : (only : Option Bytes) (x : Placed (Field S)) (xs : List (Selection S))
+        (cs : List (Ahead S)) → drops (listed x.item.directives) ≡ false
         → Children only xs cs → Children only (selection.Field x ∷ xs) (a_field x only ∷ cs)
-    -- a spread has the children of the fragment that it means, bound as the spread is; one that means none has none
-    of_spread : (only : Option Bytes) (x : Placed (FragmentSpread S)) (f : Fragment S) (xs : List (Selection S)) (inner cs : List (Ahead S))
-        → drops (listed x.item.directives) ≡ false → fragment_meant fragments x.item.name.item ≡ Some f
-        → Children only f.selection_set inner → Children only xs cs → Children only (selection.FragmentSpread x ∷ xs) (inner ++ cs)
-    of_unknown : (only : Option Bytes) (x : Placed (FragmentSpread S)) (xs : List (Selection S)) (cs : List (Ahead S))
-        → fragment_meant fragments x.item.name.item ≡ None → Children only xs cs → Children only (selection.FragmentSpread x ∷ xs) cs
+    -- a spread has the children of the fragment that it means, bound as the spread is; one that
+    -- means none has none
+    of_spread : (only : Option Bytes) (x : Placed (FragmentSpread S)) (f : Fragment S)
+        (xs : List (Selection S)) (inner cs : List (Ahead S))
+        → drops (listed x.item.directives) ≡ false
+        → fragment_meant fragments x.item.name.item ≡ Some f
+        → Children only f.selection_set inner → Children only xs cs
+        → Children only (selection.FragmentSpread x ∷ xs) (inner ++ cs)
+    of_unknown : (only : Option Bytes) (x : Placed (FragmentSpread S)) (xs : List (Selection S))
+        (cs : List (Ahead S))
+        → fragment_meant fragments x.item.name.item ≡ None → Children only xs cs
+        → Children only (selection.FragmentSpread x ∷ xs) cs
     -- an inline fragment binds to its condition, if it has one
-    of_inline : (only : Option Bytes) (x : Placed (InlineFragment S)) (xs : List (Selection S)) (inner cs : List (Ahead S)) → drops (listed x.item.directives) ≡ false
-        → Children (bound only (condition_of x.item)) x.item.selection_set inner → Children only xs cs → Children only (selection.InlineFragment x ∷ xs) (inner ++ cs)
+    of_inline : (only : Option Bytes) (x : Placed (InlineFragment S)) (xs : List (Selection S))
+        (inner cs : List (Ahead S)) → drops (listed x.item.directives) ≡ false
+        → Children (bound only (condition_of x.item)) x.item.selection_set inner
+        → Children only xs cs → Children only (selection.InlineFragment x ∷ xs) (inner ++ cs)
 
   -- there is a list of its children, be it empty
   abbrev pub HasChildren : Option Bytes → List (Selection S) → Type 0

@@ -1,11 +1,13 @@
--- Whether input values are equal: item by item and field by field in order, names and places included.
+-- Whether input values are equal: item by item and field by field in order, names and places
+-- included.
 use Rattle.std.specs.Prelude.{Bool, true, false, ◌&&◌, ◌==◌}
 use Rattle.std.specs.Cmp.Lexicographic.{pointwise}
 use Rattle.std.specs.Str.{bytes_eq}
 use Rattle.graphql_text.specs.declared.position.SourcePosition.{SourcePosition}
 use Rattle.graphql_text.specs.declared.position.Span.{Span}
 use Rattle.graphql_values.specs.InputValues.{Placed, Pair}
-use Rattle.graphql_values.specs.declared.input_value.InputValue.{InputValue, fold-InputValue, out-InputValue}
+use Rattle.graphql_values.specs.declared.input_value.InputValue.{InputValue, fold-InputValue}
+use Rattle.graphql_values.specs.declared.input_value.InputValue.{out-InputValue}
 use Rattle.graphql_values.specs.declared.input_value.InputValue.TheOpen.{InputValue-F}
 
 abbrev pub same_position : SourcePosition → SourcePosition → Bool

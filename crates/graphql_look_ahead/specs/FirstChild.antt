@@ -1,5 +1,6 @@
 -- The first child of a response key, and what is left to be searched for it.
-use Rattle.std.specs.Prelude.{◌≡◌, ◌+◌, ◌<◌, ℕ, Bool, true, List, [], ◌∷◌, map, reverse, Option, Some, None}
+use Rattle.std.specs.Prelude.{◌≡◌, ◌+◌, ◌<◌, ℕ, Bool, true, List, [], ◌∷◌, map, reverse, Option}
+use Rattle.std.specs.Prelude.{Some, None}
 use Rattle.std.specs.List.{find, list_any}
 use Rattle.std.specs.Option.{option_map}
 use Rattle.std.specs.Str.{bytes_eq}
@@ -32,17 +33,21 @@ module _ {S : Type 0} where
   -- the turns that are left
   abbrev pub turns_left : List (Fragment S) → List (Task S) → ℕ
   turns_left fragments [] = 0
-  turns_left fragments (task.Search o ∷ ts) = turns_of fragments (rest_of o) + turns_left fragments ts
+  turns_left fragments (task.Search o ∷ ts) =
+      turns_of fragments (rest_of o) + turns_left fragments ts
   turns_left fragments (task.Searched name ∷ ts) = 1 + turns_left fragments ts
 
-module _ {S : Type 0} (drops : Directives S → Bool) (fragments : List (Fragment S)) (key : Bytes) where
+module _ {S : Type 0} (drops : Directives S → Bool) (fragments : List (Fragment S))
+    (key : Bytes) where
   -- no child of the list has the key
   abbrev pub Lacks : List (Selection S) → Type 0
-  Lacks set = (only : Option Bytes) (cs : List (Ahead S)) → Children drops fragments only set cs → first_child key cs ≡ None
+  Lacks set = (only : Option Bytes) (cs : List (Ahead S)) → Children drops fragments only set cs
+      → first_child key cs ≡ None
 
   -- nor of the fragment of this name
   abbrev pub FragmentLacks : Bytes → Type 0
-  FragmentLacks name = (f : Fragment S) → fragment_meant fragments name ≡ Some f → Lacks f.selection_set
+  FragmentLacks name =
+      (f : Fragment S) → fragment_meant fragments name ≡ Some f → Lacks f.selection_set
 
   -- nor of each of these fragments
   abbrev pub AllLack : List Bytes → Type 0
@@ -59,28 +64,39 @@ module _ {S : Type 0} (drops : Directives S → Bool) (fragments : List (Fragmen
     pub sound : IsSound (Unit {0}) ts
     pub lack : AllLack searched
 
-  -- whatever the children of what was left are, the first of them is the first of those of what is left now
+  -- whatever the children of what was left are, the first of them is the first of those of what is
+  -- left now
   abbrev pub Leads : List (OpenSet S) → List (OpenSet S) → Type 0
-  Leads before now = (ds : List (Ahead S)) → AllHave drops fragments before ds → (cs : List (Ahead S)) × AllHave drops fragments now cs × (first_child key ds ≡ first_child key cs)
+  Leads before now =
+      (ds : List (Ahead S)) → AllHave drops fragments before ds
+      → (cs : List (Ahead S))
+      × AllHave drops fragments now cs
+      × (first_child key ds ≡ first_child key cs)
 
   -- whatever they are, this is the first of them
   abbrev pub Finds : List (OpenSet S) → Ahead S → Type 0
-  Finds before found = (ds : List (Ahead S)) → AllHave drops fragments before ds → first_child key ds ≡ Some found
+  Finds before found =
+      (ds : List (Ahead S)) → AllHave drops fragments before ds → first_child key ds ≡ Some found
 
   -- a turn: the child is found, or the search goes on
-  pub record GoesOn (before : List (Task S)) (now : List (Task S)) (searched : List Bytes) : Type 0 where
+  pub record GoesOn (before : List (Task S)) (now : List (Task S))
+      (searched : List Bytes) : Type 0 where
     pub leads : Leads (lists_left before) (lists_left now)
     pub search : IsSearch now searched
 
 module _ {S C : Type 0} (answer : S → ScalarAnswer) (request : Request S C) (key : Bytes) where
   -- a turn of a search: the child is found, or the search goes on, nearer to its end
-  abbrev pub Turns : List (Task S) → List (Task S) → List Bytes → Option (LookAheadSelection S C) → Type 0
+  abbrev pub Turns : List (Task S) → List (Task S) → List Bytes → Option (LookAheadSelection S C)
+      → Type 0
   Turns before now searched None =
-      GoesOn (drops_in answer request) (fragments_in request) key before now searched × (turns_left (fragments_in request) now < turns_left (fragments_in request) before)
+      GoesOn (drops_in answer request) (fragments_in request) key before now searched
+      × (turns_left (fragments_in request) now < turns_left (fragments_in request) before)
   Turns before now searched (Some found) =
-      Finds (drops_in answer request) (fragments_in request) key (lists_left before) (told found) × (found.request.now ≡ request)
+      Finds (drops_in answer request) (fragments_in request) key (lists_left before) (told found)
+      × (found.request.now ≡ request)
 
   -- the first child of the key of a list that is bound to nothing
   abbrev pub IsFirst : List (Selection S) → Option (LookAheadSelection S C) → Type 0
-  IsFirst list found = (cs : List (Ahead S)) → Children (drops_in answer request) (fragments_in request) None list cs
+  IsFirst list found =
+      (cs : List (Ahead S)) → Children (drops_in answer request) (fragments_in request) None list cs
       → option_map looked_at found ≡ option_map (within request) (first_child key cs)

@@ -1,4 +1,5 @@
--- Laws of the children of lists of selections (GraphQL October 2021, 2.4 Selection Sets, 5.5.2.2 Fragment Spreads Must Not Form Cycles).
+-- Laws of the children of lists of selections (GraphQL October 2021, 2.4 Selection Sets, 5.5.2.2
+-- Fragment Spreads Must Not Form Cycles).
 use Rattle.std.specs.Prelude.{◌≡◌, Bool, List, Option}
 use Rattle.graphql_names.specs.Names.{Bytes}
 use Rattle.graphql_tree.specs.declared.document.Fragment.{Fragment}

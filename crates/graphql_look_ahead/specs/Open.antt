@@ -1,5 +1,6 @@
 -- What is open while children are gathered, and how many turns it takes to go through it.
-use Rattle.std.specs.Prelude.{◌≡◌, ◌+◌, ◌<◌, ℕ, Bool, List, [], ◌∷◌, ◌++◌, map, drop, reverse, Option, Some, None}
+use Rattle.std.specs.Prelude.{◌≡◌, ◌+◌, ◌<◌, ℕ, Bool, List, [], ◌∷◌, ◌++◌, map, drop, reverse}
+use Rattle.std.specs.Prelude.{Option, Some, None}
 use Rattle.std.specs.List.{sum_by}
 use Rattle.graphql_names.specs.Names.{Bytes}
 use Rattle.graphql_values.specs.InputValues.{Placed}
@@ -48,41 +49,57 @@ module _ {S : Type 0} (fragments : List (Fragment S)) where
   abbrev pub IsMet : Selection S → Met S → Type 0
   IsMet first (met.Field x) = first ≡ selection.Field x.now
   IsMet first (met.Inline x) = first ≡ selection.InlineFragment x.now
-  IsMet first (met.Spread x f) = (first ≡ selection.FragmentSpread x.now) × (fragment_meant fragments x.now.item.name.item ≡ Some f.now)
+  IsMet first (met.Spread x f) = (first ≡ selection.FragmentSpread x.now)
+      × (fragment_meant fragments x.now.item.name.item ≡ Some f.now)
 
   -- a spread that means nothing
   abbrev pub IsUnknown : Selection S → Type 0
-  IsUnknown first = (x : Placed (FragmentSpread S)) × (first ≡ selection.FragmentSpread x) × (fragment_meant fragments x.item.name.item ≡ None)
+  IsUnknown first = (x : Placed (FragmentSpread S))
+      × (first ≡ selection.FragmentSpread x)
+      × (fragment_meant fragments x.item.name.item ≡ None)
 
 module _ {S : Type 0} (drops : Directives S → Bool) (fragments : List (Fragment S)) where
   -- the children of open sets, one after the other
   abbrev pub AllHave : List (OpenSet S) → List (Ahead S) → Type 0
   AllHave [] cs = cs ≡ []
-  AllHave (o ∷ os) cs = (own : List (Ahead S)) × (more : List (Ahead S)) × Children drops fragments o.0 o.1 own × AllHave os more × (cs ≡ own ++ more)
+  AllHave (o ∷ os) cs = (own : List (Ahead S))
+      × (more : List (Ahead S))
+      × Children drops fragments o.0 o.1 own
+      × AllHave os more
+      × (cs ≡ own ++ more)
 
   -- as what children are found
   module _ {X : Type 0} (shown : Ahead S → X) where
     -- a step: what is found and what is open now are together what they were before
     abbrev pub Steps : List (OpenSet S) → List X → List (OpenSet S) → List X → Type 0
     Steps before found now found_then =
-        (cs : List (Ahead S)) → AllHave now cs → (ds : List (Ahead S)) × AllHave before ds × (found ++ map shown ds ≡ found_then ++ map shown cs)
+        (cs : List (Ahead S)) → AllHave now cs
+        → (ds : List (Ahead S))
+        × AllHave before ds
+        × (found ++ map shown ds ≡ found_then ++ map shown cs)
 
     -- a turn: a step, nearer to the end
-    pub record IsTurn (before : List (OpenSet S)) (found : List X) (now : List (OpenSet S)) (found_then : List X) : Type 0 where
+    pub record IsTurn (before : List (OpenSet S)) (found : List X) (now : List (OpenSet S))
+        (found_then : List X) : Type 0 where
       pub steps : Steps before found now found_then
       pub nearer : turns_open fragments now < turns_open fragments before
 
     -- the children of a list, which is bound to nothing, come behind those that were found
     abbrev pub Adds : List (Selection S) → List X → List X → Type 0
-    Adds set before after = (own : List (Ahead S)) × Children drops fragments None set own × (after ≡ before ++ map shown own)
+    Adds set before after = (own : List (Ahead S))
+        × Children drops fragments None set own
+        × (after ≡ before ++ map shown own)
 
   -- what stands before the rest has no children, and passing over it takes no turns
   pub record Skips (set rest : List (Selection S)) : Type 0 where
-    pub children : (only : Option Bytes) (cs : List (Ahead S)) → Children drops fragments only rest cs → Children drops fragments only set cs
-    pub none : (only : Option Bytes) (cs : List (Ahead S)) → Children drops fragments only set cs → Children drops fragments only rest cs
+    pub children : (only : Option Bytes) (cs : List (Ahead S))
+        → Children drops fragments only rest cs → Children drops fragments only set cs
+    pub none : (only : Option Bytes) (cs : List (Ahead S)) → Children drops fragments only set cs
+        → Children drops fragments only rest cs
     pub turns : turns_of fragments set ≡ turns_of fragments rest
 
   -- what comes first that can have children, and what is left behind it
   abbrev pub IsNext : List (Selection S) → Option (Met S) → List (Selection S) → Type 0
   IsNext set None rest = Skips set []
-  IsNext set (Some x) rest = (first : Selection S) × IsMet fragments first x × Skips set (first ∷ rest)
+  IsNext set (Some x) rest =
+      (first : Selection S) × IsMet fragments first x × Skips set (first ∷ rest)

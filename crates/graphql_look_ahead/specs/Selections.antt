@@ -33,14 +33,16 @@ module _ {S : Type 0} where
 
   -- the field that a selection is, if it is one of this response key
   abbrev pub opened_of_key : Bytes → Opened S → Option (Placed (Field S))
-  opened_of_key key (Selection-F.Field x) = if bytes_eq (response_key x.item.alias x.item.name) key then Some x else None
+  opened_of_key key (Selection-F.Field x) =
+      if bytes_eq (response_key x.item.alias x.item.name) key then Some x else None
   opened_of_key key (Selection-F.FragmentSpread x) = None
   opened_of_key key (Selection-F.InlineFragment x) = None
 
   -- the first field of a response key that directly stands in a list, left out or not
   abbrev pub first_of_key : Bytes → List (Selection S) → Option (Placed (Field S))
   first_of_key key [] = None
-  first_of_key key (x ∷ xs) = option_or (opened_of_key key (out-Selection S x)) (first_of_key key xs)
+  first_of_key key (x ∷ xs) =
+      option_or (opened_of_key key (out-Selection S x)) (first_of_key key xs)
 
   -- it, bound to no type, or the key in its stead with what is selected below it
   abbrev pub field_or_key : Option (Placed (Field S)) → Bytes → List (Selection S) → Ahead S

@@ -25,10 +25,12 @@ module _ {S : Type 0} where
   seen_by None v = seen_alone v
 
   -- an item of a list, and a field of an object, at their places
-  abbrev pub item_seen : Option (Bor (FinalVariables S)) → Placed (InputValue S) → Placed (InputValue S)
+  abbrev pub item_seen : Option (Bor (FinalVariables S)) → Placed (InputValue S)
+      → Placed (InputValue S)
   item_seen variables x = record { item = seen_by variables x.item; span = x.span }
 
-  abbrev pub field_seen : Option (Bor (FinalVariables S)) → Pair (InputValue S) → Pair (InputValue S)
+  abbrev pub field_seen : Option (Bor (FinalVariables S)) → Pair (InputValue S)
+      → Pair (InputValue S)
   field_seen variables p = (p.0, item_seen variables p.1)
 
   abbrev pub items_told : LookAheadList S → List (Placed (InputValue S))
@@ -64,7 +66,10 @@ module _ {S : Type 0} where
   argument_seen variables a = (a.0, record { item = seen_in variables a.1.item; span = a.1.span })
 
   abbrev pub argument_told : LookAheadArgument S → Argument S
-  argument_told a = (record { item = a.name.now; span = a.name_span.now }, record { item = seen_in a.variables.now a.value.now.item; span = a.value.now.span })
+  argument_told a = (
+    record { item = a.name.now; span = a.name_span.now },
+    record { item = seen_in a.variables.now a.value.now.item; span = a.value.now.span },
+  )
 
   abbrev pub written_left : WrittenArguments S → List (Argument S)
   written_left it = map (argument_seen it.variables.now) it.written.now

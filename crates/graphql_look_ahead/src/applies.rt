@@ -17,9 +17,11 @@ pub enum Applies<'a> {
 }
 
 impl<'a> Applies<'a> {
-    /// To which objects that applies which stands in an inline fragment with this condition, or without one.
+    /// To which objects that applies which stands in an inline fragment with this condition, or
+    /// without one.
     pub(crate) fn within(self, condition: &'a Option<Spanning<TextRef<'_>>>) -> Applies<'a>
-        ensures { only_of result ≡ bound (only_of self.entry) (option_map (λ on. on.item) condition.now) }
+        ensures { only_of result
+            ≡ bound (only_of self.entry) (option_map (λ on. on.item) condition.now) }
     {
         match condition {
             Some(on) => Applies::OnlyType(on.item.as_str()),

@@ -3,7 +3,8 @@
 ghost use Rattle.std.specs.Prelude.{◌≡◌, [], map};
 ghost use Rattle.std.specs.Iterator.{YieldsFirstBy, YieldsLastBy, item_count};
 ghost use Rattle.std.specs.Option.{option_map};
-ghost use Rattle.graphql_look_ahead.specs.Values.{argument_named, argument_seen, argument_told, arguments_left, told, written_left};
+ghost use Rattle.graphql_look_ahead.specs.Values.{argument_named, argument_seen, argument_told};
+ghost use Rattle.graphql_look_ahead.specs.Values.{arguments_left, told, written_left};
 
 use crate::value::LookAheadValue;
 use graphql_text::{Span, Spanning, TextRef};
@@ -11,8 +12,8 @@ use graphql_values::InputValue;
 use graphql_written_out::FinalVariables;
 use std::iter::FusedIterator;
 
-/// An argument of a field (GraphQL October 2021, 2.6 Arguments), with the values of variables in their
-/// stead.
+/// An argument of a field (GraphQL October 2021, 2.6 Arguments), with the values of variables in
+/// their stead.
 #[derive_where(Clone, Copy)]
 pub struct LookAheadArgument<'a, S> {
     /// Its name.
@@ -73,7 +74,8 @@ impl<'a, S> LookAheadArgument<'a, S> {
     }
 }
 
-/// Arguments that are written at a field and have yet to be read, in the order of the text, from both ends.
+/// Arguments that are written at a field and have yet to be read, in the order of the text, from
+/// both ends.
 #[derive_where(Clone, Copy)]
 pub(crate) struct WrittenArguments<'a, 't, S> {
     /// The arguments as they are written.
@@ -96,7 +98,8 @@ impl<'a, 't, S> WrittenArguments<'a, 't, S> {
 
     /// The first of this name among those that have yet to be read, or `None` where there is none.
     fn get(&self, name: &str) -> Option<LookAheadArgument<'a, S>>
-        ensures { option_map argument_told result ≡ argument_named (written_left self.now) name.now }
+        ensures { option_map argument_told result
+            ≡ argument_named (written_left self.now) name.now }
     {
         for written in self.written {
             if written.0.item.as_str() == name {
@@ -175,7 +178,8 @@ impl<'a, 't, S> LookAheadArguments<'a, 't, S> {
 
     /// The first of this name among those that have yet to be read, or `None` where there is none.
     pub fn get(&self, name: &str) -> Option<LookAheadArgument<'a, S>>
-        ensures { option_map argument_told result ≡ argument_named (arguments_left self.now) name.now }
+        ensures { option_map argument_told result
+            ≡ argument_named (arguments_left self.now) name.now }
     {
         match &self.written {
             Some(written) => written.get(name),

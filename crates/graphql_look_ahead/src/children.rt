@@ -86,7 +86,8 @@ impl<'d, 'a, S, C> LookAheadChildren<'d, 'a, S, C> {
     pub fn iter(&self) -> Iter<'_, LookAheadSelection<'d, 'a, S, C>>
         ensures rest { iter_rest result ≡ self.now.children }
         ensures bound { length (iter_rest result) < 2 ^ 64 }
-        ensures runs { EveryRun (iter_steps {A = LookAheadSelection S C}) (λ p. ItemsMapTo p (λ y. y.now) (iter_rest p.from)) }
+        ensures runs { EveryRun (iter_steps {A = LookAheadSelection S C})
+            (λ p. ItemsMapTo p (λ y. y.now) (iter_rest p.from)) }
     {
         self.as_slice().iter()
     }

@@ -6,8 +6,10 @@ ghost use Rattle.std.specs.Cmp.Lexicographic.{pointwise};
 ghost use Rattle.std.specs.Ordering.{on};
 ghost use Rattle.std.specs.Str.{bytes_eq};
 ghost use Rattle.graphql_look_ahead.specs.Equality.{equal, same_field, same_item, same_span};
-ghost use Rattle.graphql_look_ahead.specs.EqualityLaws.{equal_equiv, equal_per, fields_equiv, fields_per, items_equiv, items_per};
-ghost use Rattle.graphql_look_ahead.specs.Values.{fields_left, fields_told, items_left, items_told, told};
+ghost use Rattle.graphql_look_ahead.specs.EqualityLaws.{equal_equiv, equal_per, fields_equiv};
+ghost use Rattle.graphql_look_ahead.specs.EqualityLaws.{fields_per, items_equiv, items_per};
+ghost use Rattle.graphql_look_ahead.specs.Values.{fields_left, fields_told, items_left, items_told};
+ghost use Rattle.graphql_look_ahead.specs.Values.{told};
 
 use crate::list::LookAheadList;
 use crate::object::LookAheadObject;
@@ -64,7 +66,8 @@ fn are_same_items<S: PartialEq>(
     mut mine: look_ahead_list::Iter<'_, S>,
     mut theirs: look_ahead_list::Iter<'_, S>,
 ) -> bool
-    ensures { result ≡ pointwise (same_item (equal S.eq)) (items_left mine.entry) (items_left theirs.entry) }
+    ensures { result
+        ≡ pointwise (same_item (equal S.eq)) (items_left mine.entry) (items_left theirs.entry) }
 {
     'items: while let Some(item) = mine.next() {
         match theirs.next() {
@@ -88,7 +91,8 @@ fn are_same_fields<S: PartialEq>(
     mut mine: look_ahead_object::Iter<'_, S>,
     mut theirs: look_ahead_object::Iter<'_, S>,
 ) -> bool
-    ensures { result ≡ pointwise (same_field (equal S.eq)) (fields_left mine.entry) (fields_left theirs.entry) }
+    ensures { result
+        ≡ pointwise (same_field (equal S.eq)) (fields_left mine.entry) (fields_left theirs.entry) }
 {
     'fields: while let Some(field) = mine.next() {
         match theirs.next() {
@@ -111,9 +115,9 @@ fn are_same_fields<S: PartialEq>(
     }
 }
 
-// Values of one form that are equal in what they hold: scalars by their own equality, enums by name,
-// lists item by item, objects field by field in order, all at the same places. Takes stack for each
-// level that both nest.
+// Values of one form that are equal in what they hold: scalars by their own equality, enums by
+// name, lists item by item, objects field by field in order, all at the same places. Takes stack
+// for each level that both nest.
 impl<'a, S: PartialEq> PartialEq for LookAheadValue<'a, S> {
     ghost eq = { on told (equal S.eq) };
 

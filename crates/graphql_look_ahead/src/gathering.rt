@@ -42,7 +42,9 @@ fn find<'d, 'a, S: SchemaScalar>(
     applies: Applies<'d>,
     found: &mut Items<LookAheadSelection<'d, 'a, S>>,
 ) -> Result<(), AllocError>
-    ensures { OnOk result (map looked_at found.new ≡ map looked_at found.old ++ within request.now (a_field field.now (only_of applies.entry)) ∷ []) }
+    ensures { OnOk result (map looked_at found.new
+        ≡ map looked_at found.old
+        ++ within request.now (a_field field.now (only_of applies.entry)) ∷ []) }
 {
     found.push(LookAheadSelection {
         source: Source::Field(field),
@@ -60,8 +62,10 @@ fn advance<'d, 'a, S: SchemaScalar + Drop>(
     found: &mut Items<LookAheadSelection<'d, 'a, S>>,
 ) -> Result<(), AllocError>
     requires { Settled (fragments_in request.now) }
-    ensures { OnOk result (IsTurn (drops_in S.answer request.now) (fragments_in request.now) (within request.now)
-        (open_set top.entry ∷ opened open.old) (map looked_at found.old) (opened open.new) (map looked_at found.new)) }
+    ensures { OnOk result
+        (IsTurn (drops_in S.answer request.now) (fragments_in request.now) (within request.now)
+        (open_set top.entry ∷ opened open.old) (map looked_at found.old) (opened open.new)
+        (map looked_at found.new)) }
 {
     let applies = top.applies;
     let Some(met) = top.next(request) else {
@@ -91,8 +95,9 @@ fn advance<'d, 'a, S: SchemaScalar + Drop>(
     }
 }
 
-/// Adds the children of a list of selections which is bound to nothing, in order. What is left of lists around
-/// stands on the heap, so it takes no more stack however deep they are. An error is want of memory.
+/// Adds the children of a list of selections which is bound to nothing, in order. What is left of
+/// lists around stands on the heap, so it takes no more stack however deep they are. An error is
+/// want of memory.
 fn gather<'d, 'a, S: SchemaScalar + Drop>(
     alloc: Global,
     request: &'d Request<'d, 'a, S>,
@@ -100,7 +105,8 @@ fn gather<'d, 'a, S: SchemaScalar + Drop>(
     found: &mut Items<LookAheadSelection<'d, 'a, S>>,
 ) -> Result<(), AllocError>
     requires { Settled (fragments_in request.now) }
-    ensures { OnOk result (Adds (drops_in S.answer request.now) (fragments_in request.now) (within request.now) set.now
+    ensures { OnOk result (Adds (drops_in S.answer request.now) (fragments_in request.now)
+        (within request.now) set.now
         (map looked_at found.old) (map looked_at found.new)) }
 {
     let mut open = Items::new(alloc);
@@ -119,7 +125,8 @@ pub(crate) fn gather_selected<'d, 'a, S: SchemaScalar + Drop>(
     found: &mut Items<LookAheadSelection<'d, 'a, S>>,
 ) -> Result<(), AllocError>
     requires { Settled (fragments_in request.now) }
-    ensures { OnOk result (Adds (drops_in S.answer request.now) (fragments_in request.now) (within request.now) (selections_of selected.entry)
+    ensures { OnOk result (Adds (drops_in S.answer request.now) (fragments_in request.now)
+        (within request.now) (selections_of selected.entry)
         (map looked_at found.old) (map looked_at found.new)) }
 {
     let fields = match selected {

@@ -1,5 +1,5 @@
-//! Look-ahead: what a request selects below a field, known before the field is answered (GraphQL October 2021, 6.4
-//! Executing Fields).
+//! Look-ahead: what a request selects below a field, known before the field is answered (GraphQL
+//! October 2021, 6.4 Executing Fields).
 #![tactic(auto)]
 
 mod applies;

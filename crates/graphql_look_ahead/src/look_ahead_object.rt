@@ -10,8 +10,8 @@ use graphql_values::InputValue;
 use graphql_written_out::FinalVariables;
 use std::iter::FusedIterator;
 
-/// The fields of an input object that have yet to be read, names and values at their places, from both
-/// ends.
+/// The fields of an input object that have yet to be read, names and values at their places, from
+/// both ends.
 #[derive_where(Clone, Copy)]
 pub struct Iter<'a, S> {
     /// The fields as they are written.

@@ -3,8 +3,8 @@
 use graphql_collected::CollectedField;
 use graphql_tree::Selection;
 
-/// What is selected from the objects of an answer (GraphQL October 2021, 6.4.3 Value Completion, Merging
-/// Selection Sets), lent.
+/// What is selected from the objects of an answer (GraphQL October 2021, 6.4.3 Value Completion,
+/// Merging Selection Sets), lent.
 #[derive_where(Clone, Copy)]
 pub enum Selected<'p, 'd, 'a, S> {
     /// The selections of a set.

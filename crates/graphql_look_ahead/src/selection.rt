@@ -9,10 +9,12 @@ ghost use Rattle.graphql_written_out.specs.Written.{Settled, listed};
 ghost use Rattle.graphql_look_ahead.specs.Applies.{applies_to};
 ghost use Rattle.graphql_look_ahead.specs.Children.{Ahead, Children, HasChildren};
 ghost use Rattle.graphql_look_ahead.specs.FirstChild.{IsFirst};
-ghost use Rattle.graphql_look_ahead.specs.Selections.{field_or_key, first_of_key, none_or, selections_of};
+ghost use Rattle.graphql_look_ahead.specs.Selections.{field_or_key, first_of_key, none_or};
+ghost use Rattle.graphql_look_ahead.specs.Selections.{selections_of};
 ghost use Rattle.graphql_look_ahead.specs.Told.{IsOf, looked_at, told, within};
 ghost use Rattle.graphql_look_ahead.specs.Told as spec;
-ghost use Rattle.graphql_look_ahead.specs.Values.{argument_named, argument_seen, argument_told, arguments_left};
+ghost use Rattle.graphql_look_ahead.specs.Values.{argument_named, argument_seen, argument_told};
+ghost use Rattle.graphql_look_ahead.specs.Values.{arguments_left};
 
 use crate::applies::Applies;
 use crate::argument::{LookAheadArgument, LookAheadArguments};
@@ -37,7 +39,8 @@ pub(crate) enum Source<'d, 'a, S> {
     Key(&'d str, Selected<'d, 'd, 'a, S>),
 }
 
-/// A field of a request that is looked at before it is answered, lent (GraphQL October 2021, 2.5 Fields).
+/// A field of a request that is looked at before it is answered, lent (GraphQL October 2021, 2.5
+/// Fields).
 #[derive(Drop)]
 pub struct LookAheadSelection<'d, 'a, S, C = <S as SchemaScalar>::Check> {
     /// Where it stands.
@@ -65,7 +68,8 @@ fn arguments_of<'d, 'a, S, C>(
     request: &'d Request<'d, 'a, S, C>,
     field: &'d Field<'a, S>,
 ) -> LookAheadArguments<'d, 'a, S>
-    ensures { arguments_left result ≡ map (argument_seen request.now.variables) (written_in field.now.arguments) }
+    ensures { arguments_left result
+        ≡ map (argument_seen request.now.variables) (written_in field.now.arguments) }
 {
     LookAheadArguments::new(arguments_in(&field.arguments), &request.variables)
 }
@@ -107,16 +111,18 @@ fn first_selected<'d, 'a, S>(
 }
 
 impl<'d, 'a, S, C> LookAheadSelection<'d, 'a, S, C> {
-    /// The first field of this response key that directly stands in what is given, left out or not, bound to no type.
-    /// Where there is none, what stands for it: the key is its name, it has no alias and no arguments, and its
-    /// children are those of what is selected below it.
+    /// The first field of this response key that directly stands in what is given, left out or not,
+    /// bound to no type. Where there is none, what stands for it: the key is its name, it has no
+    /// alias and no arguments, and its children are those of what is selected below it.
     pub fn of_key(
         request: &'d Request<'d, 'a, S, C>,
         among: Option<Selected<'d, 'd, 'a, S>>,
         key: &'d str,
         below: Selected<'d, 'd, 'a, S>,
     ) -> LookAheadSelection<'d, 'a, S, C>
-        ensures told { told result ≡ field_or_key (first_of_key key.now (none_or among.entry)) key.now (selections_of below.entry) }
+        ensures told { told result
+            ≡ field_or_key (first_of_key key.now (none_or among.entry))
+            key.now (selections_of below.entry) }
         ensures request { result.request.now ≡ request.now }
     {
         let first = match among {
@@ -200,7 +206,8 @@ impl<'d, 'a, S, C> LookAheadSelection<'d, 'a, S, C> {
 
     /// The arguments as they are written, in order, from both ends.
     pub fn arguments(&self) -> LookAheadArguments<'d, 'a, S>
-        ensures { arguments_left result ≡ map (argument_seen self.now.request.now.variables) (spec.arguments (told self.now)) }
+        ensures { arguments_left result
+            ≡ map (argument_seen self.now.request.now.variables) (spec.arguments (told self.now)) }
     {
         let request = self.request;
         let Source::Field(field) = self.source else {
@@ -211,7 +218,10 @@ impl<'d, 'a, S, C> LookAheadSelection<'d, 'a, S, C> {
 
     /// The first argument of this name, or `None` where none has it.
     pub fn argument(&self, name: &str) -> Option<LookAheadArgument<'d, S>>
-        ensures { option_map argument_told result ≡ argument_named (map (argument_seen self.now.request.now.variables) (spec.arguments (told self.now))) name.now }
+        ensures { option_map argument_told result
+            ≡ argument_named
+            (map (argument_seen self.now.request.now.variables) (spec.arguments (told self.now)))
+            name.now }
     {
         self.arguments().get(name)
     }
@@ -238,11 +248,12 @@ impl<'d, 'a, S, C> LookAheadSelection<'d, 'a, S, C> {
 }
 
 impl<'d, 'a, S: SchemaScalar + Drop> LookAheadSelection<'d, 'a, S> {
-    /// The children (GraphQL October 2021, 2.4 Selection Sets, 2.8 Fragments): the fields that are selected below it,
-    /// in order, also through spreads and inline fragments, but for what is left out. A fragment that is spread
-    /// twice has its children twice, so fragments that spread each other twice have more children than a request
-    /// can be long: who asks for all of them pays for what they are. `child` does not. It takes no more stack however
-    /// deep they stand. An error is want of memory.
+    /// The children (GraphQL October 2021, 2.4 Selection Sets, 2.8 Fragments): the fields that are
+    /// selected below it, in order, also through spreads and inline fragments, but for what is left
+    /// out. A fragment that is spread twice has its children twice, so fragments that spread each
+    /// other twice have more children than a request can be long: who asks for all of them pays for
+    /// what they are. `child` does not. It takes no more stack however deep they stand. An error is
+    /// want of memory.
     pub fn children(&self, alloc: Global) -> Result<LookAheadChildren<'d, 'a, S>, AllocError>
         requires { Settled (fragments_in self.now.request.now) }
         ensures children { let request = self.now.request.now in
@@ -257,8 +268,8 @@ impl<'d, 'a, S: SchemaScalar + Drop> LookAheadSelection<'d, 'a, S> {
         Ok(LookAheadChildren { children: found })
     }
 
-    /// The children but for those that are bound to another type than the one of this name. An error is want of
-    /// memory.
+    /// The children but for those that are bound to another type than the one of this name. An
+    /// error is want of memory.
     pub fn children_for_explicit_type(
         &self,
         alloc: Global,
@@ -283,10 +294,10 @@ impl<'d, 'a, S: SchemaScalar + Drop> LookAheadSelection<'d, 'a, S> {
         Ok(LookAheadChildren { children })
     }
 
-    /// The first child of this response key (GraphQL October 2021, 2.4 Selection Sets, 2.8 Fragments), or `None` where no
-    /// child has it: that of the list that `children` gives, which there is whatever is selected. Each fragment is
-    /// searched once, so it takes time in proportion to what is selected below the field and in fragments. An error is
-    /// want of memory.
+    /// The first child of this response key (GraphQL October 2021, 2.4 Selection Sets, 2.8
+    /// Fragments), or `None` where no child has it: that of the list that `children` gives, which
+    /// there is whatever is selected. Each fragment is searched once, so it takes time in
+    /// proportion to what is selected below the field and in fragments. An error is want of memory.
     pub fn child(
         &self,
         alloc: Global,

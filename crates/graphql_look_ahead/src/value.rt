@@ -9,11 +9,11 @@ use crate::object::LookAheadObject;
 use graphql_values::InputValue;
 use graphql_written_out::FinalVariables;
 
-/// The value of an argument, or a part of it, with the values of variables in their stead. It is read
-/// layer by layer, and lends what the document and the variables hold.
+/// The value of an argument, or a part of it, with the values of variables in their stead. It is
+/// read layer by layer, and lends what the document and the variables hold.
 ///
-/// A variable without a value is `null`, wherever it stands. A variable that stands in the value of a
-/// variable is `null` too; the values of a request's variables hold none.
+/// A variable without a value is `null`, wherever it stands. A variable that stands in the value of
+/// a variable is `null` too; the values of a request's variables hold none.
 #[derive_where(Clone, Copy)]
 pub enum LookAheadValue<'a, S> {
     /// `null`
@@ -33,8 +33,8 @@ pub enum LookAheadValue<'a, S> {
 }
 
 impl<'a, S> LookAheadValue<'a, S> {
-    /// The value that is written so, where the variables in it have these values; without variables, a
-    /// part of a variable's value.
+    /// The value that is written so, where the variables in it have these values; without
+    /// variables, a part of a variable's value.
     pub(crate) fn new(
         written: &'a InputValue<S>,
         variables: Option<&'a FinalVariables<'a, S>>,

@@ -1,5 +1,7 @@
--- The fields that apply to one object type, as members of sets (GraphQL October 2021, 5.3.2 Field Selection Merging, 6.3.2 Field Collection).
-use Rattle.std.specs.Prelude.{◌≡◌, Bool, true, not, ◌||◌, List, [], ◌++◌, Some, None, IfSome, IsSome, if◌then◌else◌}
+-- The fields that apply to one object type, as members of sets (GraphQL October 2021, 5.3.2 Field
+-- Selection Merging, 6.3.2 Field Collection).
+use Rattle.std.specs.Prelude.{◌≡◌, Bool, true, not, ◌||◌, List, [], ◌++◌, Some, None, IfSome}
+use Rattle.std.specs.Prelude.{IsSome, if◌then◌else◌}
 use Rattle.std.specs.List.{filter, flat_map}
 use Rattle.std.specs.Str.{bytes_eq}
 use Rattle.graphql_names.specs.Names.{Bytes}
@@ -31,17 +33,23 @@ module _ {S C : Type 0} (types : List (MetaType S C)) where
   abbrev pub ConditionsAreKnown : Tree S → Type 0
   ConditionsAreKnown none = Unit {0}
   ConditionsAreKnown (field head directives below rest) = ConditionsAreKnown rest
-  ConditionsAreKnown (inline None directives below rest) = ConditionsAreKnown below × ConditionsAreKnown rest
-  ConditionsAreKnown (inline (Some on) directives below rest) = IsSome (type_named types on) × ConditionsAreKnown below × ConditionsAreKnown rest
+  ConditionsAreKnown (inline None directives below rest) =
+      ConditionsAreKnown below × ConditionsAreKnown rest
+  ConditionsAreKnown (inline (Some on) directives below rest) =
+      IsSome (type_named types on) × ConditionsAreKnown below × ConditionsAreKnown rest
 
-  -- `drops`: which directives leave a selection out; `is_above`: which types the object type is a subtype of
+  -- `drops`: which directives leave a selection out; `is_above`: which types the object type is a
+  -- subtype of
   module _ (drops : Directives S → Bool) (is_above : Bytes → Bool) where
     -- the members of a set that apply to the object type
     abbrev pub chosen : Scope S C → Tree S → List (Member S C)
     chosen scope none = []
-    chosen scope (field head directives below rest) = if drops directives then chosen scope rest else member scope head below ++ chosen scope rest
+    chosen scope (field head directives below rest) =
+        if drops directives then chosen scope rest else member scope head below ++ chosen scope rest
     chosen scope (inline on directives below rest) =
-        if drops directives || not (applies is_above on) then chosen scope rest else chosen (inside types scope on) below ++ chosen scope rest
+        if drops directives
+        || not (applies is_above on) then chosen scope rest
+        else chosen (inside types scope on) below ++ chosen scope rest
 
     abbrev pub chosen_of : Set S C → List (Member S C)
     chosen_of set = chosen set.scope set.tree
@@ -50,8 +58,10 @@ module _ {S C : Type 0} (types : List (MetaType S C)) where
     chosen_of_all = flat_map chosen_of
 
 -- one of the types, that of its name, and above the object type
-abbrev pub IsTypeAbove : {S C : Type 0} → List (MetaType S C) → (Bytes → Bool) → MetaType S C → Type 0
-IsTypeAbove types is_above m = (type_named types (own_name m) ≡ Some m) × (is_above (own_name m) ≡ true)
+abbrev pub IsTypeAbove : {S C : Type 0} → List (MetaType S C) → (Bytes → Bool) → MetaType S C
+    → Type 0
+IsTypeAbove types is_above m =
+    (type_named types (own_name m) ≡ Some m) × (is_above (own_name m) ≡ true)
 
 -- the type that a set selects from is above the object type
 abbrev pub IsAbove : {S C : Type 0} → List (MetaType S C) → (Bytes → Bool) → Set S C → Type 0
@@ -59,4 +69,5 @@ IsAbove types is_above set = IfSome set.scope (IsTypeAbove types is_above)
 
 -- of the object types among the types, the object type alone is above itself
 abbrev pub OneObject : {S C : Type 0} → List (MetaType S C) → (Bytes → Bool) → Bytes → Type 0
-OneObject {S} {C} types is_above object = (m : MetaType S C) → IsTypeAbove types is_above m → is_object m ≡ true → own_name m ≡ object
+OneObject {S} {C} types is_above object =
+    (m : MetaType S C) → IsTypeAbove types is_above m → is_object m ≡ true → own_name m ≡ object

@@ -1,4 +1,5 @@
--- How many fields a document writes, and how many a table of its selection sets has (GraphQL October 2021, 2.5 Fields).
+-- How many fields a document writes, and how many a table of its selection sets has (GraphQL
+-- October 2021, 2.5 Fields).
 use Rattle.std.specs.Prelude.{ℕ, ◌+◌, List, length}
 use Rattle.std.specs.List.{sum_by}
 use Rattle.graphql_tree.specs.Counts.{field_count_layer, inline_count_layer}
@@ -14,7 +15,8 @@ module _ {S : Type 0} where
   nodes_layer (Selection-F.FragmentSpread s) = 0
   nodes_layer (Selection-F.InlineFragment i) = i.item
 
-  -- the field that a selection is and those within it, however deep; what a spread stands for is written elsewhere
+  -- the field that a selection is and those within it, however deep; what a spread stands for is
+  -- written elsewhere
   unfoldable pub selection_nodes : Selection S → ℕ
   selection_nodes = fold-Selection S ℕ ℕ ℕ nodes_layer field_count_layer inline_count_layer
 
@@ -27,7 +29,8 @@ module _ {S : Type 0} where
   definition_nodes (definition.Operation o) = set_nodes o.item.selection_set
   definition_nodes (definition.Fragment f) = set_nodes f.item.selection_set
 
-  -- the field nodes of a document: each field once where it is written, however often its fragment is spread
+  -- the field nodes of a document: each field once where it is written, however often its fragment
+  -- is spread
   unfoldable pub document_nodes : List (Definition S) → ℕ
   document_nodes = sum_by definition_nodes
 

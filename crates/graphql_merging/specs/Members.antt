@@ -1,4 +1,5 @@
--- The fields of a selection set, each with the type around it, fragments written out (GraphQL October 2021, 5.3.2 Field Selection Merging).
+-- The fields of a selection set, each with the type around it, fragments written out (GraphQL
+-- October 2021, 5.3.2 Field Selection Merging).
 use Rattle.std.specs.Prelude.{List, [], ◌∷◌, ◌++◌, Option, Some, None}
 use Rattle.std.specs.Option.{option_and_then}
 use Rattle.graphql_names.specs.Names.{Bytes}
@@ -8,7 +9,8 @@ use Rattle.graphql_schema.specs.Lookups.{type_named}
 use Rattle.graphql_occurrences.specs.DeclaredLookups.{field_in, field_type}
 use Rattle.graphql_written_out.specs.Trees.{Head, Tree, none, field, inline}
 
--- a field of a set, and the innermost type around it: that of the nearest condition, else that whose set it is
+-- a field of a set, and the innermost type around it: that of the nearest condition, else that
+-- whose set it is
 pub record Member (S C : Type 0) : Type 0 where
   pub parent : MetaType S C
   pub head : Head S
@@ -42,7 +44,8 @@ module _ {S C : Type 0} (types : List (MetaType S C)) where
   abbrev pub members : Scope S C → Tree S → List (Member S C)
   members scope none = []
   members scope (field head directives below rest) = member scope head below ++ members scope rest
-  members scope (inline on directives below rest) = members (inside scope on) below ++ members scope rest
+  members scope (inline on directives below rest) =
+      members (inside scope on) below ++ members scope rest
 
   -- the type that a field's own set selects from, by the field's parent and name
   abbrev pub scope_of : MetaType S C → Bytes → Scope S C

@@ -1,5 +1,7 @@
--- Fields that merge (GraphQL October 2021, 5.3.2 Field Selection Merging: FieldsInSetCanMerge, SameResponseShape).
-use Rattle.std.specs.Prelude.{◌≡◌, ℕ, zero, suc, Bool, true, false, not, ◌&&◌, ◌||◌, List, map, Option, Some}
+-- Fields that merge (GraphQL October 2021, 5.3.2 Field Selection Merging: FieldsInSetCanMerge,
+-- SameResponseShape).
+use Rattle.std.specs.Prelude.{◌≡◌, ℕ, zero, suc, Bool, true, false, not, ◌&&◌, ◌||◌, List, map}
+use Rattle.std.specs.Prelude.{Option, Some}
 use Rattle.std.specs.List.{All, Any, Contains}
 use Rattle.std.specs.Str.{bytes_eq}
 use Rattle.graphql_names.specs.Names.{Bytes, passes}
@@ -36,7 +38,8 @@ module _ {S C : Type 0} (types : List (MetaType S C)) where
 
   -- if the one or the other is a leaf they are the same; else both have fields
   abbrev pub SameShape : TypeOf → TypeOf → Type 0
-  SameShape s t = SameWraps s.modifiers t.modifiers × ((is_leaf s.name || is_leaf t.name) ≡ true → s.name ≡ t.name)
+  SameShape s t = SameWraps s.modifiers t.modifiers
+      × ((is_leaf s.name || is_leaf t.name) ≡ true → s.name ≡ t.name)
 
   -- of a field that is not declared nothing is asked here
   abbrev pub SameShapes : Option TypeOf → Option TypeOf → Type 0
@@ -58,14 +61,18 @@ module _ {S C : Type 0} (eq : S → S → Bool) (types : List (MetaType S C)) wh
 
   -- what two fields of one response key have to have alike; `x`: fields around them are apart
   abbrev pub Agree : Bool → Member S C → Member S C → Type 0
-  Agree x a b = ((x || apart a b) ≡ false → SameField a b) × SameShapes types (declared a) (declared b)
+  Agree x a b =
+      ((x || apart a b) ≡ false → SameField a b) × SameShapes types (declared a) (declared b)
 
-  -- two fields of one response key merge to a depth; below fields that are apart shapes alone are asked
+  -- two fields of one response key merge to a depth; below fields that are apart shapes alone are
+  -- asked
   abbrev pub Merges : ℕ → Bool → Member S C → Member S C → Type 0
   Merges zero x a b = Unit {0}
   Merges (suc n) x a b =
       Agree x a b
-      × ((c d : Member S C) → Contains (members_below types a) c → Contains (members_below types b) d → c.head.key ≡ d.head.key → Merges n (x || apart a b) c d)
+      × ((c d : Member S C) → Contains (members_below types a) c
+      → Contains (members_below types b)
+      d → c.head.key ≡ d.head.key → Merges n (x || apart a b) c d)
 
   -- they merge, however deep their sets are
   abbrev pub Merge : Bool → Member S C → Member S C → Type 0
@@ -73,10 +80,14 @@ module _ {S C : Type 0} (eq : S → S → Bool) (types : List (MetaType S C)) wh
 
   -- a set merges: each two of its fields that have one response key do, and so each with itself
   abbrev pub Merging : List (Member S C) → Type 0
-  Merging ms = (a b : Member S C) → Contains ms a → Contains ms b → a.head.key ≡ b.head.key → Merge false a b
+  Merging ms =
+      (a b : Member S C) → Contains ms a → Contains ms b → a.head.key ≡ b.head.key → Merge false a b
 
-  -- two fields stand together: in the set, or in the sets of two fields that stand together; always of one response key
+  -- two fields stand together: in the set, or in the sets of two fields that stand together; always
+  -- of one response key
   pub data Together (ms : List (Member S C)) : Bool → Member S C → Member S C → Type 0 where
-    in_set : (a b : Member S C) → Contains ms a → Contains ms b → a.head.key ≡ b.head.key → Together ms false a b
-    in_sets : (x : Bool) (a b c d : Member S C) → Together ms x a b → Contains (members_below types a) c → Contains (members_below types b) d
+    in_set : (a b : Member S C) → Contains ms a → Contains ms b → a.head.key ≡ b.head.key
+        → Together ms false a b
+    in_sets : (x : Bool) (a b c d : Member S C) → Together ms x a b
+        → Contains (members_below types a) c → Contains (members_below types b) d
         → c.head.key ≡ d.head.key → Together ms (x || apart a b) c d

@@ -7,4 +7,8 @@ use Rattle.graphql_merging.specs.Members.{Member}
 
 -- a field of a document, its fragments written out
 abbrev pub seen : {S C : Type 0} → List (Fragment S) → SelectedField S C → Member S C
-seen fragments f = record { parent = f.parent.now; head = head_of f.field.now; below = written fragments (listed f.field.now.item.selection_set) }
+seen fragments f = record {
+  parent = f.parent.now;
+  head = head_of f.field.now;
+  below = written fragments (listed f.field.now.item.selection_set);
+}

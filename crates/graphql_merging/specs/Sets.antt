@@ -1,4 +1,5 @@
--- The selection sets of a document (GraphQL October 2021, 2.4 Selection Sets), fragments written out.
+-- The selection sets of a document (GraphQL October 2021, 2.4 Selection Sets), fragments written
+-- out.
 use Rattle.std.specs.Prelude.{List, [], ◌∷◌, ◌++◌, map}
 use Rattle.std.specs.List.{flat_map}
 use Rattle.std.specs.Option.{option_and_then}
@@ -27,7 +28,8 @@ module _ {S C : Type 0} (types : List (MetaType S C)) where
   -- the fields that stand directly in a set, and not in a fragment in it
   abbrev pub directs_in : Scope S C → Tree S → List (Member S C)
   directs_in scope none = []
-  directs_in scope (field head directives below rest) = member scope head below ++ directs_in scope rest
+  directs_in scope (field head directives below rest) =
+      member scope head below ++ directs_in scope rest
   directs_in scope (inline on directives below rest) = directs_in scope rest
 
   abbrev pub directs_of : Set S C → List (Member S C)
@@ -41,9 +43,11 @@ module _ {S C : Type 0} (types : List (MetaType S C)) where
   abbrev pub sets_in : Scope S C → Tree S → List (Set S C)
   sets_in scope none = []
   sets_in scope (field head directives below rest) =
-      record { scope = scope_of_field scope head.name; tree = below } ∷ sets_in (scope_of_field scope head.name) below ++ sets_in scope rest
+      record { scope = scope_of_field scope head.name; tree = below } ∷ sets_in
+      (scope_of_field scope head.name) below ++ sets_in scope rest
   sets_in scope (inline on directives below rest) =
-      record { scope = inside types scope on; tree = below } ∷ sets_in (inside types scope on) below ++ sets_in scope rest
+      record { scope = inside types scope on; tree = below } ∷ sets_in (inside types scope on)
+      below ++ sets_in scope rest
 
   -- a set, and the sets in it
   abbrev pub sets_of : Set S C → List (Set S C)
@@ -52,8 +56,15 @@ module _ {S C : Type 0} (types : List (MetaType S C)) where
 module _ {S C : Type 0} (schema : Declarations S C) where
   -- the set of an operation or of a fragment, its spreads written out
   abbrev pub set_of : List (Fragment S) → Definition S → Set S C
-  set_of fragments (definition.Operation o) = record { scope = root_of schema o.item.operation_type; tree = written fragments o.item.selection_set }
-  set_of fragments (definition.Fragment f) = record { scope = type_named schema.types f.item.type_condition.item; tree = written fragments f.item.selection_set }
+  set_of fragments (definition.Operation o) = record {
+    scope = root_of schema o.item.operation_type;
+    tree = written fragments o.item.selection_set;
+  }
+  set_of fragments (definition.Fragment f) =
+      record {
+        scope = type_named schema.types f.item.type_condition.item;
+        tree = written fragments f.item.selection_set;
+      }
 
   -- those of all definitions of a document, in order
   abbrev pub definition_sets : List (Definition S) → List (Set S C)

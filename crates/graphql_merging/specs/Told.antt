@@ -1,5 +1,6 @@
 -- Which pairs of fields a list of errors tells.
-use Rattle.std.specs.Prelude.{◌≡◌, ltb, Bool, false, ◌||◌, List, [], ◌∷◌, ◌++◌, map, Option, Some, None, if◌then◌else◌}
+use Rattle.std.specs.Prelude.{◌≡◌, ltb, Bool, false, ◌||◌, List, [], ◌∷◌, ◌++◌, map, Option, Some}
+use Rattle.std.specs.Prelude.{None, if◌then◌else◌}
 use Rattle.graphql_text.specs.declared.position.SourcePosition.{SourcePosition}
 use Rattle.graphql_names.specs.Names.{Bytes}
 use Rattle.graphql_schema.specs.declared.meta.MetaType.{MetaType}
@@ -25,14 +26,18 @@ module _ {S C : Type 0} where
   later_pairs (x ∷ xs) = map (λ y. (x, y)) xs ++ later_pairs xs
 
   -- the errors are those of the pairs that do not fit, one by one and in order
-  pub data Tells (Fits : Member S C → Member S C → Type 0) : List (Member S C × Member S C) → Places → Type 0 where
+  pub data Tells (Fits : Member S C → Member S C → Type 0) : List (Member S C × Member S C) → Places
+      → Type 0 where
     nothing : Tells Fits [] []
-    fitting : (a b : Member S C) (ps : List (Member S C × Member S C)) (es : Places) → Fits a b → Tells Fits ps es → Tells Fits ((a, b) ∷ ps) es
-    conflict : (a b : Member S C) (e : List SourcePosition) (ps : List (Member S C × Member S C)) (es : Places) → (Fits a b → ⊥) → Names e a b → Tells Fits ps es
+    fitting : (a b : Member S C) (ps : List (Member S C × Member S C)) (es : Places) → Fits a b
+        → Tells Fits ps es → Tells Fits ((a, b) ∷ ps) es
+    conflict : (a b : Member S C) (e : List SourcePosition) (ps : List (Member S C × Member S C))
+        (es : Places) → (Fits a b → ⊥) → Names e a b → Tells Fits ps es
         → Tells Fits ((a, b) ∷ ps) (e ∷ es)
 
   -- the errors of these pairs are added to what was told
-  abbrev pub AddsErrors : (Member S C → Member S C → Type 0) → List (Member S C × Member S C) → Places → Places → Type 0
+  abbrev pub AddsErrors : (Member S C → Member S C → Type 0) → List (Member S C × Member S C)
+      → Places → Places → Type 0
   AddsErrors Fits pairs old new = (es : Places) × (new ≡ old ++ es) × Tells Fits pairs es
 
 module _ {S C : Type 0} (eq : S → S → Bool) (types : List (MetaType S C)) where
@@ -43,13 +48,18 @@ module _ {S C : Type 0} (eq : S → S → Bool) (types : List (MetaType S C)) wh
   -- what two fields do not have alike, the first of it: names, arguments, shapes
   abbrev pub Differs : Bool → Member S C → Member S C → Option Difference → Type 0
   Differs x a b None = Agree eq types x a b
-  Differs x a b (Some difference.Names) = ((x || apart a b) ≡ false) × (a.head.name ≡ b.head.name → ⊥)
-  Differs x a b (Some difference.Arguments) = ((x || apart a b) ≡ false) × (a.head.name ≡ b.head.name) × (SameArguments eq a.head.arguments b.head.arguments → ⊥)
+  Differs x a b (Some difference.Names) =
+      ((x || apart a b) ≡ false) × (a.head.name ≡ b.head.name → ⊥)
+  Differs x a b (Some difference.Arguments) = ((x || apart a b) ≡ false)
+      × (a.head.name ≡ b.head.name)
+      × (SameArguments eq a.head.arguments b.head.arguments → ⊥)
   Differs x a b (Some difference.Types) = SameShapes types (declared a) (declared b) → ⊥
 
 -- the same of names and arguments as they are written; names first
-abbrev pub DiffersAsWritten : {S : Type 0} → (S → S → Bool) → Bool → Bytes → Bytes → List (Argument S) → List (Argument S) → Option Difference → Type 0
+abbrev pub DiffersAsWritten : {S : Type 0} → (S → S → Bool) → Bool → Bytes → Bytes
+    → List (Argument S) → List (Argument S) → Option Difference → Type 0
 DiffersAsWritten eq excused m n xs ys None = excused ≡ false → (m ≡ n) × SameArguments eq xs ys
 DiffersAsWritten eq excused m n xs ys (Some difference.Names) = (excused ≡ false) × (m ≡ n → ⊥)
-DiffersAsWritten eq excused m n xs ys (Some difference.Arguments) = (excused ≡ false) × (m ≡ n) × (SameArguments eq xs ys → ⊥)
+DiffersAsWritten eq excused m n xs ys (Some difference.Arguments) =
+    (excused ≡ false) × (m ≡ n) × (SameArguments eq xs ys → ⊥)
 DiffersAsWritten eq excused m n xs ys (Some difference.Types) = ⊥

@@ -18,7 +18,8 @@ fn is_like<S: PartialEq>(
     left: &Argument<'_, S>,
     right: &Argument<'_, S>,
 ) -> Result<bool, AllocError>
-    ensures { IfOk result (λ like. IsTrue like ↔ ((left.now.0.item ≡ right.now.0.item) × SameValue S S.eq left.now.1.item right.now.1.item)) }
+    ensures { IfOk result (λ like. IsTrue like ↔ ((left.now.0.item ≡ right.now.0.item)
+        × SameValue S S.eq left.now.1.item right.now.1.item)) }
 {
     if left.0.item.as_str() != right.0.item.as_str() {
         return Ok(false);

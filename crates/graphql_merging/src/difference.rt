@@ -18,8 +18,8 @@ use graphql_schema::{MetaType, SchemaType};
 use graphql_tree::{Field, arguments_in};
 use std::alloc::{AllocError, Global};
 
-/// What two fields do not have alike, in the order in which it is asked: names come before arguments,
-/// and these before types.
+/// What two fields do not have alike, in the order in which it is asked: names come before
+/// arguments, and these before types.
 #[derive(Clone, Copy, Debug, PartialEq, Eq, PartialOrd, Ord)]
 pub enum Difference {
     /// The names of the fields.
@@ -38,7 +38,8 @@ fn same_shape<S, C>(
     left: TypeLiteral<'_>,
     right: TypeLiteral<'_>,
 ) -> bool
-    ensures { IsTrue result ↔ SameShape schema.now.types (literal_of left.entry) (literal_of right.entry) }
+    ensures { IsTrue result
+        ↔ SameShape schema.now.types (literal_of left.entry) (literal_of right.entry) }
 {
     if !same_wraps(left.modifiers, right.modifiers) {
         return false;
@@ -57,7 +58,9 @@ fn same_shapes<S, C>(
     right: &MetaType<S, C>,
     other: &str,
 ) -> bool
-    ensures { IsTrue result ↔ SameShapes schema.now.types (declared_type left.now name.now) (declared_type right.now other.now) }
+    ensures { IsTrue result
+        ↔ SameShapes schema.now.types (declared_type left.now name.now)
+        (declared_type right.now other.now) }
 {
     let Some(one) = declared_type(left, name) else {
         return true;
@@ -74,20 +77,22 @@ pub fn is_excused<S, C>(
     left: &SelectedField<'_, '_, S, C>,
     right: &SelectedField<'_, '_, S, C>,
 ) -> bool
-    ensures { (fragments : List (Fragment S)) → result ≡ (around || apart (seen fragments left.now) (seen fragments right.now)) }
+    ensures { (fragments : List (Fragment S))
+        → result ≡ (around || apart (seen fragments left.now) (seen fragments right.now)) }
 {
     around || are_different_objects(left.parent, right.parent)
 }
 
-/// What two fields do not have alike of their names and arguments, where these are asked. An error is
-/// want of memory.
+/// What two fields do not have alike of their names and arguments, where these are asked. An error
+/// is want of memory.
 fn written_difference<S: PartialEq>(
     alloc: Global,
     excused: bool,
     left: &Field<'_, S>,
     right: &Field<'_, S>,
 ) -> Result<Option<Difference>, AllocError>
-    ensures { IfOk result (DiffersAsWritten S.eq excused left.now.name.item right.now.name.item (arguments_given left.now.arguments) (arguments_given right.now.arguments)) }
+    ensures { IfOk result (DiffersAsWritten S.eq excused left.now.name.item right.now.name.item
+        (arguments_given left.now.arguments) (arguments_given right.now.arguments)) }
 {
     if excused {
         return Ok(None);
@@ -108,8 +113,8 @@ fn written_difference<S: PartialEq>(
 
 /// What two fields of one response key do not have alike, if anything: their names, then their
 /// arguments, then the shapes of their types (GraphQL October 2021, 5.3.2 Field Selection Merging).
-/// `around`: whether fields around them have parents that are different object types; below such fields,
-/// and of fields with such parents, shapes alone are asked. An error is want of memory.
+/// `around`: whether fields around them have parents that are different object types; below such
+/// fields, and of fields with such parents, shapes alone are asked. An error is want of memory.
 pub fn first_difference<S: PartialEq, C>(
     alloc: Global,
     schema: &SchemaType<S, C>,
@@ -117,7 +122,9 @@ pub fn first_difference<S: PartialEq, C>(
     left: &SelectedField<'_, '_, S, C>,
     right: &SelectedField<'_, '_, S, C>,
 ) -> Result<Option<Difference>, AllocError>
-    ensures { IfOk result (λ difference. (fragments : List (Fragment S)) → Differs S.eq schema.now.types around (seen fragments left.now) (seen fragments right.now) difference) }
+    ensures { IfOk result (λ difference. (fragments : List (Fragment S))
+        → Differs S.eq
+        schema.now.types around (seen fragments left.now) (seen fragments right.now) difference) }
 {
     let excused = is_excused(around, left, right);
     let written = written_difference(alloc, excused, &left.field.item, &right.field.item)?;

@@ -1,7 +1,20 @@
-//! Laws of the definitions, and of the fields that are collected for an object type from sets that merge:
+//! Laws of the definitions, and of the fields that are collected for an object type from sets that
+//! merge:
 //! each function's contract is a law, and its body does nothing.
 
-ghost use Rattle.graphql_merging.specs.Laws.{AgreementIsMutual, AgreesWithItself, DisagreementIsConflict, MergingIsAgreement, MergingIsMutual, DirectConflictsAreNamed, DirectConflictsAreConflicts, ChosenAreCollected, OneField, OneFieldOfObject, OwnSetsMerge};
+ghost use Rattle.graphql_merging.specs.Laws.{
+  AgreementIsMutual,
+  AgreesWithItself,
+  DisagreementIsConflict,
+  MergingIsAgreement,
+  MergingIsMutual,
+  DirectConflictsAreNamed,
+  DirectConflictsAreConflicts,
+  ChosenAreCollected,
+  OneField,
+  OneFieldOfObject,
+  OwnSetsMerge,
+};
 ghost use Rattle.graphql_merging.specs.Chosen.{OneObject};
 ghost use Rattle.graphql_schema.specs.Subtypes.{is_named_subtype};
 
@@ -32,14 +45,14 @@ pub fn direct_conflicts_are_right<S: PartialEq, C>()
     ensures conflicts { DirectConflictsAreConflicts S C S.eq }
 {}
 
-/// Where the types of a selection set's fragments are known, the members of the set that apply to an
-/// object type are the fields that are collected for it, in order.
+/// Where the types of a selection set's fragments are known, the members of the set that apply to
+/// an object type are the fields that are collected for it, in order.
 pub fn chosen_members_are_collected<S, C>()
     ensures { ChosenAreCollected S C }
 {}
 
-/// Of sets that merge together, the fields of one response key that apply to one object type have one
-/// name and the same arguments, so that the first of them stands for all.
+/// Of sets that merge together, the fields of one response key that apply to one object type have
+/// one name and the same arguments, so that the first of them stands for all.
 pub fn one_field_for_a_key<S: PartialEq, C>()
     ensures { OneField S C S.eq }
 {}

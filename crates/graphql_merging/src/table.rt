@@ -23,7 +23,8 @@ pub struct WrittenSet<'d, 'a, S, C = <S as SchemaScalar>::Check> {
     /// The fields that stand directly in it, in order.
     pub fields: Items<WrittenField<'d, 'a, S, C>>,
 
-    /// The numbers of the sets of the fragments that stand directly in it, spread or inline, in order.
+    /// The numbers of the sets of the fragments that stand directly in it, spread or inline, in
+    /// order.
     pub inner: Items<usize>,
 }
 

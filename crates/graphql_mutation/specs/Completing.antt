@@ -21,24 +21,30 @@ module _ {S N Context C : Type 0} (e : Engine S N) (executor : Executor Context 
   -- the error of the place itself
   abbrev pub own_error_of_result : Option (FieldError S)
   own_error_of_result =
-      own_error_at e executor.current_type.name.now (reverse executor.current_type.modifiers.now) answer
+      own_error_at e executor.current_type.name.now (reverse executor.current_type.modifiers.now)
+      answer
 
-  -- the value at the current type, with what is selected from its objects, and what fails there and below
+  -- the value at the current type, with what is selected from its objects, and what fails there and
+  -- below
   abbrev pub outcome_of_result : Outcome S (Value S)
   outcome_of_result =
       outcome_at e (sets_in executor.request.now executor.selected) executor.current_type.name.now
-      (place_of executor.path) (reverse executor.current_type.modifiers.now) answer (keys_of executor.path)
+      (place_of executor.path) (reverse executor.current_type.modifiers.now) answer
+      (keys_of executor.path)
 
 -- the value, or none where the place itself fails, which is told
-abbrev pub IsValueOrTold : {S Context C : Type 0} → Executor Context S C → Result (Option (Value S)) (FieldFault S)
+abbrev pub IsValueOrTold : {S Context C : Type 0} → Executor Context S C
+    → Result (Option (Value S)) (FieldFault S)
     → List (ExecutionError S) → Option (Value S) → List (ExecutionError S) → Type 0
 IsValueOrTold executor (Ok v) old value new = (value ≡ v) × (new ≡ old)
 IsValueOrTold executor (Err (fault.Error e)) old value new =
     (value ≡ None) × (new ≡ old ++ error_at (place_of executor.path) executor.path e ∷ [])
 IsValueOrTold executor (Err fault.Memory) old value new = ⊥
 
--- the answer of a step, completed on the context after, as the place at which an executor stands shows it
-abbrev pub step_shown : {S N X Context C : Type 0} → Mutation S N X → Executor Context S C → Step S N X
+-- the answer of a step, completed on the context after, as the place at which an executor stands
+-- shows it
+abbrev pub step_shown : {S N X Context C : Type 0} → Mutation S N X → Executor Context S C
+    → Step S N X
     → Run S X (Value S)
 step_shown m executor step = record {
   outcome =

@@ -15,14 +15,16 @@ use Rattle.graphql_execution_walk.specs.declared.asked.Asked.{Asked}
 use Rattle.graphql_execution_walk.specs.declared.asked.Asked.TheVariants as asked
 use Rattle.graphql_mutation.specs.Serial.{Mutation, Step}
 
--- what a resolver does at a mutation's root: what it answers for a field by its argument values, and the context after
+-- what a resolver does at a mutation's root: what it answers for a field by its argument values,
+-- and the context after
 pub record Changes (S N X : Type 0) : Type 0 where
   pub answer : X → Bytes → Given S → Result (Resolved S N) (FieldError S)
   pub after : X → Bytes → Given S → X
 
--- of what the root's object tells of itself no resolver is asked, and nothing changes (4 Introspection)
--- `of_text`, `answer`: of the scalars
-module _ {S C N X : Type 0} (of_text : Bytes → S) (answer : S → ScalarAnswer) (schema : SchemaType S C)
+-- of what the root's object tells of itself no resolver is asked, and nothing changes (4
+-- Introspection) `of_text`, `answer`: of the scalars
+module _ {S C N X : Type 0} (of_text : Bytes → S) (answer : S → ScalarAnswer)
+    (schema : SchemaType S C)
     (changes : Changes S N X) where
   abbrev pub told_first : X → Bytes → Bytes → Given S → Step S (Asked S N C) X
   told_first c object name given =
@@ -33,8 +35,8 @@ module _ {S C N X : Type 0} (of_text : Bytes → S) (answer : S → ScalarAnswer
       }
 
 module _ {S C N X : Type 0} where
-  -- `of_text`, `of_bool`, `answer`: of the scalars; `given`: the final values of variables; `type_of`, `resolves`,
-  -- `changes`: of the resolver
+  -- `of_text`, `of_bool`, `answer`: of the scalars; `given`: the final values of variables;
+  -- `type_of`, `resolves`, `changes`: of the resolver
   abbrev pub mutation_over : (Bytes → S) → (Bool → S) → (S → ScalarAnswer) → SchemaType S C
       → (Bytes → Option (InputValue S)) → (X → N → Bytes) → (X → Resolves S N) → Changes S N X
       → Mutation S (Asked S N C) X

@@ -10,7 +10,8 @@ abbrev pub run_map : {S X A B : Type 0} → (A → B) → Run S X A → Run S X 
 run_map f run = record { outcome = outcome_map f run.outcome; after = run.after }
 
 -- the value, the failures behind what was told, and the context
-pub record HasRun {S X A : Type 0} (run : Run S X A) (value : Option A) (old new : List (ExecutionError S)) (now : X)
+pub record HasRun {S X A : Type 0} (run : Run S X A) (value : Option A)
+    (old new : List (ExecutionError S)) (now : X)
     : Type 0 where
   pub is : value ≡ run.outcome.value
   pub told : new ≡ old ++ run.outcome.failures

@@ -34,8 +34,10 @@ pub record Run (S X A : Type 0) : Type 0 where
   pub outcome : Outcome S A
   pub after : X
 
--- the others are run too, unless a null came first that may not stand: it reaches the root, and they are not asked
-abbrev pub unless_null : {S X : Type 0} → Bytes → Run S X (Value S) → Option (Value S) → Run S X (Members S)
+-- the others are run too, unless a null came first that may not stand: it reaches the root, and
+-- they are not asked
+abbrev pub unless_null : {S X : Type 0} → Bytes → Run S X (Value S) → Option (Value S)
+    → Run S X (Members S)
     → Run S X (Members S)
 unless_null key first None others = record {
   outcome = record { value = None; failures = first.outcome.failures };
@@ -55,12 +57,14 @@ module _ {S N X : Type 0} (m : Mutation S N X) (object : Bytes) where
   step_of c head = m.step c object head.name ((m.engine c).arguments object head)
 
   -- the answer, completed at a type on the context after, with these sets selected from its objects
-  abbrev pub completed_step : Bytes → List (Tree S) → Head S → TypeOf → Step S N X → Run S X (Value S)
+  abbrev pub completed_step : Bytes → List (Tree S) → Head S → TypeOf → Step S N X
+      → Run S X (Value S)
   completed_step key sets head type step =
       let e = m.engine step.after in
       let path = key ∷ [] in
       record {
-        outcome = at_type e (λ n. evaluate e path (e.concrete n) n sets) (blame_at path head.place) type step.answer;
+        outcome = at_type e (λ n. evaluate e path (e.concrete n) n sets) (blame_at path head.place)
+            type step.answer;
         after = step.after;
       }
 

@@ -15,10 +15,10 @@ use graphql_schema::SchemaScalar;
 use graphql_text::Spanning;
 use graphql_tree::Field;
 
-/// What is answered for a field of a mutation's root, an object of the type of this name; the context becomes
-/// the one after. Of what each object tells of itself the resolver is not asked, and it leaves the context as it
-/// was (GraphQL October 2021, 4 Introspection). `FieldFault::Memory` is want of memory: the context is then as it
-/// was, or the one after.
+/// What is answered for a field of a mutation's root, an object of the type of this name; the
+/// context becomes the one after. Of what each object tells of itself the resolver is not asked,
+/// and it leaves the context as it was (GraphQL October 2021, 4 Introspection).
+/// `FieldFault::Memory` is want of memory: the context is then as it was, or the one after.
 #[tactic(auto, unfolding(graphql_execution_walk::specs::Engines::engine_over))]
 pub(crate) fn ask_root<'d, 'a, S: SchemaScalar + Drop, R: GraphQLMutationValue<S>>(
     resolver: &R,
@@ -32,7 +32,8 @@ pub(crate) fn ask_root<'d, 'a, S: SchemaScalar + Drop, R: GraphQLMutationValue<S
         Answered (step_of m object.now context.old (head_of field.now)).answer result }
     ensures after { let m = mutation_of S.of_text S.of_bool S.answer executor.now.request.now
         (R.type_of resolver.now) (R.answer resolver.now) (R.changes resolver.now) in
-        LeavesOrKeeps context.old (step_of m object.now context.old (head_of field.now)).after result context.new }
+        LeavesOrKeeps context.old (step_of m object.now context.old (head_of field.now)).after
+        result context.new }
 {
     let name = field.item.name.item.as_str();
     let schema = executor.request.schema;

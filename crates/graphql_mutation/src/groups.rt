@@ -21,15 +21,17 @@ use graphql_schema::SchemaScalar;
 use graphql_text::Items;
 use std::alloc::AllocError;
 
-/// The fields that are selected from the root at which an executor stands, each fragment entered once. An error
-/// is want of memory.
+/// The fields that are selected from the root at which an executor stands, each fragment entered
+/// once. An error is want of memory.
 fn fields_of_root<'d, 'a, S: SchemaScalar>(
     root: &Executor<'_, 'd, 'a, (), S>,
 ) -> Result<Items<CollectedField<'d, 'a, S>>, AllocError>
     requires { Settled (fragments_in root.now.request.now) }
     ensures { let sets = sets_in root.now.request.now root.now.selected in
-        let selected = selected_in S.answer root.now.request.now sets root.now.current_type.name.now in
-        IfOk result (λ found. Repeats (all_found (fragments_in root.now.request.now) found) selected) }
+        let selected =
+        selected_in S.answer root.now.request.now sets root.now.current_type.name.now in
+        IfOk result
+        (λ found. Repeats (all_found (fragments_in root.now.request.now) found) selected) }
 {
     let object = root.current_type.name;
     match root.selected {
@@ -44,7 +46,8 @@ pub(crate) fn groups_of_root<'d, 'a, S: SchemaScalar>(
 ) -> Result<Items<Group<'d, 'a, S>>, AllocError>
     requires { Settled (fragments_in root.now.request.now) }
     ensures { let sets = sets_in root.now.request.now root.now.selected in
-        let selected = selected_in S.answer root.now.request.now sets root.now.current_type.name.now in
+        let selected =
+        selected_in S.answer root.now.request.now sets root.now.current_type.name.now in
         IfOk result (AreGroups (fragments_in root.now.request.now) selected) }
 {
     let found = fields_of_root(root)?;
@@ -52,8 +55,9 @@ pub(crate) fn groups_of_root<'d, 'a, S: SchemaScalar>(
     Ok(groups)
 }
 
-/// What a group of the root shows: its first field is asked, once, and the answer is completed on the context
-/// after, with the selections of all its fields. What fails is told. An error is want of memory.
+/// What a group of the root shows: its first field is asked, once, and the answer is completed on
+/// the context after, with the selections of all its fields. What fails is told. An error is want
+/// of memory.
 pub(crate) fn answer_group<'d, 'a, S: SchemaScalar + Drop, R: GraphQLMutationValue<S>>(
     resolver: &R,
     root: &Executor<'_, 'd, 'a, (), S>,

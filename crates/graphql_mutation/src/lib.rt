@@ -1,5 +1,5 @@
-//! Mutations: resolvers that change their context, and the fields of a mutation's root, answered one after
-//! the other (GraphQL October 2021, 6.2.2 Mutation, 6.3.1 Normal and Serial Execution).
+//! Mutations: resolvers that change their context, and the fields of a mutation's root, answered
+//! one after the other (GraphQL October 2021, 6.2.2 Mutation, 6.3.1 Normal and Serial Execution).
 #![tactic(auto)]
 
 mod asking;

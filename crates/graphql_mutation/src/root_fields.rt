@@ -4,7 +4,8 @@ ghost use Rattle.std.specs.Prelude.{◌≡◌, ◌⊎◌, IfOk, OnErr};
 ghost use Rattle.graphql_collected.specs.Requests.{fragments_in};
 ghost use Rattle.graphql_written_out.specs.Written.{Settled, head_of};
 ghost use Rattle.graphql_execution_walk.specs.Begins.{Completes};
-ghost use Rattle.graphql_mutation.specs.Completing.{IsValueOrTold, outcome_of_result, own_error_of_result, step_shown};
+ghost use Rattle.graphql_mutation.specs.Completing.{IsValueOrTold, outcome_of_result};
+ghost use Rattle.graphql_mutation.specs.Completing.{own_error_of_result, step_shown};
 ghost use Rattle.graphql_mutation.specs.Mutations.{mutation_of};
 ghost use Rattle.graphql_mutation.specs.Runs.{HasRun, LeavesOrKeeps};
 ghost use Rattle.graphql_mutation.specs.Serial.{step_of};
@@ -19,9 +20,9 @@ use graphql_text::{Items, Spanning};
 use graphql_tree::Field;
 use std::alloc::AllocError;
 
-/// The value of a field of the root at which an executor stands: it is asked, and the answer is completed on
-/// the context after. What fails below the field is told. An error is that of the field itself, which is not
-/// told yet, or want of memory.
+/// The value of a field of the root at which an executor stands: it is asked, and the answer is
+/// completed on the context after. What fails below the field is told. An error is that of the
+/// field itself, which is not told yet, or want of memory.
 fn complete_field<'d, 'a, S: SchemaScalar + Drop, R: GraphQLMutationValue<S>>(
     resolver: &R,
     executor: &Executor<'_, 'd, 'a, (), S>,
@@ -35,24 +36,27 @@ fn complete_field<'d, 'a, S: SchemaScalar + Drop, R: GraphQLMutationValue<S>>(
         (R.type_of resolver.now) (R.answer resolver.now) (R.changes resolver.now) in
         let step = step_of m object.now context.old (head_of field.now) in
         Completes (own_error_of_result (m.engine step.after) executor.now step.answer)
-        (outcome_of_result (m.engine step.after) executor.now step.answer) errors.old result errors.new }
+        (outcome_of_result (m.engine step.after) executor.now step.answer) errors.old result
+        errors.new }
     ensures after { let m = mutation_of S.of_text S.of_bool S.answer executor.now.request.now
         (R.type_of resolver.now) (R.answer resolver.now) (R.changes resolver.now) in
-        LeavesOrKeeps context.old (step_of m object.now context.old (head_of field.now)).after result context.new }
+        LeavesOrKeeps context.old (step_of m object.now context.old (head_of field.now)).after
+        result context.new }
 {
     let answer = ask_root(resolver, executor, object, context, field)?;
     let over = executor.replaced_context(&*context);
     over.resolve_asked(resolver, answer, errors)
 }
 
-/// The value of the place at which an executor stands, or none where the place itself fails, which is told. An
-/// error is want of memory.
+/// The value of the place at which an executor stands, or none where the place itself fails, which
+/// is told. An error is want of memory.
 fn value_or_told<'d, 'a, Context, S: SchemaScalar + Drop>(
     executor: &Executor<'_, 'd, 'a, Context, S>,
     completed: FieldResult<Option<Value<S>>, S>,
     errors: &mut Items<ExecutionError<S>>,
 ) -> Result<Option<Value<S>>, AllocError>
-    ensures { IfOk result (λ value. IsValueOrTold executor.now completed errors.old value errors.new) }
+    ensures { IfOk result
+        (λ value. IsValueOrTold executor.now completed errors.old value errors.new) }
 {
     match completed {
         Ok(value) => Ok(value),
@@ -64,8 +68,8 @@ fn value_or_told<'d, 'a, Context, S: SchemaScalar + Drop>(
     }
 }
 
-/// What the place of a field of the root shows, at which an executor stands. All that fails is told, the field
-/// itself among it. An error is want of memory.
+/// What the place of a field of the root shows, at which an executor stands. All that fails is
+/// told, the field itself among it. An error is want of memory.
 pub(crate) fn show_field<'d, 'a, S: SchemaScalar + Drop, R: GraphQLMutationValue<S>>(
     resolver: &R,
     executor: &Executor<'_, 'd, 'a, (), S>,
@@ -78,7 +82,8 @@ pub(crate) fn show_field<'d, 'a, S: SchemaScalar + Drop, R: GraphQLMutationValue
     ensures run { let m = mutation_of S.of_text S.of_bool S.answer executor.now.request.now
         (R.type_of resolver.now) (R.answer resolver.now) (R.changes resolver.now) in
         let step = step_of m object.now context.old (head_of field.now) in
-        IfOk result (λ v. HasRun (step_shown m executor.now step) v errors.old errors.new context.new) }
+        IfOk result
+        (λ v. HasRun (step_shown m executor.now step) v errors.old errors.new context.new) }
     ensures begun { let m = mutation_of S.of_text S.of_bool S.answer executor.now.request.now
         (R.type_of resolver.now) (R.answer resolver.now) (R.changes resolver.now) in
         let step = step_of m object.now context.old (head_of field.now) in

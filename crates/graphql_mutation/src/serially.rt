@@ -31,18 +31,19 @@ fn push_member<S: Drop>(
     Ok(())
 }
 
-/// What a mutation's selections give on its root, and what they change (GraphQL October 2021, 6.2.2 Mutation,
-/// 6.3.1 Normal and Serial Execution): an object with a member for each response key, in order of first
-/// appearance, or nothing where a `null` that may not stand reached the root. Key after key, the first field is
-/// asked, once, and its answer is completed on the context that it leaves, with the selections of all fields of
-/// the key. Where a `null` reaches the root, no later key is asked. What fails is told behind what was told. How
-/// deep selection sets, lists and fragments nest costs heap, and no stack.
+/// What a mutation's selections give on its root, and what they change (GraphQL October 2021, 6.2.2
+/// Mutation, 6.3.1 Normal and Serial Execution): an object with a member for each response key, in
+/// order of first appearance, or nothing where a `null` that may not stand reached the root. Key
+/// after key, the first field is asked, once, and its answer is completed on the context that it
+/// leaves, with the selections of all fields of the key. Where a `null` reaches the root, no later
+/// key is asked. What fails is told behind what was told. How deep selection sets, lists and
+/// fragments nest costs heap, and no stack.
 ///
-/// The executor stands at the root, an object of its current type, and has `()` for a context, since the
-/// resolver's is written between the fields: `Executor::at_root` gives it.
+/// The executor stands at the root, an object of its current type, and has `()` for a context,
+/// since the resolver's is written between the fields: `Executor::at_root` gives it.
 ///
-/// An error is want of memory: the context is then the one after a beginning of the keys, of which none is asked
-/// in part.
+/// An error is want of memory: the context is then the one after a beginning of the keys, of which
+/// none is asked in part.
 pub fn answer_serially<'d, 'a, S: SchemaScalar + Drop, R: GraphQLMutationValue<S>>(
     resolver: &R,
     root: &Executor<'_, 'd, 'a, (), S>,
@@ -53,13 +54,15 @@ pub fn answer_serially<'d, 'a, S: SchemaScalar + Drop, R: GraphQLMutationValue<S
     ensures run { let m = mutation_of S.of_text S.of_bool S.answer root.now.request.now
         (R.type_of resolver.now) (R.answer resolver.now) (R.changes resolver.now) in
         let sets = sets_in root.now.request.now root.now.selected in
-        let run = run_map object_members (mutate m root.now.current_type.name.now context.old sets) in
+        let run =
+        run_map object_members (mutate m root.now.current_type.name.now context.old sets) in
         IfOk result (λ v. HasRun run v errors.old errors.new context.new) }
     ensures begun { let m = mutation_of S.of_text S.of_bool S.answer root.now.request.now
         (R.type_of resolver.now) (R.answer resolver.now) (R.changes resolver.now) in
         let sets = sets_in root.now.request.now root.now.selected in
         let groups = root_groups m root.now.current_type.name.now context.old sets in
-        OnErr result (AfterBeginning m root.now.current_type.name.now context.old groups context.new) }
+        OnErr result
+        (AfterBeginning m root.now.current_type.name.now context.old groups context.new) }
 {
     let groups = groups_of_root(root)?;
     let mut members = Items::new(root.alloc);

@@ -9,9 +9,9 @@ use graphql_field_results::{FieldResult, Resolved};
 use graphql_schema::SchemaScalar;
 use std::alloc::Global;
 
-/// A resolver for a schema without a mutation type, where queries alone are executed and the root of no
-/// mutation is asked: it answers what the one that it holds does, and for each field of a mutation's root
-/// null, of which the context stays as it was.
+/// A resolver for a schema without a mutation type, where queries alone are executed and the root
+/// of no mutation is asked: it answers what the one that it holds does, and for each field of a
+/// mutation's root null, of which the context stays as it was.
 #[derive(Drop)]
 pub struct WithoutMutations<R> {
     /// What queries are answered by.

@@ -15,8 +15,10 @@ module _ {A : Type 0} (name_of : A → Bytes) (items : List A) where
 
   -- places compare by the names that stand at them, and where these are one by themselves
   abbrev pub place_cmp : ℕ → ℕ → Ordering
-  place_cmp place other = ordering_then (slice_cmp nat_cmp (name_at place) (name_at other)) (nat_cmp place other)
+  place_cmp place other =
+      ordering_then (slice_cmp nat_cmp (name_at place) (name_at other)) (nat_cmp place other)
 
   -- the place of each item, in that order
   abbrev pub IsIndex : List ℕ → Type 0
-  IsIndex places = IsPermutation (range_with_len 0 (length items)) places × IsSorted place_cmp places
+  IsIndex places =
+      IsPermutation (range_with_len 0 (length items)) places × IsSorted place_cmp places

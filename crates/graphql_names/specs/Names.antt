@@ -21,7 +21,8 @@ stands_twice names name = nat_lt 1 (count_by (bytes_eq name) names)
 
 -- a name at which something stands, or none where it stands at none
 abbrev pub Finds : (Bytes → Bool) → Option (Bor Bytes) → Type 0
-Finds stands found = MatchOption found ((name : Bytes) → stands name ≡ false) (λ name. stands name.now ≡ true)
+Finds stands found =
+    MatchOption found ((name : Bytes) → stands name ≡ false) (λ name. stands name.now ≡ true)
 
 -- there is an item, and it passes the test
 abbrev pub passes : {A : Type 0} → (A → Bool) → Option A → Bool

@@ -1,5 +1,7 @@
--- References to types: a name, and the wraps around it, the innermost first (GraphQL October 2021, 2.11 Type References).
-use Rattle.std.specs.Prelude.{◌++◌, ◌-◌, ◌||◌, ℕ, Bool, true, false, Option, Some, None, if◌then◌else◌, List, [], ◌∷◌, length, take, slice_get, codes}
+-- References to types: a name, and the wraps around it, the innermost first (GraphQL October 2021,
+-- 2.11 Type References).
+use Rattle.std.specs.Prelude.{◌++◌, ◌-◌, ◌||◌, ℕ, Bool, true, false, Option, Some, None}
+use Rattle.std.specs.Prelude.{if◌then◌else◌, List, [], ◌∷◌, length, take, slice_get, codes}
 use Rattle.graphql_names.specs.declared.type_modifier.TypeModifier.{TypeModifier}
 use Rattle.graphql_names.specs.declared.type_modifier.TypeModifier.TheVariants as modifier
 

@@ -2,7 +2,8 @@
 
 ghost use Rattle.std.specs.Prelude.{◌≡◌, ◌≢◌, ◌↔◌, [], length, Some, refl, IsTrue, IfOk, IfErr};
 ghost use Rattle.std.specs.Cmp.{partial_equiv_from_equiv};
-ghost use Rattle.std.specs.Cmp.Lexicographic.{slice_cmp, nat_list_eq_equiv, nat_list_cmp_total, texts_po, texts_ties};
+ghost use Rattle.std.specs.Cmp.Lexicographic.{slice_cmp, nat_list_eq_equiv, nat_list_cmp_total};
+ghost use Rattle.std.specs.Cmp.Lexicographic.{texts_po, texts_ties};
 ghost use Rattle.std.specs.Cmp.Rules.{hashing};
 ghost use Rattle.std.specs.Hash as fed;
 ghost use Rattle.std.specs.Ordering.{nat_cmp};
@@ -84,7 +85,8 @@ impl Name {
     /// The name of this text. The text is no name: an error with the text.
     pub fn new(alloc: Global, text: &str) -> Result<Name, NameParseError>
         ensures name { IfOk result (λ name. (name ≡ text.now) × IsName (chars text.now)) }
-        ensures refusal { IfErr result (λ e. e ≢ Memory → (e ≡ Invalid text.now) × ¬ (IsName (chars text.now))) }
+        ensures refusal { IfErr result
+            (λ e. e ≢ Memory → (e ≡ Invalid text.now) × ¬ (IsName (chars text.now))) }
     {
         let held = Text::from_str(alloc, text)?;
         if Name::is_valid(text) {

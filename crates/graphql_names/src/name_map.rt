@@ -1,6 +1,7 @@
 //! Items that are looked up by their names.
 
-ghost use Rattle.std.specs.Prelude.{◌≡◌, ℕ, List, [], map, length, true, false, IfOk, IfErr, OnOk, OnErr, MatchOption, IsPermutation, if◌then◌else◌, Some, None};
+ghost use Rattle.std.specs.Prelude.{◌≡◌, ℕ, List, [], map, length, true, false, IfOk, IfErr, OnOk};
+ghost use Rattle.std.specs.Prelude.{OnErr, MatchOption, IsPermutation, if◌then◌else◌, Some, None};
 ghost use Rattle.std.specs.Cmp.Lexicographic.{slice_cmp};
 ghost use Rattle.std.specs.List.{AllAdjacentBelow};
 ghost use Rattle.std.specs.List.Sorted.{IsBinarySearchResult, IsSearchInRange};
@@ -78,7 +79,8 @@ impl<T: Named> NameMap<T> {
     where
         T: Drop,
         ensures permutation { IfOk result (λ map. IsPermutation items map) }
-        ensures once { IfOk result (λ _. (name : List ℕ) → stands_twice (map T.name_of items) name ≡ false) }
+        ensures once { IfOk result
+            (λ _. (name : List ℕ) → stands_twice (map T.name_of items) name ≡ false) }
         ensures by_name { IfOk result (λ map. IsByName T.name_of map) }
         ensures repeated { IfErr result (IsRepeat (map T.name_of items)) }
     {
@@ -104,7 +106,8 @@ impl<T: Named> NameMap<T> {
     /// The place of the item of this name, or the place at which an item of this name would stand.
     fn place_of(&self, name: &str) -> Result<usize, usize>
         ensures bound { IsSearchInRange result (length self.now) }
-        ensures place { IsBinarySearchResult (λ item. slice_cmp nat_cmp (T.name_of item) name.now) self.now result }
+        ensures place { IsBinarySearchResult (λ item. slice_cmp nat_cmp (T.name_of item) name.now)
+            self.now result }
     {
         self.items
             .as_slice()
@@ -129,7 +132,8 @@ impl<T: Named> NameMap<T> {
     pub fn put(&mut self, item: T) -> Result<(), AllocError>
     where
         T: Drop,
-        ensures ok { OnOk result ((name : List ℕ) → named T.name_of self.new name ≡ (if bytes_eq (T.name_of item) name then Some item else named T.name_of self.old name)) }
+        ensures ok { OnOk result ((name : List ℕ) → named T.name_of self.new name ≡ (if bytes_eq
+            (T.name_of item) name then Some item else named T.name_of self.old name)) }
         ensures err { OnErr result (self.new ≡ self.old) }
         ensures err_new { OnErr result (named T.name_of self.old (T.name_of item) ≡ None) }
     {
@@ -146,10 +150,12 @@ impl<T: Named> NameMap<T> {
     }
 }
 
-/// The first name that two neighbours have, or `None` where neighbours have different names. In order,
-/// equal names are neighbours: no set of names is needed to find them, and no memory.
+/// The first name that two neighbours have, or `None` where neighbours have different names. In
+/// order, equal names are neighbours: no set of names is needed to find them, and no memory.
 fn repeated_neighbour<T: Named>(items: &[T]) -> Option<&str>
-    ensures { MatchOption result (AllAdjacentBelow (λ x y. bytes_eq (T.name_of x) (T.name_of y) ≡ false) items.now (length items.now)) (λ name. stands_twice (map T.name_of items.now) name.now ≡ true) }
+    ensures { MatchOption result (AllAdjacentBelow
+        (λ x y. bytes_eq (T.name_of x) (T.name_of y) ≡ false) items.now (length items.now))
+        (λ name. stands_twice (map T.name_of items.now) name.now ≡ true) }
 {
     for place in 1..items.len() {
         let name = items[place].name();

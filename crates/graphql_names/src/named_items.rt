@@ -1,6 +1,7 @@
 //! Items in the order in which they were declared, found by their names.
 
-ghost use Rattle.std.specs.Prelude.{◌≡◌, ◌↔◌, ◌++◌, ◌∷◌, ◌≤◌, List, [], length, slice_get, true, false, IsTrue, IfOk, OnOk, OnErr};
+ghost use Rattle.std.specs.Prelude.{◌≡◌, ◌↔◌, ◌++◌, ◌∷◌, ◌≤◌, List, [], length, slice_get, true};
+ghost use Rattle.std.specs.Prelude.{false, IsTrue, IfOk, OnOk, OnErr};
 ghost use Rattle.std.specs.Cmp.Lexicographic.{slice_cmp};
 ghost use Rattle.std.specs.List.{AllZip, range_with_len};
 ghost use Rattle.std.specs.List.Sorted.{IsPartitionPoint, IsPartitionedBy};
@@ -17,8 +18,9 @@ use std::alloc::{AllocError, Global};
 use std::cmp::Ordering;
 use std::marker::Model;
 
-/// Items in the order in which they were declared, each found by its name, as the fields of a type and
-/// the arguments of a field are (GraphQL October 2021, 3.6 Objects). A name may stand more than once:
+/// Items in the order in which they were declared, each found by its name, as the fields of a type
+/// and the arguments of a field are (GraphQL October 2021, 3.6 Objects). A name may stand more than
+/// once:
 /// it finds the first of its items.
 #[derive(Drop)]
 pub struct NamedItems<T: Named> {
@@ -85,8 +87,8 @@ impl<T: Named> NamedItems<T> {
         self.items.is_empty()
     }
 
-    /// The first item of this name, or `None` where no item has it: among few it is looked for one by
-    /// one, among more by binary search.
+    /// The first item of this name, or `None` where no item has it: among few it is looked for one
+    /// by one, among more by binary search.
     pub fn get(&self, name: &str) -> Option<&T>
         ensures { option_copied result ≡ named T.name_of self.now name.now }
     {
@@ -127,8 +129,8 @@ impl<T: Named> NamedItems<T> {
 /// Among so many items a name is looked for one by one, and among more by binary search.
 pub(crate) const FEW: usize = 32;
 
-/// Whether two names are one: their lengths and then their bytes are compared, since most names that differ do so in
-/// their lengths or in their first bytes.
+/// Whether two names are one: their lengths and then their bytes are compared, since most names
+/// that differ do so in their lengths or in their first bytes.
 pub fn same_name(one: &str, other: &str) -> bool
     ensures { result ≡ bytes_eq one.now other.now }
 {
@@ -164,7 +166,8 @@ fn name_at<T: Named>(items: &[T], place: usize) -> &str
 
 /// The item at this place, where it has this name.
 fn item_named<'a, T: Named>(items: &'a [T], place: usize, name: &str) -> Option<&'a T>
-    ensures { option_copied result ≡ named T.name_of (option_to_list (slice_get items.now place)) name.now }
+    ensures { option_copied result
+        ≡ named T.name_of (option_to_list (slice_get items.now place)) name.now }
 {
     match items.get(place) {
         Some(item) if same_name(item.name(), name) => Some(item),
@@ -175,7 +178,11 @@ fn item_named<'a, T: Named>(items: &'a [T], place: usize, name: &str) -> Option<
 /// Where in an index the places of a name begin, or would: behind those of lesser names.
 fn begin_of<T: Named>(items: &[T], by_name: &[usize], name: &str) -> usize
     ensures bound { result ≤ length by_name.now }
-    ensures split { IsIndex T.name_of items.now by_name.now → IsPartitionPoint (λ place. is_lt (slice_cmp nat_cmp (name_at T.name_of items.now place) name.now) ≡ true) (λ place. is_lt (slice_cmp nat_cmp (name_at T.name_of items.now place) name.now) ≡ false) by_name.now result }
+    ensures split { IsIndex T.name_of items.now by_name.now
+        → IsPartitionPoint
+        (λ place. is_lt (slice_cmp nat_cmp (name_at T.name_of items.now place) name.now) ≡ true)
+        (λ place. is_lt (slice_cmp nat_cmp (name_at T.name_of items.now place) name.now) ≡ false)
+        by_name.now result }
 {
     by_name.partition_point(|place| name_at(items, *place).cmp(name).is_lt())
 }
@@ -183,7 +190,11 @@ fn begin_of<T: Named>(items: &[T], by_name: &[usize], name: &str) -> usize
 /// Where in an index the places of a name end, or would: before those of greater names.
 fn end_of<T: Named>(items: &[T], by_name: &[usize], name: &str) -> usize
     ensures bound { result ≤ length by_name.now }
-    ensures split { IsIndex T.name_of items.now by_name.now → IsPartitionPoint (λ place. is_le (slice_cmp nat_cmp (name_at T.name_of items.now place) name.now) ≡ true) (λ place. is_le (slice_cmp nat_cmp (name_at T.name_of items.now place) name.now) ≡ false) by_name.now result }
+    ensures split { IsIndex T.name_of items.now by_name.now
+        → IsPartitionPoint
+        (λ place. is_le (slice_cmp nat_cmp (name_at T.name_of items.now place) name.now) ≡ true)
+        (λ place. is_le (slice_cmp nat_cmp (name_at T.name_of items.now place) name.now) ≡ false)
+        by_name.now result }
 {
     by_name.partition_point(|place| name_at(items, *place).cmp(name).is_le())
 }
@@ -220,11 +231,12 @@ fn index_of<T: Named>(alloc: Global, items: &[T]) -> Result<Items<usize>, AllocE
 impl<T: Named + Clone + Drop> Clone for NamedItems<T> {
     ghost is_clone = { AllZip T.is_clone };
 
-    /// A clone of each item in turn. Where a clone of an item is the same item, the clones are the same
-    /// items. An error is want of memory.
+    /// A clone of each item in turn. Where a clone of an item is the same item, the clones are the
+    /// same items. An error is want of memory.
     fn clone(&self) -> Result<NamedItems<T>, AllocError>
         ensures clones { IfOk result (AllZip T.is_clone self.now) }
-        ensures same { IfOk result (λ copy. ((x y : T) → T.is_clone x y → y ≡ x) → copy ≡ self.now) }
+        ensures same { IfOk result
+            (λ copy. ((x y : T) → T.is_clone x y → y ≡ x) → copy ≡ self.now) }
     {
         NamedItems::from_items(self.items.clone()?)
     }

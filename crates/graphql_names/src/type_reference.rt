@@ -30,7 +30,8 @@ pub type BorrowedType<'a> = Type<TextRef<'a>, &'a [TypeModifier]>;
 impl<N: AsStr, M: AsSlice<TypeModifier>> Type<N, M> {
     /// The name of a named type, also where it has no `null`; a list has none.
     pub fn name(&self) -> Option<&str>
-        ensures { option_map (λ name. name.now) result ≡ (if spec.has_list (M.items self.now.modifiers) then None else Some (N.text self.now.name)) }
+        ensures { option_map (λ name. name.now) result ≡ (if spec.has_list
+            (M.items self.now.modifiers) then None else Some (N.text self.now.name)) }
     {
         if self.is_list() {
             None
@@ -126,21 +127,24 @@ impl<N> Type<N> {
 impl<N: Drop> Type<N> {
     /// Lists of this type, of `size` items where it is given. An error is want of memory.
     pub fn wrap_list(self, size: Option<usize>) -> Result<Type<N>, AllocError>
-        ensures { Gives result (record { name = self.name; modifiers = self.modifiers ++ modifier.List size ∷ [] }) }
+        ensures { Gives result
+            (record { name = self.name; modifiers = self.modifiers ++ modifier.List size ∷ [] }) }
     {
         self.wrap(TypeModifier::List(size))
     }
 
     /// The same type without `null`. An error is want of memory.
     pub fn wrap_non_null(self) -> Result<Type<N>, AllocError>
-        ensures { Gives result (record { name = self.name; modifiers = self.modifiers ++ modifier.NonNull ∷ [] }) }
+        ensures { Gives result
+            (record { name = self.name; modifiers = self.modifiers ++ modifier.NonNull ∷ [] }) }
     {
         self.wrap(TypeModifier::NonNull)
     }
 
     /// The type with one more wrap around it.
     fn wrap(self, modifier: TypeModifier) -> Result<Type<N>, AllocError>
-        ensures { Gives result (record { name = self.name; modifiers = self.modifiers ++ modifier ∷ [] }) }
+        ensures { Gives result
+            (record { name = self.name; modifiers = self.modifiers ++ modifier ∷ [] }) }
     {
         let Type {
             name,

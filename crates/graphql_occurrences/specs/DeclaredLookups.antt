@@ -1,4 +1,5 @@
--- What a schema declares of the parts of a document (GraphQL October 2021, 3.3.1 Root Operation Types, 3.6 Objects, 3.11 List, 4.1 Type Name Introspection).
+-- What a schema declares of the parts of a document (GraphQL October 2021, 3.3.1 Root Operation
+-- Types, 3.6 Objects, 3.11 List, 4.1 Type Name Introspection).
 use Rattle.std.specs.Prelude.{◌&&◌, List, [], Option, Some, None, codes, if◌then◌else◌}
 use Rattle.std.specs.Option.{option_map, option_and_then}
 use Rattle.std.specs.Str.{bytes_eq}
@@ -9,7 +10,8 @@ use Rattle.graphql_schema.specs.declared.meta.field.Field.{Field}
 use Rattle.graphql_schema.specs.declared.meta.MetaType.{MetaType}
 use Rattle.graphql_schema.specs.Types.{TypeOf, arguments_of, fields_of, reference_to}
 use Rattle.graphql_names.specs.Names.{Bytes, named}
-pub use Rattle.graphql_schema.specs.Declarations.{Declarations, declarations_of, argument_named, own_name, type_named}
+pub use Rattle.graphql_schema.specs.Declarations.{Declarations, declarations_of, argument_named}
+pub use Rattle.graphql_schema.specs.Declarations.{own_name, type_named}
 pub use Rattle.graphql_schema.specs.StandardDirectives.{directive_named}
 use Rattle.graphql_schema.specs.TypeTypes.{within_list}
 use Rattle.graphql_schema.specs.Declarations.{is_composite}
@@ -18,13 +20,20 @@ use Rattle.graphql_tree.specs.declared.document.OperationType.TheVariants as ope
 
 -- the type of a list's items (3.11 List)
 abbrev pub item_type : TypeOf → Option TypeOf
-item_type t = option_map (λ wraps. record { name = t.name; modifiers = wraps }) (within_list t.modifiers)
+item_type t =
+    option_map (λ wraps. record { name = t.name; modifiers = wraps }) (within_list t.modifiers)
 
 module _ {S : Type 0} where
   -- `__typename: String!` (4.1 Type Name Introspection)
   abbrev pub typename_field : Field S
   typename_field =
-      record { name = codes "__typename"; description = None; arguments = None; field_type = reference_to (codes "String"); deprecation_status = status.Current }
+      record {
+        name = codes "__typename";
+        description = None;
+        arguments = None;
+        field_type = reference_to (codes "String");
+        deprecation_status = status.Current;
+      }
 
   -- the arguments of a field, where the field is known
   abbrev pub field_arguments : Option (Field S) → Option (List (Argument S))
@@ -38,9 +47,12 @@ module _ {S : Type 0} where
   directive_arguments = option_map (λ d. d.arguments)
 
 module _ {S C : Type 0} where
-  -- the field of this name of an object, an interface or a union, among them `__typename` (5.3.1 Field Selections)
+  -- the field of this name of an object, an interface or a union, among them `__typename` (5.3.1
+  -- Field Selections)
   abbrev pub field_in : MetaType S C → Bytes → Option (Field S)
-  field_in m name = if bytes_eq name (codes "__typename") && is_composite m then Some typename_field else named (λ f. f.name) (fields_of m) name
+  field_in m name = if bytes_eq name (codes "__typename")
+      && is_composite m then Some typename_field
+      else named (λ f. f.name) (fields_of m) name
 
   -- the same, where the type is known
   abbrev pub field_of : Option (MetaType S C) → Bytes → Option (Field S)

@@ -1,9 +1,11 @@
--- What a walk over a document enters and leaves, in order, with the types around it (GraphQL October 2021, 2 Language). Below an unknown type there is nothing.
+-- What a walk over a document enters and leaves, in order, with the types around it (GraphQL
+-- October 2021, 2 Language). Below an unknown type there is nothing.
 use Rattle.std.specs.Prelude.{List, [], ◌∷◌, ◌++◌, Option, Some, None, unwrap_or}
 use Rattle.std.specs.List.{flat_map}
 use Rattle.std.specs.Option.{option_map}
 use Rattle.graphql_schema.specs.declared.directive_location.DirectiveLocation.{DirectiveLocation}
-use Rattle.graphql_schema.specs.declared.directive_location.DirectiveLocation.TheVariants as location
+use Rattle.graphql_schema.specs.declared.directive_location.DirectiveLocation.TheVariants as
+    location
 use Rattle.graphql_schema.specs.declared.meta.argument.Argument as declared
 use Rattle.graphql_schema.specs.declared.meta.MetaType.{MetaType}
 use Rattle.graphql_schema.specs.Types.{TypeOf, reference_to}
@@ -22,14 +24,25 @@ use Rattle.graphql_tree.specs.declared.selection.Field.{Field}
 use Rattle.graphql_tree.specs.declared.selection.FragmentSpread.{FragmentSpread}
 use Rattle.graphql_tree.specs.declared.selection.InlineFragment.{InlineFragment}
 use Rattle.graphql_tree.specs.declared.selection.Selection.{Selection, fold-Selection}
-use Rattle.graphql_tree.specs.declared.selection.Selection.TheOpen.{Selection-F, Field-F, InlineFragment-F}
+use Rattle.graphql_tree.specs.declared.selection.Selection.TheOpen.{Selection-F, Field-F}
+use Rattle.graphql_tree.specs.declared.selection.Selection.TheOpen.{InlineFragment-F}
 use Rattle.graphql_tree.specs.Variables.{Variable}
-use Rattle.graphql_values.specs.declared.input_value.InputValue.{InputValue, fold-InputValue, out-InputValue}
+use Rattle.graphql_values.specs.declared.input_value.InputValue.{InputValue, fold-InputValue}
+use Rattle.graphql_values.specs.declared.input_value.InputValue.{out-InputValue}
 use Rattle.graphql_values.specs.declared.input_value.InputValue.TheOpen.{InputValue-F}
 use Rattle.graphql_values.specs.InputValues.{Placed, Pair}
-use Rattle.graphql_occurrences.specs.Lookups.{argument_place, bare_place, directive_arguments, field_arguments, field_of, field_place, field_type, item_place, location_of, referred, root_of}
+use Rattle.graphql_occurrences.specs.Lookups.{argument_place, bare_place, directive_arguments}
+use Rattle.graphql_occurrences.specs.Lookups.{field_arguments, field_of, field_place, field_type}
+use Rattle.graphql_occurrences.specs.Lookups.{item_place, location_of, referred, root_of}
 use Rattle.graphql_tree.specs.Documents.{arguments_in, variables_in}
-use Rattle.graphql_occurrences.specs.Nodes.{Owner, OfField, OfDirective, AtVariableDefinition, AtDirective, AtArgument, AtSelectionSet, AtField, AtFragmentSpread, AtInlineFragment, AtValue, AtObjectField, Node, AtDocument, AtOperation, AtFragment, Inner, Event, Enter, Leave, Around, Seen, placed_as, value_head_layer, field_head, field_head_layer, inline_head, inline_head_layer, spread_head, operation_head, fragment_head}
+use Rattle.graphql_occurrences.specs.Nodes.{Owner, OfField, OfDirective, AtVariableDefinition}
+use Rattle.graphql_occurrences.specs.Nodes.{AtDirective, AtArgument, AtSelectionSet, AtField}
+use Rattle.graphql_occurrences.specs.Nodes.{AtFragmentSpread, AtInlineFragment, AtValue}
+use Rattle.graphql_occurrences.specs.Nodes.{AtObjectField, Node, AtDocument, AtOperation}
+use Rattle.graphql_occurrences.specs.Nodes.{AtFragment, Inner, Event, Enter, Leave, Around, Seen}
+use Rattle.graphql_occurrences.specs.Nodes.{placed_as, value_head_layer, field_head}
+use Rattle.graphql_occurrences.specs.Nodes.{field_head_layer, inline_head, inline_head_layer}
+use Rattle.graphql_occurrences.specs.Nodes.{spread_head, operation_head, fragment_head}
 use Rattle.graphql_occurrences.specs.Parts.{InputPlace}
 
 -- the events of something, by the types around it
@@ -94,7 +107,9 @@ module _ {S C : Type 0} (schema : Declarations S C) where
   content_layer _ = λ around. []
 
   abbrev pub value_layer : InputValue-F S (PlacedWithin S C) → PlacedWithin S C
-  value_layer v span around = through (Inner (AtValue (record { item = value_head_layer v; span = span }))) (content_layer v around) around
+  value_layer v span around =
+      through (Inner (AtValue (record { item = value_head_layer v; span = span })))
+      (content_layer v around) around
 
   -- 2.9 Input Values
   unfoldable pub value_within : InputValue S → PlacedWithin S C
@@ -126,55 +141,68 @@ module _ {S C : Type 0} (schema : Declarations S C) where
       let inside = asked around (argument_place declared a.0.item) in
       through (Inner (AtArgument owner declared a)) (value_events a.1 inside) inside
 
-  abbrev pub arguments_events : Owner → Option (List (declared.Argument S)) → List (Argument S) → Within S C
+  abbrev pub arguments_events : Owner → Option (List (declared.Argument S)) → List (Argument S)
+      → Within S C
   arguments_events owner declared = each (argument_events owner declared)
 
   -- 2.12 Directives
   abbrev pub directive_events : DirectiveLocation → Placed (Directive S) → Within S C
   directive_events place d around =
       let declared = directive_named schema.directives d.item.name.item in
-      through (Inner (AtDirective place declared d)) (arguments_events (OfDirective d.item.name.item) (directive_arguments declared) (arguments_in d.item.arguments) around) around
+      through (Inner (AtDirective place declared d))
+      (arguments_events (OfDirective d.item.name.item) (directive_arguments declared)
+      (arguments_in d.item.arguments) around) around
 
   abbrev pub directives_events : DirectiveLocation → List (Placed (Directive S)) → Within S C
   directives_events place = each (directive_events place)
 
   -- 2.4 Selection Sets
   abbrev pub set_around : Around S C → Around S C
-  set_around around = record { current = around.current; parent = referred schema around.current; input = None }
+  set_around around =
+      record { current = around.current; parent = referred schema around.current; input = None }
 
   abbrev pub set_of : Within S C → Within S C
-  set_of selections around = if_known (set_around around).parent (through (Inner AtSelectionSet) (selections (set_around around)) (set_around around))
+  set_of selections around = if_known (set_around around).parent
+      (through (Inner AtSelectionSet) (selections (set_around around)) (set_around around))
 
   abbrev pub optional_layer : Option (List (Within S C)) → Within S C
   optional_layer None = λ around. []
   optional_layer (Some selections) = set_of (each (λ s. s) selections)
 
-  abbrev pub field_layer : Field-F S (Within S C) (PlacedWithin S C) (PlacedWithin S C) → PlacedWithin S C
+  abbrev pub field_layer : Field-F S (Within S C) (PlacedWithin S C) (PlacedWithin S C)
+      → PlacedWithin S C
   field_layer f span outer =
       let declared = field_of outer.parent f.name.item in
       let inside = field_around outer f.name.item in
       through (Inner (AtField declared (record { item = field_head_layer f; span = span })))
-      (arguments_events (OfField f.name.item) (field_arguments declared) (arguments_in f.arguments) inside
-      ++ (directives_events location.Field (unwrap_or f.directives []) inside ++ optional_layer f.selection_set inside)) inside
+      (arguments_events (OfField f.name.item) (field_arguments declared) (arguments_in f.arguments)
+      inside
+      ++ (directives_events location.Field (unwrap_or f.directives []) inside
+      ++ optional_layer f.selection_set inside)) inside
 
   -- 2.8 Fragments
   abbrev pub spread_events : Placed (FragmentSpread S) → Within S C
   spread_events s around =
-      through (Inner (AtFragmentSpread (placed_as s (spread_head s.item)))) (directives_events location.FragmentSpread (unwrap_or s.item.directives []) around) around
+      through (Inner (AtFragmentSpread (placed_as s (spread_head s.item))))
+      (directives_events location.FragmentSpread (unwrap_or s.item.directives []) around) around
 
-  abbrev pub inline_layer : InlineFragment-F S (Within S C) (PlacedWithin S C) (PlacedWithin S C) → PlacedWithin S C
+  abbrev pub inline_layer : InlineFragment-F S (Within S C) (PlacedWithin S C) (PlacedWithin S C)
+      → PlacedWithin S C
   inline_layer i span outer =
       let inside = condition_around outer i.type_condition in
       through (Inner (AtInlineFragment (record { item = inline_head_layer i; span = span })))
-      (directives_events location.InlineFragment (unwrap_or i.directives []) inside ++ set_of (each (λ s. s) i.selection_set) inside) inside
+      (directives_events location.InlineFragment (unwrap_or i.directives []) inside
+      ++ set_of (each (λ s. s) i.selection_set) inside) inside
 
-  abbrev pub selection_layer : Selection-F S (Within S C) (PlacedWithin S C) (PlacedWithin S C) → Within S C
+  abbrev pub selection_layer : Selection-F S (Within S C) (PlacedWithin S C) (PlacedWithin S C)
+      → Within S C
   selection_layer (Selection-F.Field f) = f.item f.span
   selection_layer (Selection-F.FragmentSpread s) = spread_events s
   selection_layer (Selection-F.InlineFragment i) = i.item i.span
 
   unfoldable pub selection_events : Selection S → Within S C
-  selection_events = fold-Selection S (Within S C) (PlacedWithin S C) (PlacedWithin S C) selection_layer field_layer inline_layer
+  selection_events = fold-Selection S (Within S C) (PlacedWithin S C) (PlacedWithin S C)
+      selection_layer field_layer inline_layer
 
   -- below an unknown type there is nothing
   abbrev pub set_events : List (Selection S) → Within S C
@@ -190,15 +218,18 @@ module _ {S C : Type 0} (schema : Declarations S C) where
       let declared = field_of outer.parent f.item.name.item in
       let inside = field_around outer f.item.name.item in
       through (Inner (AtField declared (placed_as f (field_head f.item))))
-      (arguments_events (OfField f.item.name.item) (field_arguments declared) (arguments_in f.item.arguments) inside
-      ++ (directives_events location.Field (unwrap_or f.item.directives []) inside ++ optional_set f.item.selection_set inside)) inside
+      (arguments_events (OfField f.item.name.item) (field_arguments declared)
+      (arguments_in f.item.arguments) inside
+      ++ (directives_events location.Field (unwrap_or f.item.directives []) inside
+      ++ optional_set f.item.selection_set inside)) inside
 
   -- 2.8.2 Inline Fragments
   abbrev pub inline_events : Placed (InlineFragment S) → Within S C
   inline_events i outer =
       let inside = condition_around outer i.item.type_condition in
       through (Inner (AtInlineFragment (placed_as i (inline_head i.item))))
-      (directives_events location.InlineFragment (unwrap_or i.item.directives []) inside ++ set_events i.item.selection_set inside) inside
+      (directives_events location.InlineFragment (unwrap_or i.item.directives []) inside
+      ++ set_events i.item.selection_set inside) inside
 
   abbrev pub default_events : Option (Placed (InputValue S)) → Within S C
   default_events None around = []
@@ -208,7 +239,9 @@ module _ {S C : Type 0} (schema : Declarations S C) where
   abbrev pub variable_events : Variable S → Within S C
   variable_events v around =
       let inside = asked around (Some (bare_place v.1.var_type.item)) in
-      through (Inner (AtVariableDefinition v)) (default_events v.1.default_value inside ++ directives_events location.VariableDefinition (unwrap_or v.1.directives []) inside) inside
+      through (Inner (AtVariableDefinition v)) (default_events v.1.default_value inside
+      ++ directives_events location.VariableDefinition (unwrap_or v.1.directives []) inside)
+      inside
 
   -- 2.3 Operations
   abbrev pub operation_events : Placed (Operation S) → List (Seen S C)
@@ -216,14 +249,16 @@ module _ {S C : Type 0} (schema : Declarations S C) where
       let inside = top (option_map own_name (root_of schema o.item.operation_type)) in
       through (AtOperation (placed_as o (operation_head o.item)))
       (each variable_events (variables_in o.item.variable_definitions) inside
-      ++ (directives_events (location_of o.item.operation_type) (unwrap_or o.item.directives []) inside ++ set_events o.item.selection_set inside)) inside
+      ++ (directives_events (location_of o.item.operation_type) (unwrap_or o.item.directives [])
+      inside ++ set_events o.item.selection_set inside)) inside
 
   -- 2.8 Fragments
   abbrev pub fragment_events : Placed (Fragment S) → List (Seen S C)
   fragment_events f =
       let inside = top (Some f.item.type_condition.item) in
       through (AtFragment (placed_as f (fragment_head f.item)))
-      (directives_events location.FragmentDefinition (unwrap_or f.item.directives []) inside ++ set_events f.item.selection_set inside) inside
+      (directives_events location.FragmentDefinition (unwrap_or f.item.directives []) inside
+      ++ set_events f.item.selection_set inside) inside
 
   abbrev pub definition_events : Definition S → List (Seen S C)
   definition_events (definition.Operation o) = operation_events o

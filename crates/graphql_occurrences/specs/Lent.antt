@@ -2,7 +2,12 @@
 use Rattle.std.specs.Prelude.{List, []}
 use Rattle.std.specs.Option.{option_copied, option_map}
 pub use Rattle.graphql_occurrences.specs.DeclaredLent.{literal_of, field_of_known, arguments_lent}
-use Rattle.graphql_occurrences.specs.Nodes.{OfField, OfDirective, AtVariableDefinition, AtDirective, AtArgument, AtSelectionSet, AtField, AtFragmentSpread, AtInlineFragment, AtValue, AtObjectField, AtDocument, AtOperation, AtFragment, Inner, Enter, Leave, placed_as, operation_head, fragment_head, spread_head, field_head, inline_head, value_head}
+use Rattle.graphql_occurrences.specs.Nodes.{OfField, OfDirective, AtVariableDefinition, AtDirective}
+use Rattle.graphql_occurrences.specs.Nodes.{AtArgument, AtSelectionSet, AtField, AtFragmentSpread}
+use Rattle.graphql_occurrences.specs.Nodes.{AtInlineFragment, AtValue, AtObjectField, AtDocument}
+use Rattle.graphql_occurrences.specs.Nodes.{AtOperation, AtFragment, Inner, Enter, Leave, placed_as}
+use Rattle.graphql_occurrences.specs.Nodes.{operation_head, fragment_head, spread_head, field_head}
+use Rattle.graphql_occurrences.specs.Nodes.{inline_head, value_head}
 use Rattle.graphql_occurrences.specs.Nodes as spec
 use Rattle.graphql_occurrences.specs.Parts as part
 use Rattle.graphql_occurrences.specs.declared.around.Around.{Around}
@@ -16,7 +21,11 @@ use Rattle.graphql_occurrences.specs.declared.event.Owner.TheVariants as owner
 use Rattle.graphql_occurrences.specs.declared.event.Seen.{Seen}
 
 abbrev pub input_of : InputPlace → part.InputPlace
-input_of i = record { asked = literal_of i.asked; has_default = i.has_default; is_only_field = i.is_only_field }
+input_of i = record {
+  asked = literal_of i.asked;
+  has_default = i.has_default;
+  is_only_field = i.is_only_field;
+}
 
 abbrev pub owner_of : Owner → spec.Owner
 owner_of (owner.Field name) = OfField name.now
@@ -28,12 +37,17 @@ module _ {S : Type 0} where
   node_of (node.Operation o) = AtOperation (placed_as o.now (operation_head o.now.item))
   node_of (node.Fragment f) = AtFragment (placed_as f.now (fragment_head f.now.item))
   node_of (node.VariableDefinition v) = Inner (AtVariableDefinition v.now)
-  node_of (node.Directive place declared d) = Inner (AtDirective place (option_copied declared) d.now)
-  node_of (node.Argument owner declared a) = Inner (AtArgument (owner_of owner) (option_map arguments_lent declared) a.now)
+  node_of (node.Directive place declared d) =
+      Inner (AtDirective place (option_copied declared) d.now)
+  node_of (node.Argument owner declared a) =
+      Inner (AtArgument (owner_of owner) (option_map arguments_lent declared) a.now)
   node_of (node.SelectionSet s) = Inner AtSelectionSet
-  node_of (node.Field known f) = Inner (AtField (option_map field_of_known known) (placed_as f.now (field_head f.now.item)))
-  node_of (node.FragmentSpread s) = Inner (AtFragmentSpread (placed_as s.now (spread_head s.now.item)))
-  node_of (node.InlineFragment i) = Inner (AtInlineFragment (placed_as i.now (inline_head i.now.item)))
+  node_of (node.Field known f) =
+      Inner (AtField (option_map field_of_known known) (placed_as f.now (field_head f.now.item)))
+  node_of (node.FragmentSpread s) =
+      Inner (AtFragmentSpread (placed_as s.now (spread_head s.now.item)))
+  node_of (node.InlineFragment i) =
+      Inner (AtInlineFragment (placed_as i.now (inline_head i.now.item)))
   node_of (node.Value v) = Inner (AtValue (placed_as v.now (value_head v.now.item)))
   node_of (node.ObjectField p) = Inner (AtObjectField p.now)
 
@@ -43,7 +57,11 @@ module _ {S : Type 0} where
 
 module _ {S C : Type 0} where
   abbrev pub around_of : Around S C → spec.Around S C
-  around_of a = record { current = option_map literal_of a.current; parent = option_copied a.parent; input = option_map input_of a.input }
+  around_of a = record {
+    current = option_map literal_of a.current;
+    parent = option_copied a.parent;
+    input = option_map input_of a.input;
+  }
 
   abbrev pub seen_of : Seen S C → spec.Seen S C
   seen_of s = record { around = around_of s.around; event = event_of s.event }

@@ -1,4 +1,5 @@
--- The nodes of a document, each by its head: what it is, without what stands within it. And the types around one.
+-- The nodes of a document, each by its head: what it is, without what stands within it. And the
+-- types around one.
 use Rattle.std.specs.Prelude.{List, [], Option, Some, None, map}
 use Rattle.graphql_text.specs.declared.text.Text.{Text}
 use Rattle.graphql_schema.specs.declared.directive.DirectiveType.{DirectiveType}
@@ -29,7 +30,8 @@ pub data Owner : Type 0 where
   OfField : Bytes → Owner
   OfDirective : Bytes → Owner
 
--- the head of a node within a definition; of a directive, a field and an argument, with what is declared there
+-- the head of a node within a definition; of a directive, a field and an argument, with what is
+-- declared there
 pub data Head (S : Type 0) : Type 0 where
   AtVariableDefinition : Variable S → Head S
   AtDirective : DirectiveLocation → Option (DirectiveType S) → Placed (Directive S) → Head S
@@ -51,7 +53,8 @@ pub data Event (S : Type 0) : Type 0 where
   Enter : Node S → Event S
   Leave : Node S → Event S
 
--- the types around a node, where they are known: of what is selected, what it is selected of, where a value stands
+-- the types around a node, where they are known: of what is selected, what it is selected of, where
+-- a value stands
 pub record Around (S C : Type 0) : Type 0 where
   pub current : Option TypeOf
   pub parent : Option (MetaType S C)
@@ -89,14 +92,21 @@ module _ {S : Type 0} where
   value_head v = value_head_layer (out-InputValue S v)
 
   abbrev pub field_head_layer : {A F I : Type 0} → Field-F S A F I → Field S
-  field_head_layer f = record { alias = f.alias; name = f.name; arguments = f.arguments; directives = None; selection_set = emptied f.selection_set }
+  field_head_layer f = record {
+    alias = f.alias;
+    name = f.name;
+    arguments = f.arguments;
+    directives = None;
+    selection_set = emptied f.selection_set;
+  }
 
   -- a field without its directives and its selections
   abbrev pub field_head : Field S → Field S
   field_head f = record f { directives = None; selection_set = emptied f.selection_set }
 
   abbrev pub inline_head_layer : {A F I : Type 0} → InlineFragment-F S A F I → InlineFragment S
-  inline_head_layer i = record { type_condition = i.type_condition; directives = None; selection_set = [] }
+  inline_head_layer i =
+      record { type_condition = i.type_condition; directives = None; selection_set = [] }
 
   abbrev pub inline_head : InlineFragment S → InlineFragment S
   inline_head i = record i { directives = None; selection_set = [] }

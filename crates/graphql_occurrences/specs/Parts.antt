@@ -1,4 +1,5 @@
--- The parts of a document of which the rules speak, each with what its schema says there. Places are those of first tokens.
+-- The parts of a document of which the rules speak, each with what its schema says there. Places
+-- are those of first tokens.
 use Rattle.std.specs.Prelude.{List, Bool, Option}
 use Rattle.graphql_text.specs.declared.position.SourcePosition.{SourcePosition}
 use Rattle.graphql_values.specs.InputValues.{Placed}
@@ -12,7 +13,9 @@ use Rattle.graphql_schema.specs.declared.meta.MetaType.{MetaType}
 use Rattle.graphql_schema.specs.Types.{TypeOf}
 use Rattle.graphql_names.specs.Names.{Bytes}
 
--- where a value stands: the type of the values that are asked for, whether the place has a default (5.8.5 All Variable Usages Are Allowed), and whether it is the one field that is given of an input object, which refuses `null` by itself
+-- where a value stands: the type of the values that are asked for, whether the place has a default
+-- (5.8.5 All Variable Usages Are Allowed), and whether it is the one field that is given of an
+-- input object, which refuses `null` by itself
 pub record InputPlace : Type 0 where
   pub asked : TypeOf
   pub has_default : Bool
@@ -57,13 +60,15 @@ pub record DirectivePart (S : Type 0) : Type 0 where
   pub location : DirectiveLocation
   pub declared : Option (DirectiveType S)
 
--- what a field or a directive is given, and what is declared for it, where it is known (2.6 Arguments)
+-- what a field or a directive is given, and what is declared for it, where it is known (2.6
+-- Arguments)
 pub record GivenPart (S : Type 0) : Type 0 where
   pub place : SourcePosition
   pub given : List (Argument S)
   pub declared : Option (List (Declared S))
 
--- the condition is that of an inline fragment or of a fragment, and the names are those of an object's fields
+-- the condition is that of an inline fragment or of a fragment, and the names are those of an
+-- object's fields
 pub data Part (S C : Type 0) : Type 0 where
   VariableDefined : VariablePart S → Part S C
   Condition : Placed Bytes → Part S C

@@ -1,11 +1,13 @@
--- The parts of a document without their places: each stands at the origin, and so does what it holds of the document.
--- What the schema declares there stays.
+-- The parts of a document without their places: each stands at the origin, and so does what it
+-- holds of the document. What the schema declares there stays.
 use Rattle.std.specs.Prelude.{map}
 use Rattle.std.specs.Option.{option_map}
 use Rattle.graphql_text.specs.Position.{origin}
 use Rattle.graphql_values.specs.InputValues.{unlocated}
 use Rattle.graphql_tree.specs.Unlocated.{without_place, unlocated_name, unlocated_argument}
-use Rattle.graphql_occurrences.specs.Parts.{VariablePart, Part, VariableDefined, Condition, AField, ASpread, AnInline, ADirective, Given, ObjectOf, VariableUsed}
+use Rattle.graphql_occurrences.specs.Parts.{VariablePart, Part, VariableDefined, Condition, AField}
+use Rattle.graphql_occurrences.specs.Parts.{ASpread, AnInline, ADirective, Given, ObjectOf}
+use Rattle.graphql_occurrences.specs.Parts.{VariableUsed}
 
 module _ {S : Type 0} where
   -- 2.10 Variables
@@ -26,6 +28,7 @@ module _ {S C : Type 0} where
   unlocated_part (AnInline i) =
       AnInline (record i { condition = option_map unlocated_name i.condition; place = origin })
   unlocated_part (ADirective d) = ADirective (record d { place = origin })
-  unlocated_part (Given g) = Given (record g { given = map unlocated_argument g.given; place = origin })
+  unlocated_part (Given g) =
+      Given (record g { given = map unlocated_argument g.given; place = origin })
   unlocated_part (ObjectOf names) = ObjectOf (map unlocated_name names)
   unlocated_part (VariableUsed u) = VariableUsed (record u { place = origin })

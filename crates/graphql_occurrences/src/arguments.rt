@@ -20,7 +20,8 @@ pub struct DeclaredArguments<'a, S> {
 impl<'a, S> DeclaredArguments<'a, S> {
     /// The arguments of a field, where there is one.
     pub(crate) fn of(field: Option<&'a Field<S>>) -> DeclaredArguments<'a, S>
-        ensures { arguments_lent result ≡ option_map_or arguments_of (option_copied field.entry) [] }
+        ensures { arguments_lent result
+            ≡ option_map_or arguments_of (option_copied field.entry) [] }
     {
         DeclaredArguments {
             held: held_by(field),
@@ -50,7 +51,8 @@ impl<'a, S> DeclaredArguments<'a, S> {
 
 /// The arguments that a field holds, where there is a field and it holds any.
 fn held_by<'a, S>(field: Option<&'a Field<S>>) -> Option<&'a NamedItems<Argument<S>>>
-    ensures { option_copied result ≡ option_and_then (λ f. f.arguments) (option_copied field.entry) }
+    ensures { option_copied result
+        ≡ option_and_then (λ f. f.arguments) (option_copied field.entry) }
 {
     match field {
         Some(field) => field.arguments.as_ref(),
@@ -62,7 +64,8 @@ fn held_by<'a, S>(field: Option<&'a Field<S>>) -> Option<&'a NamedItems<Argument
 pub fn declared_by_directive<'a, S>(
     directive: Option<&'a DirectiveType<S>>,
 ) -> Option<DeclaredArguments<'a, S>>
-    ensures { option_map arguments_lent result ≡ spec.directive_arguments (option_copied directive.entry) }
+    ensures { option_map arguments_lent result
+        ≡ spec.directive_arguments (option_copied directive.entry) }
 {
     match directive {
         Some(directive) => Some(DeclaredArguments {

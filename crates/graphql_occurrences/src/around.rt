@@ -5,7 +5,13 @@ ghost use Rattle.std.specs.Option.{option_copied, option_map};
 ghost use Rattle.graphql_schema.specs.Types.{reference_to};
 ghost use Rattle.graphql_occurrences.specs.DeclaredLookups.{declarations_of};
 ghost use Rattle.graphql_occurrences.specs.DeclaredLookups as spec;
-ghost use Rattle.graphql_occurrences.specs.Events.{asked, condition_around, selecting as around_selecting, set_around, top as around_top};
+ghost use Rattle.graphql_occurrences.specs.Events.{
+  asked,
+  condition_around,
+  selecting as around_selecting,
+  set_around,
+  top as around_top,
+};
 ghost use Rattle.graphql_occurrences.specs.Lent.{around_of, input_of, literal_of};
 
 use crate::place::InputPlace;
@@ -57,7 +63,8 @@ impl<'a, S, C> Around<'a, S, C> {
 
     /// The same, and what is selected is of this type.
     pub fn selecting(self, current: Option<TypeLiteral<'a>>) -> Around<'a, S, C>
-        ensures { around_of result ≡ around_selecting (around_of self.entry) (option_map literal_of current.entry) }
+        ensures { around_of result
+            ≡ around_selecting (around_of self.entry) (option_map literal_of current.entry) }
     {
         Around {
             current,
@@ -68,7 +75,8 @@ impl<'a, S, C> Around<'a, S, C> {
 
     /// The same, and a value stands here.
     pub fn asking(self, input: Option<InputPlace<'a>>) -> Around<'a, S, C>
-        ensures { around_of result ≡ asked (around_of self.entry) (option_map input_of input.entry) }
+        ensures { around_of result
+            ≡ asked (around_of self.entry) (option_map input_of input.entry) }
     {
         Around {
             current: self.current,
@@ -89,7 +97,8 @@ impl<'a, S, C> Around<'a, S, C> {
 
     /// The types inside a selection set.
     pub fn inside_set(self, schema: &'a SchemaType<S, C>) -> Around<'a, S, C>
-        ensures { around_of result ≡ set_around (declarations_of schema.now) (around_of self.entry) }
+        ensures { around_of result
+            ≡ set_around (declarations_of schema.now) (around_of self.entry) }
     {
         Around {
             current: self.current,
@@ -104,7 +113,8 @@ fn referred<'a, S, C>(
     schema: &'a SchemaType<S, C>,
     literal: Option<TypeLiteral<'a>>,
 ) -> Option<&'a MetaType<S, C>>
-    ensures { option_copied result ≡ spec.referred (declarations_of schema.now) (option_map literal_of literal.entry) }
+    ensures { option_copied result
+        ≡ spec.referred (declarations_of schema.now) (option_map literal_of literal.entry) }
 {
     match literal {
         Some(literal) => schema.concrete_type_by_name(literal.name),

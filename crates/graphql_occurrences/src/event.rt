@@ -58,7 +58,8 @@ pub enum Node<'a, 't, S> {
     /// An inline fragment.
     InlineFragment(&'a Spanning<InlineFragment<'t, S>>),
 
-    /// A value: `null`, a scalar, an enum value, a variable, a list or an object, as it tells itself.
+    /// A value: `null`, a scalar, an enum value, a variable, a list or an object, as it tells
+    /// itself.
     Value(&'a Spanning<InputValue<S>>),
 
     /// A field of an input object, by its name; its value comes within.

@@ -5,7 +5,8 @@ ghost use Rattle.std.specs.Option.{option_copied, option_map};
 ghost use Rattle.graphql_schema.specs.Types.{arguments_of};
 ghost use Rattle.graphql_schema.specs.Declarations.{is_composite};
 ghost use Rattle.graphql_occurrences.specs.DeclaredLookups as spec;
-ghost use Rattle.graphql_occurrences.specs.DeclaredLent.{arguments_lent, field_of_known, literal_of};
+ghost use Rattle.graphql_occurrences.specs.DeclaredLent.{arguments_lent, field_of_known};
+ghost use Rattle.graphql_occurrences.specs.DeclaredLent.{literal_of};
 
 use crate::arguments::DeclaredArguments;
 use crate::literal::TypeLiteral;
@@ -65,7 +66,8 @@ pub fn field_of<'a, S, C>(
     parent: Option<&'a MetaType<S, C>>,
     name: &str,
 ) -> Option<KnownField<'a, S>>
-    ensures { option_map field_of_known result ≡ spec.field_of (option_copied parent.entry) name.now }
+    ensures { option_map field_of_known result
+        ≡ spec.field_of (option_copied parent.entry) name.now }
 {
     match parent {
         Some(meta) => field_of_type(meta, name),
@@ -75,7 +77,8 @@ pub fn field_of<'a, S, C>(
 
 /// The type of a field, if the field is known.
 pub fn type_of_field<'a, S>(field: Option<KnownField<'a, S>>) -> Option<TypeLiteral<'a>>
-    ensures { option_map literal_of result ≡ spec.field_type (option_map field_of_known field.entry) }
+    ensures { option_map literal_of result
+        ≡ spec.field_type (option_map field_of_known field.entry) }
 {
     match field {
         Some(field) => Some(field.type_literal()),
@@ -87,7 +90,8 @@ pub fn type_of_field<'a, S>(field: Option<KnownField<'a, S>>) -> Option<TypeLite
 pub fn arguments_of_field<'a, S>(
     field: Option<KnownField<'a, S>>,
 ) -> Option<DeclaredArguments<'a, S>>
-    ensures { option_map arguments_lent result ≡ spec.field_arguments (option_map field_of_known field.entry) }
+    ensures { option_map arguments_lent result
+        ≡ spec.field_arguments (option_map field_of_known field.entry) }
 {
     match field {
         Some(field) => Some(field.arguments()),

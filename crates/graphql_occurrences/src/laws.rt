@@ -11,7 +11,8 @@ ghost use Rattle.graphql_occurrences.specs.PartsOf.{parts_of};
 
 /// The parts that the events of a document tell are its occurrences, in order.
 pub fn events_tell_occurrences<S, C>()
-    ensures { (schema : Declarations S C) → (document : List (Definition S)) → flat_map parts_of (events schema document) ≡ occurrences schema document }
+    ensures { (schema : Declarations S C) → (document : List (Definition S))
+        → flat_map parts_of (events schema document) ≡ occurrences schema document }
 {}
 
 /// The occurrences of a document without its places are those of the document, each without its

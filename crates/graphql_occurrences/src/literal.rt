@@ -53,8 +53,8 @@ impl<'a> TypeLiteral<'a> {
         }
     }
 
-    /// The type of the items of a list, whether `null` is among the list's values or not. A type that
-    /// is no list has none.
+    /// The type of the items of a list, whether `null` is among the list's values or not. A type
+    /// that is no list has none.
     pub fn items(self) -> Option<TypeLiteral<'a>>
         ensures { option_map literal_of result ≡ item_type (literal_of self.entry) }
     {

@@ -19,8 +19,8 @@ pub struct InputPlace<'a> {
     /// Whether the place has a default, which stands where no value is given.
     pub has_default: bool,
 
-    /// Whether it is the one field that is given of an input object, which refuses `null` by itself: no
-    /// default stands in for `null`.
+    /// Whether it is the one field that is given of an input object, which refuses `null` by
+    /// itself: no default stands in for `null`.
     pub is_only_field: bool,
 }
 
@@ -63,7 +63,8 @@ pub fn place_of_argument<'a, S>(
     declared: Option<DeclaredArguments<'a, S>>,
     name: &str,
 ) -> Option<InputPlace<'a>>
-    ensures { option_map input_of result ≡ spec.argument_place (option_map arguments_lent declared.entry) name.now }
+    ensures { option_map input_of result
+        ≡ spec.argument_place (option_map arguments_lent declared.entry) name.now }
 {
     match declared {
         Some(declared) => place_in_some(declared.get(name)),
@@ -73,7 +74,8 @@ pub fn place_of_argument<'a, S>(
 
 /// Where the items of a list of this type stand.
 fn place_in_list<'a>(literal: TypeLiteral<'a>) -> Option<InputPlace<'a>>
-    ensures { option_map input_of result ≡ option_map spec.bare_place (spec.item_type (literal_of literal.entry)) }
+    ensures { option_map input_of result
+        ≡ option_map spec.bare_place (spec.item_type (literal_of literal.entry)) }
 {
     match literal.items() {
         Some(asked) => Some(InputPlace::bare(asked)),
@@ -96,7 +98,8 @@ fn input_object<'a, S, C>(
     schema: &'a SchemaType<S, C>,
     asked: TypeLiteral<'a>,
 ) -> Option<&'a InputObjectMeta<S, C>>
-    ensures { option_copied result ≡ spec.input_object_within (declarations_of schema.now) (literal_of asked.entry) }
+    ensures { option_copied result
+        ≡ spec.input_object_within (declarations_of schema.now) (literal_of asked.entry) }
 {
     match schema.concrete_type_by_name(asked.name) {
         Some(MetaType::InputObject(meta)) => Some(meta),
@@ -122,7 +125,8 @@ fn place_within_some<'a, S, C>(
     meta: Option<&'a InputObjectMeta<S, C>>,
     name: &str,
 ) -> Option<InputPlace<'a>>
-    ensures { option_map input_of result ≡ option_and_then (spec.place_within name.now) (option_copied meta.entry) }
+    ensures { option_map input_of result
+        ≡ option_and_then (spec.place_within name.now) (option_copied meta.entry) }
 {
     match meta {
         Some(meta) => place_within(meta, name),
@@ -136,7 +140,8 @@ pub fn place_of_field<'a, S, C>(
     input: Option<InputPlace<'a>>,
     name: &str,
 ) -> Option<InputPlace<'a>>
-    ensures { option_map input_of result ≡ spec.field_place (declarations_of schema.now) (option_map input_of input.entry) name.now }
+    ensures { option_map input_of result
+        ≡ spec.field_place (declarations_of schema.now) (option_map input_of input.entry) name.now }
 {
     match input {
         Some(place) => place_within_some(input_object(schema, place.asked), name),

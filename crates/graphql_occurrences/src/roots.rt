@@ -8,7 +8,8 @@ ghost use Rattle.graphql_occurrences.specs.DeclaredLookups as spec;
 use graphql_schema::{MetaType, SchemaType};
 use graphql_tree::OperationType;
 
-/// The root of an operation, if the schema has it (GraphQL October 2021, 3.3.1 Root Operation Types).
+/// The root of an operation, if the schema has it (GraphQL October 2021, 3.3.1 Root Operation
+/// Types).
 pub fn root_of<S, C>(
     schema: &SchemaType<S, C>,
     operation_type: OperationType,

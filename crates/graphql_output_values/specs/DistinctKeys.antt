@@ -33,4 +33,5 @@ module _ {S : Type 0} where
 
   -- the object's own keys are distinct, and so are those of each object in its values
   abbrev pub ObjectHasDistinctKeysThroughout : Object S → Type 0
-  ObjectHasDistinctKeysThroughout object = HasDistinctKeys object.fields × All HasDistinctKeysThroughout (values_of object.fields)
+  ObjectHasDistinctKeysThroughout object =
+      HasDistinctKeys object.fields × All HasDistinctKeysThroughout (values_of object.fields)

@@ -1,4 +1,5 @@
--- Equality of values: lists by their places, objects by their keys, whose order says nothing (GraphQL October 2021, 7.2.2 Serialized Map Ordering).
+-- Equality of values: lists by their places, objects by their keys, whose order says nothing
+-- (GraphQL October 2021, 7.2.2 Serialized Map Ordering).
 use Rattle.std.specs.Prelude.{ℕ, Bool, true, false, ◌&&◌, List, [], ◌∷◌, Option, Some, None}
 use Rattle.std.specs.List.{list_all}
 use Rattle.std.specs.Map.{keys_of}
@@ -20,7 +21,8 @@ module _ {A B : Type 0} (same : A → B → Bool) where
 
   -- under each key of either object
   abbrev pub fields_equal : List (Pair A) → List (Pair B) → Bool
-  fields_equal fields others = list_all (agree_under fields others) (keys_of fields) && list_all (agree_under fields others) (keys_of others)
+  fields_equal fields others = list_all (agree_under fields others) (keys_of fields)
+      && list_all (agree_under fields others) (keys_of others)
 
   -- as many items, and equal ones place by place
   abbrev pub items_equal : List A → List B → Bool
@@ -31,7 +33,8 @@ module _ {A B : Type 0} (same : A → B → Bool) where
 
 module _ {S : Type 0} (same : S → S → Bool) where
   -- one layer of a value against one of another: two of one form, equal in what they hold
-  abbrev pub forms_equal : Value-F S (Value S → Bool) (Object S → Bool) → Value-F S (Value S) (Object S) → Bool
+  abbrev pub forms_equal : Value-F S (Value S → Bool) (Object S → Bool)
+      → Value-F S (Value S) (Object S) → Bool
   forms_equal Value-F.Null Value-F.Null = true
   forms_equal Value-F.Null (Value-F.Scalar t) = false
   forms_equal Value-F.Null (Value-F.List ys) = false

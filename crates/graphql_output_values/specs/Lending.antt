@@ -21,10 +21,13 @@ module _ (S : RattleType) where
   abbrev pub LendsObject : MutBor (Value S.Denot) → Option (MutBor (Object S.Denot)) → Fml
   LendsObject v r = LendsIf (whole.the_row S) (object.the_row S) v r value.Object v.now
 
-  -- the object ends with what is last behind the reference as the value of the key, and stays where there is none
+  -- the object ends with what is last behind the reference as the value of the key, and stays where
+  -- there is none
   abbrev pub LendsField : MutBor (Object S.Denot) → List ℕ → Option (MutBor (Value S.Denot)) → Fml
-  LendsField o key r = LendsIf (object.the_row S) (whole.the_row S) o r (λ w. record { fields = set_value (bytes_eq key) o.now.fields w }) o.now
+  LendsField o key r = LendsIf (object.the_row S) (whole.the_row S) o r
+      (λ w. record { fields = set_value (bytes_eq key) o.now.fields w }) o.now
 
   -- the object ends with what is last behind the reference as the value of the field at this place
   abbrev pub LendsPlace : MutBor (Object S.Denot) → ℕ → MutBor (Value S.Denot) → Fml
-  LendsPlace o place r = Lends (object.the_row S) (whole.the_row S) o r (λ w. record { fields = set_value_at place w o.now.fields })
+  LendsPlace o place r = Lends (object.the_row S) (whole.the_row S) o r
+      (λ w. record { fields = set_value_at place w o.now.fields })

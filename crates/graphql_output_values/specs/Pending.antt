@@ -2,7 +2,8 @@
 use Rattle.std.specs.Prelude.{◌≡◌, List, [], ◌∷◌, ◌++◌}
 use Rattle.std.specs.List.{flat_map}
 use Rattle.graphql_output_values.specs.Steps as spec
-use Rattle.graphql_output_values.specs.Steps.{Gap, ListCloses, ObjectCloses, field_steps, fields_steps, items_steps, steps}
+use Rattle.graphql_output_values.specs.Steps.{Gap, ListCloses, ObjectCloses, field_steps}
+use Rattle.graphql_output_values.specs.Steps.{fields_steps, items_steps, steps}
 use Rattle.graphql_output_values.specs.declared.walk.Step.{Step}
 use Rattle.graphql_output_values.specs.declared.walk.Step.TheVariants as step
 use Rattle.graphql_output_values.specs.declared.walk.Task.{Task}
@@ -24,9 +25,11 @@ module _ {S : Type 0} where
   abbrev pub task_steps : Task S → List (spec.Step S)
   task_steps (task.Value v) = steps v.now
   task_steps (task.Items items) = items_steps items.now
-  task_steps (task.MoreItems items) = flat_map (λ item. Gap ∷ steps item) items.now ++ ListCloses ∷ []
+  task_steps (task.MoreItems items) =
+      flat_map (λ item. Gap ∷ steps item) items.now ++ ListCloses ∷ []
   task_steps (task.Fields fields) = fields_steps fields.now
-  task_steps (task.MoreFields fields) = flat_map (λ field. Gap ∷ field_steps steps field) fields.now ++ ObjectCloses ∷ []
+  task_steps (task.MoreFields fields) =
+      flat_map (λ field. Gap ∷ field_steps steps field) fields.now ++ ObjectCloses ∷ []
 
   -- the tasks on top come first
   abbrev pub pending : List (Task S) → List (spec.Step S)

@@ -5,7 +5,8 @@ use Rattle.graphql_output_values.specs.Objects.{Pair}
 use Rattle.graphql_output_values.specs.declared.value.Value.{Value, fold-Value}
 use Rattle.graphql_output_values.specs.declared.value.Value.TheOpen.{Value-F, Object-F}
 
--- one step: `null` or a scalar, where a list or an object opens and closes, the key of the value that comes next, or what stands between two parts
+-- one step: `null` or a scalar, where a list or an object opens and closes, the key of the value
+-- that comes next, or what stands between two parts
 pub data Step (S : Type 0) : Type 0 where
   Null : Step S
   Scalar : S → Step S
@@ -25,11 +26,13 @@ module _ {S : Type 0} where
   abbrev pub steps_layer : Value-F S (List (Step S)) (List (Step S)) → List (Step S)
   steps_layer Value-F.Null = Null ∷ []
   steps_layer (Value-F.Scalar s) = Scalar s ∷ []
-  steps_layer (Value-F.List parts) = ListOpens ∷ (join_by (λ part. part) (Gap ∷ []) parts ++ ListCloses ∷ [])
+  steps_layer (Value-F.List parts) =
+      ListOpens ∷ (join_by (λ part. part) (Gap ∷ []) parts ++ ListCloses ∷ [])
   steps_layer (Value-F.Object inner) = inner
 
   abbrev pub object_steps_layer : Object-F S (List (Step S)) (List (Step S)) → List (Step S)
-  object_steps_layer object = ObjectOpens ∷ (join_by (field_steps (λ part. part)) (Gap ∷ []) object.fields ++ ObjectCloses ∷ [])
+  object_steps_layer object = ObjectOpens
+      ∷ (join_by (field_steps (λ part. part)) (Gap ∷ []) object.fields ++ ObjectCloses ∷ [])
 
   abbrev pub steps : Value S → List (Step S)
   steps = fold-Value S (List (Step S)) (List (Step S)) steps_layer object_steps_layer

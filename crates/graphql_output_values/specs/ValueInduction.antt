@@ -1,9 +1,11 @@
--- Induction over a value: what is to hold of a list or an object may be shown from what holds of its parts.
+-- Induction over a value: what is to hold of a list or an object may be shown from what holds of
+-- its parts.
 use Rattle.std.proofs.Common.{List, map, sym, subst, get_or}
 use Rattle.std.specs.List.{All}
 use Rattle.std.proofs.lemmas.List.Elements.{All-map}
 use Rattle.graphql_output_values.specs.declared.object.Object.{Object}
-use Rattle.graphql_output_values.specs.declared.value.Value.{Value, roll-Value, ind-Value, map-Value}
+use Rattle.graphql_output_values.specs.declared.value.Value.{Value, roll-Value, ind-Value}
+use Rattle.graphql_output_values.specs.declared.value.Value.{map-Value}
 use Rattle.graphql_output_values.specs.declared.value.Value.TheOpen.{Value-F}
 use Rattle.graphql_output_values.specs.declared.value.Value.TheVariants as value
 use Rattle.graphql_output_values.specs.Objects.{Pair}
@@ -23,8 +25,10 @@ module _ {S : Type 0} (P : Value S → Type 0) where
   items_hold : (xs : List PartWithProof) → HoldsOfItems (map (λ (e : PartWithProof). e.0) xs)
   items_hold xs = All-map P (λ (e : PartWithProof). e.0) xs (λ k d h. (get_or xs k d).1)
 
-  fields_hold : (ps : List (Pair PartWithProof)) → HoldsOfFields (map (on_value (λ (e : PartWithProof). e.0)) ps)
-  fields_hold ps = All-map (λ p. P p.1) (on_value (λ (e : PartWithProof). e.0)) ps (λ k d h. (get_or ps k d).1.1)
+  fields_hold : (ps : List (Pair PartWithProof))
+      → HoldsOfFields (map (on_value (λ (e : PartWithProof). e.0)) ps)
+  fields_hold ps =
+      All-map (λ p. P p.1) (on_value (λ (e : PartWithProof). e.0)) ps (λ k d h. (get_or ps k d).1.1)
 
   pub value_ind :
       P value.Null
@@ -33,7 +37,8 @@ module _ {S : Type 0} (P : Value S → Type 0) where
       → ((o : Object S) → HoldsOfFields o.fields → P (value.Object o))
       → (v : Value S) → P v
   value_ind at_null at_scalar at_list at_object = ind-Value S P (λ o. HoldsOfFields o.fields)
-      (λ x y is. subst (λ z. P (roll-Value S z)) is (elim y as (λ w. P (roll-Value S (map-Value S _ _ _ _ (λ e. e.0) (λ e. e.0) w))) [
+      (λ x y is. subst (λ z. P (roll-Value S z)) is
+      (elim y as (λ w. P (roll-Value S (map-Value S _ _ _ _ (λ e. e.0) (λ e. e.0) w))) [
         | Value-F.Null ↦ subst P (sym value.rolls-Null) at_null
         | Value-F.Scalar s ↦ subst P (sym (value.rolls-Scalar s)) (at_scalar s)
         | Value-F.List xs ↦ subst P (sym (value.rolls-List _)) (at_list _ (items_hold xs))

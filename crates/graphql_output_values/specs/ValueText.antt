@@ -1,10 +1,12 @@
--- The text of a value (GraphQL October 2021, 7.1 Response Format): `null`, `[a, b]`, `{"k": v, "l": w}`.
+-- The text of a value (GraphQL October 2021, 7.1 Response Format): `null`, `[a, b]`, `{"k": v, "l":
+-- w}`.
 use Rattle.std.specs.Prelude.{ℕ, List, ◌++◌, codes}
 use Rattle.std.specs.List.{join_by}
 use Rattle.graphql_scalars.specs.ScalarAnswers.{ScalarAnswer}
 use Rattle.graphql_scalars.specs.ScalarText.{quoted_text, scalar_text}
 use Rattle.graphql_output_values.specs.Objects.{Pair}
-use Rattle.graphql_output_values.specs.Steps.{Step, Null, Scalar, ListOpens, ListCloses, ObjectOpens, ObjectCloses, Key, Gap}
+use Rattle.graphql_output_values.specs.Steps.{Step, Null, Scalar, ListOpens, ListCloses}
+use Rattle.graphql_output_values.specs.Steps.{ObjectOpens, ObjectCloses, Key, Gap}
 use Rattle.graphql_output_values.specs.declared.value.Value.{Value, fold-Value}
 use Rattle.graphql_output_values.specs.declared.value.Value.TheOpen.{Value-F, Object-F}
 
@@ -21,7 +23,8 @@ module _ {S : Type 0} (answer : S → ScalarAnswer) where
   abbrev pub layer_text : Value-F S (List ℕ) (List ℕ) → List ℕ
   layer_text Value-F.Null = codes "null"
   layer_text (Value-F.Scalar s) = scalar_text (answer s)
-  layer_text (Value-F.List texts) = codes "[" ++ (join_by (λ text. text) (codes ", ") texts ++ codes "]")
+  layer_text (Value-F.List texts) =
+      codes "[" ++ (join_by (λ text. text) (codes ", ") texts ++ codes "]")
   layer_text (Value-F.Object text) = text
 
   abbrev pub object_layer_text : Object-F S (List ℕ) (List ℕ) → List ℕ
@@ -31,7 +34,8 @@ module _ {S : Type 0} (answer : S → ScalarAnswer) where
   abbrev pub value_text : Value S → List ℕ
   value_text = fold-Value S (List ℕ) (List ℕ) layer_text object_layer_text
 
-  -- the text of one step of a value: those of its steps, one after the other, are the text of the value
+  -- the text of one step of a value: those of its steps, one after the other, are the text of the
+  -- value
   abbrev pub step_text : Step S → List ℕ
   step_text Null = codes "null"
   step_text (Scalar s) = scalar_text (answer s)

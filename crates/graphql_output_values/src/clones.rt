@@ -13,8 +13,8 @@ impl<S: ScalarValue + Drop> Clone for Value<S> {
 
     ghost is_clone = { λ value copy. copy ≡ value };
 
-    /// A second value, the same. Takes stack for each level that the value nests. An error is want of
-    /// memory.
+    /// A second value, the same. Takes stack for each level that the value nests. An error is want
+    /// of memory.
     fn clone(&self) -> Result<Value<S>, AllocError> {
         copy_of(self)
     }
@@ -25,8 +25,8 @@ impl<S: ScalarValue + Drop> Clone for Object<S> {
 
     ghost is_clone = { λ object copy. copy ≡ object };
 
-    /// A second object, the same. Takes stack for each level that its values nest. An error is want of
-    /// memory.
+    /// A second object, the same. Takes stack for each level that its values nest. An error is want
+    /// of memory.
     fn clone(&self) -> Result<Object<S>, AllocError> {
         let fields = copy_of_fields(&self.fields)?;
         Ok(Object { fields })

@@ -14,7 +14,8 @@ use std::fmt::{Display, Error, Formatter, Result, Write};
 
 /// Writes what a walk tells next: a key between quotes, with nothing escaped.
 fn write_step<S: ScalarValue, W: Write>(f: &mut Formatter<W>, step: Step<'_, S>) -> Result
-    ensures { WritesOnOk W.write_str_gives f.old result (step_text S.answer (told step.entry)) f.new }
+    ensures { WritesOnOk W.write_str_gives f.old result (step_text S.answer (told step.entry))
+        f.new }
 {
     match step {
         Step::Null => f.write_str("null"),
@@ -30,7 +31,8 @@ fn write_step<S: ScalarValue, W: Write>(f: &mut Formatter<W>, step: Step<'_, S>)
 
 /// Writes what a walk has yet to tell. Want of memory is an error too.
 fn write_steps<S: ScalarValue, W: Write>(f: &mut Formatter<W>, walk: Walk<'_, S>) -> Result
-    ensures { WritesOnOk W.write_str_gives f.old result (flat_map (step_text S.answer) (ahead walk.entry)) f.new }
+    ensures { WritesOnOk W.write_str_gives f.old result
+        (flat_map (step_text S.answer) (ahead walk.entry)) f.new }
 {
     let mut walk = walk;
     'steps: loop {
@@ -56,9 +58,9 @@ fn write_walked<S: ScalarValue, W: Write>(
     }
 }
 
-/// Writes `null`, a scalar as `Scalar` does, a list as `[a, b]` and an object as `{"k": v, "l": w}`;
-/// nothing is escaped. What is yet to be written of a list or an object stands on the heap, so a deep
-/// value takes no more stack; want of memory for it is an error.
+/// Writes `null`, a scalar as `Scalar` does, a list as `[a, b]` and an object as `{"k": v, "l":
+/// w}`; nothing is escaped. What is yet to be written of a list or an object stands on the heap, so
+/// a deep value takes no more stack; want of memory for it is an error.
 impl<S: ScalarValue> Display for Value<S> {
     ghost output = { λ value. Some (value_text S.answer value) };
 

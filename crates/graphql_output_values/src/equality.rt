@@ -50,8 +50,9 @@ fn same_items<S: PartialEq>(mine: &[Value<S>], theirs: &[Value<S>]) -> bool
     true
 }
 
-/// Whether there are equal values under each key of either object. In proportion to the fields where
-/// the keys stand in one order, or where there is memory for an index; no two values are compared twice.
+/// Whether there are equal values under each key of either object. In proportion to the fields
+/// where the keys stand in one order, or where there is memory for an index; no two values are
+/// compared twice.
 #[cycle(equality)]
 fn same_fields<S: PartialEq>(mine: &Object<S>, theirs: &Object<S>) -> bool
     ensures { result ≡ equal_objects S.eq mine.now theirs.now }
@@ -78,7 +79,8 @@ fn have_same_keys<S>(mine: &Object<S>, theirs: &Object<S>) -> bool
     true
 }
 
-/// The same of objects with the same keys in the same order, whose values are compared place by place.
+/// The same of objects with the same keys in the same order, whose values are compared place by
+/// place.
 #[cycle(equality)]
 fn same_in_order<S: PartialEq>(mine: &Object<S>, theirs: &Object<S>) -> bool
     requires { keys_of mine.now.fields ≡ keys_of theirs.now.fields }
@@ -121,7 +123,8 @@ fn same_found<S: PartialEq>(mine: &Value<S>, found: Option<&Value<S>>) -> bool
 
 /// Whether the object has a field of each key that the other has.
 fn has_keys_of<S>(object: &Object<S>, other: &Object<S>) -> bool
-    ensures { result ≡ list_all (λ field. is_some (field_value object.now.fields field.0)) other.now.fields }
+    ensures { result
+        ≡ list_all (λ field. is_some (field_value object.now.fields field.0)) other.now.fields }
 {
     let values = Lookup::new(object);
     finds_all(&values, other)

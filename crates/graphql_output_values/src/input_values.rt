@@ -12,8 +12,8 @@ use graphql_values::{InputValue, ToInputValue, push_unlocated, push_unlocated_fi
 use std::alloc::{AllocError, Global};
 
 /// The same value, in no text: it holds neither an enum value nor a variable, since a value of an
-/// answer has none (7.1 Response Format). Takes memory for texts and lists, and stack for each level
-/// that the value nests.
+/// answer has none (7.1 Response Format). Takes memory for texts and lists, and stack for each
+/// level that the value nests.
 impl<S: ScalarValue> ToInputValue<S> for Value<S> {
     ghost input = { spec.input_of };
 

@@ -1,13 +1,21 @@
-//! Laws of objects and of their equality: each function's contract is a law, and its body does nothing.
+//! Laws of objects and of their equality: each function's contract is a law, and its body does
+//! nothing.
 
-ghost use Rattle.graphql_output_values.specs.DistinctLaws.{DistinctByForms, DistinctOnceWritten, DistinctUnderKeys, MadeDistinctThroughout, MappedKeepsKeys};
+ghost use Rattle.graphql_output_values.specs.DistinctLaws.{
+  DistinctByForms,
+  DistinctOnceWritten,
+  DistinctUnderKeys,
+  MadeDistinctThroughout,
+  MappedKeepsKeys,
+};
 ghost use Rattle.graphql_output_values.specs.Equality.{equal};
-ghost use Rattle.graphql_output_values.specs.Laws.{EqualByFields, EqualInAnyOrder, KeysKeepPlaces, MadeDistinct, PutUnder};
+ghost use Rattle.graphql_output_values.specs.Laws.{EqualByFields, EqualInAnyOrder, KeysKeepPlaces};
+ghost use Rattle.graphql_output_values.specs.Laws.{MadeDistinct, PutUnder};
 ghost use Rattle.graphql_output_values.specs.declared.object.Object.{Object};
 ghost use Rattle.graphql_output_values.specs.declared.value.Value.{Value};
 
-/// Objects of distinct keys are equal exactly where they have equally many fields, and each field of
-/// the one stands in the other with an equal value.
+/// Objects of distinct keys are equal exactly where they have equally many fields, and each field
+/// of the one stands in the other with an equal value.
 pub fn equal_by_fields<S: PartialEq>()
     ensures { (one other : Object S) → EqualByFields (equal S.eq) one.fields other.fields }
 {}
@@ -32,16 +40,16 @@ pub fn keys_keep_places<S>()
     ensures { KeysKeepPlaces (Value S) }
 {}
 
-/// Which values have distinct keys throughout, form by form: `null` and each scalar, a list where its
-/// items have, the value of an object where its own keys are distinct and its values have. So
-/// `Value::list`, `Value::object`, `Value::into_object`, `Value::as_mut_object_value` and the iterators
-/// of an object keep it.
+/// Which values have distinct keys throughout, form by form: `null` and each scalar, a list where
+/// its items have, the value of an object where its own keys are distinct and its values have. So
+/// `Value::list`, `Value::object`, `Value::into_object`, `Value::as_mut_object_value` and the
+/// iterators of an object keep it.
 pub fn distinct_by_forms<S>()
     ensures { DistinctByForms S }
 {}
 
-/// The value that `get_field_value` or `get_mut_field_value` gives of an object that has distinct keys
-/// throughout has them too.
+/// The value that `get_field_value` or `get_mut_field_value` gives of an object that has distinct
+/// keys throughout has them too.
 pub fn distinct_under_keys<S>()
     ensures { DistinctUnderKeys S }
 {}

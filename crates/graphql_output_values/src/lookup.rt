@@ -23,8 +23,8 @@ pub(crate) enum Lookup<'a, S> {
 }
 
 impl<'a, S> Lookup<'a, S> {
-    /// Of an object: an index where it has more than a few fields and there is memory for one, else a
-    /// scan.
+    /// Of an object: an index where it has more than a few fields and there is memory for one, else
+    /// a scan.
     pub(crate) fn new(object: &'a Object<S>) -> Lookup<'a, S>
         ensures { Finds result object.now.fields }
     {
@@ -58,8 +58,8 @@ impl<'a, S> Lookup<'a, S> {
     }
 }
 
-/// The values of an object by their keys: of fields of one key, the first one's. An error is want of
-/// memory.
+/// The values of an object by their keys: of fields of one key, the first one's. An error is want
+/// of memory.
 fn index_of<'a, S>(object: &'a Object<S>) -> Result<HashMap<&'a str, &'a Value<S>>, AllocError>
     ensures { IfOk result (λ values. IsIndex values object.now.fields) }
 {

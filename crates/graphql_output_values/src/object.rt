@@ -1,12 +1,14 @@
 //! Objects: fields with their values.
 
-ghost use Rattle.std.specs.Prelude.{◌≡◌, ◌↔◌, IsTrue, [], Some, None, IfOk, OnOk, OnErr, length, is_some, position, ◌<◌, ◌^◌, slice_get};
+ghost use Rattle.std.specs.Prelude.{◌≡◌, ◌↔◌, IsTrue, [], Some, None, IfOk, OnOk, OnErr, length};
+ghost use Rattle.std.specs.Prelude.{is_some, position, ◌<◌, ◌^◌, slice_get};
 ghost use Rattle.std.specs.Borrow.{sem};
 ghost use Rattle.std.specs.Option.{option_copied, option_copied_mut, option_map};
 ghost use Rattle.std.specs.Str.{bytes_eq};
 ghost use Rattle.std.specs.Slice.Iter.{iter_rest, iter_steps};
 ghost use Rattle.std.specs.Iterator.Runs.{EveryRun, ItemsMapTo};
-ghost use Rattle.graphql_output_values.specs.DistinctKeys.{HasDistinctKeysThroughout, ObjectHasDistinctKeysThroughout};
+ghost use Rattle.graphql_output_values.specs.DistinctKeys.{HasDistinctKeysThroughout};
+ghost use Rattle.graphql_output_values.specs.DistinctKeys.{ObjectHasDistinctKeysThroughout};
 ghost use Rattle.graphql_output_values.specs.Lending.{LendsField, LendsPlace};
 ghost use Rattle.graphql_output_values.specs.Objects.{HasDistinctKeys, field_value, with_field};
 
@@ -19,10 +21,10 @@ use std::mem;
 use std::slice::Iter;
 
 /// Fields with their values, in order; no two fields have one key (GraphQL October 2021, 7.2.2
-/// Serialized Map Ordering). The list is private, and each call that makes or changes an object keeps
-/// its keys distinct: they say so by contract, since a type that holds itself can keep no such fact.
-/// Keys are found by a scan: an object has few fields. Where each object in the values has distinct keys
-/// too, each call keeps that, by contract or by the laws of `laws`.
+/// Serialized Map Ordering). The list is private, and each call that makes or changes an object
+/// keeps its keys distinct: they say so by contract, since a type that holds itself can keep no
+/// such fact. Keys are found by a scan: an object has few fields. Where each object in the values
+/// has distinct keys too, each call keeps that, by contract or by the laws of `laws`.
 #[cycle(values)]
 #[derive(Debug, Drop)]
 pub struct Object<S> {
@@ -30,8 +32,8 @@ pub struct Object<S> {
 }
 
 impl<S> Object<S> {
-    /// The object of no field. Room for `capacity` fields is asked for at once, which contracts do not
-    /// see. An error is want of memory.
+    /// The object of no field. Room for `capacity` fields is asked for at once, which contracts do
+    /// not see. An error is want of memory.
     pub fn with_capacity(alloc: Global, capacity: usize) -> Result<Object<S>, AllocError>
         ensures { IfOk result (λ object. object.fields ≡ []) }
     {
@@ -40,7 +42,8 @@ impl<S> Object<S> {
         })
     }
 
-    /// The object of these fields, whose keys are distinct. It looks for no key, and takes no memory.
+    /// The object of these fields, whose keys are distinct. It looks for no key, and takes no
+    /// memory.
     pub fn from_distinct(fields: Items<(Text, Value<S>)>) -> Object<S>
         requires { HasDistinctKeys fields }
         ensures { result.fields ≡ fields }
@@ -64,7 +67,8 @@ impl<S> Object<S> {
 
     /// Whether the first field of this key stands at this place. A scan.
     pub(crate) fn is_first(&self, key: &str, place: usize) -> bool
-        ensures { IsTrue result ↔ (position (λ field. bytes_eq key.now field.0) self.now.fields ≡ Some place) }
+        ensures { IsTrue result
+            ↔ (position (λ field. bytes_eq key.now field.0) self.now.fields ≡ Some place) }
     {
         self.place_of(key) == Some(place)
     }
@@ -86,11 +90,11 @@ impl<S> Object<S> {
         }
     }
 
-    /// Puts `value` under `key`. Where a field has the key, it keeps its place, and its old value comes
-    /// back; else the field is the last. An error is want of memory, at a field that is new: the object
-    /// stays. A scan, so that as many calls as there are fields take the square of their number: where
-    /// the keys are known to be distinct, `from_distinct` makes the object of all fields at once. The
-    /// law `distinct_under_keys` speaks of the old value's keys.
+    /// Puts `value` under `key`. Where a field has the key, it keeps its place, and its old value
+    /// comes back; else the field is the last. An error is want of memory, at a field that is new:
+    /// the object stays. A scan, so that as many calls as there are fields take the square of their
+    /// number: where the keys are known to be distinct, `from_distinct` makes the object of all
+    /// fields at once. The law `distinct_under_keys` speaks of the old value's keys.
     pub fn add_field(&mut self, key: Text, value: Value<S>) -> Result<Option<Value<S>>, AllocError>
     where
         S: Drop,
@@ -99,7 +103,8 @@ impl<S> Object<S> {
         ensures err { OnErr result (self.new ≡ self.old) }
         ensures absent { OnErr result (field_value self.old.fields key ≡ None) }
         ensures distinct { HasDistinctKeys self.old.fields → HasDistinctKeys self.new.fields }
-        ensures throughout { ObjectHasDistinctKeysThroughout self.old → HasDistinctKeysThroughout value → ObjectHasDistinctKeysThroughout self.new }
+        ensures throughout { ObjectHasDistinctKeysThroughout self.old
+            → HasDistinctKeysThroughout value → ObjectHasDistinctKeysThroughout self.new }
     {
         match self.place_of(key.as_str()) {
             Some(place) => {
@@ -117,7 +122,8 @@ impl<S> Object<S> {
     fn value_mut_at(&mut self, place: usize) -> &mut Value<S>
         requires { place < length self.old.fields }
         ensures* writes_back { sem 𝓛 (LendsPlace S.row self.entry place result) }
-        ensures value { option_map (λ field. field.1) (slice_get self.old.fields place) ≡ Some result.now }
+        ensures value { option_map (λ field. field.1) (slice_get self.old.fields place)
+            ≡ Some result.now }
     {
         let field = &mut self.fields[place];
         &mut field.1
@@ -146,7 +152,8 @@ impl<S> Object<S> {
     pub fn iter(&self) -> Iter<'_, (Text, Value<S>)>
         ensures rest { iter_rest result ≡ self.now.fields }
         ensures bound { length (iter_rest result) < 2 ^ 64 }
-        ensures runs { EveryRun (iter_steps {A = Text × Value S}) (λ p. ItemsMapTo p (λ y. y.now) (iter_rest p.from)) }
+        ensures runs { EveryRun (iter_steps {A = Text × Value S})
+            (λ p. ItemsMapTo p (λ y. y.now) (iter_rest p.from)) }
     {
         self.fields.iter()
     }

@@ -47,14 +47,16 @@ impl<S> Value<S> {
         Value::Scalar(scalar.into())
     }
 
-    /// The list of these values. Takes no memory. The law `distinct_by_forms` speaks of the keys in it.
+    /// The list of these values. Takes no memory. The law `distinct_by_forms` speaks of the keys in
+    /// it.
     pub fn list(items: Items<Value<S>>) -> Value<S>
         ensures { result ≡ value.List items }
     {
         Value::List(items)
     }
 
-    /// The value of this object. Takes no memory. The law `distinct_by_forms` speaks of the keys in it.
+    /// The value of this object. Takes no memory. The law `distinct_by_forms` speaks of the keys in
+    /// it.
     pub fn object(object: Object<S>) -> Value<S>
         ensures { result ≡ value.Object object }
     {
@@ -124,8 +126,9 @@ impl<S> Value<S> {
         }
     }
 
-    /// The value of the same shape with each scalar mapped. An error is want of memory. It takes stack
-    /// for each level of the value. Keys stay as they are, which is the law `mapped_keeps_keys`.
+    /// The value of the same shape with each scalar mapped. An error is want of memory. It takes
+    /// stack for each level of the value. Keys stay as they are, which is the law
+    /// `mapped_keeps_keys`.
     pub fn map_scalar_value<T: Drop, F: Fn(S) -> T + Drop>(
         self,
         turn: F,
@@ -140,7 +143,8 @@ impl<S> Value<S> {
 }
 
 impl<S: Drop> Value<S> {
-    /// The value with each scalar mapped. An error is want of memory. It calls itself for each level.
+    /// The value with each scalar mapped. An error is want of memory. It calls itself for each
+    /// level.
     #[cycle(map_scalars)]
     fn mapped<T: Drop, F: Fn(S) -> T>(self, turn: &F) -> Result<Value<T>, AllocError>
         requires { (s : S) → F.pre turn.now s }
@@ -164,7 +168,8 @@ impl<S: Drop> Value<S> {
         turn: &F,
     ) -> Result<Items<Value<T>>, AllocError>
         requires { (s : S) → F.pre turn.now s }
-        ensures { (f : S → T) → Turns (F.post turn.now) f → Gives result (map (map_scalars f) items) }
+        ensures { (f : S → T) → Turns (F.post turn.now) f
+            → Gives result (map (map_scalars f) items) }
     {
         let mut all = Items::with_capacity(*items.allocator(), items.len())?;
         for item in items {
@@ -180,7 +185,8 @@ impl<S: Drop> Value<S> {
         turn: &F,
     ) -> Result<Items<(Text, Value<T>)>, AllocError>
         requires { (s : S) → F.pre turn.now s }
-        ensures { (f : S → T) → Turns (F.post turn.now) f → Gives result (map (map_field f) fields) }
+        ensures { (f : S → T) → Turns (F.post turn.now) f
+            → Gives result (map (map_field f) fields) }
     {
         let mut all = Items::with_capacity(*fields.allocator(), fields.len())?;
         for field in fields {
@@ -191,8 +197,8 @@ impl<S: Drop> Value<S> {
     }
 }
 
-/// A loop, which takes no memory, and no more stack however deep the value is. It ends since each turn
-/// lets one go of the values that stand in this one, itself among them.
+/// A loop, which takes no memory, and no more stack however deep the value is. It ends since each
+/// turn lets one go of the values that stand in this one, itself among them.
 impl<S: Drop> Drop for Value<S> {
     fn drop(mut self) {
         'values: while let Some(others) = self.let_one_go() {

@@ -55,8 +55,8 @@ enum Task<'a, S> {
     MoreFields(&'a [(Text, Value<S>)]),
 }
 
-/// A walk over a value, which tells its steps in order. What it has yet to do stands on the heap, so
-/// it takes no more stack however deep the value is.
+/// A walk over a value, which tells its steps in order. What it has yet to do stands on the heap,
+/// so it takes no more stack however deep the value is.
 #[derive(Drop)]
 pub struct Walk<'a, S> {
     tasks: Items<Task<'a, S>>,
@@ -74,7 +74,8 @@ impl<'a, S> Walk<'a, S> {
 
     /// The next step, or `None` at the end of the value. An error is want of memory.
     pub fn next(&mut self) -> Result<Option<Step<'a, S>>, AllocError>
-        ensures { IfOk result (λ next. MatchOption next (ahead self.old ≡ []) (λ step. ahead self.old ≡ told step ∷ ahead self.new)) }
+        ensures { IfOk result (λ next. MatchOption next (ahead self.old ≡ [])
+            (λ step. ahead self.old ≡ told step ∷ ahead self.new)) }
     {
         match self.tasks.pop() {
             None => Ok(None),

@@ -4,7 +4,8 @@ use Rattle.std.specs.Prelude.{◌≡◌, List}
 use Rattle.graphql_names.specs.Names.{Bytes}
 use Rattle.graphql_written_out.specs.Trees.{Directives, Head, Tree}
 use Rattle.graphql_mutation.specs.Serial.{Mutation, step_of}
-use Rattle.graphql_plain_answers.specs.AlikeSets.{AreAnsweredAlike, AreOverOneSchema, EachAlike, LeaveOutAlike, TreesAlike}
+use Rattle.graphql_plain_answers.specs.AlikeSets.{AreAnsweredAlike, AreOverOneSchema, EachAlike}
+use Rattle.graphql_plain_answers.specs.AlikeSets.{LeaveOutAlike, TreesAlike}
 
 module _ {S N X : Type 0} (m n : Mutation S N X) where
   -- on each context

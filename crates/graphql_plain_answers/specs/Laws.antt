@@ -21,7 +21,8 @@ use Rattle.graphql_moved.specs.UnlocatedTrees.{unlocated_tree}
 use Rattle.graphql_plain_tree.specs.Laws.{Fit}
 use Rattle.graphql_plain_tree.specs.Plain.{plain}
 use Rattle.graphql_plain_tree.specs.PlainDocuments.{document_of}
-use Rattle.graphql_plain_tree.specs.PlainOperations.{PlainOperation, definitions_used, plain_operation, variables_used}
+use Rattle.graphql_plain_tree.specs.PlainOperations.{PlainOperation, definitions_used}
+use Rattle.graphql_plain_tree.specs.PlainOperations.{plain_operation, variables_used}
 use Rattle.graphql_plain_tree.specs.PlainShape.{IsPlain}
 use Rattle.graphql_plain_tree.specs.StandIns.{skip_true}
 use Rattle.graphql_plain_answers.specs.AgreeingValues.{AgreeOn, Values}
@@ -116,8 +117,8 @@ module _ {S : Type 0} (of_text : Bytes → S) (of_bool : Bool → S) (answer : S
       → IsPlain (skip_true of_bool) set → AgreeOn values others (variables_used set)
       → AreAlike (asked values) (asked others) set other)
 
-  -- an operation and that of a document that is its plain document but for places give the same, also
-  -- where variables have other values then that no field of the plain document uses
+  -- an operation and that of a document that is its plain document but for places give the same,
+  -- also where variables have other values then that no field of the plain document uses
   abbrev pub PlainDocumentsAnswerAlike : Type 0
   PlainDocumentsAnswerAlike =
       ForEachLawful of_text of_bool answer eq C N X (λ asked.

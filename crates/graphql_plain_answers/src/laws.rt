@@ -5,8 +5,10 @@ ghost use Rattle.graphql_plain_answers.specs.Lawful.{IsLawful};
 ghost use Rattle.graphql_plain_answers.specs.Laws.{AlikeChangeTheSame, AlikeGiveTheSame};
 ghost use Rattle.graphql_plain_answers.specs.Laws.{OutcomesSucceedAlike, PlacesDoNotCount};
 ghost use Rattle.graphql_plain_answers.specs.Laws.{PlainChangeTheSame, PlainDocumentIsPlain};
-ghost use Rattle.graphql_plain_answers.specs.Laws.{PlainDocumentsAnswerAlike, SameDocumentsAnswerAlike};
-ghost use Rattle.graphql_plain_answers.specs.Laws.{UnusedVariablesDoNotCount, UsedDefinitionsSuffice};
+ghost use Rattle.graphql_plain_answers.specs.Laws.{PlainDocumentsAnswerAlike};
+ghost use Rattle.graphql_plain_answers.specs.Laws.{SameDocumentsAnswerAlike};
+ghost use Rattle.graphql_plain_answers.specs.Laws.{UnusedVariablesDoNotCount};
+ghost use Rattle.graphql_plain_answers.specs.Laws.{UsedDefinitionsSuffice};
 
 use graphql_mutation::GraphQLMutationValue;
 pub use graphql_plain_laws::laws::plain_gives_the_same;
@@ -80,8 +82,8 @@ pub fn outcomes_succeed_alike<S, A>()
 /// but for their places, and leave the same context: as a query and as a mutation, over each schema
 /// and each resolver that keeps its laws. The plain document is one that is the plain operation's
 /// but for places; variables that none of its fields uses may have other values there. This holds
-/// where no inline fragment of the first operation has an empty set, and a field a set exactly where
-/// one was written.
+/// where no inline fragment of the first operation has an empty set, and a field a set exactly
+/// where one was written.
 pub fn plain_documents_answer_alike<S: ScalarValue, C, N, X>()
     ensures { PlainDocumentsAnswerAlike S.of_text S.of_bool S.answer S.eq C N X }
 {

@@ -1,4 +1,5 @@
--- What merging and execution take from plain selection sets (GraphQL October 2021, 5.3.2 Field Selection Merging, 6.3 Executing Selection Sets).
+-- What merging and execution take from plain selection sets (GraphQL October 2021, 5.3.2 Field
+-- Selection Merging, 6.3 Executing Selection Sets).
 use Rattle.std.specs.Prelude.{◌≡◌, Bool, List, map}
 use Rattle.graphql_names.specs.Names.{Bytes}
 use Rattle.graphql_schema.specs.declared.meta.MetaType.{MetaType}
@@ -12,10 +13,14 @@ use Rattle.graphql_plain_tree.specs.Plain.{plain}
 
 -- where a set merges its plain set does
 abbrev pub PlainMerges : (S C : Type 0) → (S → S → Bool) → Type 0
-PlainMerges S C eq = (types : List (MetaType S C)) (drops : Directives S → Bool) (stand_in : Directives S) (scope : Scope S C) (set : Tree S)
-    → Merging eq types (members types scope set) → Merging eq types (members types scope (plain drops stand_in set))
+PlainMerges S C eq = (types : List (MetaType S C)) (drops : Directives S → Bool)
+    (stand_in : Directives S) (scope : Scope S C) (set : Tree S)
+    → Merging eq types (members types scope set)
+    → Merging eq types (members types scope (plain drops stand_in set))
 
 -- plain sets give the same value and the same failures
 abbrev pub PlainGivesTheSame : Type 0 → Type 0 → Type 0
-PlainGivesTheSame S N = (e : Engine S N) (stand_in : Directives S) → Fit e.drops stand_in → (path : List Bytes) (object : Bytes) (node : N) (sets : List (Tree S))
-    → evaluate e path object node (map (plain e.drops stand_in) sets) ≡ evaluate e path object node sets
+PlainGivesTheSame S N = (e : Engine S N) (stand_in : Directives S) → Fit e.drops stand_in
+    → (path : List Bytes) (object : Bytes) (node : N) (sets : List (Tree S))
+    → evaluate e path object node (map (plain e.drops stand_in) sets)
+    ≡ evaluate e path object node sets

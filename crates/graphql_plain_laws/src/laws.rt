@@ -15,14 +15,14 @@ pub fn plain_merges<S: PartialEq, C>()
     ensures { PlainMerges S C S.eq }
 {}
 
-/// Plain selection sets give the same value and the same failures as the sets, where the directives of a
-/// stand-in leave out and no directives do not.
+/// Plain selection sets give the same value and the same failures as the sets, where the directives
+/// of a stand-in leave out and no directives do not.
 pub fn plain_gives_the_same<S, N>()
     ensures { PlainGivesTheSame S N }
 {}
 
-/// So it is where selections are left out by `skip` and `include` over the final values of an operation's
-/// variables, and a stand-in has the one directive `skip(if: true)`.
+/// So it is where selections are left out by `skip` and `include` over the final values of an
+/// operation's variables, and a stand-in has the one directive `skip(if: true)`.
 pub fn conditions_fit<S: ScalarValue>(variables: &FinalVariables<'_, S>)
     ensures { Fit (left_out S.answer (value_in variables.now)) (skip_true S.of_bool) }
 {

@@ -17,7 +17,8 @@ module _ {S : Type 0} where
   -- a selection in front of what follows it
   abbrev pub leads : Plan S → Written S → Tree S → Tree S
   leads plan (form.Field x) rest =
-      field (head_of x.now) (listed x.now.item.directives) (written_by plan (listed x.now.item.selection_set)) rest
+      field (head_of x.now) (listed x.now.item.directives)
+      (written_by plan (listed x.now.item.selection_set)) rest
   leads plan (form.Inline on directives set) rest =
       inline (option_map (λ n. n.now) on) (listed directives.now) (written_by plan set.now) rest
 
@@ -33,10 +34,14 @@ module _ {S : Type 0} where
   abbrev pub IsInline : InlineFragment S → Written S → Type 0
   IsInline i (form.Field x) = ⊥
   IsInline i (form.Inline on directives set) =
-      (option_map (λ n. n.now) on ≡ condition_of i) × (directives.now ≡ i.directives) × (set.now ≡ i.selection_set)
+      (option_map (λ n. n.now) on ≡ condition_of i)
+      × (directives.now ≡ i.directives)
+      × (set.now ≡ i.selection_set)
 
   -- it is what a spread of the fragment with these directives stands for
   abbrev pub IsSpread : Fragment S → Option (Directives S) → Written S → Type 0
   IsSpread f ds (form.Field x) = ⊥
   IsSpread f ds (form.Inline on directives set) =
-      (option_map (λ n. n.now) on ≡ Some f.type_condition.item) × (directives.now ≡ ds) × (set.now ≡ f.selection_set)
+      (option_map (λ n. n.now) on ≡ Some f.type_condition.item)
+      × (directives.now ≡ ds)
+      × (set.now ≡ f.selection_set)

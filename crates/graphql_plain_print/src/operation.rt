@@ -52,19 +52,19 @@ fn push_name(text: &mut String, name: &Option<Spanning<TextRef<'_>>>) -> Result<
 }
 
 /// The plain text of an operation of a document over the final values of its variables: the
-/// operation's keyword, its name, the definitions of the variables that are still used, and its plain
-/// set, each token in the spelling of the source, parted by single spaces (GraphQL October 2021, 2.3
-/// Operations, 2.8 Fragments, 3.13 Directives); with it the names of the variables that are still used.
-/// `tokens` are those of the text that the document was read from.
+/// operation's keyword, its name, the definitions of the variables that are still used, and its
+/// plain set, each token in the spelling of the source, parted by single spaces (GraphQL October
+/// 2021, 2.3 Operations, 2.8 Fragments, 3.13 Directives); with it the names of the variables that
+/// are still used. `tokens` are those of the text that the document was read from.
 ///
 /// It is printed as it is walked, and the walk ends as soon as there are more fields and inline
-/// fragments than `limit`: no more time or memory is taken for more of them, however often fragments
-/// are spread. What is left of the sets around stands on the heap, so it takes no more stack however
-/// deep they are.
+/// fragments than `limit`: no more time or memory is taken for more of them, however often
+/// fragments are spread. What is left of the sets around stands on the heap, so it takes no more
+/// stack however deep they are.
 ///
-/// The spreads of the document end, as those of a valid document do (5.5.2.2 Fragment Spreads Must Not
-/// Form Cycles). An error is `TooLarge` where there are more fields and inline fragments than `limit`,
-/// or else want of memory.
+/// The spreads of the document end, as those of a valid document do (5.5.2.2 Fragment Spreads Must
+/// Not Form Cycles). An error is `TooLarge` where there are more fields and inline fragments than
+/// `limit`, or else want of memory.
 pub fn print_operation<'d, 'v, 'a, S: ScalarValue>(
     alloc: Global,
     document: &'d [Definition<'a, S>],

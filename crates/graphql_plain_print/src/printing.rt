@@ -9,9 +9,12 @@ ghost use Rattle.graphql_plain_text.specs.TreeTokens.{in_braces};
 ghost use Rattle.graphql_plain_print.specs.declared.printing.Frame.TheVariants.{First, Kept};
 ghost use Rattle.graphql_plain_print.specs.declared.written.Written.TheVariants as form;
 ghost use Rattle.graphql_plain_print.specs.Adding.{Adds};
-ghost use Rattle.graphql_plain_print.specs.Alone.{alone_tokens, alone_uses, below_size, below_turns, set_tokens};
+ghost use Rattle.graphql_plain_print.specs.Alone.{alone_tokens, alone_uses, below_size};
+ghost use Rattle.graphql_plain_print.specs.Alone.{below_turns, set_tokens};
 ghost use Rattle.graphql_plain_print.specs.Faults.{IfTooLarge};
-ghost use Rattle.graphql_plain_print.specs.Frames.{Prints, frame_size, frame_tokens, frame_tree, frame_turns, frame_uses, stack_size, stack_turns, stack_uses, turns};
+ghost use Rattle.graphql_plain_print.specs.Frames.{Prints, frame_size, frame_tokens, frame_tree};
+ghost use Rattle.graphql_plain_print.specs.Frames.{frame_turns, frame_uses, stack_size};
+ghost use Rattle.graphql_plain_print.specs.Frames.{stack_turns, stack_uses, turns};
 ghost use Rattle.graphql_plain_print.specs.NameSets.{AreSame};
 ghost use Rattle.graphql_plain_print.specs.Plans.{fragments_by, plain_by, tokens_by, written_by};
 
@@ -342,9 +345,9 @@ fn advance<'d, 'a, S: ScalarValue>(
     }
 }
 
-/// Prints the plain set of a set between its braces, and adds the names of the variables that it uses.
-/// What is left of the sets around stands on the heap, so it takes no more stack however deep they are.
-/// It ends past the limit.
+/// Prints the plain set of a set between its braces, and adds the names of the variables that it
+/// uses. What is left of the sets around stands on the heap, so it takes no more stack however deep
+/// they are. It ends past the limit.
 pub(crate) fn print_set<'d, 'a, S: ScalarValue>(
     alloc: Global,
     plan: &Plan<'d, '_, 'a, S>,

@@ -6,7 +6,8 @@ ghost use Rattle.std.specs.String.{string_bytes};
 ghost use Rattle.graphql_text.specs.declared.token.Token.TheVariants.{Ellipsis};
 ghost use Rattle.graphql_tree.specs.Documents.{arguments_in as arguments_given};
 ghost use Rattle.graphql_written_out.specs.Written.{response_key};
-ghost use Rattle.graphql_plain_text.specs.TreeTokens.{argument_tokens, condition_tokens, name_tokens, in_parentheses, skip_tokens};
+ghost use Rattle.graphql_plain_text.specs.TreeTokens.{argument_tokens, condition_tokens};
+ghost use Rattle.graphql_plain_text.specs.TreeTokens.{name_tokens, in_parentheses, skip_tokens};
 ghost use Rattle.graphql_plain_print.specs.Adding.{Adds};
 ghost use Rattle.graphql_plain_text.specs.SpanTokens.{tokens_within};
 

@@ -20,7 +20,8 @@ use Rattle.graphql_requests.specs.Asked.{Asking, IsExecutable, asking}
 use Rattle.graphql_requests.specs.Scalars.{Scalars}
 
 -- each of these names has one value in both, or none in either
-abbrev pub AreEqualOn : {S : Type 0} → (Bytes → Option (InputValue S)) → (Bytes → Option (InputValue S))
+abbrev pub AreEqualOn : {S : Type 0} → (Bytes → Option (InputValue S))
+    → (Bytes → Option (InputValue S))
     → List Bytes → Type 0
 AreEqualOn given others names = (name : Bytes) → Contains names name → others name ≡ given name
 
@@ -38,14 +39,16 @@ module _ {S C : Type 0} (s : Scalars S C) where
     pub among : Contains (operations_of again) x
 
   -- the names of the variables that the plain operation of an operation uses
-  abbrev pub used_by : (Bytes → Option (InputValue S)) → List (Definition S) → Operation S → List Bytes
+  abbrev pub used_by : (Bytes → Option (InputValue S)) → List (Definition S) → Operation S
+      → List Bytes
   used_by given document o =
       variables_used (plain_operation s.answer s.of_bool
       (final_value given (variables_in o.variable_definitions)) (fragments_listed document) o).set
 
   -- the same asked with another text: the same operation name, and the same values for variables
   abbrev pub asked_with : Asking S C → Bytes → Asking S C
-  asked_with a bytes = asking a.schema a.introspection_disabled (chars bytes) a.operation_name a.given
+  asked_with a bytes =
+      asking a.schema a.introspection_disabled (chars bytes) a.operation_name a.given
 
   -- an operation is executed, and in its place, asked with these bytes, one that is its plain
   -- operation but for places

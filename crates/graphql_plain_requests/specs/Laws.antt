@@ -1,5 +1,6 @@
--- Laws of plain texts: of requests that are asked for one, of plain texts that are read and asked again, of documents that differ in
--- places alone, and of requests whose texts have the same tokens (GraphQL October 2021, 2.1.7 Ignored Tokens).
+-- Laws of plain texts: of requests that are asked for one, of plain texts that are read and asked
+-- again, of documents that differ in places alone, and of requests whose texts have the same tokens
+-- (GraphQL October 2021, 2.1.7 Ignored Tokens).
 use Rattle.std.specs.Prelude.{◌≡◌, ℕ, Option, Bool, false, List, Result, ◌↔◌}
 use Rattle.std.specs.declared.cmp.Ordering.{Ordering}
 use Rattle.std.specs.Str.{chars, IsUtf8}
@@ -10,8 +11,10 @@ use Rattle.graphql_schema.specs.declared.root_node.RootNode.{RootNode}
 use Rattle.graphql_schema.specs.declared.schema.SchemaType.{SchemaType}
 use Rattle.graphql_requests.specs.Asked.{Asking, IsExecutable, asking}
 use Rattle.graphql_requests.specs.Scalars.{Scalars}
-use Rattle.graphql_plain_requests.specs.PlainRequests.{HasNoPlainText, IsPlainText, IsDocumentAgain, IsPlainTextWithin, asked_at, IsLarger}
-use Rattle.graphql_plain_requests.specs.AcceptedAgain.{AreEqualOn, IsAcceptedAgain, IsPlainPair, used_by}
+use Rattle.graphql_plain_requests.specs.PlainRequests.{HasNoPlainText, IsPlainText, IsDocumentAgain}
+use Rattle.graphql_plain_requests.specs.PlainRequests.{IsPlainTextWithin, asked_at, IsLarger}
+use Rattle.graphql_plain_requests.specs.AcceptedAgain.{AreEqualOn, IsAcceptedAgain, IsPlainPair}
+use Rattle.graphql_plain_requests.specs.AcceptedAgain.{used_by}
 use Rattle.graphql_plain_requests.specs.StandIns.{TakesStandIn}
 use Rattle.graphql_plain_requests.specs.declared.plain_error.PlainError.{PlainError}
 use Rattle.graphql_plain_requests.specs.declared.plain_error.PlainError.TheVariants as error
@@ -41,29 +44,35 @@ use Rattle.graphql_requests.specs.Steps.{IsExecuted, IsRefusedAt, Step}
 module _ {S C : Type 0} (s : Scalars S C) where
   -- a request has one plain text, whatever the limit
   abbrev pub PlainTextsAreOne : Type 0
-  PlainTextsAreOne = (a : Asking S C) (one other : Bytes) → IsPlainText s a one → IsPlainText s a other → one ≡ other
+  PlainTextsAreOne = (a : Asking S C) (one other : Bytes) → IsPlainText s a one
+      → IsPlainText s a other → one ≡ other
 
   -- a request that has a plain text within a limit is refused by nothing but want of memory
   abbrev pub PlainAreNotRefused : Type 0
   PlainAreNotRefused =
-      (a : Asking S C) (limit : ℕ) (bytes : Bytes) (cmp : RuleError → RuleError → Ordering) (why : PlainError)
+      (a : Asking S C) (limit : ℕ) (bytes : Bytes) (cmp : RuleError → RuleError → Ordering)
+      (why : PlainError)
       → IsPlainTextWithin s a limit bytes → HasNoPlainText s a cmp limit why → why ≡ error.Memory
 
   -- the operation of a plain document is executed, whichever values are given for variables that no
   -- field of the plain document uses
   abbrev pub UnusedValuesAreNotAsked : Type 0
   UnusedValuesAreNotAsked =
-      (given others : Bytes → Option (InputValue S)) (document : List (Definition S)) (o : Operation S)
+      (given others : Bytes → Option (InputValue S)) (document : List (Definition S))
+      (o : Operation S)
       (again : List (Definition S)) (x : Placed (Operation S))
-      → IsPlainPair s given document o again x → AreEqualOn given others (used_by s given document o)
-      → (schema : SchemaType S C) (introspection_disabled : Bool) (text : List ℕ) (name : Option Bytes)
+      → IsPlainPair s given document o again x
+      → AreEqualOn given others (used_by s given document o)
+      → (schema : SchemaType S C) (introspection_disabled : Bool) (text : List ℕ)
+      (name : Option Bytes)
       → IsExecutable s (asking schema introspection_disabled text name given) again x
       → IsExecutable s (asking schema introspection_disabled text name others) again x
 
   -- the plain text of a request over a root node is a document, and no other
   abbrev pub PlainTextsAreDocuments : RootNode S C → Type 0
   PlainTextsAreDocuments root =
-      (source : Bytes) (name : Option Bytes) (given : Bytes → Option (InputValue S)) (bytes : Bytes) → IsUtf8 source
+      (source : Bytes) (name : Option Bytes) (given : Bytes → Option (InputValue S)) (bytes : Bytes)
+      → IsUtf8 source
       → IsPlainText s (asked_at root (chars source) name given) bytes
       → IsDocumentAgain s (asked_at root (chars source) name given) bytes
 
@@ -71,7 +80,8 @@ module _ {S C : Type 0} (s : Scalars S C) where
   abbrev pub PlainTextsAreAccepted : RootNode S C → Type 0
   PlainTextsAreAccepted root =
       TakesStandIn s root.schema
-      → (source : Bytes) (name : Option Bytes) (given : Bytes → Option (InputValue S)) (bytes : Bytes) → IsUtf8 source
+      → (source : Bytes) (name : Option Bytes) (given : Bytes → Option (InputValue S))
+      (bytes : Bytes) → IsUtf8 source
       → IsPlainText s (asked_at root (chars source) name given) bytes
       → IsAcceptedAgain s (asked_at root (chars source) name given) bytes
 

@@ -1,4 +1,5 @@
--- The plain text of a request, and why it has none (GraphQL October 2021, 6.1 Executing Requests, 2.3 Operations).
+-- The plain text of a request, and why it has none (GraphQL October 2021, 6.1 Executing Requests,
+-- 2.3 Operations).
 use Rattle.std.specs.Prelude.{◌≡◌, ◌≤◌, ◌<◌, ℕ, List, Option, option_map, string_bytes}
 use Rattle.std.specs.HashMap.{get_by_text}
 use Rattle.std.specs.Str.{chars}
@@ -30,14 +31,17 @@ use Rattle.graphql_requests.specs.declared.graphql_error.GraphQLError.TheVariant
 use Rattle.graphql_plain_requests.specs.declared.plain_error.PlainError.{PlainError}
 use Rattle.graphql_plain_requests.specs.declared.plain_error.PlainError.TheVariants as error
 
--- what is asked of a root node, by the text, the name of an operation, and the values that are given for variables
-abbrev pub asked_at : {S C : Type 0} → RootNode S C → List ℕ → Option Bytes → (Bytes → Option (InputValue S)) → Asking S C
+-- what is asked of a root node, by the text, the name of an operation, and the values that are
+-- given for variables
+abbrev pub asked_at : {S C : Type 0} → RootNode S C → List ℕ → Option Bytes
+    → (Bytes → Option (InputValue S)) → Asking S C
 asked_at root = asking root.schema root.introspection_disabled
 
 -- the same by a request
 abbrev pub asked_of : {S C : Type 0} → RootNode S C → GraphQLRequest S → Asking S C
 asked_of root request =
-    asked_at root (chars (string_bytes request.query)) (option_map (λ name. string_bytes name) request.operation_name)
+    asked_at root (chars (string_bytes request.query))
+    (option_map (λ name. string_bytes name) request.operation_name)
     (get_by_text request.variables)
 
 -- by what scalars mean, and what a request asks
@@ -49,14 +53,15 @@ module _ {S C : Type 0} (s : Scalars S C) (a : Asking S C) where
   -- the plain operation of an operation of a document
   abbrev pub plain_of : List (Definition S) → Operation S → PlainOperation S
   plain_of document operation =
-      plain_operation s.answer s.of_bool (values_for operation) (fragments_listed document) operation
+      plain_operation s.answer s.of_bool (values_for operation) (fragments_listed document)
+      operation
 
   -- how many fields and inline fragments it has
   abbrev pub size_of : List (Definition S) → Operation S → ℕ
   size_of document operation = size (plain_of document operation).set
 
-  -- an operation is executed, and these bytes are its plain text: the tokens of its plain operation, in the
-  -- spelling of the request's text, parted by single spaces
+  -- an operation is executed, and these bytes are its plain text: the tokens of its plain
+  -- operation, in the spelling of the request's text, parted by single spaces
   pub record IsPlainText (bytes : Bytes) : Type 0 where
     pub document : List (Definition S)
     pub operation : Placed (Operation S)
@@ -66,8 +71,9 @@ module _ {S C : Type 0} (s : Scalars S C) (a : Asking S C) where
     pub cut : IsCut a.text tokens finish
     pub is : bytes ≡ plain_text tokens (plain_of document operation.item)
 
-  -- an operation is executed, and these bytes are a document of the grammar and no other: places aside, that of
-  -- its plain operation; and no set of the operation, fragments written out, is empty where one was written
+  -- an operation is executed, and these bytes are a document of the grammar and no other: places
+  -- aside, that of its plain operation; and no set of the operation, fragments written out, is
+  -- empty where one was written
   pub record IsDocumentAgain (bytes : Bytes) : Type 0 where
     pub document : List (Definition S)
     pub operation : Placed (Operation S)
@@ -87,7 +93,8 @@ module _ {S C : Type 0} (s : Scalars S C) (a : Asking S C) where
     pub executable : IsExecutable s a document operation
     pub larger : limit < size_of document operation.item
 
-  -- why there is no plain text: the first step that fails, or else the size; want of memory tells nothing
+  -- why there is no plain text: the first step that fails, or else the size; want of memory tells
+  -- nothing
   abbrev pub HasNoPlainText : (RuleError → RuleError → Ordering) → ℕ → PlainError → Type 0
   HasNoPlainText cmp limit (error.Refused why) = IsRefused s a cmp why × (why ≡ refusal.Memory → ⊥)
   HasNoPlainText cmp limit error.TooLarge = IsLarger limit

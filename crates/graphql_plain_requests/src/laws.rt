@@ -1,11 +1,13 @@
-//! Laws of plain texts: of requests that are asked for one, of plain texts that are read again, and of
-//! requests whose texts have the same tokens. Each function's contract is a law, and its body asks for
-//! the laws below it.
+//! Laws of plain texts: of requests that are asked for one, of plain texts that are read again, and
+//! of requests whose texts have the same tokens. Each function's contract is a law, and its body
+//! asks for the laws below it.
 
-ghost use Rattle.graphql_plain_requests.specs.Laws.{AreValidAlike, PlainAreNotRefused, PlainRequestsStay};
+ghost use Rattle.graphql_plain_requests.specs.Laws.{AreValidAlike, PlainAreNotRefused};
+ghost use Rattle.graphql_plain_requests.specs.Laws.{PlainRequestsStay};
 ghost use Rattle.graphql_plain_requests.specs.Laws.{PlainTextStays, PlainTextsAreAccepted};
 ghost use Rattle.graphql_plain_requests.specs.Laws.{PlainTextsAreDocuments, PlainTextsAreOne};
-ghost use Rattle.graphql_plain_requests.specs.Laws.{SameTokensAreAskedAlike, UnusedValuesAreNotAsked};
+ghost use Rattle.graphql_plain_requests.specs.Laws.{SameTokensAreAskedAlike};
+ghost use Rattle.graphql_plain_requests.specs.Laws.{UnusedValuesAreNotAsked};
 ghost use Rattle.graphql_schema.specs.Declarations.{Declarations};
 
 use graphql_lexer::laws::one_list;
@@ -31,8 +33,8 @@ use graphql_schema::{RootNode, SchemaScalar};
 use graphql_validation::laws::documents_without_a_fault_are_well_formed;
 use graphql_values::ScalarValue;
 
-/// A request has one plain text: it depends on the request's text, on the name of the operation, on the
-/// values that are given for variables, and on the root node.
+/// A request has one plain text: it depends on the request's text, on the name of the operation, on
+/// the values that are given for variables, and on the root node.
 pub fn plain_texts_are_one<S: SchemaScalar>()
     ensures { PlainTextsAreOne ⟦<S as Meaning>⟧.meaning }
 {
@@ -49,9 +51,9 @@ pub fn plain_requests_are_not_refused<S: SchemaScalar>()
     one_operation_is_executed::<S>();
 }
 
-/// The plain text of a request over this root node is UTF-8, and cut and parsed anew it is a document of
-/// the grammar: its only tree is that of the plain operation, places aside (GraphQL October 2021, 2
-/// Language).
+/// The plain text of a request over this root node is UTF-8, and cut and parsed anew it is a
+/// document of the grammar: its only tree is that of the plain operation, places aside (GraphQL
+/// October 2021, 2 Language).
 pub fn plain_texts_are_documents<S: SchemaScalar>(root_node: &RootNode<S>)
     ensures { PlainTextsAreDocuments ⟦<S as Meaning>⟧.meaning root_node.now }
 {
@@ -61,11 +63,11 @@ pub fn plain_texts_are_documents<S: SchemaScalar>(root_node: &RootNode<S>)
     plain_text_is_document::<S>();
 }
 
-/// The plain text of a request over this root node is executed in the request's place, with the same
-/// operation name and the same values for variables: it is a valid document, whose one operation is the
-/// plain one but for places, has the name that is asked for, and takes the values. For this the schema
-/// takes the stand-in `@skip(if: true)`: its `skip` and `include` are the standard's, and its `Boolean`
-/// takes `true` (GraphQL October 2021, 6.1 Executing Requests).
+/// The plain text of a request over this root node is executed in the request's place, with the
+/// same operation name and the same values for variables: it is a valid document, whose one
+/// operation is the plain one but for places, has the name that is asked for, and takes the values.
+/// For this the schema takes the stand-in `@skip(if: true)`: its `skip` and `include` are the
+/// standard's, and its `Boolean` takes `true` (GraphQL October 2021, 6.1 Executing Requests).
 pub fn plain_texts_are_accepted<S: SchemaScalar>(root_node: &RootNode<S>)
     ensures { PlainTextsAreAccepted ⟦<S as Meaning>⟧.meaning root_node.now }
 {
@@ -73,9 +75,9 @@ pub fn plain_texts_are_accepted<S: SchemaScalar>(root_node: &RootNode<S>)
     plain_text_is_document::<S>();
 }
 
-/// Where the plain document of a request is executed, so it is with other values for variables: those
-/// that none of its fields uses it does not define, and which operation is executed does not depend on
-/// them (GraphQL October 2021, 6.1.2 Coercing Variable Values).
+/// Where the plain document of a request is executed, so it is with other values for variables:
+/// those that none of its fields uses it does not define, and which operation is executed does not
+/// depend on them (GraphQL October 2021, 6.1.2 Coercing Variable Values).
 pub fn unused_values_are_not_asked<S: SchemaScalar>()
     ensures { UnusedValuesAreNotAsked ⟦<S as Meaning>⟧.meaning }
 {}

@@ -17,7 +17,8 @@ ghost use Rattle.graphql_plain_tree.specs.PlainOperations.{plain_operation, vari
 ghost use Rattle.graphql_plain_text.specs.PlainTexts.{plain_text};
 ghost use Rattle.graphql_plain_requests.specs.AcceptedAgain.{IsAcceptedAgain};
 ghost use Rattle.graphql_plain_requests.specs.Faults.{IsTold};
-ghost use Rattle.graphql_plain_requests.specs.PlainRequests.{HasNoPlainText, IsDocumentAgain, IsPlainTextWithin, asked_at, asked_of};
+ghost use Rattle.graphql_plain_requests.specs.PlainRequests.{HasNoPlainText, IsDocumentAgain};
+ghost use Rattle.graphql_plain_requests.specs.PlainRequests.{IsPlainTextWithin, asked_at, asked_of};
 ghost use Rattle.graphql_plain_requests.specs.StandIns.{TakesStandIn};
 
 use crate::laws::{plain_texts_are_accepted, plain_texts_are_documents};
@@ -36,24 +37,25 @@ use graphql_values::Variables;
 use graphql_written_out::FinalVariables;
 use std::alloc::Global;
 
-/// The plain text of a request: the operation that it chooses, under its name, as one operation that
-/// answers alike, without named fragments. Each spread is an inline fragment under the fragment's
-/// condition; what `skip` and `include` leave out over the final values of the variables is away, and so
-/// are all directives. Where all selections of a set are left out the first stays, itself plain, with
-/// `@skip(if: true)` alone. The definitions of variables that are no longer used are away. Each token
-/// stands in the spelling of the request's text, parted by single spaces (GraphQL October 2021, 2.3
-/// Operations, 2.8 Fragments, 3.13 Directives). It is a document again, whose only tree is that of this
-/// operation, places aside. Where the schema's `skip` and `include` are the standard's and its `Boolean`
-/// takes `true` ([`boolean_takes_true`](crate::boolean_takes_true)), it is executed in the request's place,
-/// with the same operation name and the same values for variables.
+/// The plain text of a request: the operation that it chooses, under its name, as one operation
+/// that answers alike, without named fragments. Each spread is an inline fragment under the
+/// fragment's condition; what `skip` and `include` leave out over the final values of the variables
+/// is away, and so are all directives. Where all selections of a set are left out the first stays,
+/// itself plain, with `@skip(if: true)` alone. The definitions of variables that are no longer used
+/// are away. Each token stands in the spelling of the request's text, parted by single spaces
+/// (GraphQL October 2021, 2.3 Operations, 2.8 Fragments, 3.13 Directives). It is a document again,
+/// whose only tree is that of this operation, places aside. Where the schema's `skip` and `include`
+/// are the standard's and its `Boolean` takes `true`
+/// ([`boolean_takes_true`](crate::boolean_takes_true)), it is executed in the request's place, with
+/// the same operation name and the same values for variables.
 ///
-/// The text is read once, and printed while its document is walked. The walk ends as soon as there are more
-/// fields and inline fragments than `limit`, so that no request takes more time or memory for more of
-/// them, however often it spreads its fragments.
+/// The text is read once, and printed while its document is walked. The walk ends as soon as there
+/// are more fields and inline fragments than `limit`, so that no request takes more time or memory
+/// for more of them, however often it spreads its fragments.
 ///
-/// An error is `PlainError::Refused` where `execute_sync` refuses the request, with the same step that fails
-/// first; else `PlainError::TooLarge` where there are more fields and inline fragments than `limit`.
-/// `PlainError::Memory` comes only where memory ran out.
+/// An error is `PlainError::Refused` where `execute_sync` refuses the request, with the same step
+/// that fails first; else `PlainError::TooLarge` where there are more fields and inline fragments
+/// than `limit`. `PlainError::Memory` comes only where memory ran out.
 pub fn plain_request<S: SchemaScalar + Drop>(
     alloc: Global,
     request: &GraphQLRequest<S>,
@@ -61,14 +63,16 @@ pub fn plain_request<S: SchemaScalar + Drop>(
     limit: usize,
 ) -> Result<String, PlainError>
     ensures plain { let asked = asked_of root_node.now request.now in
-        IfOk result (λ text. IsPlainTextWithin ⟦<S as Meaning>⟧.meaning asked limit (string_bytes text)) }
+        IfOk result
+        (λ text. IsPlainTextWithin ⟦<S as Meaning>⟧.meaning asked limit (string_bytes text)) }
     ensures document { let asked = asked_of root_node.now request.now in
         IfOk result (λ text. IsDocumentAgain ⟦<S as Meaning>⟧.meaning asked (string_bytes text)) }
     ensures accepted { let asked = asked_of root_node.now request.now in
         TakesStandIn ⟦<S as Meaning>⟧.meaning root_node.now.schema →
         IfOk result (λ text. IsAcceptedAgain ⟦<S as Meaning>⟧.meaning asked (string_bytes text)) }
     ensures refused { let asked = asked_of root_node.now request.now in
-        IfErr result (HasNoPlainText ⟦<S as Meaning>⟧.meaning asked ⟦<RuleError as Ord>⟧.cmp limit) }
+        IfErr result
+        (HasNoPlainText ⟦<S as Meaning>⟧.meaning asked ⟦<RuleError as Ord>⟧.cmp limit) }
 {
     let name = operation_name_of(request);
     let query = request.query.as_str();
@@ -97,7 +101,8 @@ fn plain_of_text<S: SchemaScalar + Drop>(
 ) -> Result<String, PlainError>
     ensures plain { let name = option_map (λ name. name.now) operation_name.entry in
         let asked = asked_at root_node.now (chars source.now) name (get_by_text variables.now) in
-        IfOk result (λ text. IsPlainTextWithin ⟦<S as Meaning>⟧.meaning asked limit (string_bytes text)) }
+        IfOk result
+        (λ text. IsPlainTextWithin ⟦<S as Meaning>⟧.meaning asked limit (string_bytes text)) }
     ensures document { let name = option_map (λ name. name.now) operation_name.entry in
         let asked = asked_at root_node.now (chars source.now) name (get_by_text variables.now) in
         IfOk result (λ text. IsDocumentAgain ⟦<S as Meaning>⟧.meaning asked (string_bytes text)) }
@@ -107,7 +112,8 @@ fn plain_of_text<S: SchemaScalar + Drop>(
         IfOk result (λ text. IsAcceptedAgain ⟦<S as Meaning>⟧.meaning asked (string_bytes text)) }
     ensures refused { let name = option_map (λ name. name.now) operation_name.entry in
         let asked = asked_at root_node.now (chars source.now) name (get_by_text variables.now) in
-        IfErr result (HasNoPlainText ⟦<S as Meaning>⟧.meaning asked ⟦<RuleError as Ord>⟧.cmp limit) }
+        IfErr result
+        (HasNoPlainText ⟦<S as Meaning>⟧.meaning asked ⟦<RuleError as Ord>⟧.cmp limit) }
 {
     plain_texts_are_documents(root_node);
     plain_texts_are_accepted(root_node);
@@ -131,11 +137,13 @@ fn plain_of_records<'a, S: SchemaScalar + Drop>(
     ensures plain { (text : List ℕ) → IsRecorded text records.now →
         let name = option_map (λ name. name.now) operation_name.entry in
         let asked = asked_at root_node.now text name (get_by_text variables.now) in
-        IfOk result (λ plain. IsPlainTextWithin ⟦<S as Meaning>⟧.meaning asked limit (string_bytes plain)) }
+        IfOk result
+        (λ plain. IsPlainTextWithin ⟦<S as Meaning>⟧.meaning asked limit (string_bytes plain)) }
     ensures refused { (text : List ℕ) → IsRecorded text records.now →
         let name = option_map (λ name. name.now) operation_name.entry in
         let asked = asked_at root_node.now text name (get_by_text variables.now) in
-        IfErr result (HasNoPlainText ⟦<S as Meaning>⟧.meaning asked ⟦<RuleError as Ord>⟧.cmp limit) }
+        IfErr result
+        (HasNoPlainText ⟦<S as Meaning>⟧.meaning asked ⟦<RuleError as Ord>⟧.cmp limit) }
 {
     let document = read_records(alloc, records, root_node)?;
     let definitions = document.as_slice();
@@ -148,13 +156,13 @@ fn plain_of_records<'a, S: SchemaScalar + Drop>(
     }
 }
 
-/// The plain text of a request that is read already, as [`plain_request`] gives it, and the names of the
-/// variables that it still uses: of the operation that `chosen_operation` gives, of the document that
-/// `read_records` gives of the tokens of the request's text, over the values that the request gives for
-/// its variables.
+/// The plain text of a request that is read already, as [`plain_request`] gives it, and the names
+/// of the variables that it still uses: of the operation that `chosen_operation` gives, of the
+/// document that `read_records` gives of the tokens of the request's text, over the values that the
+/// request gives for its variables.
 ///
-/// An error is `PlainError::TooLarge` where there are more fields and inline fragments than `limit`.
-/// `PlainError::Memory` comes only where memory ran out, and no other error comes.
+/// An error is `PlainError::TooLarge` where there are more fields and inline fragments than
+/// `limit`. `PlainError::Memory` comes only where memory ran out, and no other error comes.
 pub fn plain_of_chosen<'d, 'a, S: SchemaScalar + Drop>(
     alloc: Global,
     document: &'d [Definition<'a, S>],
@@ -175,8 +183,10 @@ pub fn plain_of_chosen<'d, 'a, S: SchemaScalar + Drop>(
         let p = plain_operation S.answer S.of_bool values
         (fragments_listed document.now) operation.now in
         IfOk result (λ printed. AreSame printed.used.keys (variables_used p.set)) }
-    ensures large { let values = final_value (get_by_text variables.now) (variables_in operation.now.variable_definitions) in
-        let p = plain_operation S.answer S.of_bool values (fragments_listed document.now) operation.now in
+    ensures large { let values =
+        final_value (get_by_text variables.now) (variables_in operation.now.variable_definitions) in
+        let p =
+        plain_operation S.answer S.of_bool values (fragments_listed document.now) operation.now in
         IfErr result (IsTold (limit < size p.set)) }
 {
     let values = FinalVariables::new(alloc, variables, operation)?;

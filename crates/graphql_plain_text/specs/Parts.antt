@@ -1,4 +1,5 @@
--- A written text in parts: what is blank, and then the characters of a token (GraphQL October 2021, 2.1 Source Text).
+-- A written text in parts: what is blank, and then the characters of a token (GraphQL October 2021,
+-- 2.1 Source Text).
 use Rattle.std.specs.Prelude.{◌≡◌, ◌||◌, ◌==◌, ℕ, false, List, [], ◌∷◌, ◌++◌}
 use Rattle.graphql_text.specs.declared.position.Span.{Span}
 use Rattle.graphql_text.specs.declared.token.Token.{Token}
@@ -10,7 +11,8 @@ use Rattle.graphql_text.specs.Characters.{is_blank, continues_name}
 abbrev pub AreBlank : List ℕ → Type 0
 AreBlank cs = Each is_blank cs
 
--- nothing comes next that could make a name or a number longer: no letter, no digit, no underscore, no point
+-- nothing comes next that could make a name or a number longer: no letter, no digit, no underscore,
+-- no point
 abbrev pub IsClosed : List ℕ → Type 0
 IsClosed cs = NextIsNot (λ c. continues_name c || c == 46) cs
 
@@ -26,7 +28,8 @@ abbrev pub text_of : List Part → List ℕ
 text_of [] = []
 text_of (p ∷ ps) = p.blanks ++ (p.own ++ text_of ps)
 
--- in front of these characters the part is its token: blanks, and characters that spell it and end there
+-- in front of these characters the part is its token: blanks, and characters that spell it and end
+-- there
 pub record Fits (p : Part) (behind : List ℕ) : Type 0 where
   pub blank : AreBlank p.blanks
   pub spells : Spells p.token p.own
@@ -45,7 +48,10 @@ abbrev pub up_to : List ℕ → Part → List ℕ
 up_to before p = (before ++ p.blanks) ++ p.own
 
 abbrev pub located : List ℕ → Part → Located
-located before p = record { item = p.token; span = record { start = position_of (before ++ p.blanks); end = position_of (up_to before p) } }
+located before p = record {
+  item = p.token;
+  span = record { start = position_of (before ++ p.blanks); end = position_of (up_to before p) };
+}
 
 -- behind these characters
 abbrev pub tokens_of : List ℕ → List Part → List Located

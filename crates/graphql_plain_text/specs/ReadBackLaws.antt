@@ -24,17 +24,20 @@ use Rattle.graphql_value_syntax.specs.ReadTypes.{TypeRef}
 use Rattle.graphql_value_syntax.specs.Types.{TypeOf, no_scalar}
 use Rattle.graphql_plain_text.specs.Writable.{Value, value_text, IsWritable}
 use Rattle.graphql_plain_text.specs.WritableTypes.{IsWritableType}
-use Rattle.graphql_plain_text.specs.Parts.{Part, AreBlank, IsClosed, text_of, AllFit, tokens_of, end_of}
+use Rattle.graphql_plain_text.specs.Parts.{Part, AreBlank, IsClosed, text_of, AllFit, tokens_of}
+use Rattle.graphql_plain_text.specs.Parts.{end_of}
 
 -- ---- parts (2.1.6 Lexical Tokens)
 
 -- the tokens of a text in parts, with blanks behind them, are those of its parts
 abbrev pub PartsAreTokens : Type 0
-PartsAreTokens = (ps : List Part) (blanks : List ℕ) → AreBlank blanks → AllFit ps blanks → IsCut (text_of ps ++ blanks) (tokens_of [] ps) (end_of (text_of ps ++ blanks))
+PartsAreTokens = (ps : List Part) (blanks : List ℕ) → AreBlank blanks → AllFit ps blanks
+    → IsCut (text_of ps ++ blanks) (tokens_of [] ps) (end_of (text_of ps ++ blanks))
 
 -- where what follows is closed each token ends
 abbrev pub ClosedTokensEnd : Type 0
-ClosedTokensEnd = (token : Token) (own behind : List ℕ) → is_end token ≡ false → IsClosed behind → Ends token own behind
+ClosedTokensEnd = (token : Token) (own behind : List ℕ) → is_end token ≡ false → IsClosed behind
+    → Ends token own behind
 
 -- ---- input values (2.9 Input Values)
 
@@ -61,28 +64,39 @@ pub record IsSpelledBy (is_const : Bool) (text : List ℕ) (x : At Value) : Type
 
 -- the text of a value spells it
 abbrev pub ShownSpells : Type 0
-ShownSpells = (is_const : Bool) (value : Value) → IsWritable is_const value → SpellsValue is_const (chars (value_text value)) value
+ShownSpells = (is_const : Bool) (value : Value) → IsWritable is_const value
+    → SpellsValue is_const (chars (value_text value)) value
 
 -- the value was found, places aside, as its text spells it, and nothing is left but the end
 abbrev pub IsFound : Bool → Value → Outcome (At Value) → Type 0
-IsFound is_const value (Ok p) = (unlocated p.0.item ≡ unlocated value) × (p.1.ahead ≡ []) × IsSpelledBy is_const (chars (value_text value)) p.0
+IsFound is_const value (Ok p) = (unlocated p.0.item ≡ unlocated value)
+    × (p.1.ahead ≡ [])
+    × IsSpelledBy is_const (chars (value_text value)) p.0
 IsFound is_const value (Err e) = ⊥
 
 -- whatever is found at the start of the text of a value is that value
 abbrev pub ShownIsFound : Type 0
 ShownIsFound =
-    (is_const : Bool) (value : Value) → IsWritable is_const value → (i : Input) → IsStart (chars (value_text value)) i → (found : Outcome (At Value)) → Found reads (Values scalar.Boolean is_const) i found → IsFound is_const value found
+    (is_const : Bool) (value : Value) → IsWritable is_const value → (i : Input)
+    → IsStart (chars (value_text value)) i → (found : Outcome (At Value))
+    → Found reads (Values scalar.Boolean is_const) i found → IsFound is_const value found
 
--- a parser gives the value, places aside, as its text spells it, and stands at the end; else memory ran out
+-- a parser gives the value, places aside, as its text spells it, and stands at the end; else memory
+-- ran out
 abbrev pub GivesBack : Bool → Value → Result (At Value) Fault → State → Type 0
-GivesBack is_const value (Ok x) new = (unlocated x.item ≡ unlocated value) × (new.input.ahead ≡ []) × IsSpelledBy is_const (chars (value_text value)) x
+GivesBack is_const value (Ok x) new = (unlocated x.item ≡ unlocated value)
+    × (new.input.ahead ≡ [])
+    × IsSpelledBy is_const (chars (value_text value)) x
 GivesBack is_const value (Err e) new = e.item ≡ Memory
 
 -- a parser at the start of the text of a value reads that value
 abbrev pub ShownIsReadBack : Type 0
 ShownIsReadBack =
-    (is_const : Bool) (value : Value) → IsWritable is_const value → (old new : State) (result : Result (At Value) Fault) → IsStart (chars (value_text value)) old.input → old.refused ≡ None
-    → Calls (NextValue DefaultScalarValue reads scalar.Boolean is_const) old result new → GivesBack is_const value result new
+    (is_const : Bool) (value : Value) → IsWritable is_const value
+    → (old new : State) (result : Result (At Value) Fault)
+    → IsStart (chars (value_text value)) old.input → old.refused ≡ None
+    → Calls (NextValue DefaultScalarValue reads scalar.Boolean is_const) old result new
+    → GivesBack is_const value result new
 
 -- values that are alike once their places are left out are the same, wherever they stand
 abbrev pub SameWithoutPlaces : {S : Type 0} → (S → S → Bool) → Type 0
@@ -111,7 +125,8 @@ IsTypeFound t (Err e) = ⊥
 -- the longest type that is found at the start of what a type is displayed as is that type
 abbrev pub WrittenIsFound : Type 0
 WrittenIsFound =
-    (t : TypeRef) → IsWritableType t → (i : Input) → IsStart (chars (written t.name t.modifiers)) i → (found : Outcome (At TypeRef)) → Sought no_scalar Types i found → IsTypeFound t found
+    (t : TypeRef) → IsWritableType t → (i : Input) → IsStart (chars (written t.name t.modifiers)) i
+    → (found : Outcome (At TypeRef)) → Sought no_scalar Types i found → IsTypeFound t found
 
 -- a parser gives the type and stands at the end; else memory ran out
 abbrev pub GivesTypeBack : TypeRef → Result (At TypeRef) Fault → State → Type 0
@@ -121,5 +136,6 @@ GivesTypeBack t (Err e) new = e.item ≡ Memory
 -- a parser at the start of what a type is displayed as reads that type
 abbrev pub WrittenIsReadBack : Type 0
 WrittenIsReadBack =
-    (t : TypeRef) → IsWritableType t → (old new : State) (result : Result (At TypeRef) Fault) → IsStart (chars (written t.name t.modifiers)) old.input → old.refused ≡ None
+    (t : TypeRef) → IsWritableType t → (old new : State) (result : Result (At TypeRef) Fault)
+    → IsStart (chars (written t.name t.modifiers)) old.input → old.refused ≡ None
     → Calls NextType old result new → GivesTypeBack t result new

@@ -18,7 +18,8 @@ Value = InputValue DefaultScalarValue
 abbrev pub value_text : Value → List ℕ
 value_text = input_value_text answer
 
--- the bytes of characters among which is no quote, no backslash and no control but a tab (2.9.4 String Value)
+-- the bytes of characters among which is no quote, no backslash and no control but a tab (2.9.4
+-- String Value)
 pub record IsPlain (text : List ℕ) : Type 0 where
   pub utf8 : IsUtf8 text
   pub plain : Each is_string_character (chars text)
@@ -31,21 +32,27 @@ pub record IsEnum (name : List ℕ) : Type 0 where
   pub not_null : name ≢ codes "null"
 
 mutual
-  -- Integers have 32 bits, texts are plain; enums, variables and keys have names of their kind. A constant holds no variable.
+  -- Integers have 32 bits, texts are plain; enums, variables and keys have names of their kind. A
+  -- constant holds no variable.
   pub data IsWritable (is_const : Bool) : Value → Type 0 where
     null : IsWritable is_const v.Null
     integer : (n : ℤ) → FitsSigned w32 n → IsWritable is_const (v.Scalar (scalar.Int n))
     string : (text : List ℕ) → IsPlain text → IsWritable is_const (v.Scalar (scalar.String text))
     boolean : (b : Bool) → IsWritable is_const (v.Scalar (scalar.Boolean b))
     enum : (name : List ℕ) → IsEnum name → IsWritable is_const (v.Enum name)
-    variable : (name : List ℕ) → is_const ≡ false → IsName name → IsWritable is_const (v.Variable name)
+    variable : (name : List ℕ) → is_const ≡ false → IsName name
+        → IsWritable is_const (v.Variable name)
     list : (xs : List (Placed Value)) → AreWritable is_const xs → IsWritable is_const (v.List xs)
-    object : (ps : List (Pair Value)) → FieldsAreWritable is_const ps → IsWritable is_const (v.Object ps)
+    object : (ps : List (Pair Value)) → FieldsAreWritable is_const ps
+        → IsWritable is_const (v.Object ps)
 
   pub data AreWritable (is_const : Bool) : List (Placed Value) → Type 0 where
     no_items : AreWritable is_const []
-    more_items : (x : Placed Value) (xs : List (Placed Value)) → IsWritable is_const x.item → AreWritable is_const xs → AreWritable is_const (x ∷ xs)
+    more_items : (x : Placed Value) (xs : List (Placed Value)) → IsWritable is_const x.item
+        → AreWritable is_const xs → AreWritable is_const (x ∷ xs)
 
   pub data FieldsAreWritable (is_const : Bool) : List (Pair Value) → Type 0 where
     no_fields : FieldsAreWritable is_const []
-    more_fields : (p : Pair Value) (ps : List (Pair Value)) → IsName p.0.item → IsWritable is_const p.1.item → FieldsAreWritable is_const ps → FieldsAreWritable is_const (p ∷ ps)
+    more_fields : (p : Pair Value) (ps : List (Pair Value)) → IsName p.0.item
+        → IsWritable is_const p.1.item → FieldsAreWritable is_const ps
+        → FieldsAreWritable is_const (p ∷ ps)

@@ -1,7 +1,15 @@
 //! Laws of the text of plain operations: each function's contract is a law, and its body does
 //! nothing.
 
-ghost use Rattle.graphql_plain_text.specs.Laws.{OperationAgain, PartedIsCut, PlainTextIsDocument, SourcesAreTexts, ValuesAgain, ValuesOfTextAgain, WithinIsThese};
+ghost use Rattle.graphql_plain_text.specs.Laws.{
+  OperationAgain,
+  PartedIsCut,
+  PlainTextIsDocument,
+  SourcesAreTexts,
+  ValuesAgain,
+  ValuesOfTextAgain,
+  WithinIsThese,
+};
 
 use graphql_values::ScalarValue;
 

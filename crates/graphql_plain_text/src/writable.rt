@@ -3,16 +3,17 @@
 ghost use Rattle.std.specs.Prelude.{◌≡◌, ◌↔◌, IsTrue};
 ghost use Rattle.graphql_text.specs.Grammar.{is_string_character};
 ghost use Rattle.graphql_plain_text.specs.Writable.{IsWritable};
-ghost use Rattle.graphql_plain_text.specs.WritableTest.{name_test, enum_test, plain_test, scalar_test, writable};
+ghost use Rattle.graphql_plain_text.specs.WritableTest.{name_test, enum_test, plain_test};
+ghost use Rattle.graphql_plain_text.specs.WritableTest.{scalar_test, writable};
 
 use graphql_names::Name;
 use graphql_text::first_character;
 use graphql_values::{DefaultScalarValue, InputValue};
 
-/// Whether a value can be read from what it is shown as (GraphQL October 2021, 2.9 Input Values): its
-/// names are names, its enums none of `true`, `false` and `null`, its texts hold no quote, backslash or
-/// control but a tab, and where it is a constant it holds no variable. Takes no memory, and stack for
-/// each level that the value nests.
+/// Whether a value can be read from what it is shown as (GraphQL October 2021, 2.9 Input Values):
+/// its names are names, its enums none of `true`, `false` and `null`, its texts hold no quote,
+/// backslash or control but a tab, and where it is a constant it holds no variable. Takes no
+/// memory, and stack for each level that the value nests.
 pub fn is_writable(value: &InputValue, is_const: bool) -> bool
     ensures { IsTrue result ↔ IsWritable is_const value.now }
 {

@@ -1,4 +1,5 @@
--- A plain operation as a document: what is made anew stands at no place, values and types where they stood (GraphQL October 2021, 2.2 Document).
+-- A plain operation as a document: what is made anew stands at no place, values and types where
+-- they stood (GraphQL October 2021, 2.2 Document).
 use Rattle.std.specs.Prelude.{Bool, true, false, List, [], ◌∷◌, Option, Some, None}
 use Rattle.std.specs.Option.{option_map}
 use Rattle.graphql_names.specs.Names.{Bytes}

@@ -1,4 +1,5 @@
--- Plain operations: one operation with its fragments written out, and with the variables that it still uses (GraphQL October 2021, 2.3 Operations, 2.10 Variables).
+-- Plain operations: one operation with its fragments written out, and with the variables that it
+-- still uses (GraphQL October 2021, 2.3 Operations, 2.10 Variables).
 use Rattle.std.specs.Prelude.{Bool, List, [], ◌++◌, map, Option, None}
 use Rattle.std.specs.List.{filter, flat_map}
 use Rattle.std.specs.Option.{option_map}
@@ -33,24 +34,37 @@ module _ {S : Type 0} where
   -- the names of the variables that the fields of a set use, at every depth
   abbrev pub variables_used : Tree S → List Bytes
   variables_used none = []
-  variables_used (field head directives below rest) = variables_given head.arguments ++ (variables_used below ++ variables_used rest)
+  variables_used (field head directives below rest) =
+      variables_given head.arguments ++ (variables_used below ++ variables_used rest)
   variables_used (inline on directives below rest) = variables_used below ++ variables_used rest
 
   -- a definition without its directives
   abbrev pub without_directives : Variable S → Variable S
-  without_directives v = (v.0, record { var_type = v.1.var_type; default_value = v.1.default_value; directives = None })
+  without_directives v = (
+    v.0,
+    record { var_type = v.1.var_type; default_value = v.1.default_value; directives = None },
+  )
 
   -- the definitions of the variables of these names, in order
   abbrev pub definitions_used : List Bytes → List (Variable S) → List (Variable S)
-  definitions_used names definitions = map without_directives (filter (λ v. is_one_of names v.0.item) definitions)
+  definitions_used names definitions =
+      map without_directives (filter (λ v. is_one_of names v.0.item) definitions)
 
   -- the operation of a plain set, with those of these definitions that the set uses
-  abbrev pub operation_with : OperationType → Option Bytes → List (Variable S) → Tree S → PlainOperation S
+  abbrev pub operation_with : OperationType → Option Bytes → List (Variable S) → Tree S
+      → PlainOperation S
   operation_with type name definitions set =
-      record { operation_type = type; name = name; variables = definitions_used (variables_used set) definitions; set = set }
+      record {
+        operation_type = type;
+        name = name;
+        variables = definitions_used (variables_used set) definitions;
+        set = set;
+      }
 
--- `answer`: what a scalar answers; `of_bool`: the scalar of a boolean; `given`: the final values of the variables
-module _ {S : Type 0} (answer : S → ScalarAnswer) (of_bool : Bool → S) (given : Bytes → Option (InputValue S)) where
+-- `answer`: what a scalar answers; `of_bool`: the scalar of a boolean; `given`: the final values of
+-- the variables
+module _ {S : Type 0} (answer : S → ScalarAnswer) (of_bool : Bool → S)
+    (given : Bytes → Option (InputValue S)) where
   -- the plain set of a set that is written out
   abbrev pub plain_by : Tree S → Tree S
   plain_by = plain (left_out answer given) (skip_true of_bool)
@@ -58,4 +72,5 @@ module _ {S : Type 0} (answer : S → ScalarAnswer) (of_bool : Bool → S) (give
   -- the plain operation of an operation whose spreads mean these fragments
   abbrev pub plain_operation : List (Fragment S) → Operation S → PlainOperation S
   plain_operation fragments o =
-      operation_with o.operation_type (option_map (λ n. n.item) o.name) (variables_in o.variable_definitions) (plain_by (written fragments o.selection_set))
+      operation_with o.operation_type (option_map (λ n. n.item) o.name)
+      (variables_in o.variable_definitions) (plain_by (written fragments o.selection_set))

@@ -1,4 +1,6 @@
--- Plain documents of valid documents (GraphQL October 2021, 5 Validation); and the selection sets of a document, as they are written and once fragments are written out (GraphQL October 2021, 2.4 Selection Sets, 2.8 Fragments, 5.5.2.1 Fragment Spread Target Defined).
+-- Plain documents of valid documents (GraphQL October 2021, 5 Validation); and the selection sets
+-- of a document, as they are written and once fragments are written out (GraphQL October 2021, 2.4
+-- Selection Sets, 2.8 Fragments, 5.5.2.1 Fragment Spread Target Defined).
 use Rattle.std.specs.Prelude.{◌≡◌, Bool, true, List, Option, Result, false, length, map}
 use Rattle.std.specs.List.{Contains, All}
 use Rattle.std.specs.Option.{IsSome}
@@ -35,21 +37,24 @@ use Rattle.graphql_written_out.specs.Written.{fragment_meant, written}
 use Rattle.graphql_rules_document.specs.Counted.{IsSpread, AreKnown}
 use Rattle.graphql_plain_validity.specs.WholeSets.{IsWholeSet, set_of}
 
--- `eq`: the equality of scalars; `answer`: what a scalar answers; `accepts`: what the check of a type
--- accepts
+-- `eq`: the equality of scalars; `answer`: what a scalar answers; `accepts`: what the check of a
+-- type accepts
 module _ {S C : Type 0} (eq : S → S → Bool) (answer : S → ScalarAnswer) where
   module _ (accepts : C → InputValue S → Type 0) (schema : Declarations S C) where
     -- the document is valid, by whether introspection is disabled
     abbrev pub IsValidDocument : Bool → List (Definition S) → Type 0
     IsValidDocument introspection_disabled document =
-        IsValidAt eq answer accepts (record { schema = schema; document = document }) introspection_disabled
+        IsValidAt eq answer accepts (record { schema = schema; document = document })
+        introspection_disabled
 
-  module _ (of_bool : Bool → S) (accepts : C → InputValue S → Type 0) (schema : Declarations S C) where
+  module _ (of_bool : Bool → S) (accepts : C → InputValue S → Type 0)
+      (schema : Declarations S C) where
     -- where a document is valid so is its plain document
     abbrev pub PlainDocumentsStayValid : Type 0
     PlainDocumentsStayValid =
         has_standard_conditions schema.directives ≡ true → TakesTrue accepts schema of_bool
-        → (document again : List (Definition S)) (is : IsPlainDocument answer of_bool document again)
+        → (document again : List (Definition S))
+        (is : IsPlainDocument answer of_bool document again)
         → IsSome (root_of schema is.operation.item.operation_type) → DefaultsAreConstant document
         → (introspection_disabled : Bool)
         → IsValidDocument accepts schema introspection_disabled document
@@ -65,8 +70,8 @@ module _ {S C : Type 0} (eq : S → S → Bool) (answer : S → ScalarAnswer) wh
       pub only : OnlyDocument S reads of_bool (chars bytes) document
       pub valid : IsValidDocument accepts schema introspection_disabled document
 
-    -- `source`: the bytes of a text that is a valid document, with one of its operations; then the plain
-    -- text is a valid document
+    -- `source`: the bytes of a text that is a valid document, with one of its operations; then the
+    -- plain text is a valid document
     abbrev pub PlainTextsAreValid : Type 0
     PlainTextsAreValid =
         has_standard_conditions schema.directives ≡ true → TakesTrue accepts schema of_bool
@@ -78,25 +83,33 @@ module _ {S C : Type 0} (eq : S → S → Bool) (answer : S → ScalarAnswer) wh
         → (introspection_disabled : Bool)
         → IsValidDocument accepts schema introspection_disabled document
         → IsValidText introspection_disabled
-        (plain_text tokens (plain_operation answer of_bool given (fragments_listed document) o.item))
+        (plain_text tokens
+        (plain_operation answer of_bool given (fragments_listed document) o.item))
 
 -- the sets of all definitions are whole
 abbrev pub AreWhole : {S : Type 0} → List (Definition S) → Type 0
 AreWhole document = All (λ x. IsWholeSet (set_of x)) document
 
 -- a document that tokens spell has a selection in each set that is written
-abbrev pub SpelledSetsAreWhole : (S : Type 0) → (ScalarToken → Result S ParseError) → (Bool → S) → Type 0
-SpelledSetsAreWhole S reads of_bool = (tokens : List Located) (document : List (Definition S)) → DocumentOf S reads of_bool tokens document → AreWhole document
+abbrev pub SpelledSetsAreWhole : (S : Type 0) → (ScalarToken → Result S ParseError) → (Bool → S)
+    → Type 0
+SpelledSetsAreWhole S reads of_bool = (tokens : List Located) (document : List (Definition S))
+    → DocumentOf S reads of_bool tokens document → AreWhole document
 
 -- there is a selection in it, and so in each set in it that was written
 abbrev pub IsFull : {S : Type 0} → Tree S → Type 0
 IsFull set = (is_empty set ≡ false) × IsFilled set
 
--- the same once fragments are written out, where fields are declared, conditions known, each spread means a fragment, and what is spread ends
+-- the same once fragments are written out, where fields are declared, conditions known, each spread
+-- means a fragment, and what is spread ends
 abbrev pub WrittenSetsAreFilled : {S C : Type 0} → Declarations S C → Type 0
 WrittenSetsAreFilled {S} schema =
-    (document : List (Definition S)) (o : Placed (Operation S)) → AreWhole document → Contains document (definition.Operation o)
+    (document : List (Definition S)) (o : Placed (Operation S)) → AreWhole document
+    → Contains document (definition.Operation o)
     → IsSome (root_of schema o.item.operation_type) → AreKnown schema (occurrences schema document)
-    → ((name : Bytes) → IsSpread (occurrences schema document) name → IsSome (fragment_meant (fragments_listed document) name))
-    → ((name : Bytes) → EndsWithin (fragment_scopes schema document) (length (fragment_scopes schema document)) name)
+    → ((name : Bytes) → IsSpread (occurrences schema document) name
+    → IsSome (fragment_meant (fragments_listed document) name))
+    → ((name : Bytes)
+    → EndsWithin (fragment_scopes schema document)
+    (length (fragment_scopes schema document)) name)
     → IsFull (written (fragments_listed document) o.item.selection_set)

@@ -22,7 +22,8 @@ module _ {S C : Type 0} (eq : S → S → Bool) (schema : Declarations S C) wher
   -- each selection set of a document merges, fragments written out
   abbrev pub FieldsMerge : List (Definition S) → Type 0
   FieldsMerge document =
-      All (λ set. Merging eq schema.types (members_of schema.types set)) (document_sets schema document)
+      All (λ set. Merging eq schema.types (members_of schema.types set))
+      (document_sets schema document)
 
   -- where the sets of a document merge those of its plain document do
   -- `answer`: what a scalar answers; `of_bool`: the scalar of a boolean

@@ -9,11 +9,16 @@ use Rattle.graphql_values.specs.InputValues.{Placed}
 use Rattle.graphql_tree.specs.Unlocated.{unlocated_argument, unlocated_name}
 use Rattle.graphql_tree.specs.declared.document.Definition.{Definition}
 use Rattle.graphql_tree.specs.declared.document.Operation.{Operation}
-use Rattle.graphql_schema.specs.declared.directive_location.DirectiveLocation.TheVariants as location
+use Rattle.graphql_schema.specs.declared.directive_location.DirectiveLocation.TheVariants as
+    location
 use Rattle.graphql_schema.specs.Declarations.{Declarations}
-use Rattle.graphql_occurrences.specs.Parts.{Part, VariablePart, FieldPart, InlinePart, SpreadPart, DirectivePart, GivenPart, Use, VariableDefined, Condition, AField, ASpread, AnInline, ADirective, Given, ObjectOf, VariableUsed}
+use Rattle.graphql_occurrences.specs.Parts.{Part, VariablePart, FieldPart, InlinePart, SpreadPart}
+use Rattle.graphql_occurrences.specs.Parts.{DirectivePart, GivenPart, Use, VariableDefined}
+use Rattle.graphql_occurrences.specs.Parts.{Condition, AField, ASpread, AnInline, ADirective, Given}
+use Rattle.graphql_occurrences.specs.Parts.{ObjectOf, VariableUsed}
 use Rattle.graphql_occurrences.specs.Unlocated.{unlocated_variable_part}
-use Rattle.graphql_plain_validity.specs.StemmingParts.{Reaches, StandsForSpread, skip_at, skip_given}
+use Rattle.graphql_plain_validity.specs.StemmingParts.{Reaches, StandsForSpread, skip_at}
+use Rattle.graphql_plain_validity.specs.StemmingParts.{skip_given}
 
 module _ {S : Type 0} where
   -- what is said of a part of each kind, its places aside
@@ -44,7 +49,9 @@ module _ {S C : Type 0} (schema : Declarations S C) (document : List (Definition
   abbrev pub IsInlineOf : InlinePart S C → Type 0
   IsInlineOf i =
       IsReachedAs AnInline unplaced_inline i
-      ⊎ ((j : InlinePart S C) × StandsForSpread schema document o j × (unplaced_inline i ≡ unplaced_inline j))
+      ⊎ ((j : InlinePart S C)
+      × StandsForSpread schema document o j
+      × (unplaced_inline i ≡ unplaced_inline j))
 
   -- it is the directive of a stand-in, at a field or an inline fragment
   abbrev pub IsStandIns : DirectivePart S → Type 0
@@ -59,8 +66,8 @@ module _ {S C : Type 0} (schema : Declarations S C) (document : List (Definition
         IsReachedAs Given unplaced_given g
         ⊎ (unplaced_given g ≡ unplaced_given (skip_given schema of_bool))
 
-    -- these parts are of the request, each by its kind; there is no spread among them, and no directive
-    -- but those of stand-ins
+    -- these parts are of the request, each by its kind; there is no spread among them, and no
+    -- directive but those of stand-ins
     pub record KindsStem (parts : List (Part S C)) : Type 0 where
       pub variables : (v : VariablePart S) → Contains parts (VariableDefined v)
           → IsReachedAs VariableDefined unlocated_variable_part v

@@ -17,8 +17,8 @@ use Rattle.graphql_plain_tree.specs.PlainOperations.{PlainOperation, plain_opera
 
 -- `answer`: what a scalar answers; `of_bool`: the scalar of a boolean
 module _ {S : Type 0} (answer : S → ScalarAnswer) (of_bool : Bool → S) where
-  -- places aside `again` is the plain operation of one of a document's operations, in which, once its
-  -- fragments are written out, there are selections wherever a set was written
+  -- places aside `again` is the plain operation of one of a document's operations, in which, once
+  -- its fragments are written out, there are selections wherever a set was written
   pub record IsPlainDocument (document again : List (Definition S)) : Type 0 where
     pub operation : Placed (Operation S)
     pub among : Contains document (definition.Operation operation)

@@ -33,14 +33,17 @@ module _ {S C : Type 0} (schema : Declarations S C) where
   -- nor do the rules on the names of operations and fragments
   pub record HasOneOperation (document : List (Definition S)) : Type 0 where
     -- 5.2.1.1 Operation Name Uniqueness
-    pub unique_operation_names : unique_operation_names_faults (operation_scopes schema document) ≡ []
+    pub unique_operation_names : unique_operation_names_faults (operation_scopes schema document)
+        ≡ []
     -- 5.2.2.1 Lone Anonymous Operation
-    pub lone_anonymous_operation : lone_anonymous_operation_faults (operation_scopes schema document) ≡ []
+    pub lone_anonymous_operation : lone_anonymous_operation_faults
+        (operation_scopes schema document) ≡ []
     -- 5.5.1.1 Fragment Name Uniqueness
     pub unique_fragment_names : unique_fragment_names_faults (fragment_scopes schema document) ≡ []
     -- 5.5.1.4 Fragments Must Be Used
     pub no_unused_fragments :
-        no_unused_fragments_faults (operation_scopes schema document) (fragment_scopes schema document) ≡ []
+        no_unused_fragments_faults (operation_scopes schema document)
+        (fragment_scopes schema document) ≡ []
     -- 5.5.2.2 Fragment Spreads Must Not Form Cycles
     pub no_fragment_cycles : no_fragment_cycles_faults (fragment_scopes schema document) ≡ []
 
@@ -49,11 +52,13 @@ module _ {S C : Type 0} (schema : Declarations S C) where
     -- 5.6.1 Values of Correct Type
     abbrev pub ArgumentsConform : List (Definition S) → Type 0
     ArgumentsConform document =
-        Tell (arguments_of_correct_type_faults answer accepts (subject_of document)) (occurrences schema document) []
+        Tell (arguments_of_correct_type_faults answer accepts (subject_of document))
+        (occurrences schema document) []
 
     abbrev pub DefaultsConform : List (Definition S) → Type 0
     DefaultsConform document =
-        Tell (default_values_of_correct_type_faults answer accepts (subject_of document)) (occurrences schema document) []
+        Tell (default_values_of_correct_type_faults answer accepts (subject_of document))
+        (occurrences schema document) []
 
 -- `answer`: what a scalar answers; `of_bool`: the scalar of a boolean
 module _ {S C : Type 0} (answer : S → ScalarAnswer) (of_bool : Bool → S)

@@ -9,7 +9,8 @@ use Rattle.graphql_schema.specs.Declarations.{Declarations}
 use Rattle.graphql_schema.specs.Lookups.{type_named}
 
 -- its `Boolean` is a scalar that takes `true`; `accepts`: what the check of a type accepts
-pub record TakesTrue {S C : Type 0} (accepts : C → InputValue S → Type 0) (schema : Declarations S C)
+pub record TakesTrue {S C : Type 0} (accepts : C → InputValue S → Type 0)
+    (schema : Declarations S C)
     (of_bool : Bool → S) : Type 0 where
   pub boolean : ScalarMeta C
   pub declared : type_named schema.types (codes "Boolean") ≡ Some (meta.Scalar boolean)

@@ -1,5 +1,5 @@
--- What the parts of a plain document are of its request (GraphQL October 2021, 2.8 Fragments, 3.13.1
--- @skip, 5 Validation).
+-- What the parts of a plain document are of its request (GraphQL October 2021, 2.8 Fragments,
+-- 3.13.1 @skip, 5 Validation).
 use Rattle.std.specs.Prelude.{◌≡◌, ◌⊎◌, Bool, true, false, List, [], ◌∷◌, Some, codes}
 use Rattle.std.specs.List.{Contains}
 use Rattle.graphql_text.specs.Position.{origin}
@@ -10,11 +10,13 @@ use Rattle.graphql_tree.specs.declared.document.Definition.{Definition}
 use Rattle.graphql_tree.specs.declared.document.Fragment.{Fragment}
 use Rattle.graphql_tree.specs.declared.document.Operation.{Operation}
 use Rattle.graphql_schema.specs.declared.directive_location.DirectiveLocation.{DirectiveLocation}
-use Rattle.graphql_schema.specs.declared.directive_location.DirectiveLocation.TheVariants as location
+use Rattle.graphql_schema.specs.declared.directive_location.DirectiveLocation.TheVariants as
+    location
 use Rattle.graphql_schema.specs.Declarations.{Declarations}
 use Rattle.graphql_occurrences.specs.DeclaredLookups.{directive_arguments, directive_named}
 use Rattle.graphql_occurrences.specs.Occurrences.{fragment_parts, operation_parts}
-use Rattle.graphql_occurrences.specs.Parts.{Part, DirectivePart, GivenPart, InlinePart, SpreadPart, AnInline, ADirective, ASpread, Given}
+use Rattle.graphql_occurrences.specs.Parts.{Part, DirectivePart, GivenPart, InlinePart, SpreadPart}
+use Rattle.graphql_occurrences.specs.Parts.{AnInline, ADirective, ASpread, Given}
 use Rattle.graphql_occurrences.specs.Unlocated.{unlocated_part}
 use Rattle.graphql_rules_document.specs.Reached.{IsReached}
 use Rattle.graphql_rules_document.specs.Scopes.{fragment_scopes, operation_scope}
@@ -77,8 +79,8 @@ module _ {S C : Type 0} (schema : Declarations S C) (document : List (Definition
     pub is : i ≡ inline_for spread fragment
 
   module _ (of_bool : Bool → S) where
-    -- what plain documents have beside: inline fragments for spreads, and directives of stand-ins, at
-    -- fields and inline fragments
+    -- what plain documents have beside: inline fragments for spreads, and directives of stand-ins,
+    -- at fields and inline fragments
     abbrev pub IsMade : Part S C → Type 0
     IsMade (AnInline i) = StandsForSpread i
     IsMade (ADirective d) =

@@ -1,5 +1,5 @@
--- Rules on variables that find no fault in a document find none in its plain document (GraphQL October
--- 2021, 5.8 Variables).
+-- Rules on variables that find no fault in a document find none in its plain document (GraphQL
+-- October 2021, 5.8 Variables).
 use Rattle.std.specs.Prelude.{◌≡◌, Bool, List, [], Some, Result}
 use Rattle.std.specs.List.{Contains}
 use Rattle.std.specs.Option.{IsSome}
@@ -68,7 +68,8 @@ module _ {S C : Type 0} (answer : S → ScalarAnswer) (of_bool : Bool → S)
       → DefaultsAreConstant document
       → no_undefined_variables_faults (operation_scopes schema document)
       (fragment_scopes schema document) ≡ []
-      → no_undefined_variables_faults (operation_scopes schema again) (fragment_scopes schema again) ≡ []
+      → no_undefined_variables_faults (operation_scopes schema again) (fragment_scopes schema again)
+      ≡ []
 
   -- 5.8.4 All Variables Used: where the types around all fields are known, as they are where the
   -- operation's root is and `FieldsOnCorrectType` and `KnownTypeNames` find no fault
@@ -76,5 +77,7 @@ module _ {S C : Type 0} (answer : S → ScalarAnswer) (of_bool : Bool → S)
   VariablesStayUsed =
       (document again : List (Definition S)) (is : IsPlainDocument answer of_bool document again)
       → IsSome (root_of schema is.operation.item.operation_type)
-      → IsSilent schema fields_on_correct_type_faults document → IsSilent schema known_type_names_faults document
-      → no_unused_variables_faults (operation_scopes schema again) (fragment_scopes schema again) ≡ []
+      → IsSilent schema fields_on_correct_type_faults document
+      → IsSilent schema known_type_names_faults document
+      → no_unused_variables_faults (operation_scopes schema again) (fragment_scopes schema again)
+      ≡ []

@@ -1,4 +1,5 @@
--- Selection sets of documents in which each set that is written has a selection (GraphQL October 2021, 2.4 Selection Sets, 2.8.2 Inline Fragments).
+-- Selection sets of documents in which each set that is written has a selection (GraphQL October
+-- 2021, 2.4 Selection Sets, 2.8.2 Inline Fragments).
 use Rattle.std.specs.Prelude.{List, [], ◌∷◌, Option, Some, None}
 use Rattle.graphql_values.specs.InputValues.{Placed}
 use Rattle.graphql_tree.specs.declared.document.Definition.{Definition}
@@ -13,9 +14,11 @@ module _ {S : Type 0} where
   mutual
     -- a field may have no set, an inline fragment has one
     pub data IsWhole : Selection S → Type 0 where
-      whole_field : (x : Placed (Field S)) → IsWholeIfThere x.item.selection_set → IsWhole (selection.Field x)
+      whole_field : (x : Placed (Field S)) → IsWholeIfThere x.item.selection_set
+          → IsWhole (selection.Field x)
       whole_spread : (x : Placed (FragmentSpread S)) → IsWhole (selection.FragmentSpread x)
-      whole_inline : (x : Placed (InlineFragment S)) → IsWholeSet x.item.selection_set → IsWhole (selection.InlineFragment x)
+      whole_inline : (x : Placed (InlineFragment S)) → IsWholeSet x.item.selection_set
+          → IsWhole (selection.InlineFragment x)
 
     pub data IsWholeIfThere : Option (List (Selection S)) → Type 0 where
       no_set : IsWholeIfThere None
@@ -24,7 +27,8 @@ module _ {S : Type 0} where
     -- one selection, or more
     pub data IsWholeSet : List (Selection S) → Type 0 where
       one_selection : (x : Selection S) → IsWhole x → IsWholeSet (x ∷ [])
-      more_selections : (x : Selection S) (xs : List (Selection S)) → IsWhole x → IsWholeSet xs → IsWholeSet (x ∷ xs)
+      more_selections : (x : Selection S) (xs : List (Selection S)) → IsWhole x → IsWholeSet xs
+          → IsWholeSet (x ∷ xs)
 
   -- the set of an operation or of a fragment
   abbrev pub set_of : Definition S → List (Selection S)

@@ -18,7 +18,8 @@ module _ {S N A : Type 0} (answer : A → AnswerOf S N) (is_clone : A → A → 
   answers_of_clones alike (x ∷ xs) [] zip = absurd zip
   answers_of_clones alike (x ∷ xs) (y ∷ ys) zip =
       ap (λ first. first >>= (λ z. answers_of answer ys >>= (λ zs. Ok (z ∷ zs)))) (alike x y zip.0)
-      ∙ ap (λ rest. answer x >>= (λ z. rest >>= (λ zs. Ok (z ∷ zs)))) (answers_of_clones alike xs ys zip.1)
+      ∙ ap (λ rest. answer x >>= (λ z. rest >>= (λ zs. Ok (z ∷ zs))))
+      (answers_of_clones alike xs ys zip.1)
 
   -- so do lists, item by item
   pub list_of_clones : AnswerAlike → (xs ys : List A) → AllZip is_clone xs ys

@@ -1,4 +1,5 @@
--- What a request asks, and when it can be executed or is refused (GraphQL October 2021, 6.1 Executing Requests).
+-- What a request asks, and when it can be executed or is refused (GraphQL October 2021, 6.1
+-- Executing Requests).
 use Rattle.std.specs.Prelude.{◌≡◌, ◌⊎◌, ℕ, Bool, List, Option}
 use Rattle.std.specs.declared.cmp.Ordering.{Ordering}
 use Rattle.std.specs.List.Sorted.{IsSorted}
@@ -16,7 +17,8 @@ use Rattle.graphql_requests.specs.Scalars.{Scalars}
 use Rattle.graphql_requests.specs.declared.graphql_error.GraphQLError.{GraphQLError}
 use Rattle.graphql_requests.specs.declared.graphql_error.GraphQLError.TheVariants as error
 
--- what a request asks of a schema: its text, the name of an operation, and the values that it gives for variables
+-- what a request asks of a schema: its text, the name of an operation, and the values that it gives
+-- for variables
 pub record Asking (S C : Type 0) : Type 0 where
   pub schema : SchemaType S C
   pub introspection_disabled : Bool
@@ -41,17 +43,21 @@ module _ {S C : Type 0} (s : Scalars S C) (a : Asking S C) where
   Reads = IsRead s (declarations_of a.schema) a.introspection_disabled a.text
 
   -- the text is a valid document, and of it an operation is executed
-  pub record IsExecutable (document : List (Definition S)) (operation : Placed (Operation S)) : Type 0 where
+  pub record IsExecutable (document : List (Definition S))
+      (operation : Placed (Operation S)) : Type 0 where
     pub read : Reads document
     pub ready : IsReady s a.schema a.given (chosen a.operation_name document) operation
 
   -- no document is read, and what rules have against the text is told in order
-  pub record IsRefusedUnread (cmp : RuleError → RuleError → Ordering) (refusal : GraphQLError) : Type 0 where
+  pub record IsRefusedUnread (cmp : RuleError → RuleError → Ordering)
+      (refusal : GraphQLError) : Type 0 where
     pub unread : IsUnread s (declarations_of a.schema) a.introspection_disabled a.text refusal
     pub sorted : IsSorted cmp (errors_of refusal)
 
-  -- of the document that is read no operation is executed, and what stands against the values is told in order
-  pub record IsRefusedRead (cmp : RuleError → RuleError → Ordering) (refusal : GraphQLError) : Type 0 where
+  -- of the document that is read no operation is executed, and what stands against the values is
+  -- told in order
+  pub record IsRefusedRead (cmp : RuleError → RuleError → Ordering)
+      (refusal : GraphQLError) : Type 0 where
     pub document : List (Definition S)
     pub read : Reads document
     pub stopped : IsStopped s a.schema a.given (chosen a.operation_name document) refusal
@@ -74,6 +80,7 @@ module _ {S C : Type 0} (s : Scalars S C) where
   -- a request has one document and one operation
   abbrev pub OneIsExecuted : Type 0
   OneIsExecuted =
-      (a : Asking S C) (document other : List (Definition S)) (operation another : Placed (Operation S))
+      (a : Asking S C) (document other : List (Definition S))
+      (operation another : Placed (Operation S))
       → IsExecutable s a document operation → IsExecutable s a other another
       → (other ≡ document) × (another ≡ operation)

@@ -17,4 +17,5 @@ keeps valid text = option_map_or (λ texts. contains_text texts text) valid.text
 -- by what scalars mean: of each text that is kept every document is valid for the root node
 abbrev pub AreValid : {S C : Type 0} → Scalars S C → RootNode S C → ValidTexts → Type 0
 AreValid s root valid =
-    (text : Bytes) → keeps valid text ≡ true → IsValidText s (declarations_of root.schema) root.introspection_disabled (chars text)
+    (text : Bytes) → keeps valid text ≡ true
+    → IsValidText s (declarations_of root.schema) root.introspection_disabled (chars text)

@@ -26,22 +26,27 @@ errors_of (error.ValidationError errors) = errors
 errors_of _ = []
 
 -- by what scalars mean, and by a schema: the document is valid
-abbrev pub IsValidIn : {S C : Type 0} → Scalars S C → Declarations S C → Bool → List (Definition S) → Type 0
+abbrev pub IsValidIn : {S C : Type 0} → Scalars S C → Declarations S C → Bool → List (Definition S)
+    → Type 0
 IsValidIn s schema introspection_disabled document =
-    IsValidAt s.eq s.answer s.accepts (record { schema = schema; document = document }) introspection_disabled
+    IsValidAt s.eq s.answer s.accepts (record { schema = schema; document = document })
+    introspection_disabled
 
 -- the text spells this document and no other
-pub record IsOnly {S C : Type 0} (s : Scalars S C) (text : List ℕ) (document : List (Definition S)) : Type 0 where
+pub record IsOnly {S C : Type 0} (s : Scalars S C) (text : List ℕ)
+    (document : List (Definition S)) : Type 0 where
   pub spelled : IsDocument S s.reads s.of_bool text document
   pub alone : OnlyDocument S s.reads s.of_bool text document
 
 -- by what scalars mean, and by a schema: each document that a text spells is valid
 abbrev pub IsValidText : {S C : Type 0} → Scalars S C → Declarations S C → Bool → List ℕ → Type 0
 IsValidText {S} s schema introspection_disabled text =
-    (document : List (Definition S)) → IsDocument S s.reads s.of_bool text document → IsValidIn s schema introspection_disabled document
+    (document : List (Definition S)) → IsDocument S s.reads s.of_bool text document
+    → IsValidIn s schema introspection_disabled document
 
 -- by what scalars mean, and by a schema: what a text is as a request
-module _ {S C : Type 0} (s : Scalars S C) (schema : Declarations S C) (introspection_disabled : Bool) (text : List ℕ) where
+module _ {S C : Type 0} (s : Scalars S C) (schema : Declarations S C)
+    (introspection_disabled : Bool) (text : List ℕ) where
   abbrev subject_with : List (Definition S) → Subject S C
   subject_with document = record { schema = schema; document = document }
 
@@ -56,7 +61,8 @@ module _ {S C : Type 0} (s : Scalars S C) (schema : Declarations S C) (introspec
     pub document : List (Definition S)
     pub spelled : IsDocument S s.reads s.of_bool text document
     pub alone : OnlyDocument S s.reads s.of_bool text document
-    pub told : RequestTold s.eq s.answer s.accepts (subject_with document) introspection_disabled (places errors)
+    pub told : RequestTold s.eq s.answer s.accepts (subject_with document) introspection_disabled
+        (places errors)
     pub at_least_one : errors ≡ [] → ⊥
 
   -- why the request is not read; want of memory tells nothing
@@ -66,20 +72,24 @@ module _ {S C : Type 0} (s : Scalars S C) (schema : Declarations S C) (introspec
   IsUnread error.Memory = Unit {0}
   IsUnread _ = ⊥
 
--- why an operation of a type is not executed, by the schema's root for mutations; want of memory tells nothing
+-- why an operation of a type is not executed, by the schema's root for mutations; want of memory
+-- tells nothing
 abbrev pub IsNotServed : Option Bytes → OperationType → GraphQLError → Type 0
 IsNotServed root type error.Memory = Unit {0}
 IsNotServed root type refusal = mutation_root root type ≡ Err refusal
 
 -- by what scalars mean, a schema, and the value that the request gives for each name
-module _ {S C : Type 0} (s : Scalars S C) (schema : SchemaType S C) (given : Bytes → Option (InputValue S)) where
+module _ {S C : Type 0} (s : Scalars S C) (schema : SchemaType S C)
+    (given : Bytes → Option (InputValue S)) where
   -- each variable of the operation accepts what is given for it
   abbrev pub TakesValues : Placed (Operation S) → Type 0
   TakesValues operation =
-      AreAccepted s.answer s.accepts schema.types given (variables_in operation.item.variable_definitions)
+      AreAccepted s.answer s.accepts schema.types given
+      (variables_in operation.item.variable_definitions)
 
   -- the operation is chosen, takes the values, and is executed: `root` is its root, of a mutation
-  pub record IsReady (choice : Result (Placed (Operation S)) GraphQLError) (operation : Placed (Operation S)) : Type 0 where
+  pub record IsReady (choice : Result (Placed (Operation S)) GraphQLError)
+      (operation : Placed (Operation S)) : Type 0 where
     pub chosen : choice ≡ Ok operation
     pub takes_values : TakesValues operation
     pub root : Option Bytes
@@ -87,7 +97,8 @@ module _ {S C : Type 0} (s : Scalars S C) (schema : SchemaType S C) (given : Byt
 
   -- what is said of the values that are given for variables
   pub record AreRefused (operation : Placed (Operation S)) (errors : List RuleError) : Type 0 where
-    pub told : ValuesTold s.answer s.accepts schema.types given (variables_in operation.item.variable_definitions) (places errors)
+    pub told : ValuesTold s.answer s.accepts schema.types given
+        (variables_in operation.item.variable_definitions) (places errors)
     pub at_least_one : errors ≡ [] → ⊥
 
   -- why an operation is not executed: values first, then what it does; want of memory tells nothing
@@ -95,7 +106,8 @@ module _ {S C : Type 0} (s : Scalars S C) (schema : SchemaType S C) (given : Byt
   IsHeld operation (error.ValidationError errors) = AreRefused operation errors
   IsHeld operation error.Memory = Unit {0}
   IsHeld operation refusal =
-      TakesValues operation × (mutation_root schema.mutation operation.item.operation_type ≡ Err refusal)
+      TakesValues operation
+      × (mutation_root schema.mutation operation.item.operation_type ≡ Err refusal)
 
   -- why a request is not executed: none is chosen, or the one that is chosen is not executed
   abbrev pub IsStopped : Result (Placed (Operation S)) GraphQLError → GraphQLError → Type 0

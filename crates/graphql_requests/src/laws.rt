@@ -1,13 +1,14 @@
 //! Laws of requests: each function's contract is a law, and its body does nothing.
 
 ghost use Rattle.graphql_requests.specs.Asked.{ExecutableAreNotRefused, OneIsExecuted};
-ghost use Rattle.graphql_requests.specs.Steps.{ExecutedAreAtNoStep, OneStepRefuses, RefusalsHaveSteps};
+ghost use Rattle.graphql_requests.specs.Steps.{ExecutedAreAtNoStep, OneStepRefuses};
+ghost use Rattle.graphql_requests.specs.Steps.{RefusalsHaveSteps};
 
 use crate::meaning::Meaning;
 use graphql_schema::SchemaScalar;
 
-/// A request that can be executed is refused by nothing but want of memory: no request is both executed
-/// and refused, so that the first step that fails decides what it is refused for.
+/// A request that can be executed is refused by nothing but want of memory: no request is both
+/// executed and refused, so that the first step that fails decides what it is refused for.
 pub fn executable_requests_are_not_refused<S: SchemaScalar>()
     ensures { ExecutableAreNotRefused ⟦<S as Meaning>⟧.meaning }
 {}

@@ -9,7 +9,8 @@ ghost use Rattle.graphql_lexer.specs.Records.{IsRecorded};
 ghost use Rattle.graphql_schema.specs.Declarations.{Declarations, declarations_of};
 ghost use Rattle.graphql_requests.specs.KeptTexts.{AreValid};
 ghost use Rattle.graphql_requests.specs.Operations.{chosen};
-ghost use Rattle.graphql_requests.specs.Refusals.{IsOnly, IsRead, IsReady, IsStopped, IsUnread, IsValidIn, errors_of};
+ghost use Rattle.graphql_requests.specs.Refusals.{IsOnly, IsRead, IsReady, IsStopped, IsUnread};
+ghost use Rattle.graphql_requests.specs.Refusals.{IsValidIn, errors_of};
 
 use crate::graphql_error::GraphQLError;
 use crate::meaning::Meaning;
@@ -28,10 +29,10 @@ use std::alloc::Global;
 /// The document of a request's text, which is valid for the root node (GraphQL October 2021, 6.1
 /// Executing Requests). Its names are borrowed from the text.
 ///
-/// An error is `GraphQLError::ParseError` where the text is no document: its first fault. Where it is one,
-/// the error is `GraphQLError::ValidationError` with what all rules have against it, in order: by their
-/// places, then by their messages. Where the root node has introspection disabled, the rule against
-/// `__schema` and `__type` is among them.
+/// An error is `GraphQLError::ParseError` where the text is no document: its first fault. Where it
+/// is one, the error is `GraphQLError::ValidationError` with what all rules have against it, in
+/// order: by their places, then by their messages. Where the root node has introspection disabled,
+/// the rule against `__schema` and `__type` is among them.
 /// `GraphQLError::Memory` comes only where memory ran out, and no other error comes.
 pub fn read_request<'a, S: SchemaScalar>(
     alloc: Global,
@@ -39,9 +40,11 @@ pub fn read_request<'a, S: SchemaScalar>(
     root_node: &RootNode<S>,
 ) -> Result<OwnedDocument<'a, S>, GraphQLError>
     ensures read { let root = root_node.now in let schema = declarations_of root.schema in
-        IfOk result (IsRead ⟦<S as Meaning>⟧.meaning schema root.introspection_disabled (chars source.now)) }
+        IfOk result
+        (IsRead ⟦<S as Meaning>⟧.meaning schema root.introspection_disabled (chars source.now)) }
     ensures refused { let root = root_node.now in let schema = declarations_of root.schema in
-        IfErr result (IsUnread ⟦<S as Meaning>⟧.meaning schema root.introspection_disabled (chars source.now)) }
+        IfErr result
+        (IsUnread ⟦<S as Meaning>⟧.meaning schema root.introspection_disabled (chars source.now)) }
     ensures sorted { IfErr result (λ error. IsSorted ⟦<RuleError as Ord>⟧.cmp (errors_of error)) }
 {
     match parse_request(alloc, source) {
@@ -71,9 +74,9 @@ pub fn parse_request<'a, S: SchemaScalar>(
     }
 }
 
-/// The document of a request's text, and errors, as [`read_request`] gives them. The rules are asked
-/// only of a text that is not kept as valid, which is kept then where it is, if there is room and
-/// memory for it.
+/// The document of a request's text, and errors, as [`read_request`] gives them. The rules are
+/// asked only of a text that is not kept as valid, which is kept then where it is, if there is room
+/// and memory for it.
 pub fn read_request_with<'a, S: SchemaScalar>(
     alloc: Global,
     source: &'a str,
@@ -82,9 +85,11 @@ pub fn read_request_with<'a, S: SchemaScalar>(
 ) -> Result<OwnedDocument<'a, S>, GraphQLError>
     requires { AreValid ⟦<S as Meaning>⟧.meaning root_node.now valid.old }
     ensures read { let root = root_node.now in let schema = declarations_of root.schema in
-        IfOk result (IsRead ⟦<S as Meaning>⟧.meaning schema root.introspection_disabled (chars source.now)) }
+        IfOk result
+        (IsRead ⟦<S as Meaning>⟧.meaning schema root.introspection_disabled (chars source.now)) }
     ensures refused { let root = root_node.now in let schema = declarations_of root.schema in
-        IfErr result (IsUnread ⟦<S as Meaning>⟧.meaning schema root.introspection_disabled (chars source.now)) }
+        IfErr result
+        (IsUnread ⟦<S as Meaning>⟧.meaning schema root.introspection_disabled (chars source.now)) }
     ensures sorted { IfErr result (λ error. IsSorted ⟦<RuleError as Ord>⟧.cmp (errors_of error)) }
     ensures valid { AreValid ⟦<S as Meaning>⟧.meaning root_node.now valid.new }
 {
@@ -96,8 +101,8 @@ pub fn read_request_with<'a, S: SchemaScalar>(
     Ok(document)
 }
 
-/// The document of a request's text whose tokens are lent, as `read_request` gives it, so that the text
-/// is read no second time. No error is a lexical fault, since the text has tokens.
+/// The document of a request's text whose tokens are lent, as `read_request` gives it, so that the
+/// text is read no second time. No error is a lexical fault, since the text has tokens.
 pub fn read_records<'a, S: SchemaScalar>(
     alloc: Global,
     records: &'a TokenRecords<'a>,
@@ -119,7 +124,8 @@ pub fn read_records<'a, S: SchemaScalar>(
     }
 }
 
-/// A document, unless rules have something against it: then their errors, in order, or want of memory.
+/// A document, unless rules have something against it: then their errors, in order, or want of
+/// memory.
 fn valid_document<'a, S: SchemaScalar>(
     alloc: Global,
     document: OwnedDocument<'a, S>,
@@ -142,14 +148,15 @@ fn valid_document<'a, S: SchemaScalar>(
     Ok(document)
 }
 
-/// The operation of a document that a request executes (GraphQL October 2021, 6.1 Executing Requests): the
-/// one that `get_operation` gives. It accepts the values that the request gives for its variables (6.1.2
-/// Coercing Variable Values), and is a query, or a mutation where the schema has a type for mutations.
+/// The operation of a document that a request executes (GraphQL October 2021, 6.1 Executing
+/// Requests): the one that `get_operation` gives. It accepts the values that the request gives for
+/// its variables (6.1.2 Coercing Variable Values), and is a query, or a mutation where the schema
+/// has a type for mutations.
 ///
-/// The first of these that fails decides: `get_operation` refuses; the operation does not accept the
-/// values, `GraphQLError::ValidationError` with the errors that `validate_input_values` gives, in its order; the
-/// operation is a subscription, `GraphQLError::IsSubscription`, or a mutation and the schema has no type for
-/// mutations, `GraphQLError::NoMutationType`.
+/// The first of these that fails decides: `get_operation` refuses; the operation does not accept
+/// the values, `GraphQLError::ValidationError` with the errors that `validate_input_values` gives,
+/// in its order; the operation is a subscription, `GraphQLError::IsSubscription`, or a mutation and
+/// the schema has no type for mutations, `GraphQLError::NoMutationType`.
 /// `GraphQLError::Memory` comes only where memory ran out, and no other error comes.
 pub fn chosen_operation<'d, 'a, S: SchemaScalar>(
     alloc: Global,
@@ -158,10 +165,13 @@ pub fn chosen_operation<'d, 'a, S: SchemaScalar>(
     root_node: &RootNode<S>,
     variables: &Variables<S>,
 ) -> Result<&'d Spanning<Operation<'a, S>>, GraphQLError>
-    ensures ready { let choice = chosen (option_map (λ name. name.now) operation_name.entry) document.now in
+    ensures ready { let choice =
+        chosen (option_map (λ name. name.now) operation_name.entry) document.now in
         let given = get_by_text variables.now in
-        IfOk result (λ o. IsReady ⟦<S as Meaning>⟧.meaning root_node.now.schema given choice o.now) }
-    ensures refused { let choice = chosen (option_map (λ name. name.now) operation_name.entry) document.now in
+        IfOk result
+        (λ o. IsReady ⟦<S as Meaning>⟧.meaning root_node.now.schema given choice o.now) }
+    ensures refused { let choice =
+        chosen (option_map (λ name. name.now) operation_name.entry) document.now in
         let given = get_by_text variables.now in
         IfErr result (IsStopped ⟦<S as Meaning>⟧.meaning root_node.now.schema given choice) }
     ensures sorted { IfErr result (λ error. IsSorted ⟦<RuleError as Ord>⟧.cmp (errors_of error)) }

@@ -7,9 +7,9 @@ ghost use Rattle.graphql_requests.specs.KeptTexts.{keeps};
 use std::alloc::Global;
 use std::collections::HashSet;
 
-/// Texts of documents that were found valid for one root node, so that no rule need be asked of them
-/// again (GraphQL October 2021, 5 Validation). So many texts are kept at most, and so many bytes of
-/// them in all; where one more would be too many, all go and it begins anew with that one.
+/// Texts of documents that were found valid for one root node, so that no rule need be asked of
+/// them again (GraphQL October 2021, 5 Validation). So many texts are kept at most, and so many
+/// bytes of them in all; where one more would be too many, all go and it begins anew with that one.
 #[derive(Drop)]
 pub struct ValidTexts {
     // None until the first text.
@@ -66,8 +66,8 @@ impl ValidTexts {
         self.texts = Some(texts);
     }
 
-    /// Takes the texts out beside which a text of so many bytes may be kept: those that are kept, or
-    /// none where it would be one too many.
+    /// Takes the texts out beside which a text of so many bytes may be kept: those that are kept,
+    /// or none where it would be one too many.
     fn take_texts(&mut self, alloc: Global, length: usize) -> HashSet<String>
         requires { length ≤ self.old.byte_limit }
         ensures room { length ≤ self.new.bytes_left }

@@ -1,5 +1,6 @@
 -- What a field is answered, in short (GraphQL October 2021, 6.4.2 Value Resolution).
-use Rattle.std.specs.Prelude.{◌≡◌, ◌+◌, ◌++◌, ℕ, ℤ, Bool, List, [], ◌∷◌, drop, map, take, Option, Some, None, Result, Ok, Err}
+use Rattle.std.specs.Prelude.{◌≡◌, ◌+◌, ◌++◌, ℕ, ℤ, Bool, List, [], ◌∷◌, drop, map, take, Option}
+use Rattle.std.specs.Prelude.{Some, None, Result, Ok, Err}
 use Rattle.std.specs.Borrow.{Bor}
 pub use Rattle.graphql_names.specs.Names.{Bytes}
 use Rattle.graphql_scalars.specs.declared.default_scalar.DefaultScalarValue.{DefaultScalarValue}
@@ -48,7 +49,8 @@ with_reason (Ok x) = Ok x.resolved
 with_reason (Err r) = Err (error_of r)
 
 abbrev pub field_result : {N : Type 0}
-    → Result (Reply N) Failure → Result (Resolved DefaultScalarValue N) (FieldFault DefaultScalarValue)
+    → Result (Reply N) Failure
+    → Result (Resolved DefaultScalarValue N) (FieldFault DefaultScalarValue)
 field_result (Ok x) = Ok x.resolved
 field_result (Err (failure.Error e)) = Err (fault.Error e)
 field_result (Err failure.Memory) = Err fault.Memory
@@ -117,8 +119,10 @@ module _ {N : Type 0} where
 
   -- ---- parts of a list that is answered; what is no list stays
 
-  abbrev pub cut_layer : (List (Resolved DefaultScalarValue N) → List (Resolved DefaultScalarValue N))
-      → Resolved-F DefaultScalarValue N (Resolved DefaultScalarValue N) → Resolved DefaultScalarValue N
+  abbrev pub cut_layer : (List (Resolved DefaultScalarValue N)
+      → List (Resolved DefaultScalarValue N))
+      → Resolved-F DefaultScalarValue N (Resolved DefaultScalarValue N)
+      → Resolved DefaultScalarValue N
   cut_layer f Resolved-F.Null = resolved.Null
   cut_layer f (Resolved-F.Scalar s) = resolved.Scalar s
   cut_layer f (Resolved-F.List xs) = resolved.List (f xs)
@@ -128,11 +132,13 @@ module _ {N : Type 0} where
       → Resolved DefaultScalarValue N → Resolved DefaultScalarValue N
   cut_of f x = cut_layer f (out-Resolved DefaultScalarValue N x)
 
-  abbrev pub cut : (List (Resolved DefaultScalarValue N) → List (Resolved DefaultScalarValue N)) → Answer N → Answer N
+  abbrev pub cut : (List (Resolved DefaultScalarValue N) → List (Resolved DefaultScalarValue N))
+      → Answer N → Answer N
   cut f (Ok x) = Ok (reply (cut_of f x.resolved))
   cut f (Err r) = Err r
 
-  abbrev pub cut_by : (ℕ → List (Resolved DefaultScalarValue N) → List (Resolved DefaultScalarValue N))
+  abbrev pub cut_by : (ℕ → List (Resolved DefaultScalarValue N)
+      → List (Resolved DefaultScalarValue N))
       → Option ℕ → Answer N → Answer N
   cut_by f None wanted = wanted
   cut_by f (Some count) wanted = cut (f count) wanted
@@ -167,7 +173,8 @@ module _ {N : Type 0} where
 
     -- what a function may give at a place and a reference is what is wanted of what it lends
     abbrev pub NodesBy : (ℕ → Bor A → Option N → Type 0) → Type 0
-    NodesBy gives = (place : ℕ) (x : Bor A) (found : Option N) → gives place x found → found ≡ node place x.now
+    NodesBy gives =
+        (place : ℕ) (x : Bor A) (found : Option N) → gives place x found → found ≡ node place x.now
 
     -- the list of the nodes of those that have one
     unfoldable pub nodes_where : List A → Answer N

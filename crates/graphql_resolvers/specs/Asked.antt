@@ -1,6 +1,8 @@
--- What a resolver asks of what is given: a value of one kind under a name, or the refusal that names what is wrong
--- (GraphQL October 2021, 3.5 Scalars, 3.9 Enums, 3.10 Input Objects, 3.11 List).
-use Rattle.std.specs.Prelude.{◌++◌, ℕ, ℤ, pos, int_lt, unsigned_abs, if◌then◌else◌, Bool, List, [], ◌∷◌, map, Option, Some, None, Result, Ok, Err, codes}
+-- What a resolver asks of what is given: a value of one kind under a name, or the refusal that
+-- names what is wrong (GraphQL October 2021, 3.5 Scalars, 3.9 Enums, 3.10 Input Objects, 3.11
+-- List).
+use Rattle.std.specs.Prelude.{◌++◌, ℕ, ℤ, pos, int_lt, unsigned_abs, if◌then◌else◌, Bool, List, []}
+use Rattle.std.specs.Prelude.{◌∷◌, map, Option, Some, None, Result, Ok, Err, codes}
 use Rattle.std.specs.Option.{option_and_then, option_map}
 use Rattle.std.specs.Fmt.{signed_decimal}
 use Rattle.std.specs.List.{list_any}
@@ -81,7 +83,8 @@ or_refused (Some x) r = Ok (Some x)
 or_refused None r = Err r
 
 -- what is read of what stands there; nothing of `null`, and where nothing is given
-abbrev pub asked_of : {A : Type 0} → (Input → Option A) → Refusal → Option Input → Result (Option A) Refusal
+abbrev pub asked_of : {A : Type 0} → (Input → Option A) → Refusal → Option Input
+    → Result (Option A) Refusal
 asked_of reads r None = Ok None
 asked_of reads r (Some null) = Ok None
 asked_of reads r (Some (leaf s)) = or_refused (reads (leaf s)) r

@@ -1,5 +1,5 @@
--- What is given to arguments, wherever it stands: at each path of names what stands there (GraphQL October 2021, 6.4.1
--- Coercing Field Arguments).
+-- What is given to arguments, wherever it stands: at each path of names what stands there (GraphQL
+-- October 2021, 6.4.1 Coercing Field Arguments).
 use Rattle.std.specs.Prelude.{List, [], ◌∷◌, map, Option, Some, None}
 use Rattle.std.specs.List.{find}
 use Rattle.std.specs.Option.{option_and_then, option_map}
@@ -12,8 +12,8 @@ use Rattle.graphql_values.specs.declared.input_value.InputValue.{InputValue, out
 use Rattle.graphql_values.specs.declared.input_value.InputValue.TheOpen.{InputValue-F}
 use Rattle.graphql_arguments.specs.ArgumentValues.{Given, value_named}
 
--- what stands at a place of input: of a list each item's leaf, or nothing where the item is none; the fields of an input
--- object stand at paths of their own; no given value is a variable
+-- what stands at a place of input: of a list each item's leaf, or nothing where the item is none;
+-- the fields of an input object stand at paths of their own; no given value is a variable
 pub data Input : Type 0 where
   null : Input
   leaf : DefaultScalarValue → Input
@@ -33,7 +33,8 @@ leaf_layer (InputValue-F.Object pairs) = None
 abbrev pub leaf_of : InputValue DefaultScalarValue → Option DefaultScalarValue
 leaf_of v = leaf_layer (out-InputValue DefaultScalarValue v)
 
-abbrev pub leaves_of : List (Placed (InputValue DefaultScalarValue)) → List (Option DefaultScalarValue)
+abbrev pub leaves_of : List (Placed (InputValue DefaultScalarValue))
+    → List (Option DefaultScalarValue)
 leaves_of xs = map (λ x. leaf_of x.item) xs
 
 abbrev pub input_layer : InputValue-F DefaultScalarValue (InputValue DefaultScalarValue) → Input
@@ -48,7 +49,8 @@ abbrev pub input_of : InputValue DefaultScalarValue → Input
 input_of v = input_layer (out-InputValue DefaultScalarValue v)
 
 -- the value of the first field of this name
-abbrev pub field_named : List (Pair (InputValue DefaultScalarValue)) → Bytes → Option (InputValue DefaultScalarValue)
+abbrev pub field_named : List (Pair (InputValue DefaultScalarValue)) → Bytes
+    → Option (InputValue DefaultScalarValue)
 field_named pairs name = option_map (λ p. p.1.item) (find (λ p. bytes_eq p.0.item name) pairs)
 
 abbrev pub field_layer : InputValue-F DefaultScalarValue (InputValue DefaultScalarValue)

@@ -1,4 +1,5 @@
--- Why a field has no value, as its resolver says it (GraphQL October 2021, 6.4.4 Handling Field Errors, 7.1.2 Errors).
+-- Why a field has no value, as its resolver says it (GraphQL October 2021, 6.4.4 Handling Field
+-- Errors, 7.1.2 Errors).
 use Rattle.std.specs.Prelude.{◌≡◌, List, [], map, Option, Some, None, Result, Ok, Err}
 use Rattle.graphql_names.specs.Names.{Bytes}
 use Rattle.graphql_output_values.specs.Objects.{Pair, with_fields}

@@ -114,7 +114,8 @@ fn put_text(
     object: &mut Object<DefaultScalarValue>,
     pair: &(&str, &str),
 ) -> Result<(), AllocError>
-    ensures { OnOk result (object.new.fields ≡ with_field object.old.fields (pair_of pair.now).0 (pair_of pair.now).1) }
+    ensures { OnOk result (object.new.fields
+        ≡ with_field object.old.fields (pair_of pair.now).0 (pair_of pair.now).1) }
 {
     let key = Text::from_str(alloc, pair.0)?;
     let text = Text::from_str(alloc, pair.1)?;
@@ -139,10 +140,11 @@ fn texts_under(
 }
 
 /// The error of a field, by its reason, with texts beside it under their keys, as `("code",
-/// "NOT_FOUND")`, which are told as its `extensions` (GraphQL October 2021, 7.1.2 Errors); or want of
-/// memory.
+/// "NOT_FOUND")`, which are told as its `extensions` (GraphQL October 2021, 7.1.2 Errors); or want
+/// of memory.
 pub fn fails_with<N>(alloc: Global, reason: &str, beside: &[(&str, &str)]) -> Answer<N>
-    ensures { Answers (spec.fails_with reason.now (map (λ p. (p.0.now, p.1.now)) beside.now)) result }
+    ensures { Answers (spec.fails_with reason.now (map (λ p. (p.0.now, p.1.now)) beside.now))
+        result }
 {
     let text = Text::from_str(alloc, reason)?;
     let beside = Value::Object(texts_under(alloc, beside)?);

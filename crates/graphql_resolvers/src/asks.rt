@@ -21,7 +21,8 @@ impl<'a> Given<'a> {
     /// `null` or absent (GraphQL October 2021, 3.5.3 String, 3.9 Enums). What is sent for an enum
     /// value by way of a variable is a text. It takes memory for an error alone.
     pub fn word_or_null(&self, name: &str) -> Asked<Option<&'a str>>
-        ensures { TellsBy (option_map (λ word. word.now)) result (spec.word_or_null (given_to self.now) name.now) }
+        ensures { TellsBy (option_map (λ word. word.now)) result
+            (spec.word_or_null (given_to self.now) name.now) }
     {
         match self.value(name) {
             None => Ok(None),
@@ -44,10 +45,11 @@ impl<'a> Given<'a> {
         }
     }
 
-    /// What of `true` and `false` stands under this name; `None` where it is `null` or absent (3.5.4
-    /// Boolean).
+    /// What of `true` and `false` stands under this name; `None` where it is `null` or absent
+    /// (3.5.4 Boolean).
     pub fn boolean_or_null(&self, name: &str) -> Asked<Option<bool>>
-        ensures { TellsBy (λ value. value) result (spec.boolean_or_null (given_to self.now) name.now) }
+        ensures { TellsBy (λ value. value) result
+            (spec.boolean_or_null (given_to self.now) name.now) }
     {
         match self.value(name) {
             None => Ok(None),
@@ -60,7 +62,8 @@ impl<'a> Given<'a> {
     /// The integer that stands under this name and is not negative, as a count; `None` where it is
     /// `null` or absent.
     pub fn count_or_null(&self, name: &str) -> Asked<Option<usize>>
-        ensures { TellsBy (λ value. value) result (spec.count_or_null (given_to self.now) name.now) }
+        ensures { TellsBy (λ value. value) result
+            (spec.count_or_null (given_to self.now) name.now) }
     {
         match self.value(name) {
             None => Ok(None),
@@ -96,7 +99,8 @@ impl<'a> Given<'a> {
     /// The fields of the input object that stands under this name; `None` where it is `null` or
     /// absent (3.10 Input Objects).
     pub fn part_or_null(&self, name: &str) -> Asked<Option<Given<'a>>>
-        ensures { TellsBy (option_map given_to) result (spec.part_or_null (given_to self.now) name.now) }
+        ensures { TellsBy (option_map given_to) result
+            (spec.part_or_null (given_to self.now) name.now) }
     {
         match self.value(name) {
             None => Ok(None),

@@ -76,9 +76,9 @@ fn ids_in(alloc: Global, items: &[Item]) -> Result<Option<Vec<Text>>, AllocError
 }
 
 impl<'a> Given<'a> {
-    /// The texts, or the names of enum values, that stand under this name, in order; `None` where it
-    /// is `null` or absent. One that is no list is the list of it alone (GraphQL October 2021, 3.11
-    /// List). It takes memory.
+    /// The texts, or the names of enum values, that stand under this name, in order; `None` where
+    /// it is `null` or absent. One that is no list is the list of it alone (GraphQL October 2021,
+    /// 3.11 List). It takes memory.
     pub fn words_or_null(&self, name: &str) -> Asked<Option<Vec<&'a str>>>
         ensures { TellsBy (option_map (λ words. map (λ word. word.now) words.items)) result
             (spec.words_or_null (given_to self.now) name.now) }
@@ -118,8 +118,8 @@ impl<'a> Given<'a> {
         }
     }
 
-    /// The ids that stand under this name, texts or integers, as texts, in order; `None` where it is
-    /// `null` or absent. One that is no list is the list of it alone. It takes memory.
+    /// The ids that stand under this name, texts or integers, as texts, in order; `None` where it
+    /// is `null` or absent. One that is no list is the list of it alone. It takes memory.
     pub fn ids_or_null(&self, name: &str) -> Asked<Option<Vec<Text>>>
         ensures { TellsBy (option_map (λ ids. ids.items)) result
             (spec.ids_or_null (given_to self.now) name.now) }

@@ -11,8 +11,8 @@ use graphql_text::Text;
 use graphql_values::InputValue;
 use std::alloc::{AllocError, Global};
 
-/// The id that a scalar is, a text or an integer, as a text (GraphQL October 2021, 3.5.5 ID); `None`
-/// where it is none. An error is want of memory.
+/// The id that a scalar is, a text or an integer, as a text (GraphQL October 2021, 3.5.5 ID);
+/// `None` where it is none. An error is want of memory.
 pub(crate) fn id_of(alloc: Global, scalar: &DefaultScalarValue) -> Result<Option<Text>, AllocError>
     ensures { Gives result (as_id scalar.now) }
 {

@@ -1,7 +1,7 @@
 //! What a user's resolver names: the traits, which owe no law ([`Resolver`], [`MutationResolver`]);
-//! what is given to arguments, asked for by a name and a kind ([`Given`]); and what fields are answered,
-//! in short ([`text`], [`node`], [`each`], [`nodes_where`] and their kin), or why they have no answer
-//! ([`fails`], [`fails_with`]) (GraphQL October 2021, 6.4 Executing Fields).
+//! what is given to arguments, asked for by a name and a kind ([`Given`]); and what fields are
+//! answered, in short ([`text`], [`node`], [`each`], [`nodes_where`] and their kin), or why they
+//! have no answer ([`fails`], [`fails_with`]) (GraphQL October 2021, 6.4 Executing Fields).
 #![tactic(auto)]
 
 mod answer;

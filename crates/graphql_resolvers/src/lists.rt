@@ -39,7 +39,8 @@ pub fn nodes_where<T, N: Drop, F: Fn(usize, &T) -> Option<N> + Drop>(
 /// it; all where no count is given. What is no list stays. An error of the count is the field's.
 #[tactic(auto, unfolding(crate::specs::Answers::first))]
 pub fn first<N: Drop>(answer: Answer<N>, count: Asked<Option<usize>>) -> Answer<N>
-    ensures { (asked : Result (Option ℕ) Refusal) (wanted : spec.Answer N) → TellsBy (λ c. c) count asked
+    ensures { (asked : Result (Option ℕ) Refusal) (wanted : spec.Answer N)
+        → TellsBy (λ c. c) count asked
         → Answers wanted answer → Answers (spec.first asked wanted) result }
 {
     match count {
@@ -48,12 +49,13 @@ pub fn first<N: Drop>(answer: Answer<N>, count: Asked<Option<usize>>) -> Answer<
     }
 }
 
-/// Of a list that is answered all but as many of the first as this, as `given.count_or_null("skip")`
-/// tells it; all where no count is given. What is no list stays. An error of the count is the
-/// field's.
+/// Of a list that is answered all but as many of the first as this, as
+/// `given.count_or_null("skip")` tells it; all where no count is given. What is no list stays. An
+/// error of the count is the field's.
 #[tactic(auto, unfolding(crate::specs::Answers::skip))]
 pub fn skip<N: Drop>(answer: Answer<N>, count: Asked<Option<usize>>) -> Answer<N>
-    ensures { (asked : Result (Option ℕ) Refusal) (wanted : spec.Answer N) → TellsBy (λ c. c) count asked
+    ensures { (asked : Result (Option ℕ) Refusal) (wanted : spec.Answer N)
+        → TellsBy (λ c. c) count asked
         → Answers wanted answer → Answers (spec.skip asked wanted) result }
 {
     match count {
@@ -64,7 +66,8 @@ pub fn skip<N: Drop>(answer: Answer<N>, count: Asked<Option<usize>>) -> Answer<N
 
 /// As many of the first as this, if a count is given.
 fn first_if<N: Drop>(answer: Answer<N>, count: Option<usize>) -> Answer<N>
-    ensures { (wanted : spec.Answer N) → Answers wanted answer → Answers (spec.cut_by take count wanted) result }
+    ensures { (wanted : spec.Answer N) → Answers wanted answer
+        → Answers (spec.cut_by take count wanted) result }
 {
     match count {
         Some(count) => match answer {
@@ -77,7 +80,8 @@ fn first_if<N: Drop>(answer: Answer<N>, count: Option<usize>) -> Answer<N>
 
 /// All but as many of the first as this, if a count is given.
 fn skip_if<N: Drop>(answer: Answer<N>, count: Option<usize>) -> Answer<N>
-    ensures { (wanted : spec.Answer N) → Answers wanted answer → Answers (spec.cut_by drop count wanted) result }
+    ensures { (wanted : spec.Answer N) → Answers wanted answer
+        → Answers (spec.cut_by drop count wanted) result }
 {
     match count {
         Some(count) => match answer {

@@ -30,8 +30,10 @@ pub trait MutationResolver: Resolver {
         field: &str,
         given: &Given<'_>,
     ) -> Answer<Self::Node>
-        ensures answer { let wanted = change_answer self.now context.old field.now (given_to given.now) in
+        ensures answer { let wanted =
+            change_answer self.now context.old field.now (given_to given.now) in
             answers.Answers wanted result }
-        ensures after { let after = change_after self.now context.old field.now (given_to given.now) in
+        ensures after { let after =
+            change_after self.now context.old field.now (given_to given.now) in
             answers.Leaves context.old after result context.new };
 }

@@ -11,8 +11,8 @@ use crate::refusals::refused;
 use graphql_text::Text;
 
 impl<'a> Given<'a> {
-    /// The text that stands under this name, or the name of the enum value. `null`, or nothing, is an
-    /// error too.
+    /// The text that stands under this name, or the name of the enum value. `null`, or nothing, is
+    /// an error too.
     pub fn word(&self, name: &str) -> Asked<&'a str>
         ensures { TellsBy (λ word. word.now) result (spec.word (given_to self.now) name.now) }
     {
@@ -81,7 +81,8 @@ impl<'a> Given<'a> {
 
     /// The integers that stand under this name, in order.
     pub fn integers(&self, name: &str) -> Asked<Vec<i32>>
-        ensures { TellsBy (λ integers. integers.items) result (spec.integers (given_to self.now) name.now) }
+        ensures { TellsBy (λ integers. integers.items) result
+            (spec.integers (given_to self.now) name.now) }
     {
         match self.integers_or_null(name) {
             Ok(Some(found)) => Ok(found),

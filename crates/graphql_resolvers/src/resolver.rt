@@ -46,6 +46,7 @@ pub trait Resolver {
         field: &str,
         given: &Given<'_>,
     ) -> Answer<Self::Node>
-        ensures { let wanted = answer self.now context.now node.now field.now (given_to given.now) in
+        ensures { let wanted =
+            answer self.now context.now node.now field.now (given_to given.now) in
             answers.Answers wanted result };
 }

@@ -1,4 +1,6 @@
--- Names that are mentioned more than once (GraphQL October 2021, 5.2.1.1 Operation Name Uniqueness, 5.4.2 Argument Uniqueness, 5.5.1.1 Fragment Name Uniqueness, 5.6.3 Input Object Field Uniqueness, 5.8.1 Variable Uniqueness).
+-- Names that are mentioned more than once (GraphQL October 2021, 5.2.1.1 Operation Name Uniqueness,
+-- 5.4.2 Argument Uniqueness, 5.5.1.1 Fragment Name Uniqueness, 5.6.3 Input Object Field Uniqueness,
+-- 5.8.1 Variable Uniqueness).
 use Rattle.std.specs.Prelude.{List, [], ◌∷◌, ◌++◌, Option}
 use Rattle.std.specs.Option.{option_map, option_to_list}
 use Rattle.graphql_names.specs.Names.{Bytes, named}
@@ -25,7 +27,8 @@ behind_first first x = option_to_list (option_map (λ f. f.place ∷ x.place ∷
 
 abbrev pub repeats_behind : List Mention → List Mention → Places
 repeats_behind before [] = []
-repeats_behind before (x ∷ xs) = behind_first (named (λ y. y.name) before x.name) x ++ repeats_behind (before ++ x ∷ []) xs
+repeats_behind before (x ∷ xs) =
+    behind_first (named (λ y. y.name) before x.name) x ++ repeats_behind (before ++ x ∷ []) xs
 
 -- each later mention of a name, with the first of that name
 abbrev pub repeats : List Mention → Places

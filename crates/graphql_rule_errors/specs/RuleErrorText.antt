@@ -10,4 +10,5 @@ abbrev pub place_text : SourcePosition → List ℕ
 place_text p = decimal p.line ++ 58 ∷ decimal p.column
 
 abbrev pub rule_error_text : RuleError → List ℕ
-rule_error_text error = error.message ++ (codes ". At " ++ join_by place_text (codes ", ") error.locations)
+rule_error_text error =
+    error.message ++ (codes ". At " ++ join_by place_text (codes ", ") error.locations)

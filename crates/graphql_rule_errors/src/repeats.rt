@@ -1,6 +1,7 @@
 //! Names that are mentioned more than once.
 
-ghost use Rattle.std.specs.Prelude.{◌≡◌, ◌∷◌, ◌++◌, [], ℕ, List, map, IfOk, OnOk, Some, None, if◌then◌else◌, string_bytes};
+ghost use Rattle.std.specs.Prelude.{◌≡◌, ◌∷◌, ◌++◌, [], ℕ, List, map, IfOk, OnOk, Some, None};
+ghost use Rattle.std.specs.Prelude.{if◌then◌else◌, string_bytes};
 ghost use Rattle.std.specs.Option.{option_copied, option_map, option_or};
 ghost use Rattle.std.specs.Str.{bytes_eq};
 ghost use Rattle.graphql_rule_errors.specs.Found.{found};
@@ -21,23 +22,27 @@ pub fn report(
     places: &[SourcePosition],
 ) -> Result<(), AllocError>
     ensures places { OnOk result (Reports (places.now ∷ []) errors.old errors.new) }
-    ensures error { OnOk result (errors.new ≡ errors.old ++ record { locations = places.now; message = string_bytes message } ∷ []) }
+    ensures error { OnOk result (errors.new ≡ errors.old ++ record {
+      locations = places.now;
+      message = string_bytes message;
+    } ∷ []) }
 {
     let error = RuleError::at(alloc, Text::from_string(message), places)?;
     errors.push(error)?;
     Ok(())
 }
 
-/// Adds an error for each later mention of a name: where the name is mentioned first, and where it is
-/// again. `kind` says in words whose names they are. Takes time, and where there are two mentions or
-/// more memory, in proportion to the mentions. An error of the call is want of memory.
+/// Adds an error for each later mention of a name: where the name is mentioned first, and where it
+/// is again. `kind` says in words whose names they are. Takes time, and where there are two
+/// mentions or more memory, in proportion to the mentions. An error of the call is want of memory.
 pub fn report_repeats<M: Mentions>(
     alloc: Global,
     errors: &mut Items<RuleError>,
     kind: &str,
     mentions: &[M],
 ) -> Result<(), AllocError>
-    ensures { OnOk result (Reports (repeats (map M.mention_of mentions.now)) errors.old errors.new) }
+    ensures { OnOk result
+        (Reports (repeats (map M.mention_of mentions.now)) errors.old errors.new) }
 {
     if mentions.len() < 2 {
         return Ok(());
@@ -50,14 +55,16 @@ pub fn report_repeats<M: Mentions>(
     Ok(())
 }
 
-/// The first mention of a name among those that have been seen. One that is the first itself is seen
-/// from here on. An error is want of memory.
+/// The first mention of a name among those that have been seen. One that is the first itself is
+/// seen from here on. An error is want of memory.
 pub fn first_mention<'m, M: Mentions>(
     seen: &mut HashMap<&'m str, &'m M>,
     mention: &'m M,
 ) -> Result<Option<&'m M>, AllocError>
-    ensures first { IfOk result (λ first. option_copied first ≡ found seen.old (M.mention_of mention.now).name) }
-    ensures seen { OnOk result ((name : List ℕ) → found seen.new name ≡ option_or (found seen.old name) (if bytes_eq (M.mention_of mention.now).name name then Some mention.now else None)) }
+    ensures first { IfOk result
+        (λ first. option_copied first ≡ found seen.old (M.mention_of mention.now).name) }
+    ensures seen { OnOk result ((name : List ℕ) → found seen.new name ≡ option_or (found seen.old
+        name) (if bytes_eq (M.mention_of mention.now).name name then Some mention.now else None)) }
 {
     let name = mention.name();
     match seen.get(name) {
@@ -77,7 +84,8 @@ fn report_behind<M: Mentions>(
     first: Option<&M>,
     mention: &M,
 ) -> Result<(), AllocError>
-    ensures { OnOk result (Reports (behind_first (option_map M.mention_of (option_copied first.entry)) (M.mention_of mention.now)) errors.old errors.new) }
+    ensures { OnOk result (Reports (behind_first (option_map M.mention_of
+        (option_copied first.entry)) (M.mention_of mention.now)) errors.old errors.new) }
 {
     match first {
         Some(first) => {

@@ -10,8 +10,8 @@ use std::alloc::{AllocError, Global};
 use std::fmt;
 
 /// What a rule has against a document (GraphQL October 2021, 5 Validation), and the places in the
-/// document's text that it names. Errors are ordered by their places, from the first on, and errors of
-/// the same places by the bytes of their messages.
+/// document's text that it names. Errors are ordered by their places, from the first on, and errors
+/// of the same places by the bytes of their messages.
 #[derive(Clone, Debug, Drop, PartialEq, Eq, PartialOrd, Ord)]
 pub struct RuleError {
     locations: Items<SourcePosition>,
@@ -73,7 +73,8 @@ fn write_places<W: fmt::Write>(
     places: &Items<SourcePosition>,
     f: &mut fmt::Formatter<W>,
 ) -> fmt::Result
-    ensures { WritesOnOk W.write_str_gives f.old result (join_by place_text (codes ", ") places.now) f.new }
+    ensures { WritesOnOk W.write_str_gives f.old result (join_by place_text (codes ", ") places.now)
+        f.new }
 {
     let mut gap = "";
     for place in places.as_slice() {

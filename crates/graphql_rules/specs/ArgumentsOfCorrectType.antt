@@ -1,4 +1,5 @@
--- An argument whose value does not conform to the type that is declared for it (GraphQL October 2021, 5.6.1 Values of Correct Type).
+-- An argument whose value does not conform to the type that is declared for it (GraphQL October
+-- 2021, 5.6.1 Values of Correct Type).
 use Rattle.std.specs.Prelude.{List, [], Option, Some, None}
 use Rattle.std.specs.List.{flat_map}
 use Rattle.std.specs.Option.{option_map, option_to_list}
@@ -17,7 +18,8 @@ module _ {S : Type 0} where
 
   -- the value of an argument, where the argument is declared
   abbrev pub literal_of : List (Declared S) → Argument S → List (Asked S)
-  literal_of declared a = option_to_list (option_map (asked_at a) (argument_named declared a.0.item))
+  literal_of declared a =
+      option_to_list (option_map (asked_at a) (argument_named declared a.0.item))
 
   -- no type is asked for in what an unknown field or directive is given
   abbrev pub literals_among : Option (List (Declared S)) → List (Argument S) → List (Asked S)
@@ -31,4 +33,5 @@ module _ {S C : Type 0} where
 
 module _ {S C : Type 0} (answer : S → ScalarAnswer) (accepts : C → InputValue S → Type 0) where
   abbrev pub arguments_of_correct_type_faults : Relation S C
-  arguments_of_correct_type_faults subject part = Misfits answer accepts subject.schema.types (literals_at part)
+  arguments_of_correct_type_faults subject part =
+      Misfits answer accepts subject.schema.types (literals_at part)

@@ -1,4 +1,5 @@
--- A variable's default that does not conform to the variable's type (GraphQL October 2021, 5.6.1 Values of Correct Type).
+-- A variable's default that does not conform to the variable's type (GraphQL October 2021, 5.6.1
+-- Values of Correct Type).
 use Rattle.std.specs.Prelude.{List, [], if◌then◌else◌}
 use Rattle.std.specs.Option.{is_some, option_map, option_to_list}
 use Rattle.graphql_occurrences.specs.Lookups.{known}
@@ -17,7 +18,8 @@ asked_of v default = record { type_of = v.type_of.item; literal = default }
 module _ {S C : Type 0} (schema : Declarations S C) where
   -- the default, where there is one and the variable's type is known
   abbrev pub default_of : VariablePart S → List (Asked S)
-  default_of v = if is_some (known schema v.type_of.item.name) then option_to_list (option_map (asked_of v) v.default) else []
+  default_of v = if is_some (known schema v.type_of.item.name)
+      then option_to_list (option_map (asked_of v) v.default) else []
 
   abbrev pub defaults_at : Part S C → List (Asked S)
   defaults_at (VariableDefined v) = default_of v
@@ -25,4 +27,5 @@ module _ {S C : Type 0} (schema : Declarations S C) where
 
 module _ {S C : Type 0} (answer : S → ScalarAnswer) (accepts : C → InputValue S → Type 0) where
   abbrev pub default_values_of_correct_type_faults : Relation S C
-  default_values_of_correct_type_faults subject part = Misfits answer accepts subject.schema.types (defaults_at subject.schema part)
+  default_values_of_correct_type_faults subject part =
+      Misfits answer accepts subject.schema.types (defaults_at subject.schema part)

@@ -1,4 +1,5 @@
--- A field of introspection, `__schema` or `__type` (GraphQL October 2021, 4.2 Schema Introspection).
+-- A field of introspection, `__schema` or `__type` (GraphQL October 2021, 4.2 Schema
+-- Introspection).
 use Rattle.std.specs.Prelude.{[], ◌∷◌, ◌||◌, Bool, codes}
 use Rattle.std.specs.Str.{bytes_eq}
 use Rattle.graphql_names.specs.Names.{Bytes}

@@ -1,4 +1,5 @@
--- A field that the type lacks of which it is selected (GraphQL October 2021, 5.3.1 Field Selections).
+-- A field that the type lacks of which it is selected (GraphQL October 2021, 5.3.1 Field
+-- Selections).
 use Rattle.std.specs.Prelude.{[], ◌∷◌}
 use Rattle.std.specs.Option.{is_none}
 use Rattle.graphql_occurrences.specs.Parts.{AField}

@@ -1,4 +1,5 @@
--- A type condition that is a known type, and no object, interface or union (GraphQL October 2021, 5.5.1.3 Fragments on Composite Types).
+-- A type condition that is a known type, and no object, interface or union (GraphQL October 2021,
+-- 5.5.1.3 Fragments on Composite Types).
 use Rattle.std.specs.Prelude.{[], ◌∷◌, not, Bool}
 use Rattle.graphql_names.specs.Names.{Bytes, passes}
 use Rattle.graphql_occurrences.specs.Lookups.{known}
@@ -15,5 +16,6 @@ module _ {S C : Type 0} where
 
   -- at the condition's name
   abbrev pub fragments_on_composite_types_faults : Rule S C
-  fragments_on_composite_types_faults subject (Condition name) = error_if (is_no_composite subject.schema name.item) (name.span.start ∷ [])
+  fragments_on_composite_types_faults subject (Condition name) =
+      error_if (is_no_composite subject.schema name.item) (name.span.start ∷ [])
   fragments_on_composite_types_faults subject _ = []

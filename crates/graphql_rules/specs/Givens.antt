@@ -20,4 +20,8 @@ module _ {S C : Type 0} where
 
 -- what is given, of which this is a loan
 abbrev pub given_of : {S : Type 0} → Given S → GivenPart S
-given_of g = record { place = g.place; given = g.arguments.now; declared = option_map arguments_lent g.declared }
+given_of g = record {
+  place = g.place;
+  given = g.arguments.now;
+  declared = option_map arguments_lent g.declared;
+}

@@ -1,4 +1,5 @@
--- An argument that its field or directive does not declare (GraphQL October 2021, 5.4.1 Argument Names).
+-- An argument that its field or directive does not declare (GraphQL October 2021, 5.4.1 Argument
+-- Names).
 use Rattle.std.specs.Prelude.{List, [], ◌∷◌, not, Option, Some, None}
 use Rattle.std.specs.List.{flat_map}
 use Rattle.std.specs.Option.{is_some}
@@ -12,7 +13,8 @@ use Rattle.graphql_rules.specs.Givens.{of_given}
 
 module _ {S : Type 0} where
   abbrev pub undeclared : List (Declared S) → Argument S → Places
-  undeclared declared a = error_if (not (is_some (argument_named declared a.0.item))) (a.0.span.start ∷ [])
+  undeclared declared a =
+      error_if (not (is_some (argument_named declared a.0.item))) (a.0.span.start ∷ [])
 
   -- nothing is said of what an unknown field or directive is given
   abbrev pub undeclared_among : Option (List (Declared S)) → List (Argument S) → Places

@@ -1,4 +1,5 @@
--- Literals, the types that are asked for where they stand, and what is said of those that do not conform (GraphQL October 2021, 5.6.1 Values of Correct Type).
+-- Literals, the types that are asked for where they stand, and what is said of those that do not
+-- conform (GraphQL October 2021, 5.6.1 Values of Correct Type).
 use Rattle.std.specs.Prelude.{◌≡◌, ◌⊎◌, List, [], ◌∷◌}
 use Rattle.graphql_literal_checks.specs.Conforms.{Conforms}
 use Rattle.graphql_literal_checks.specs.declared.source.Source.TheVariants.{Literal}
@@ -16,13 +17,15 @@ pub record Asked (S : Type 0) : Type 0 where
   pub literal : Placed (InputValue S)
 
 -- by what a scalar answers, what the check of a type accepts, and the types of a schema
-module _ {S C : Type 0} (answer : S → ScalarAnswer) (accepts : C → InputValue S → Type 0) (types : List (MetaType S C)) where
+module _ {S C : Type 0} (answer : S → ScalarAnswer) (accepts : C → InputValue S → Type 0)
+    (types : List (MetaType S C)) where
   abbrev pub Fits : Asked S → Type 0
   Fits a = Conforms answer accepts types Literal a.type_of a.literal.item
 
   -- no error where a literal conforms, and one at its start where it does not
   abbrev pub Judged : Asked S → Places → Type 0
-  Judged a told = (Fits a × (told ≡ [])) ⊎ ((Fits a → ⊥) × (told ≡ (a.literal.span.start ∷ []) ∷ []))
+  Judged a told =
+      (Fits a × (told ≡ [])) ⊎ ((Fits a → ⊥) × (told ≡ (a.literal.span.start ∷ []) ∷ []))
 
   -- those of the literals that do not conform, in order
   abbrev pub Misfits : List (Asked S) → Places → Type 0

@@ -1,4 +1,5 @@
--- Whether two types have a possible type in common, by their names (GraphQL October 2021, 5.5.2.3 Fragment Spread Is Possible).
+-- Whether two types have a possible type in common, by their names (GraphQL October 2021, 5.5.2.3
+-- Fragment Spread Is Possible).
 use Rattle.std.specs.Prelude.{Bool, ◌&&◌}
 use Rattle.std.specs.Borrow.{Bor}
 use Rattle.std.specs.Str.{bytes_eq}

@@ -7,4 +7,5 @@ use Rattle.graphql_visitors.specs.Runs.{Step}
 
 -- it keeps its schema, and tells what the rule says by the names of that schema's types
 abbrev pub by_names : {S C : Type 0} → Step (PossibleFragmentSpreads S C) S C
-by_names subject v e w told = (w.overlaps.schema ≡ v.overlaps.schema) × (told ≡ told_by_names (declarations_of v.overlaps.schema.now) subject e)
+by_names subject v e w told = (w.overlaps.schema ≡ v.overlaps.schema)
+    × (told ≡ told_by_names (declarations_of v.overlaps.schema.now) subject e)

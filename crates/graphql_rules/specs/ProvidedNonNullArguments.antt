@@ -17,7 +17,8 @@ module _ {S : Type 0} where
 
   -- nothing is asked for by an unknown field or directive
   abbrev pub missing_in : GivenPart S → Places
-  missing_in g = flat_map (missing g.place (is_one_of (map (λ a. a.0.item) g.given))) (unwrap_or g.declared [])
+  missing_in g =
+      flat_map (missing g.place (is_one_of (map (λ a. a.0.item) g.given))) (unwrap_or g.declared [])
 
 abbrev pub provided_non_null_arguments_faults : {S C : Type 0} → Rule S C
 provided_non_null_arguments_faults = of_given missing_in

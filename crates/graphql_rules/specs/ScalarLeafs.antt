@@ -1,4 +1,5 @@
--- A field of a leaf type with a selection set, or of a composite type without one (GraphQL October 2021, 5.3.3 Leaf Field Selections).
+-- A field of a leaf type with a selection set, or of a composite type without one (GraphQL October
+-- 2021, 5.3.3 Leaf Field Selections).
 use Rattle.std.specs.Prelude.{[], ◌∷◌, ◌||◌, Bool, if◌then◌else◌}
 use Rattle.graphql_schema.specs.declared.meta.MetaType.{MetaType}
 use Rattle.graphql_names.specs.Names.{passes}
@@ -19,5 +20,7 @@ module _ {S C : Type 0} where
 
   -- at the field, where its type is known
   abbrev pub scalar_leafs_faults : Rule S C
-  scalar_leafs_faults subject (AField f) = error_if (passes (mistakes_set f.has_set) (referred subject.schema (field_type f.declared))) (f.place ∷ [])
+  scalar_leafs_faults subject (AField f) =
+      error_if (passes (mistakes_set f.has_set) (referred subject.schema (field_type f.declared)))
+      (f.place ∷ [])
   scalar_leafs_faults subject _ = []

@@ -1,4 +1,5 @@
--- Each later field of a name in its object (GraphQL October 2021, 5.6.3 Input Object Field Uniqueness).
+-- Each later field of a name in its object (GraphQL October 2021, 5.6.3 Input Object Field
+-- Uniqueness).
 use Rattle.std.specs.Prelude.{[], map}
 use Rattle.graphql_occurrences.specs.Parts.{ObjectOf}
 use Rattle.graphql_visitors.specs.Rules.{Rule}

@@ -6,7 +6,8 @@ ghost use Rattle.graphql_occurrences.specs.Lent.{arguments_lent};
 ghost use Rattle.graphql_occurrences.specs.PartsOf.{parts_of};
 ghost use Rattle.graphql_visitors.specs.Reports.{ReportsBy};
 ghost use Rattle.graphql_visitors.specs.Subjects.{seen_in};
-ghost use Rattle.graphql_rules.specs.ArgumentsOfCorrectType.{literal_of, literals_among, literals_at};
+ghost use Rattle.graphql_rules.specs.ArgumentsOfCorrectType.{literal_of, literals_among};
+ghost use Rattle.graphql_rules.specs.ArgumentsOfCorrectType.{literals_at};
 ghost use Rattle.graphql_rules.specs.Literals.{Misfits};
 
 use crate::literals::{Role, report_literal};
@@ -19,9 +20,10 @@ use graphql_tree::{Field, arguments_in};
 use graphql_values::InputValue;
 use graphql_visitors::{Relational, RelationalRule, ValidatorContext};
 
-/// The value of each argument conforms to the type that is declared for the argument (GraphQL October
-/// 2021, 5.6.1 Values of Correct Type). What is not declared is left to `KnownArgumentNames`, and what
-/// an unknown field or an unknown directive is given to the rules that tell of those.
+/// The value of each argument conforms to the type that is declared for the argument (GraphQL
+/// October 2021, 5.6.1 Values of Correct Type). What is not declared is left to
+/// `KnownArgumentNames`, and what an unknown field or an unknown directive is given to the rules
+/// that tell of those.
 ///
 /// An error names the start of the value.
 #[derive(Drop)]
@@ -41,18 +43,21 @@ impl<S: SchemaScalar> RelationalRule<S> for ArgumentsOfCorrectType {
     ghost says = { arguments_of_correct_type_faults S.answer S.Check.accepts };
 
     fn tell<'a, 't>(&self, context: &mut ValidatorContext<'a, 't, S>, event: &Event<'a, 't, S>)
-        ensures { ReportsBy (TellAt (arguments_of_correct_type_faults S.answer S.Check.accepts) (subject_of context.old) (seen_in context.old event.now)) context.old context.new }
+        ensures { ReportsBy (TellAt (arguments_of_correct_type_faults S.answer S.Check.accepts)
+            (subject_of context.old) (seen_in context.old event.now)) context.old context.new }
     {
         report_event(context, event);
     }
 }
 
-/// Reports what is given to the field or the directive that is entered, as far as it does not conform.
+/// Reports what is given to the field or the directive that is entered, as far as it does not
+/// conform.
 fn report_event<'a, 't, S: SchemaScalar>(
     context: &mut ValidatorContext<'a, 't, S>,
     event: &Event<'a, 't, S>,
 )
-    ensures { ReportsBy (Misfits S.answer S.Check.accepts context.old.schema.now.types (flat_map literals_at (parts_of (seen_in context.old event.now)))) context.old context.new }
+    ensures { ReportsBy (Misfits S.answer S.Check.accepts context.old.schema.now.types
+        (flat_map literals_at (parts_of (seen_in context.old event.now)))) context.old context.new }
 {
     match event {
         Event::Enter(node) => report_node(context, node),
@@ -65,7 +70,9 @@ fn report_node<'a, 't, S: SchemaScalar>(
     context: &mut ValidatorContext<'a, 't, S>,
     node: &Node<'a, 't, S>,
 )
-    ensures { ReportsBy (Misfits S.answer S.Check.accepts context.old.schema.now.types (flat_map literals_at (parts_of (seen_in context.old (Event.Enter node.now))))) context.old context.new }
+    ensures { ReportsBy (Misfits S.answer S.Check.accepts context.old.schema.now.types
+        (flat_map literals_at (parts_of (seen_in context.old (Event.Enter node.now))))) context.old
+        context.new }
 {
     match node {
         Node::Field(known, field) => report_field(context, *known, field),
@@ -83,7 +90,10 @@ fn report_field<'a, 't, S: SchemaScalar>(
     known: Option<KnownField<'a, S>>,
     field: &'a Spanning<Field<'t, S>>,
 )
-    ensures { ReportsBy (Misfits S.answer S.Check.accepts context.old.schema.now.types (flat_map literals_at (parts_of (seen_in context.old (Event.Enter (Node.Field known.entry field.entry)))))) context.old context.new }
+    ensures { ReportsBy
+        (Misfits S.answer S.Check.accepts context.old.schema.now.types (flat_map literals_at
+        (parts_of (seen_in context.old (Event.Enter (Node.Field known.entry field.entry))))))
+        context.old context.new }
 {
     if context.parent_type().is_some() {
         let given = arguments_in(&field.item.arguments);
@@ -97,7 +107,9 @@ fn report_given<'a, 't, S: SchemaScalar>(
     declared: Option<DeclaredArguments<'a, S>>,
     given: &'a [(Spanning<TextRef<'t>>, Spanning<InputValue<S>>)],
 )
-    ensures { ReportsBy (Misfits S.answer S.Check.accepts context.old.schema.now.types (literals_among (option_map arguments_lent declared.entry) given.now)) context.old context.new }
+    ensures { ReportsBy (Misfits S.answer S.Check.accepts context.old.schema.now.types
+        (literals_among (option_map arguments_lent declared.entry) given.now)) context.old
+        context.new }
 {
     if let Some(declared) = declared {
         report_arguments(context, declared, given);
@@ -110,7 +122,8 @@ fn report_arguments<'a, 't, S: SchemaScalar>(
     declared: DeclaredArguments<'a, S>,
     given: &'a [(Spanning<TextRef<'t>>, Spanning<InputValue<S>>)],
 )
-    ensures { ReportsBy (Misfits S.answer S.Check.accepts context.old.schema.now.types (flat_map (literal_of (arguments_lent declared.entry)) given.now)) context.old context.new }
+    ensures { ReportsBy (Misfits S.answer S.Check.accepts context.old.schema.now.types
+        (flat_map (literal_of (arguments_lent declared.entry)) given.now)) context.old context.new }
 {
     'arguments: for argument in given {
         report_argument(context, declared, argument);
@@ -123,7 +136,8 @@ fn report_argument<'a, 't, S: SchemaScalar>(
     declared: DeclaredArguments<'a, S>,
     argument: &'a (Spanning<TextRef<'t>>, Spanning<InputValue<S>>),
 )
-    ensures { ReportsBy (Misfits S.answer S.Check.accepts context.old.schema.now.types (literal_of (arguments_lent declared.entry) argument.now)) context.old context.new }
+    ensures { ReportsBy (Misfits S.answer S.Check.accepts context.old.schema.now.types
+        (literal_of (arguments_lent declared.entry) argument.now)) context.old context.new }
 {
     let name = argument.0.item.as_str();
     if let Some(asked) = declared.get(name) {

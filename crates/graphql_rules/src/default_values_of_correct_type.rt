@@ -20,8 +20,8 @@ use graphql_tree::VariableDefinition;
 use graphql_visitors::{Relational, RelationalRule, ValidatorContext};
 
 /// The default of each variable conforms to the variable's own type, with its `!` (GraphQL October
-/// 2021, 5.6.1 Values of Correct Type): `null` is no default of a type that has none. A type that the
-/// schema has not is left to `KnownTypeNames`.
+/// 2021, 5.6.1 Values of Correct Type): `null` is no default of a type that has none. A type that
+/// the schema has not is left to `KnownTypeNames`.
 ///
 /// An error names the start of the default.
 #[derive(Drop)]
@@ -41,7 +41,8 @@ impl<S: SchemaScalar> RelationalRule<S> for DefaultValuesOfCorrectType {
     ghost says = { default_values_of_correct_type_faults S.answer S.Check.accepts };
 
     fn tell<'a, 't>(&self, context: &mut ValidatorContext<'a, 't, S>, event: &Event<'a, 't, S>)
-        ensures { ReportsBy (TellAt (default_values_of_correct_type_faults S.answer S.Check.accepts) (subject_of context.old) (seen_in context.old event.now)) context.old context.new }
+        ensures { ReportsBy (TellAt (default_values_of_correct_type_faults S.answer S.Check.accepts)
+            (subject_of context.old) (seen_in context.old event.now)) context.old context.new }
     {
         report_event(context, event);
     }
@@ -52,7 +53,9 @@ fn report_event<'a, 't, S: SchemaScalar>(
     context: &mut ValidatorContext<'a, 't, S>,
     event: &Event<'a, 't, S>,
 )
-    ensures { ReportsBy (Misfits S.answer S.Check.accepts context.old.schema.now.types (flat_map (defaults_at (declarations_of context.old.schema.now)) (parts_of (seen_in context.old event.now)))) context.old context.new }
+    ensures { ReportsBy (Misfits S.answer S.Check.accepts context.old.schema.now.types
+        (flat_map (defaults_at (declarations_of context.old.schema.now))
+        (parts_of (seen_in context.old event.now)))) context.old context.new }
 {
     match event {
         Event::Enter(node) => report_node(context, node),
@@ -65,7 +68,9 @@ fn report_node<'a, 't, S: SchemaScalar>(
     context: &mut ValidatorContext<'a, 't, S>,
     node: &Node<'a, 't, S>,
 )
-    ensures { ReportsBy (Misfits S.answer S.Check.accepts context.old.schema.now.types (flat_map (defaults_at (declarations_of context.old.schema.now)) (parts_of (seen_in context.old (Event.Enter node.now))))) context.old context.new }
+    ensures { ReportsBy (Misfits S.answer S.Check.accepts context.old.schema.now.types
+        (flat_map (defaults_at (declarations_of context.old.schema.now))
+        (parts_of (seen_in context.old (Event.Enter node.now))))) context.old context.new }
 {
     if let Node::VariableDefinition(variable) = node {
         report_variable(context, variable);
@@ -77,7 +82,9 @@ fn report_variable<'a, 't, S: SchemaScalar>(
     context: &mut ValidatorContext<'a, 't, S>,
     variable: &'a (Spanning<TextRef<'t>>, VariableDefinition<'t, S>),
 )
-    ensures { ReportsBy (Misfits S.answer S.Check.accepts context.old.schema.now.types (default_of (declarations_of context.old.schema.now) (variable_part variable.now))) context.old context.new }
+    ensures { ReportsBy (Misfits S.answer S.Check.accepts context.old.schema.now.types
+        (default_of (declarations_of context.old.schema.now) (variable_part variable.now)))
+        context.old context.new }
 {
     let (name, definition) = variable;
     let asked = &definition.var_type.item;

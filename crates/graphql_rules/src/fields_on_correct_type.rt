@@ -9,8 +9,8 @@ use graphql_visitors::{Local, LocalRule, ValidatorContext};
 use std::alloc::{AllocError, Global};
 
 /// Each field is one of the type of which it is selected (GraphQL October 2021, 5.3.1 Field
-/// Selections). `__typename` is a field of each object, interface and union; a scalar, an enum and an
-/// input object have none.
+/// Selections). `__typename` is a field of each object, interface and union; a scalar, an enum and
+/// an input object have none.
 ///
 /// An error names the start of the field, which is that of its alias where it has one.
 #[derive(Drop)]

@@ -14,7 +14,8 @@ use graphql_visitors::{Local, LocalRule, ValidatorContext};
 use std::alloc::{AllocError, Global};
 
 /// The type condition of each fragment is an object, an interface or a union (GraphQL October 2021,
-/// 5.5.1.3 Fragments on Composite Types). A type that the schema has not is left to `KnownTypeNames`.
+/// 5.5.1.3 Fragments on Composite Types). A type that the schema has not is left to
+/// `KnownTypeNames`.
 ///
 /// An error names the start of the condition's name.
 #[derive(Drop)]
@@ -46,7 +47,8 @@ fn check<'a, 't, S: SchemaScalar>(
     context: &mut ValidatorContext<'a, 't, S>,
     condition: &Spanning<TextRef<'t>>,
 )
-    ensures { Reports (error_if (spec.is_no_composite (declarations_of context.old.schema.now) condition.now.item) (condition.now.span.start ∷ [])) context.old context.new }
+    ensures { Reports (error_if (spec.is_no_composite (declarations_of context.old.schema.now)
+        condition.now.item) (condition.now.span.start ∷ [])) context.old context.new }
 {
     let name = condition.item.as_str();
     if is_no_composite(context.schema(), name) {

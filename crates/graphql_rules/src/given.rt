@@ -41,7 +41,8 @@ pub(crate) fn given_at<'a, 't, S: SchemaScalar>(
     context: &ValidatorContext<'a, 't, S>,
     event: &Event<'a, 't, S>,
 ) -> Option<Given<'a, 't, S>>
-    ensures { flat_map given_in (parts_of (seen_in context.now event.now)) ≡ option_to_list (option_map given_of result) }
+    ensures { flat_map given_in (parts_of (seen_in context.now event.now))
+        ≡ option_to_list (option_map given_of result) }
 {
     match event {
         Event::Enter(node) => given_to(context, node),
@@ -54,7 +55,8 @@ fn given_to<'a, 't, S: SchemaScalar>(
     context: &ValidatorContext<'a, 't, S>,
     node: &Node<'a, 't, S>,
 ) -> Option<Given<'a, 't, S>>
-    ensures { flat_map given_in (parts_of (seen_in context.now (Event.Enter node.now))) ≡ option_to_list (option_map given_of result) }
+    ensures { flat_map given_in (parts_of (seen_in context.now (Event.Enter node.now)))
+        ≡ option_to_list (option_map given_of result) }
 {
     match node {
         Node::Field(known, field) => match context.parent_type() {
@@ -71,7 +73,12 @@ fn given_to_field<'a, 't, S>(
     known: Option<KnownField<'a, S>>,
     field: &'a Spanning<Field<'t, S>>,
 ) -> Given<'a, 't, S>
-    ensures { given_of result ≡ record { place = field.now.span.start; given = arguments_given field.now.item.arguments; declared = field_arguments (option_map field_of_known known.entry) } }
+    ensures { given_of result
+        ≡ record {
+          place = field.now.span.start;
+          given = arguments_given field.now.item.arguments;
+          declared = field_arguments (option_map field_of_known known.entry);
+        } }
 {
     Given {
         owner: Owner::Field(field.item.name.item.as_str()),
@@ -86,7 +93,12 @@ fn given_to_directive<'a, 't, S>(
     known: Option<&'a DirectiveType<S>>,
     directive: &'a Spanning<Directive<'t, S>>,
 ) -> Given<'a, 't, S>
-    ensures { given_of result ≡ record { place = directive.now.span.start; given = arguments_given directive.now.item.arguments; declared = directive_arguments (option_copied known.entry) } }
+    ensures { given_of result ≡ record {
+      place = directive.now.span.start;
+      given = arguments_given
+          directive.now.item.arguments;
+      declared = directive_arguments (option_copied known.entry);
+    } }
 {
     Given {
         owner: Owner::Directive(directive.item.name.item.as_str()),

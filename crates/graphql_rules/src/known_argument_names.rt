@@ -15,9 +15,9 @@ use graphql_values::InputValue;
 use graphql_visitors::{Local, LocalRule, ValidatorContext};
 use std::alloc::AllocError;
 
-/// An argument that its field or its directive does not declare (GraphQL October 2021, 5.4.1 Argument
-/// Names). Names the place of the argument's name. What an unknown field or an unknown directive is
-/// given has no such error.
+/// An argument that its field or its directive does not declare (GraphQL October 2021, 5.4.1
+/// Argument Names). Names the place of the argument's name. What an unknown field or an unknown
+/// directive is given has no such error.
 #[derive(Drop)]
 pub struct KnownArgumentNames;
 
@@ -35,7 +35,8 @@ impl<S: SchemaScalar> LocalRule<S> for KnownArgumentNames {
     ghost says = { known_argument_names_faults };
 
     fn tell<'a, 't>(&self, context: &mut ValidatorContext<'a, 't, S>, event: &Event<'a, 't, S>)
-        ensures { Reports (told_at known_argument_names_faults (subject_of context.old) (seen_in context.old event.now)) context.old context.new }
+        ensures { Reports (told_at known_argument_names_faults (subject_of context.old)
+            (seen_in context.old event.now)) context.old context.new }
     {
         if let Some(given) = given_at(context, event) {
             report_given(context, given);
@@ -62,7 +63,8 @@ fn report_arguments<'a, 't, S: SchemaScalar>(
     declared: DeclaredArguments<'a, S>,
     arguments: &'a [(Spanning<TextRef<'t>>, Spanning<InputValue<S>>)],
 )
-    ensures { Reports (flat_map (undeclared (arguments_lent declared.entry)) arguments.now) context.old context.new }
+    ensures { Reports (flat_map (undeclared (arguments_lent declared.entry)) arguments.now)
+        context.old context.new }
 {
     'arguments: for argument in arguments {
         report_argument(context, owner, declared, argument);
@@ -76,7 +78,8 @@ fn report_argument<'a, 't, S: SchemaScalar>(
     declared: DeclaredArguments<'a, S>,
     argument: &'a (Spanning<TextRef<'t>>, Spanning<InputValue<S>>),
 )
-    ensures { Reports (undeclared (arguments_lent declared.entry) argument.now) context.old context.new }
+    ensures { Reports (undeclared (arguments_lent declared.entry) argument.now) context.old
+        context.new }
 {
     let name = argument.0.item.as_str();
     if declared.get(name).is_none() {

@@ -15,8 +15,9 @@ use graphql_tree::Directive;
 use graphql_visitors::{Local, LocalRule, ValidatorContext};
 use std::alloc::{AllocError, Global};
 
-/// A directive that the schema lacks, or that may not stand where it does (GraphQL October 2021, 5.7.1
-/// Directives Are Defined, 5.7.2 Directives Are In Valid Locations). Names the place of its `@`.
+/// A directive that the schema lacks, or that may not stand where it does (GraphQL October 2021,
+/// 5.7.1 Directives Are Defined, 5.7.2 Directives Are In Valid Locations). Names the place of its
+/// `@`.
 #[derive(Drop)]
 pub struct KnownDirectives;
 
@@ -34,7 +35,8 @@ impl<S: SchemaScalar> LocalRule<S> for KnownDirectives {
     ghost says = { known_directives_faults };
 
     fn tell<'a, 't>(&self, context: &mut ValidatorContext<'a, 't, S>, event: &Event<'a, 't, S>)
-        ensures { Reports (told_at known_directives_faults (subject_of context.old) (seen_in context.old event.now)) context.old context.new }
+        ensures { Reports (told_at known_directives_faults (subject_of context.old)
+            (seen_in context.old event.now)) context.old context.new }
     {
         match event {
             Event::Enter(node) => report_node(context, node),
@@ -48,7 +50,8 @@ fn report_node<'a, 't, S: SchemaScalar>(
     context: &mut ValidatorContext<'a, 't, S>,
     node: &Node<'a, 't, S>,
 )
-    ensures { Reports (told_at known_directives_faults (subject_of context.old) (seen_in context.old (Event.Enter node.now))) context.old context.new }
+    ensures { Reports (told_at known_directives_faults (subject_of context.old)
+        (seen_in context.old (Event.Enter node.now))) context.old context.new }
 {
     if let Node::Directive(location, known, directive) = node {
         report_directive(context, *location, *known, directive);
@@ -62,7 +65,13 @@ fn report_directive<'a, 't, S: SchemaScalar>(
     known: Option<&'a DirectiveType<S>>,
     directive: &'a Spanning<Directive<'t, S>>,
 )
-    ensures { Reports (misplaced (record { name = directive.now.item.name.item; place = directive.now.span.start; location = location; declared = option_copied known.entry })) context.old context.new }
+    ensures { Reports
+        (misplaced (record {
+          name = directive.now.item.name.item;
+          place = directive.now.span.start;
+          location = location;
+          declared = option_copied known.entry;
+        })) context.old context.new }
 {
     let name = directive.item.name.item.as_str();
     let places = [directive.span.start];

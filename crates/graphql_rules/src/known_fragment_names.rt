@@ -14,8 +14,8 @@ use graphql_text::{Spanning, Text, TextRef};
 use graphql_visitors::{Local, LocalRule, ValidatorContext};
 use std::alloc::{AllocError, Global};
 
-/// The document has each fragment that is spread (GraphQL October 2021, 5.5.2.1 Fragment Spread Target
-/// Defined).
+/// The document has each fragment that is spread (GraphQL October 2021, 5.5.2.1 Fragment Spread
+/// Target Defined).
 ///
 /// An error names the start of the fragment's name in the spread.
 #[derive(Drop)]
@@ -36,7 +36,9 @@ fn check<'a, 't, S: SchemaScalar>(
     context: &mut ValidatorContext<'a, 't, S>,
     name: &Spanning<TextRef<'t>>,
 )
-    ensures { Reports (error_if (not (is_some (fragment_named (subject_of context.old).document name.now.item))) (name.now.span.start ∷ [])) context.old context.new }
+    ensures { Reports
+        (error_if (not (is_some (fragment_named (subject_of context.old).document name.now.item)))
+        (name.now.span.start ∷ [])) context.old context.new }
 {
     if !context.is_known_fragment(name.item.as_str()) {
         let text = message(context.alloc(), name.item.as_str());

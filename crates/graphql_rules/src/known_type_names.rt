@@ -14,10 +14,10 @@ use graphql_text::{SourcePosition, Text};
 use graphql_visitors::{Local, LocalRule, ValidatorContext};
 use std::alloc::{AllocError, Global};
 
-/// The schema has each type that a type condition names (GraphQL October 2021, 5.5.1.2 Fragment Spread
-/// Type Existence), and each that the type of a variable names, within its wraps (5.8.2 Variables Are
-/// Input Types). It has those of introspection, and of the built-in scalars those with which it was
-/// made.
+/// The schema has each type that a type condition names (GraphQL October 2021, 5.5.1.2 Fragment
+/// Spread Type Existence), and each that the type of a variable names, within its wraps (5.8.2
+/// Variables Are Input Types). It has those of introspection, and of the built-in scalars those
+/// with which it was made.
 ///
 /// An error names the start of the condition's name, or of the variable's type.
 #[derive(Drop)]
@@ -39,7 +39,9 @@ fn check<'a, 't, S: SchemaScalar>(
     name: &str,
     start: SourcePosition,
 )
-    ensures { Reports (error_if (is_none (known (declarations_of context.old.schema.now) name.now)) (start ∷ [])) context.old context.new }
+    ensures { Reports
+        (error_if (is_none (known (declarations_of context.old.schema.now) name.now)) (start ∷ []))
+        context.old context.new }
 {
     if context.schema().concrete_type_by_name(name).is_none() {
         let text = message(context.alloc(), name);

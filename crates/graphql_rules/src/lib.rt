@@ -1,6 +1,6 @@
-//! Rules of validation that look at one part of a document at a time, and those that judge literals by
-//! the types that are asked for where they stand, a rule a module (GraphQL October 2021, 5 Validation,
-//! 5.6.1 Values of Correct Type). Each module's `factory` makes its rule, as a visitor.
+//! Rules of validation that look at one part of a document at a time, and those that judge literals
+//! by the types that are asked for where they stand, a rule a module (GraphQL October 2021, 5
+//! Validation, 5.6.1 Values of Correct Type). Each module's `factory` makes its rule, as a visitor.
 #![tactic(auto)]
 
 pub mod arguments_of_correct_type;

@@ -30,7 +30,9 @@ pub(crate) fn report_literal<'a, 't, S: SchemaScalar, N: AsStr, M: AsSlice<TypeM
     asked: &Type<N, M>,
     literal: &Spanning<InputValue<S>>,
 )
-    ensures { ReportsBy (Judged S.answer S.Check.accepts context.old.schema.now.types (record { type_of = asked_for N.text M.items asked.now; literal = literal.now })) context.old context.new }
+    ensures { ReportsBy (Judged S.answer S.Check.accepts context.old.schema.now.types
+        (record { type_of = asked_for N.text M.items asked.now; literal = literal.now }))
+        context.old context.new }
 {
     match validate_literal_value(context.alloc(), context.schema(), asked, &literal.item) {
         Ok(None) => {}

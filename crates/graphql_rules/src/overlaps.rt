@@ -13,7 +13,8 @@ use graphql_schema::SchemaType;
 use std::alloc::{AllocError, Global};
 use std::collections::HashMap;
 
-/// A schema, and which of its types have been found apart: two that have no possible type in common.
+/// A schema, and which of its types have been found apart: two that have no possible type in
+/// common.
 #[derive(Drop)]
 pub(crate) struct Overlaps<'a, S, C> {
     schema: &'a SchemaType<S, C>,
@@ -21,11 +22,14 @@ pub(crate) struct Overlaps<'a, S, C> {
     // Of the names of two types, whether they are apart.
     answers: HashMap<(&'a str, &'a str), bool>,
 
-    ghost right: { (names : Bor Bytes × Bor Bytes) → (answer : Bool) → get spec.are_same answers names ≡ Some answer → answer ≡ spec.are_apart (declarations_of schema.now) names.0.now names.1.now },
+    ghost right: { (names : Bor Bytes × Bor Bytes) → (answer : Bool)
+        → get spec.are_same answers names ≡ Some answer
+        → answer ≡ spec.are_apart (declarations_of schema.now) names.0.now names.1.now },
 }
 
 impl<'a, S, C> Overlaps<'a, S, C> {
-    /// The types of this schema, of which none have been asked. Answers will stand in memory of `alloc`.
+    /// The types of this schema, of which none have been asked. Answers will stand in memory of
+    /// `alloc`.
     pub(crate) fn new(alloc: Global, schema: &'a SchemaType<S, C>) -> Overlaps<'a, S, C>
         ensures { result.schema ≡ schema.entry }
     {
@@ -35,12 +39,13 @@ impl<'a, S, C> Overlaps<'a, S, C> {
         }
     }
 
-    /// Whether both names are those of types, which have no possible type in common. Takes two look-ups by
-    /// binary search and one in a map, and at the first time of a pair what `type_overlap` takes. An error
-    /// is want of memory for the answer.
+    /// Whether both names are those of types, which have no possible type in common. Takes two
+    /// look-ups by binary search and one in a map, and at the first time of a pair what
+    /// `type_overlap` takes. An error is want of memory for the answer.
     pub(crate) fn are_apart(&mut self, parent: &str, condition: &str) -> Result<bool, AllocError>
         ensures schema { self.new.schema ≡ self.old.schema }
-        ensures answer { IfOk result (λ answer. answer ≡ spec.are_apart (declarations_of self.old.schema.now) parent.now condition.now) }
+        ensures answer { IfOk result (λ answer. answer
+            ≡ spec.are_apart (declarations_of self.old.schema.now) parent.now condition.now) }
     {
         match (
             known_name(self.schema, parent),
@@ -54,7 +59,8 @@ impl<'a, S, C> Overlaps<'a, S, C> {
     /// The same of names that the schema lends.
     fn are_known_apart(&mut self, parent: &'a str, condition: &'a str) -> Result<bool, AllocError>
         ensures schema { self.new.schema ≡ self.old.schema }
-        ensures answer { IfOk result (λ answer. answer ≡ spec.are_apart (declarations_of self.old.schema.now) parent.now condition.now) }
+        ensures answer { IfOk result (λ answer. answer
+            ≡ spec.are_apart (declarations_of self.old.schema.now) parent.now condition.now) }
     {
         match self.answers.get(&(parent, condition)) {
             Some(answer) => Ok(*answer),
@@ -65,7 +71,8 @@ impl<'a, S, C> Overlaps<'a, S, C> {
     /// The same of two names that have not been asked, which is kept.
     fn ask(&mut self, parent: &'a str, condition: &'a str) -> Result<bool, AllocError>
         ensures schema { self.new.schema ≡ self.old.schema }
-        ensures answer { IfOk result (λ answer. answer ≡ spec.are_apart (declarations_of self.old.schema.now) parent.now condition.now) }
+        ensures answer { IfOk result (λ answer. answer
+            ≡ spec.are_apart (declarations_of self.old.schema.now) parent.now condition.now) }
     {
         let answer = are_apart(self.schema, parent, condition);
         self.answers.insert((parent, condition), answer)?;
@@ -75,7 +82,8 @@ impl<'a, S, C> Overlaps<'a, S, C> {
 
 /// The name, as the schema lends it, where it is that of a type.
 fn known_name<'a, S, C>(schema: &'a SchemaType<S, C>, name: &str) -> Option<&'a str>
-    ensures { MatchOption result (type_named schema.now.types name.now ≡ None) (λ known. known.now ≡ name.now) }
+    ensures { MatchOption result (type_named schema.now.types name.now ≡ None)
+        (λ known. known.now ≡ name.now) }
 {
     match schema.concrete_type_by_name(name) {
         Some(meta) => Some(Named::name(meta)),

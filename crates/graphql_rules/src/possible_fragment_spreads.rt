@@ -21,20 +21,20 @@ use graphql_visitors::{ValidatorContext, Visitor};
 use std::alloc::{AllocError, Global};
 
 /// The type of each fragment and the type of which it is selected have a possible type in common
-/// (GraphQL October 2021, 5.5.2.3 Fragment Spread Is Possible); each type has one with itself. Where
-/// one of the two is unknown nothing is said. A spread means the first fragment of its name.
+/// (GraphQL October 2021, 5.5.2.3 Fragment Spread Is Possible); each type has one with itself.
+/// Where one of the two is unknown nothing is said. A spread means the first fragment of its name.
 ///
-/// An error names the start of the spread or of the inline fragment, its dots. Whether two types have a
-/// possible type in common is asked once for each two names, which takes time in proportion to the types
-/// of the schema; the answers are kept in a map, as many as there are such pairs. Each fragment takes a
-/// look-up in the map and the look-ups of two types.
+/// An error names the start of the spread or of the inline fragment, its dots. Whether two types
+/// have a possible type in common is asked once for each two names, which takes time in proportion
+/// to the types of the schema; the answers are kept in a map, as many as there are such pairs. Each
+/// fragment takes a look-up in the map and the look-ups of two types.
 #[derive(Drop)]
 pub struct PossibleFragmentSpreads<'a, S, C = <S as SchemaScalar>::Check> {
     overlaps: Overlaps<'a, S, C>,
 }
 
-/// The rule by a schema, which is to be that of the contexts of what is validated, as a visitor. It keeps
-/// its answers in memory of `alloc`.
+/// The rule by a schema, which is to be that of the contexts of what is validated, as a visitor. It
+/// keeps its answers in memory of `alloc`.
 pub fn factory<'a, S, C>(
     alloc: Global,
     schema: &'a SchemaType<S, C>,
@@ -64,7 +64,9 @@ impl<'a, S: SchemaScalar> PossibleFragmentSpreads<'a, S> {
         start: SourcePosition,
     )
         ensures schema { self.new.overlaps.schema ≡ self.old.overlaps.schema }
-        ensures reports { Reports (error_if (are_apart (declarations_of self.old.overlaps.schema.now) parent.now name.now) (start ∷ [])) context.old context.new }
+        ensures reports { Reports
+            (error_if (are_apart (declarations_of self.old.overlaps.schema.now) parent.now name.now)
+            (start ∷ [])) context.old context.new }
     {
         match self.overlaps.are_apart(parent, name) {
             Ok(true) => {
@@ -84,7 +86,11 @@ impl<'a, S: SchemaScalar> PossibleFragmentSpreads<'a, S> {
         spread: &Spanning<FragmentSpread<'t, S>>,
     )
         ensures schema { self.new.overlaps.schema ≡ self.old.overlaps.schema }
-        ensures reports { Reports (error_if (passes (λ name. are_apart (declarations_of self.old.overlaps.schema.now) parent.now name.item) (option_map (λ f. f.item.type_condition) (fragment_named (subject_of context.old).document spread.now.item.name.item))) (spread.now.span.start ∷ [])) context.old context.new }
+        ensures reports { Reports
+            (error_if (passes (λ name. are_apart (declarations_of self.old.overlaps.schema.now)
+            parent.now name.item) (option_map (λ f. f.item.type_condition)
+            (fragment_named (subject_of context.old).document spread.now.item.name.item)))
+            (spread.now.span.start ∷ [])) context.old context.new }
     {
         let name = spread.item.name.item.as_str();
         if let Some(condition) = context.fragment_condition(name) {
@@ -92,7 +98,8 @@ impl<'a, S: SchemaScalar> PossibleFragmentSpreads<'a, S> {
         }
     }
 
-    /// Reports an inline fragment, if it has a condition and applies to nothing of the type `parent`.
+    /// Reports an inline fragment, if it has a condition and applies to nothing of the type
+    /// `parent`.
     fn check_inline<'b, 't>(
         &mut self,
         context: &mut ValidatorContext<'b, 't, S>,
@@ -100,7 +107,10 @@ impl<'a, S: SchemaScalar> PossibleFragmentSpreads<'a, S> {
         inline: &Spanning<InlineFragment<'t, S>>,
     )
         ensures schema { self.new.overlaps.schema ≡ self.old.overlaps.schema }
-        ensures reports { Reports (error_if (passes (λ name. are_apart (declarations_of self.old.overlaps.schema.now) parent.now name.item) inline.now.item.type_condition) (inline.now.span.start ∷ [])) context.old context.new }
+        ensures reports { Reports
+            (error_if (passes (λ name. are_apart (declarations_of self.old.overlaps.schema.now)
+            parent.now name.item) inline.now.item.type_condition) (inline.now.span.start ∷ []))
+            context.old context.new }
     {
         if let Some(condition) = &inline.item.type_condition {
             self.check(context, parent, condition.item.as_str(), inline.span.start);
@@ -110,7 +120,8 @@ impl<'a, S: SchemaScalar> PossibleFragmentSpreads<'a, S> {
     /// Reports the fragment that an event enters, if it applies to nothing of which it is selected.
     fn tell<'b, 't>(&mut self, context: &mut ValidatorContext<'b, 't, S>, event: &Event<'b, 't, S>)
         ensures schema { self.new.overlaps.schema ≡ self.old.overlaps.schema }
-        ensures reports { Reports (told_by_names (declarations_of self.old.overlaps.schema.now) (subject_of context.old) (seen_in context.old event.now)) context.old context.new }
+        ensures reports { Reports (told_by_names (declarations_of self.old.overlaps.schema.now)
+            (subject_of context.old) (seen_in context.old event.now)) context.old context.new }
     {
         if let Some(parent) = context.parent_type() {
             let parent = Named::name(parent);

@@ -19,8 +19,8 @@ use std::alloc::{AllocError, Global};
 use std::collections::HashSet;
 
 /// An argument that its field or its directive must be given, and is not: `null` is not among its
-/// values, and it has no default (GraphQL October 2021, 5.4.2.1 Required Arguments). Names the place of
-/// the field or of the directive.
+/// values, and it has no default (GraphQL October 2021, 5.4.2.1 Required Arguments). Names the
+/// place of the field or of the directive.
 #[derive(Drop)]
 pub struct ProvidedNonNullArguments;
 
@@ -38,7 +38,8 @@ impl<S: SchemaScalar> LocalRule<S> for ProvidedNonNullArguments {
     ghost says = { provided_non_null_arguments_faults };
 
     fn tell<'a, 't>(&self, context: &mut ValidatorContext<'a, 't, S>, event: &Event<'a, 't, S>)
-        ensures { Reports (told_at provided_non_null_arguments_faults (subject_of context.old) (seen_in context.old event.now)) context.old context.new }
+        ensures { Reports (told_at provided_non_null_arguments_faults (subject_of context.old)
+            (seen_in context.old event.now)) context.old context.new }
     {
         if let Some(given) = given_at(context, event) {
             report_given(context, given);
@@ -58,15 +59,17 @@ fn report_given<'a, 't, S: SchemaScalar>(
     }
 }
 
-/// Reports those of the declared arguments that have to be given and are not among these. Takes time
-/// in proportion to both, and memory for the names of those given, if one has to be given.
+/// Reports those of the declared arguments that have to be given and are not among these. Takes
+/// time in proportion to both, and memory for the names of those given, if one has to be given.
 fn report_declared<'a, 't, S: SchemaScalar>(
     context: &mut ValidatorContext<'a, 't, S>,
     place: SourcePosition,
     declared: &'a [Argument<S>],
     arguments: &'a [(Spanning<TextRef<'t>>, Spanning<InputValue<S>>)],
 )
-    ensures { Reports (flat_map (missing place (is_one_of (map (λ a. a.0.item) arguments.now))) declared.now) context.old context.new }
+    ensures { Reports
+        (flat_map (missing place (is_one_of (map (λ a. a.0.item) arguments.now))) declared.now)
+        context.old context.new }
 {
     if are_optional(declared) {
         return;
@@ -84,7 +87,8 @@ fn report_missing<'a, 't, S: SchemaScalar>(
     declared: &'a [Argument<S>],
     given: &HashSet<&'a str>,
 )
-    ensures { Reports (flat_map (missing place (has_name given.now)) declared.now) context.old context.new }
+    ensures { Reports (flat_map (missing place (has_name given.now)) declared.now) context.old
+        context.new }
 {
     'declared: for argument in declared {
         report_argument(context, place, argument, given);
@@ -125,7 +129,8 @@ fn names_of<'a, 't, S>(
     alloc: Global,
     arguments: &'a [(Spanning<TextRef<'t>>, Spanning<InputValue<S>>)],
 ) -> Result<HashSet<&'a str>, AllocError>
-    ensures { IfOk result (λ names. (name : List ℕ) → has_name names name ≡ is_one_of (map (λ a. a.0.item) arguments.now) name) }
+    ensures { IfOk result (λ names. (name : List ℕ)
+        → has_name names name ≡ is_one_of (map (λ a. a.0.item) arguments.now) name) }
 {
     let mut names: HashSet<&str> = HashSet::new(alloc);
     'arguments: for argument in arguments {

@@ -9,9 +9,9 @@ use graphql_schema::SchemaScalar;
 use graphql_text::Items;
 use graphql_visitors::ValidatorContext;
 
-/// Reports each later mention of a name, with the place of the first mention of that name and its own.
-/// `kind` says in words whose names they are. Takes time, and where there are two mentions or more
-/// memory, in proportion to the mentions.
+/// Reports each later mention of a name, with the place of the first mention of that name and its
+/// own. `kind` says in words whose names they are. Takes time, and where there are two mentions or
+/// more memory, in proportion to the mentions.
 #[tactic(auto, using(graphql_visitors::proofs::ReportLemmas::reports_added))]
 pub(crate) fn report_repeats<'a, 't, S: SchemaScalar, M: Mentions>(
     context: &mut ValidatorContext<'a, 't, S>,

@@ -15,8 +15,8 @@ use graphql_visitors::{Local, LocalRule, ValidatorContext};
 use std::alloc::{AllocError, Global};
 
 /// Behind a field of a scalar or an enum stands no selection set, and behind one of an object, an
-/// interface or a union stands one (GraphQL October 2021, 5.3.3 Leaf Field Selections). Of a field or
-/// a type that is unknown nothing is said.
+/// interface or a union stands one (GraphQL October 2021, 5.3.3 Leaf Field Selections). Of a field
+/// or a type that is unknown nothing is said.
 ///
 /// An error names the start of the field, which is that of its alias where it has one.
 #[derive(Drop)]
@@ -44,7 +44,8 @@ fn message(
     Ok(Text::from_string(text))
 }
 
-/// Whether a field of the type has no selection set where it needs one, or has one where it may not.
+/// Whether a field of the type has no selection set where it needs one, or has one where it may
+/// not.
 fn mistakes_set<S, C>(has_set: bool, meta: &MetaType<S, C>) -> bool
     ensures { result ≡ spec.mistakes_set has_set meta.now }
 {
@@ -57,7 +58,8 @@ fn mistakes_set<S, C>(has_set: bool, meta: &MetaType<S, C>) -> bool
 
 /// The same of the type of this name, if the type is known.
 fn is_wrong<S, C>(schema: &SchemaType<S, C>, name: &str, has_set: bool) -> bool
-    ensures { result ≡ passes (spec.mistakes_set has_set) (known (declarations_of schema.now) name.now) }
+    ensures { result
+        ≡ passes (spec.mistakes_set has_set) (known (declarations_of schema.now) name.now) }
 {
     match schema.concrete_type_by_name(name) {
         Some(meta) => mistakes_set(has_set, meta),

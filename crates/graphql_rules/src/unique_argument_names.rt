@@ -6,8 +6,8 @@ use graphql_occurrences::Event;
 use graphql_schema::SchemaScalar;
 use graphql_visitors::{Local, LocalRule, ValidatorContext};
 
-/// A later argument of a name in a list of arguments (GraphQL October 2021, 5.4.2 Argument Uniqueness).
-/// Names the place of the first argument of the name, and its own.
+/// A later argument of a name in a list of arguments (GraphQL October 2021, 5.4.2 Argument
+/// Uniqueness). Names the place of the first argument of the name, and its own.
 #[derive(Drop)]
 pub struct UniqueArgumentNames;
 
@@ -25,7 +25,8 @@ impl<S: SchemaScalar> LocalRule<S> for UniqueArgumentNames {
     ghost says = { unique_argument_names_faults };
 
     fn tell<'a, 't>(&self, context: &mut ValidatorContext<'a, 't, S>, event: &Event<'a, 't, S>)
-        ensures { Reports (told_at unique_argument_names_faults (subject_of context.old) (seen_in context.old event.now)) context.old context.new }
+        ensures { Reports (told_at unique_argument_names_faults (subject_of context.old)
+            (seen_in context.old event.now)) context.old context.new }
     {
         if let Some(given) = given_at(context, event) {
             report_repeats(context, "argument", given.arguments);

@@ -32,7 +32,8 @@ impl<S: SchemaScalar> LocalRule<S> for UniqueInputFieldNames {
     ghost says = { unique_input_field_names_faults };
 
     fn tell<'a, 't>(&self, context: &mut ValidatorContext<'a, 't, S>, event: &Event<'a, 't, S>)
-        ensures { Reports (told_at unique_input_field_names_faults (subject_of context.old) (seen_in context.old event.now)) context.old context.new }
+        ensures { Reports (told_at unique_input_field_names_faults (subject_of context.old)
+            (seen_in context.old event.now)) context.old context.new }
     {
         match event {
             Event::Enter(node) => report_node(context, node),
@@ -46,7 +47,8 @@ fn report_node<'a, 't, S: SchemaScalar>(
     context: &mut ValidatorContext<'a, 't, S>,
     node: &Node<'a, 't, S>,
 )
-    ensures { Reports (told_at unique_input_field_names_faults (subject_of context.old) (seen_in context.old (Event.Enter node.now))) context.old context.new }
+    ensures { Reports (told_at unique_input_field_names_faults (subject_of context.old)
+        (seen_in context.old (Event.Enter node.now))) context.old context.new }
 {
     if let Node::Value(value) = node {
         report_value(context, value);
@@ -58,7 +60,8 @@ fn report_value<'a, 't, S: SchemaScalar>(
     context: &mut ValidatorContext<'a, 't, S>,
     value: &'a Spanning<InputValue<S>>,
 )
-    ensures { Reports (told_at unique_input_field_names_faults (subject_of context.old) (seen_in context.old (Event.Enter (Node.Value value.entry)))) context.old context.new }
+    ensures { Reports (told_at unique_input_field_names_faults (subject_of context.old)
+        (seen_in context.old (Event.Enter (Node.Value value.entry)))) context.old context.new }
 {
     if let InputValue::Object(fields) = &value.item {
         report_repeats(context, "input field", fields.as_slice());

@@ -14,8 +14,9 @@ use graphql_text::{Text, TextRef};
 use graphql_visitors::{Local, LocalRule, ValidatorContext};
 use std::alloc::{AllocError, Global};
 
-/// The type of each variable is a scalar, an enum or an input object, or lists of such (GraphQL October
-/// 2021, 5.8.2 Variables Are Input Types). A type that the schema has not is left to `KnownTypeNames`.
+/// The type of each variable is a scalar, an enum or an input object, or lists of such (GraphQL
+/// October 2021, 5.8.2 Variables Are Input Types). A type that the schema has not is left to
+/// `KnownTypeNames`.
 ///
 /// An error names the start of the type.
 #[derive(Drop)]

@@ -10,5 +10,7 @@ use Rattle.graphql_occurrences.specs.Parts.{VariablePart}
 use Rattle.graphql_tree.specs.Variables.{Variable}
 
 -- what is kept of a name
-abbrev pub variable_at : {S H : Type 0} → HashMap (Bor Bytes) (Bor (Variable S)) H → Bytes → Option (VariablePart S)
-variable_at first name = option_map (λ v. variable_part v.now) (get_by (λ k. bytes_eq name k.now) first)
+abbrev pub variable_at : {S H : Type 0} → HashMap (Bor Bytes) (Bor (Variable S)) H → Bytes
+    → Option (VariablePart S)
+variable_at first name =
+    option_map (λ v. variable_part v.now) (get_by (λ k. bytes_eq name k.now) first)

@@ -19,7 +19,13 @@ pub record Gathered (S : Type 0) : Type 0 where
 
 module _ {S : Type 0} where
   abbrev pub gathered : Gathering S → Gathered S
-  gathered g = record { operations = map operation_of g.operations; fragments = map fragment_of g.fragments; uses = map use_of g.uses; spreads = map spread_of g.spreads }
+  gathered g =
+      record {
+        operations = map operation_of g.operations;
+        fragments = map fragment_of g.fragments;
+        uses = map use_of g.uses;
+        spreads = map spread_of g.spreads;
+      }
 
   abbrev pub nothing : Gathered S
   nothing = record { operations = []; fragments = []; uses = []; spreads = [] }
@@ -44,7 +50,13 @@ module _ {S : Type 0} where
   }
   closed g (Leave (AtFragment f)) = record {
     operations = g.operations;
-    fragments = g.fragments ++ record { name = f.item.name.item; place = f.span.start; condition = f.item.type_condition; uses = g.uses; spreads = g.spreads } ∷ [];
+    fragments = g.fragments ++ record {
+      name = f.item.name.item;
+      place = f.span.start;
+      condition = f.item.type_condition;
+      uses = g.uses;
+      spreads = g.spreads;
+    } ∷ [];
     uses = [];
     spreads = [];
   }
@@ -54,7 +66,8 @@ module _ {S C : Type 0} where
   -- with a part
   abbrev pub noted : Gathered S → Part S C → Gathered S
   noted g (VariableUsed u) = record g { uses = g.uses ++ u ∷ [] }
-  noted g (ASpread s) = record g { spreads = g.spreads ++ record { name = s.name.item; place = s.place } ∷ [] }
+  noted g (ASpread s) =
+      record g { spreads = g.spreads ++ record { name = s.name.item; place = s.place } ∷ [] }
   noted g _ = g
 
   -- with what an event tells

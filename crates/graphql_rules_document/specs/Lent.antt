@@ -18,7 +18,13 @@ abbrev pub spread_of : Spread → spec.Spread
 spread_of s = record { name = s.name.now; place = s.place }
 
 abbrev pub fragment_of : FragmentScope → spec.FragmentScope
-fragment_of f = record { name = f.name.now; place = f.place; condition = f.condition.now; uses = map use_of f.uses; spreads = map spread_of f.spreads }
+fragment_of f = record {
+  name = f.name.now;
+  place = f.place;
+  condition = f.condition.now;
+  uses = map use_of f.uses;
+  spreads = map spread_of f.spreads;
+}
 
 module _ {S : Type 0} where
   abbrev pub operation_of : OperationScope S → spec.OperationScope S
@@ -31,4 +37,5 @@ module _ {S : Type 0} where
   }
 
   abbrev pub scopes_told : Scopes S → spec.Scopes S
-  scopes_told s = record { operations = map operation_of s.operations; fragments = map fragment_of s.fragments }
+  scopes_told s =
+      record { operations = map operation_of s.operations; fragments = map fragment_of s.fragments }

@@ -11,4 +11,5 @@ module _ {S : Type 0} where
   anonymous_among count o = error_if (not (is_some o.name) && nat_lt 1 count) (o.place ∷ [])
 
   abbrev pub lone_anonymous_operation_faults : List (OperationScope S) → Places
-  lone_anonymous_operation_faults operations = flat_map (anonymous_among (length operations)) operations
+  lone_anonymous_operation_faults operations =
+      flat_map (anonymous_among (length operations)) operations

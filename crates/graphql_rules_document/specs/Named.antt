@@ -12,7 +12,8 @@ fragment_names = map (λ f. f.name.now)
 -- the place of the last of these names that is this one
 abbrev pub last_place : List Bytes → Bytes → Option ℕ
 last_place [] name = None
-last_place (n ∷ names) name = option_or (option_map suc (last_place names name)) (if bytes_eq n name then Some 0 else None)
+last_place (n ∷ names) name =
+    option_or (option_map suc (last_place names name)) (if bytes_eq n name then Some 0 else None)
 
 abbrev pub earlier_among : List Bytes → List Bytes → List (Option ℕ)
 earlier_among before [] = []

@@ -1,4 +1,5 @@
--- A spread in a fragment that its target reaches or is (GraphQL October 2021, 5.5.2.2 Fragment Spreads Must Not Form Cycles).
+-- A spread in a fragment that its target reaches or is (GraphQL October 2021, 5.5.2.2 Fragment
+-- Spreads Must Not Form Cycles).
 use Rattle.std.specs.Prelude.{List, [], ◌∷◌}
 use Rattle.std.specs.List.{flat_map}
 use Rattle.graphql_names.specs.Names.{is_one_of}

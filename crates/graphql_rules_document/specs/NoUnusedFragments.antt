@@ -9,5 +9,7 @@ use Rattle.graphql_rule_errors.specs.Places.{Places, error_if}
 abbrev pub unused_fragment : List Bytes → FragmentScope → Places
 unused_fragment names f = error_if (not (is_one_of names f.name)) (f.place ∷ [])
 
-abbrev pub no_unused_fragments_faults : {S : Type 0} → List (OperationScope S) → List FragmentScope → Places
-no_unused_fragments_faults operations fragments = flat_map (unused_fragment (reached fragments (flat_map (λ o. o.spreads) operations))) fragments
+abbrev pub no_unused_fragments_faults : {S : Type 0} → List (OperationScope S) → List FragmentScope
+    → Places
+no_unused_fragments_faults operations fragments =
+    flat_map (unused_fragment (reached fragments (flat_map (λ o. o.spreads) operations))) fragments

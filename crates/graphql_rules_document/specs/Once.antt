@@ -7,7 +7,8 @@ use Rattle.graphql_rules_document.specs.Scopes.{FragmentScope, OperationScope, s
 use Rattle.graphql_visitors.specs.Runs.{Step}
 use Rattle.graphql_visitors.specs.Subjects.{Subject}
 
--- the places of the errors, by the types of a schema, and by what the operations and the fragments of a document hold
+-- the places of the errors, by the types of a schema, and by what the operations and the fragments
+-- of a document hold
 abbrev pub ScopeRule : Type 0 → Type 0 → Type 0
 ScopeRule S C = List (MetaType S C) → List (OperationScope S) → List FragmentScope → Places
 

@@ -1,4 +1,6 @@
--- What the operations and the fragments of a document hold: the variables that they define and use, and the fragments that they spread (GraphQL October 2021, 2.3 Operations, 2.8 Fragments, 2.10 Variables).
+-- What the operations and the fragments of a document hold: the variables that they define and use,
+-- and the fragments that they spread (GraphQL October 2021, 2.3 Operations, 2.8 Fragments, 2.10
+-- Variables).
 use Rattle.std.specs.Prelude.{List, [], ◌∷◌, Option, map}
 use Rattle.std.specs.List.{flat_map}
 use Rattle.std.specs.Option.{option_map}
@@ -61,7 +63,13 @@ module _ {S C : Type 0} (schema : Declarations S C) where
   abbrev pub fragment_scope : Placed (Fragment S) → FragmentScope
   fragment_scope f =
       let parts = fragment_parts schema f.item in
-      record { name = f.item.name.item; place = f.span.start; condition = f.item.type_condition; uses = flat_map use_at parts; spreads = flat_map spread_at parts }
+      record {
+        name = f.item.name.item;
+        place = f.span.start;
+        condition = f.item.type_condition;
+        uses = flat_map use_at parts;
+        spreads = flat_map spread_at parts;
+      }
 
   abbrev pub operation_scopes : List (Definition S) → List (OperationScope S)
   operation_scopes document = map operation_scope (operations_of document)
@@ -71,4 +79,5 @@ module _ {S C : Type 0} (schema : Declarations S C) where
 
   -- those of a whole document, each in order
   abbrev pub scopes_in : List (Definition S) → Scopes S
-  scopes_in document = record { operations = operation_scopes document; fragments = fragment_scopes document }
+  scopes_in document =
+      record { operations = operation_scopes document; fragments = fragment_scopes document }

@@ -1,4 +1,5 @@
--- Fragments of a document are written out by as many levels as there are fragments (GraphQL October 2021, 5.5.2.2 Fragment Spreads Must Not Form Cycles).
+-- Fragments of a document are written out by as many levels as there are fragments (GraphQL October
+-- 2021, 5.5.2.2 Fragment Spreads Must Not Form Cycles).
 use Rattle.std.specs.Prelude.{List, length, map}
 use Rattle.graphql_names.specs.Names.{Bytes}
 use Rattle.graphql_tree.specs.declared.document.Definition.{Definition}
@@ -12,5 +13,9 @@ use Rattle.graphql_rules_document.specs.Counted.{AreKnown}
 
 -- where fields are declared, conditions known, and what is spread ends
 abbrev pub EndingFragmentsAreSettled : {S C : Type 0} → Declarations S C → Type 0
-EndingFragmentsAreSettled {S} schema = (document : List (Definition S)) → AreKnown schema (occurrences schema document)
-    → ((name : Bytes) → EndsWithin (fragment_scopes schema document) (length (fragment_scopes schema document)) name) → Settled (map (λ f. f.item) (fragments_of document))
+EndingFragmentsAreSettled {S} schema =
+    (document : List (Definition S)) → AreKnown schema (occurrences schema document)
+    → ((name : Bytes)
+    → EndsWithin (fragment_scopes schema document)
+    (length (fragment_scopes schema document)) name)
+    → Settled (map (λ f. f.item) (fragments_of document))

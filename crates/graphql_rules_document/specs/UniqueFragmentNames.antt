@@ -1,4 +1,5 @@
--- Names that stand more than once among fragments (GraphQL October 2021, 5.5.1.1 Fragment Name Uniqueness).
+-- Names that stand more than once among fragments (GraphQL October 2021, 5.5.1.1 Fragment Name
+-- Uniqueness).
 use Rattle.std.specs.Prelude.{List, map}
 use Rattle.graphql_rules_document.specs.Scopes.{FragmentScope}
 use Rattle.graphql_rule_errors.specs.Places.{Places}

@@ -1,4 +1,5 @@
--- Names that stand more than once among the variables of an operation (GraphQL October 2021, 5.8.1 Variable Uniqueness).
+-- Names that stand more than once among the variables of an operation (GraphQL October 2021, 5.8.1
+-- Variable Uniqueness).
 use Rattle.std.specs.Prelude.{List, map}
 use Rattle.std.specs.List.{flat_map}
 use Rattle.graphql_occurrences.specs.Parts.{VariablePart}
@@ -11,4 +12,5 @@ module _ {S : Type 0} where
   variable_mention v = mention v.name
 
   abbrev pub unique_variable_names_faults : List (OperationScope S) → Places
-  unique_variable_names_faults operations = flat_map (λ o. repeats (map variable_mention o.defined)) operations
+  unique_variable_names_faults operations =
+      flat_map (λ o. repeats (map variable_mention o.defined)) operations

@@ -1,5 +1,7 @@
--- An operation, its variable, and a use that it reaches where the variable is not allowed (GraphQL October 2021, 5.8.5 All Variable Usages Are Allowed).
-use Rattle.std.specs.Prelude.{◌++◌, ◌&&◌, ◌||◌, Bool, true, false, not, List, [], ◌∷◌, Option, Some, None, if◌then◌else◌}
+-- An operation, its variable, and a use that it reaches where the variable is not allowed (GraphQL
+-- October 2021, 5.8.5 All Variable Usages Are Allowed).
+use Rattle.std.specs.Prelude.{◌++◌, ◌&&◌, ◌||◌, Bool, true, false, not, List, [], ◌∷◌, Option, Some}
+use Rattle.std.specs.Prelude.{None, if◌then◌else◌}
 use Rattle.std.specs.List.{flat_map}
 use Rattle.graphql_names.specs.Names.{named}
 use Rattle.graphql_names.specs.TypeReference.{is_non_null, nullable, outermost}
@@ -27,7 +29,8 @@ with_null t = record { name = t.name; modifiers = nullable t.modifiers }
 abbrev pub without_null : TypeOf → TypeOf
 without_null t = record { name = t.name; modifiers = nullable t.modifiers ++ modifier.NonNull ∷ [] }
 
--- the type that is asked for at a place: without `null` at the one field that is given of an input object (September 2025, 3.10.1 OneOf Input Objects)
+-- the type that is asked for at a place: without `null` at the one field that is given of an input
+-- object (September 2025, 3.10.1 OneOf Input Objects)
 abbrev pub expected_at : InputPlace → TypeOf
 expected_at p = if p.is_only_field then without_null p.asked else p.asked
 
@@ -42,13 +45,15 @@ module _ {S : Type 0} where
   has_value (Some default) = is_value default.item
 
 module _ {S C : Type 0} (types : List (MetaType S C)) where
-  -- At the one field that is given of an input object no default helps: the variable's type is below the field's without `null`. Where else
-  -- `null` is refused, a variable that may be `null` stands only if a default stands in for it.
+  -- At the one field that is given of an input object no default helps: the variable's type is
+  -- below the field's without `null`. Where else `null` is refused, a variable that may be `null`
+  -- stands only if a default stands in for it.
   abbrev pub is_allowed : VariablePart S → InputPlace → Bool
   is_allowed v p =
       if p.is_only_field then is_subtype types v.type_of.item (without_null p.asked)
       else if refuses_null p.asked && not (refuses_null v.type_of.item)
-      then (has_value v.default || p.has_default) && is_subtype types v.type_of.item (with_null p.asked)
+      then (has_value v.default || p.has_default)
+      && is_subtype types v.type_of.item (with_null p.asked)
       else is_subtype types v.type_of.item p.asked
 
   abbrev pub disallowed_at : VariablePart S → Use → Option InputPlace → Places
@@ -67,5 +72,7 @@ module _ {S C : Type 0} (types : List (MetaType S C)) where
   abbrev pub disallowed_in : List FragmentScope → OperationScope S → Places
   disallowed_in fragments o = flat_map (disallowed_use o) (uses_from fragments o)
 
-  abbrev pub variables_in_allowed_position_faults : List (OperationScope S) → List FragmentScope → Places
-  variables_in_allowed_position_faults operations fragments = flat_map (disallowed_in fragments) operations
+  abbrev pub variables_in_allowed_position_faults : List (OperationScope S) → List FragmentScope
+      → Places
+  variables_in_allowed_position_faults operations fragments =
+      flat_map (disallowed_in fragments) operations

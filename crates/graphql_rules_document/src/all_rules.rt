@@ -33,20 +33,22 @@ pub fn document_errors<'a, 't, S, C>(
     schema: &'a SchemaType<S, C>,
     document: &'a [Definition<'t, S>],
 ) -> Result<Items<RuleError>, AllocError>
-    ensures { GivesBy places result (spec.document_places schema.now.types (scopes_in (declarations_of schema.now) document.now)) }
+    ensures { GivesBy places result (spec.document_places schema.now.types
+        (scopes_in (declarations_of schema.now) document.now)) }
 {
     let scopes = scopes_of(alloc, schema, document)?;
     scope_errors(alloc, schema, &scopes)
 }
 
-/// The errors of all rules of this crate for what the operations and the fragments of a document hold,
-/// in the same order. An error of the call is want of memory.
+/// The errors of all rules of this crate for what the operations and the fragments of a document
+/// hold, in the same order. An error of the call is want of memory.
 pub fn scope_errors<'a, 't, S, C>(
     alloc: Global,
     schema: &SchemaType<S, C>,
     scopes: &Scopes<'a, 't, S>,
 ) -> Result<Items<RuleError>, AllocError>
-    ensures { GivesBy places result (spec.document_places schema.now.types (scopes_told scopes.now)) }
+    ensures { GivesBy places result
+        (spec.document_places schema.now.types (scopes_told scopes.now)) }
 {
     let operations = scopes.operations.as_slice();
     let index = FragmentIndex::new(alloc, scopes.fragments.as_slice())?;
@@ -64,7 +66,8 @@ fn operation_rules<S>(
     operations: &[OperationScope<'_, '_, S>],
     errors: &mut Items<RuleError>,
 ) -> Result<(), AllocError>
-    ensures { OnOk result (Reports (spec.operation_places (map operation_of operations.now)) errors.old errors.new) }
+    ensures { OnOk result
+        (Reports (spec.operation_places (map operation_of operations.now)) errors.old errors.new) }
 {
     unique_operation_names(alloc, operations, errors)?;
     lone_anonymous_operation(alloc, operations, errors)
@@ -78,7 +81,8 @@ fn fragment_rules<'a, 't, S>(
     index: &FragmentIndex<'_, 'a, 't>,
     errors: &mut Items<RuleError>,
 ) -> Result<(), AllocError>
-    ensures { OnOk result (Reports (spec.fragment_places (map operation_of operations.now) (map fragment_of index.now.fragments.now)) errors.old errors.new) }
+    ensures { OnOk result (Reports (spec.fragment_places (map operation_of operations.now)
+        (map fragment_of index.now.fragments.now)) errors.old errors.new) }
 {
     unique_fragment_names(alloc, index.fragments(), errors)?;
     no_unused_fragments(alloc, operations, index, errors)?;
@@ -94,7 +98,8 @@ fn variable_rules<'a, 't, S, C>(
     index: &FragmentIndex<'_, 'a, 't>,
     errors: &mut Items<RuleError>,
 ) -> Result<(), AllocError>
-    ensures { OnOk result (Reports (spec.variable_places schema.now.types (map operation_of operations.now) (map fragment_of index.now.fragments.now)) errors.old errors.new) }
+    ensures { OnOk result (Reports (spec.variable_places schema.now.types (map operation_of
+        operations.now) (map fragment_of index.now.fragments.now)) errors.old errors.new) }
 {
     unique_variable_names(alloc, operations, errors)?;
     no_undefined_variables(alloc, operations, index, errors)?;

@@ -17,8 +17,8 @@ pub(crate) struct Component {
     /// The place of the one that was met first.
     pub(crate) first: usize,
 
-    /// How many components were left when this one was, itself included. What these fragments spread
-    /// has no greater number.
+    /// How many components were left when this one was, itself included. What these fragments
+    /// spread has no greater number.
     pub(crate) number: usize,
 }
 
@@ -86,7 +86,8 @@ impl ComponentWalk {
         index: &FragmentIndex<'_, '_, '_>,
         fragment: &FragmentScope<'_, '_>,
     ) -> Result<(), AllocError>
-        ensures { OnOk result (IsWalk index.now.fragments.now self.old → IsWalk index.now.fragments.now self.new) }
+        ensures { OnOk result
+            (IsWalk index.now.fragments.now self.old → IsWalk index.now.fragments.now self.new) }
     {
         let Some(place) = index.last_named(fragment.name) else {
             return Ok(());
@@ -99,10 +100,12 @@ impl ComponentWalk {
         self.follow_all(index)
     }
 
-    /// Follows what is to be followed. The bound of the loop is out of reach, and stands for a measure:
+    /// Follows what is to be followed. The bound of the loop is out of reach, and stands for a
+    /// measure:
     /// no more steps come than twice the fragments and the spreads.
     fn follow_all(&mut self, index: &FragmentIndex<'_, '_, '_>) -> Result<(), AllocError>
-        ensures { OnOk result (IsWalk index.now.fragments.now self.old → IsWalk index.now.fragments.now self.new) }
+        ensures { OnOk result
+            (IsWalk index.now.fragments.now self.old → IsWalk index.now.fragments.now self.new) }
     {
         'steps: for _ in 0..usize::MAX {
             match self.following.pop() {
@@ -119,7 +122,8 @@ impl ComponentWalk {
         index: &FragmentIndex<'_, '_, '_>,
         following: Following,
     ) -> Result<(), AllocError>
-        ensures { OnOk result (IsWalk index.now.fragments.now self.old → IsWalk index.now.fragments.now self.new) }
+        ensures { OnOk result
+            (IsWalk index.now.fragments.now self.old → IsWalk index.now.fragments.now self.new) }
     {
         let Some(fragment) = index.fragments().get(following.place) else {
             return Ok(());
@@ -141,7 +145,9 @@ impl ComponentWalk {
         fragment: &FragmentScope<'_, '_>,
         spread: &Spread<'_>,
     ) -> Result<(), AllocError>
-        ensures { OnOk result (Contains index.now.fragments.now fragment.now → Contains fragment.now.spreads spread.now → IsWalk index.now.fragments.now self.old → IsWalk index.now.fragments.now self.new) }
+        ensures { OnOk result (Contains index.now.fragments.now fragment.now
+            → Contains fragment.now.spreads spread.now → IsWalk index.now.fragments.now self.old
+            → IsWalk index.now.fragments.now self.new) }
     {
         let Some(from) = index.last_named(fragment.name) else {
             return Ok(());
@@ -175,7 +181,8 @@ impl ComponentWalk {
         place: usize,
         fragment: &FragmentScope<'_, '_>,
     ) -> Result<(), AllocError>
-        ensures { OnOk result (IsWalk index.now.fragments.now self.old → IsWalk index.now.fragments.now self.new) }
+        ensures { OnOk result
+            (IsWalk index.now.fragments.now self.old → IsWalk index.now.fragments.now self.new) }
     {
         if let Some(earlier) = index.earlier(place) {
             self.following.push(Following {
@@ -194,7 +201,8 @@ impl ComponentWalk {
 
     /// The last part of the path is a component, and is left.
     fn close(&mut self, index: &FragmentIndex<'_, '_, '_>, first: usize)
-        ensures { slice_get self.old.path.path self.old.path.start ≡ Some first → IsWalk index.now.fragments.now self.old → IsWalk index.now.fragments.now self.new }
+        ensures { slice_get self.old.path.path self.old.path.start ≡ Some first
+            → IsWalk index.now.fragments.now self.old → IsWalk index.now.fragments.now self.new }
     {
         self.closed = self.closed.saturating_add(1);
         let component = Component {
@@ -228,7 +236,8 @@ impl ComponentWalk {
 
     /// The fragment at `place` is met, and its spreads are to be followed.
     fn note(&mut self, place: usize, position: usize) -> Result<(), AllocError>
-        ensures { OnOk result ((self.new.path ≡ self.old.path) × (self.new.components ≡ self.old.components)) }
+        ensures { OnOk result
+            ((self.new.path ≡ self.old.path) × (self.new.components ≡ self.old.components)) }
     {
         if place < self.positions.len() {
             self.positions[place] = Some(position);

@@ -2,7 +2,8 @@
 
 ghost use Rattle.std.specs.Prelude.{◌≡◌, ◌<◌, ◌∷◌, [], IfOk, IsTrue, Some, map, slice_get};
 ghost use Rattle.graphql_names.specs.Names.{is_one_of};
-ghost use Rattle.graphql_rules_document.specs.Components.{Falls, Falling, IsComponents, IsSame, component_of, number_in, number_of};
+ghost use Rattle.graphql_rules_document.specs.Components.{Falls, Falling, IsComponents, IsSame};
+ghost use Rattle.graphql_rules_document.specs.Components.{component_of, number_in, number_of};
 ghost use Rattle.graphql_rules_document.specs.Lent.{fragment_of, spread_of};
 ghost use Rattle.graphql_rules_document.specs.Reached.{reached};
 ghost use Rattle.graphql_rules_document.specs.declared.scopes.FragmentScope.{FragmentScope as AFragment};
@@ -17,9 +18,9 @@ use std::alloc::{AllocError, Global};
 /// Which fragments of a document reach each other, found by one depth-first walk.
 ///
 /// That fragments of one component reach each other is known of the walk. That others do not reach
-/// back is seen from the components' numbers: where no fragment spreads one of a greater number, none
-/// reaches one of a greater number. The walk gives numbers of this kind, and a look at all spreads
-/// finds that they are; were they not, a search would decide.
+/// back is seen from the components' numbers: where no fragment spreads one of a greater number,
+/// none reaches one of a greater number. The walk gives numbers of this kind, and a look at all
+/// spreads finds that they are; were they not, a search would decide.
 #[derive(Drop)]
 pub struct FragmentComponents {
     // Of the last fragment of each name, its component.
@@ -43,9 +44,9 @@ impl FragmentComponents {
         Ok(FragmentComponents { components, falls })
     }
 
-    /// Whether the target of a spread is the fragment at `place` or reaches it; no fragment past the
-    /// end is reached. Compares two components, and needs `search` only where these do not tell,
-    /// which is at no spread of a fragment. An error is want of memory.
+    /// Whether the target of a spread is the fragment at `place` or reaches it; no fragment past
+    /// the end is reached. Compares two components, and needs `search` only where these do not
+    /// tell, which is at no spread of a fragment. An error is want of memory.
     pub fn leads_back(
         &self,
         index: &FragmentIndex<'_, '_, '_>,
@@ -53,7 +54,10 @@ impl FragmentComponents {
         place: usize,
         spread: &Spread<'_>,
     ) -> Result<bool, AllocError>
-        ensures { IfOk result (λ leads. IsComponents index.now.fragments.now self.now → (fragment : AFragment) → slice_get index.now.fragments.now place ≡ Some fragment → leads ≡ is_one_of (reached (map fragment_of index.now.fragments.now) (spread_of spread.now ∷ [])) fragment.name.now) }
+        ensures { IfOk result (λ leads. IsComponents index.now.fragments.now self.now
+            → (fragment : AFragment) → slice_get index.now.fragments.now place ≡ Some fragment
+            → leads ≡ is_one_of (reached (map fragment_of index.now.fragments.now)
+            (spread_of spread.now ∷ [])) fragment.name.now) }
     {
         let Some(fragment) = index.fragments().get(place) else {
             return Ok(false);

@@ -19,7 +19,8 @@ pub(crate) fn first_variables<'b, 't, S>(
     alloc: Global,
     defined: &'b [Variable<'t, S>],
 ) -> Result<HashMap<&'b str, &'b Variable<'t, S>>, AllocError>
-    ensures { IfOk result (λ first. (name : Bytes) → variable_at first name ≡ named (λ v. v.name.item) (map variable_part defined.now) name) }
+    ensures { IfOk result (λ first. (name : Bytes)
+        → variable_at first name ≡ named (λ v. v.name.item) (map variable_part defined.now) name) }
 {
     let mut first: HashMap<&str, &Variable<'t, S>> = HashMap::new(alloc);
     'defined: for variable in defined {

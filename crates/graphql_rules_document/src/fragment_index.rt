@@ -3,7 +3,8 @@
 ghost use Rattle.std.specs.Prelude.{◌≡◌, ℕ, List, IfOk};
 ghost use Rattle.std.specs.HashMap.{get_by};
 ghost use Rattle.std.specs.Str.{bytes_eq};
-ghost use Rattle.graphql_rules_document.specs.Named.{earlier_place, earlier_places, fragment_names, last_place};
+ghost use Rattle.graphql_rules_document.specs.Named.{earlier_place, earlier_places, fragment_names};
+ghost use Rattle.graphql_rules_document.specs.Named.{last_place};
 
 use crate::scopes::FragmentScope;
 use graphql_text::Items;
@@ -21,7 +22,8 @@ pub struct FragmentIndex<'b, 'a, 't> {
     // Of each fragment, the place of the last one of its name before it.
     earlier: Items<Option<usize>>,
 
-    ghost lasts: { (name : List ℕ) → get_by (λ k. bytes_eq name k.now) last ≡ last_place (fragment_names fragments.now) name },
+    ghost lasts: { (name : List ℕ)
+        → get_by (λ k. bytes_eq name k.now) last ≡ last_place (fragment_names fragments.now) name },
     ghost earliers: { earlier ≡ earlier_places (fragment_names fragments.now) },
 }
 

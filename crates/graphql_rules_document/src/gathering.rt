@@ -6,10 +6,14 @@ ghost use Rattle.graphql_text.specs.Memory.{GivesBy};
 ghost use Rattle.graphql_tree.specs.Documents.{variables_in as variables_given};
 ghost use Rattle.graphql_occurrences.specs.Events.{seen};
 ghost use Rattle.graphql_occurrences.specs.Lent.{around_of, event_of, node_of};
-ghost use Rattle.graphql_occurrences.specs.Nodes.{AtFragment, AtFragmentSpread, AtOperation, AtValue, Enter, Leave, fragment_head, operation_head, placed_as, spread_head, value_head};
+ghost use Rattle.graphql_occurrences.specs.Nodes.{AtFragment, AtFragmentSpread, AtOperation};
+ghost use Rattle.graphql_occurrences.specs.Nodes.{AtValue, Enter, Leave, fragment_head};
+ghost use Rattle.graphql_occurrences.specs.Nodes.{operation_head, placed_as, spread_head};
+ghost use Rattle.graphql_occurrences.specs.Nodes.{value_head};
 ghost use Rattle.graphql_occurrences.specs.PartsOf.{parts_at, parts_of_event};
 ghost use Rattle.graphql_document_walk.specs.Pending.{ahead};
-ghost use Rattle.graphql_rules_document.specs.Gathered.{closed, gathered, noted, nothing, scopes_gathered, with_event};
+ghost use Rattle.graphql_rules_document.specs.Gathered.{closed, gathered, noted, nothing};
+ghost use Rattle.graphql_rules_document.specs.Gathered.{scopes_gathered, with_event};
 ghost use Rattle.graphql_rules_document.specs.Lent.{scopes_told};
 
 use crate::scopes::{FragmentScope, OperationScope, Scopes, Spread, Use};
@@ -75,7 +79,9 @@ impl<'a, 't, S> Gathering<'a, 't, S> {
         alloc: Global,
         operation: &'a Spanning<Operation<'t, S>>,
     ) -> Result<(), AllocError>
-        ensures { OnOk result (gathered self.new ≡ closed (gathered self.old) (Leave (AtOperation (placed_as operation.now (operation_head operation.now.item))))) }
+        ensures { OnOk result (gathered self.new
+            ≡ closed (gathered self.old)
+            (Leave (AtOperation (placed_as operation.now (operation_head operation.now.item))))) }
     {
         let uses = mem::replace(&mut self.uses, Items::new(alloc));
         let spreads = mem::replace(&mut self.spreads, Items::new(alloc));
@@ -95,7 +101,9 @@ impl<'a, 't, S> Gathering<'a, 't, S> {
         alloc: Global,
         fragment: &'a Spanning<Fragment<'t, S>>,
     ) -> Result<(), AllocError>
-        ensures { OnOk result (gathered self.new ≡ closed (gathered self.old) (Leave (AtFragment (placed_as fragment.now (fragment_head fragment.now.item))))) }
+        ensures { OnOk result (gathered self.new
+            ≡ closed (gathered self.old)
+            (Leave (AtFragment (placed_as fragment.now (fragment_head fragment.now.item))))) }
     {
         let uses = mem::replace(&mut self.uses, Items::new(alloc));
         let spreads = mem::replace(&mut self.spreads, Items::new(alloc));
@@ -116,7 +124,8 @@ impl<'a, 't, S> Gathering<'a, 't, S> {
         around: &Around<'a, S, C>,
         value: &'a Spanning<InputValue<S>>,
     ) -> Result<(), AllocError>
-        ensures { OnOk result (gathered self.new ≡ fold noted (gathered self.old) (parts_at (around_of around.now) (AtValue (placed_as value.now (value_head value.now.item))))) }
+        ensures { OnOk result (gathered self.new ≡ fold noted (gathered self.old) (parts_at
+            (around_of around.now) (AtValue (placed_as value.now (value_head value.now.item))))) }
     {
         match &value.item {
             InputValue::Variable(name) => {
@@ -141,7 +150,9 @@ impl<'a, 't, S> Gathering<'a, 't, S> {
         around: &Around<'a, S, C>,
         spread: &'a Spanning<FragmentSpread<'t, S>>,
     ) -> Result<(), AllocError>
-        ensures { OnOk result (gathered self.new ≡ fold noted (gathered self.old) (parts_at (around_of around.now) (AtFragmentSpread (placed_as spread.now (spread_head spread.now.item))))) }
+        ensures { OnOk result
+            (gathered self.new ≡ fold noted (gathered self.old) (parts_at (around_of around.now)
+            (AtFragmentSpread (placed_as spread.now (spread_head spread.now.item))))) }
     {
         match around.parent {
             Some(_) => {
@@ -161,7 +172,9 @@ impl<'a, 't, S> Gathering<'a, 't, S> {
         around: &Around<'a, S, C>,
         node: &Node<'a, 't, S>,
     ) -> Result<(), AllocError>
-        ensures { OnOk result (gathered self.new ≡ fold noted (gathered self.old) (parts_of_event (around_of around.now) (Enter (node_of node.now)))) }
+        ensures { OnOk result (gathered self.new
+            ≡ fold noted (gathered self.old)
+            (parts_of_event (around_of around.now) (Enter (node_of node.now)))) }
     {
         match node {
             Node::Value(value) => self.note_value(around, value),
@@ -181,7 +194,8 @@ impl<'a, 't, S> Gathering<'a, 't, S> {
 
     /// A node is left.
     fn leave(&mut self, alloc: Global, node: &Node<'a, 't, S>) -> Result<(), AllocError>
-        ensures { OnOk result (gathered self.new ≡ closed (gathered self.old) (Leave (node_of node.now))) }
+        ensures { OnOk result
+            (gathered self.new ≡ closed (gathered self.old) (Leave (node_of node.now))) }
     {
         match node {
             Node::Operation(operation) => self.close_operation(alloc, operation),
@@ -206,7 +220,8 @@ impl<'a, 't, S> Gathering<'a, 't, S> {
         around: &Around<'a, S, C>,
         event: &Event<'a, 't, S>,
     ) -> Result<(), AllocError>
-        ensures { OnOk result (gathered self.new ≡ with_event (gathered self.old) (seen (around_of around.now) (event_of event.now))) }
+        ensures { OnOk result (gathered self.new
+            ≡ with_event (gathered self.old) (seen (around_of around.now) (event_of event.now))) }
     {
         match event {
             Event::Enter(node) => self.enter(around, node),
@@ -232,7 +247,8 @@ impl<'a, 't, S> Gathering<'a, 't, S> {
 
     /// With what is ahead of a walk.
     fn take_all<C>(&mut self, alloc: Global, mut walk: Walk<'a, 't, S, C>) -> Result<(), AllocError>
-        ensures { OnOk result (gathered self.new ≡ fold with_event (gathered self.old) (ahead walk.entry)) }
+        ensures { OnOk result
+            (gathered self.new ≡ fold with_event (gathered self.old) (ahead walk.entry)) }
     {
         'events: while let Some(next) = walk.next()? {
             self.take_in(alloc, &next.around, &next.event)?;
@@ -246,7 +262,8 @@ pub(crate) fn gather<'a, 't, S, C>(
     alloc: Global,
     walk: Walk<'a, 't, S, C>,
 ) -> Result<Scopes<'a, 't, S>, AllocError>
-    ensures { GivesBy scopes_told result (scopes_gathered (fold with_event nothing (ahead walk.entry))) }
+    ensures { GivesBy scopes_told result
+        (scopes_gathered (fold with_event nothing (ahead walk.entry))) }
 {
     let mut gathering = Gathering::new(alloc);
     gathering.take_all(alloc, walk)?;

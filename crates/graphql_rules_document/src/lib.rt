@@ -1,10 +1,11 @@
-//! The rules for the definitions of a document: what operations and fragments may be named, and what
-//! they use and spread (GraphQL October 2021, 5 Validation). A rule a module: its type, its `factory`,
-//! which makes it as a visitor, and a function of its name, which adds its errors to a list.
+//! The rules for the definitions of a document: what operations and fragments may be named, and
+//! what they use and spread (GraphQL October 2021, 5 Validation). A rule a module: its type, its
+//! `factory`, which makes it as a visitor, and a function of its name, which adds its errors to a
+//! list.
 //!
 //! Scopes are what these rules speak of: what each operation and fragment of a document holds, and
-//! which fragments it reaches (2.3 Operations, 2.8 Fragments, 2.10 Variables). They are gathered once
-//! for all rules.
+//! which fragments it reaches (2.3 Operations, 2.8 Fragments, 2.10 Variables). They are gathered
+//! once for all rules.
 #![tactic(auto)]
 
 mod all_rules;

@@ -2,7 +2,8 @@
 
 ghost use Rattle.std.specs.Prelude.{◌≡◌, OnOk, map, false};
 ghost use Rattle.graphql_rules_document.specs.Lent.{operation_of};
-ghost use Rattle.graphql_rules_document.specs.LoneAnonymousOperation.{anonymous_among, lone_anonymous_operation_faults};
+ghost use Rattle.graphql_rules_document.specs.LoneAnonymousOperation.{anonymous_among};
+ghost use Rattle.graphql_rules_document.specs.LoneAnonymousOperation.{lone_anonymous_operation_faults};
 ghost use Rattle.graphql_rule_errors.specs.Places.{Reports};
 
 use crate::document_rule::DocumentRule;
@@ -34,7 +35,8 @@ pub fn lone_anonymous_operation<S>(
     operations: &[OperationScope<'_, '_, S>],
     errors: &mut Items<RuleError>,
 ) -> Result<(), AllocError>
-    ensures { OnOk result (Reports (lone_anonymous_operation_faults (map operation_of operations.now)) errors.old errors.new) }
+    ensures { OnOk result (Reports
+        (lone_anonymous_operation_faults (map operation_of operations.now)) errors.old errors.new) }
 {
     let count = operations.len();
     'operations: for operation in operations {
@@ -50,7 +52,8 @@ fn report_anonymous<S>(
     operation: &OperationScope<'_, '_, S>,
     errors: &mut Items<RuleError>,
 ) -> Result<(), AllocError>
-    ensures { OnOk result (Reports (anonymous_among count (operation_of operation.now)) errors.old errors.new) }
+    ensures { OnOk result
+        (Reports (anonymous_among count (operation_of operation.now)) errors.old errors.new) }
 {
     if operation.name.is_some() || count <= 1 {
         return Ok(());
@@ -78,7 +81,8 @@ impl<S: SchemaScalar> DocumentRule<S> for LoneAnonymousOperation {
         index: &FragmentIndex<'_, 'a, 't>,
         errors: &mut Items<RuleError>,
     ) -> Result<(), AllocError>
-        ensures { OnOk result (Reports (lone_anonymous_operation_faults (map operation_of operations.now)) errors.old errors.new) }
+        ensures { OnOk result (Reports (lone_anonymous_operation_faults
+            (map operation_of operations.now)) errors.old errors.new) }
     {
         lone_anonymous_operation(alloc, operations, errors)
     }

@@ -15,7 +15,8 @@ use std::collections::HashSet;
 
 /// Adds a name.
 fn add<'a>(names: &mut HashSet<&'a str>, name: &'a str) -> Result<(), AllocError>
-    ensures { OnOk result ((q : Bytes) → has_name names.new q ≡ (has_name names.old q || bytes_eq q name.now)) }
+    ensures { OnOk result
+        ((q : Bytes) → has_name names.new q ≡ (has_name names.old q || bytes_eq q name.now)) }
 {
     names.insert(name)?;
     Ok(())
@@ -26,7 +27,8 @@ pub(crate) fn defined_names<'b, 't, S>(
     alloc: Global,
     defined: &'b [(Spanning<TextRef<'t>>, VariableDefinition<'t, S>)],
 ) -> Result<HashSet<&'b str>, AllocError>
-    ensures { IfOk result (λ names. (q : Bytes) → has_name names q ≡ is_one_of (map (λ v. v.name.item) (map variable_part defined.now)) q) }
+    ensures { IfOk result (λ names. (q : Bytes)
+        → has_name names q ≡ is_one_of (map (λ v. v.name.item) (map variable_part defined.now)) q) }
 {
     let mut names: HashSet<&str> = HashSet::new(alloc);
     'defined: for variable in defined {
@@ -40,7 +42,8 @@ pub(crate) fn used_names<'a>(
     alloc: Global,
     uses: &[Use<'a>],
 ) -> Result<HashSet<&'a str>, AllocError>
-    ensures { IfOk result (λ names. (q : Bytes) → has_name names q ≡ is_one_of (map (λ u. u.name) (map use_of uses.now)) q) }
+    ensures { IfOk result (λ names. (q : Bytes)
+        → has_name names q ≡ is_one_of (map (λ u. u.name) (map use_of uses.now)) q) }
 {
     let mut names: HashSet<&str> = HashSet::new(alloc);
     'uses: for used in uses {

@@ -4,7 +4,8 @@
 ghost use Rattle.std.specs.Prelude.{◌≡◌, OnOk, map, slice_get, Some, false};
 ghost use Rattle.graphql_rules_document.specs.Components.{IsComponents};
 ghost use Rattle.graphql_rules_document.specs.Lent.{fragment_of, spread_of};
-ghost use Rattle.graphql_rules_document.specs.NoFragmentCycles.{cycle_at, cycles_in, no_fragment_cycles_faults};
+ghost use Rattle.graphql_rules_document.specs.NoFragmentCycles.{cycle_at, cycles_in};
+ghost use Rattle.graphql_rules_document.specs.NoFragmentCycles.{no_fragment_cycles_faults};
 ghost use Rattle.graphql_rule_errors.specs.Places.{Reports};
 
 use crate::document_rule::DocumentRule;
@@ -20,7 +21,8 @@ use std::alloc::{AllocError, Global};
 /// No fragment reaches itself by spreads (GraphQL October 2021, 5.5.2.2 Fragment Spreads Must Not
 /// Form Cycles).
 ///
-/// An error names the start of a spread whose target is the fragment in which it stands, or reaches it.
+/// An error names the start of a spread whose target is the fragment in which it stands, or reaches
+/// it.
 #[derive(Drop)]
 pub struct NoFragmentCycles;
 
@@ -31,15 +33,16 @@ pub fn factory() -> Once<NoFragmentCycles>
     Once::new(NoFragmentCycles)
 }
 
-/// Adds an error for each spread in a fragment whose target is that fragment or reaches it, where the
-/// spread begins. Takes time in proportion to the fragments and their spreads. An error of the call
-/// is want of memory.
+/// Adds an error for each spread in a fragment whose target is that fragment or reaches it, where
+/// the spread begins. Takes time in proportion to the fragments and their spreads. An error of the
+/// call is want of memory.
 pub fn no_fragment_cycles(
     alloc: Global,
     index: &FragmentIndex<'_, '_, '_>,
     errors: &mut Items<RuleError>,
 ) -> Result<(), AllocError>
-    ensures { OnOk result (Reports (no_fragment_cycles_faults (map fragment_of index.now.fragments.now)) errors.old errors.new) }
+    ensures { OnOk result (Reports (no_fragment_cycles_faults
+        (map fragment_of index.now.fragments.now)) errors.old errors.new) }
 {
     let components = FragmentComponents::new(alloc, index)?;
     let mut search = ReachedFragments::new(alloc);
@@ -67,7 +70,9 @@ fn report_cycles(
     fragment: &FragmentScope<'_, '_>,
     errors: &mut Items<RuleError>,
 ) -> Result<(), AllocError>
-    ensures { OnOk result (IsComponents index.now.fragments.now components.now → slice_get index.now.fragments.now place ≡ Some fragment.now → Reports (cycles_in (map fragment_of index.now.fragments.now) (fragment_of fragment.now)) errors.old errors.new) }
+    ensures { OnOk result (IsComponents index.now.fragments.now components.now
+        → slice_get index.now.fragments.now place ≡ Some fragment.now → Reports (cycles_in (map
+        fragment_of index.now.fragments.now) (fragment_of fragment.now)) errors.old errors.new) }
 {
     'spreads: for spread in fragment.spreads.as_slice() {
         report_cycle(
@@ -88,7 +93,11 @@ fn report_cycle(
     spread: &Spread<'_>,
     errors: &mut Items<RuleError>,
 ) -> Result<(), AllocError>
-    ensures { OnOk result (IsComponents index.now.fragments.now components.now → slice_get index.now.fragments.now place ≡ Some fragment.now → Reports (cycle_at (map fragment_of index.now.fragments.now) (fragment_of fragment.now) (spread_of spread.now)) errors.old errors.new) }
+    ensures { OnOk result
+        (IsComponents index.now.fragments.now components.now
+        → slice_get index.now.fragments.now
+        place ≡ Some fragment.now → Reports (cycle_at (map fragment_of index.now.fragments.now)
+        (fragment_of fragment.now) (spread_of spread.now)) errors.old errors.new) }
 {
     let is_cycle = components.leads_back(index, search, place, spread)?;
     if !is_cycle {
@@ -115,7 +124,8 @@ impl<S: SchemaScalar> DocumentRule<S> for NoFragmentCycles {
         index: &FragmentIndex<'_, 'a, 't>,
         errors: &mut Items<RuleError>,
     ) -> Result<(), AllocError>
-        ensures { OnOk result (Reports (no_fragment_cycles_faults (map fragment_of index.now.fragments.now)) errors.old errors.new) }
+        ensures { OnOk result (Reports (no_fragment_cycles_faults
+            (map fragment_of index.now.fragments.now)) errors.old errors.new) }
     {
         no_fragment_cycles(alloc, index, errors)
     }

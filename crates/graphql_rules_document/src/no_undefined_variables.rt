@@ -1,5 +1,5 @@
-//! Uses of variables that an operation does not define (GraphQL October 2021, 5.8.3 All Variable Uses
-//! Defined).
+//! Uses of variables that an operation does not define (GraphQL October 2021, 5.8.3 All Variable
+//! Uses Defined).
 
 ghost use Rattle.std.specs.Prelude.{◌≡◌, ◌∷◌, [], OnOk, map, not, false};
 ghost use Rattle.std.specs.List.{flat_map};
@@ -36,15 +36,16 @@ pub fn factory() -> Once<NoUndefinedVariables>
 
 /// Adds an error for each operation and each use of a variable that it reaches and does not define:
 /// where the variable is used, and where the operation begins. Takes time in proportion to the
-/// operations times the fragments, and to what each operation reaches. An error of the call is want of
-/// memory.
+/// operations times the fragments, and to what each operation reaches. An error of the call is want
+/// of memory.
 pub fn no_undefined_variables<'a, 't, S>(
     alloc: Global,
     operations: &[OperationScope<'a, 't, S>],
     index: &FragmentIndex<'_, 'a, 't>,
     errors: &mut Items<RuleError>,
 ) -> Result<(), AllocError>
-    ensures { OnOk result (Reports (spec.no_undefined_variables_faults (map operation_of operations.now) (map fragment_of index.now.fragments.now)) errors.old errors.new) }
+    ensures { OnOk result (Reports (spec.no_undefined_variables_faults (map operation_of
+        operations.now) (map fragment_of index.now.fragments.now)) errors.old errors.new) }
 {
     let mut reached = ReachedFragments::new(alloc);
     'operations: for operation in operations {
@@ -61,7 +62,8 @@ fn report_operation<'a, 't, S>(
     operation: &OperationScope<'a, 't, S>,
     errors: &mut Items<RuleError>,
 ) -> Result<(), AllocError>
-    ensures { OnOk result (Reports (spec.undefined_in (map fragment_of index.now.fragments.now) (operation_of operation.now)) errors.old errors.new) }
+    ensures { OnOk result (Reports (spec.undefined_in (map fragment_of index.now.fragments.now)
+        (operation_of operation.now)) errors.old errors.new) }
 {
     let uses = reached.uses(alloc, index, operation)?;
     let defined = defined_names(alloc, operation.defined)?;
@@ -76,7 +78,11 @@ fn report_uses<S>(
     uses: &[Use<'_>],
     errors: &mut Items<RuleError>,
 ) -> Result<(), AllocError>
-    ensures { OnOk result (((q : Bytes) → has_name defined.now q ≡ is_one_of (map (λ v. v.name.item) (map variable_part operation.now.defined.now)) q) → Reports (flat_map (spec.undefined_use (operation_of operation.now)) (map use_of uses.now)) errors.old errors.new) }
+    ensures { OnOk result (((q : Bytes)
+        → has_name defined.now q
+        ≡ is_one_of (map (λ v. v.name.item) (map variable_part operation.now.defined.now)) q)
+        → Reports (flat_map (spec.undefined_use (operation_of operation.now)) (map use_of uses.now))
+        errors.old errors.new) }
 {
     'uses: for used in uses {
         report_use(alloc, operation, defined.contains(used.name), used, errors)?;
@@ -92,7 +98,8 @@ fn report_use<S>(
     used: &Use<'_>,
     errors: &mut Items<RuleError>,
 ) -> Result<(), AllocError>
-    ensures { OnOk result (Reports (error_if (not is_defined) (used.now.place ∷ operation.now.place ∷ [])) errors.old errors.new) }
+    ensures { OnOk result (Reports (error_if (not is_defined)
+        (used.now.place ∷ operation.now.place ∷ [])) errors.old errors.new) }
 {
     if is_defined {
         return Ok(());
@@ -117,7 +124,8 @@ impl<S: SchemaScalar> DocumentRule<S> for NoUndefinedVariables {
     ghost use Rattle.graphql_rules_document.specs.NoUndefinedVariables.{no_undefined_variables_faults};
     ghost use Rattle.graphql_rules_document.specs.Lent.{fragment_of, operation_of};
 
-    ghost says = { λ types operations fragments. no_undefined_variables_faults operations fragments };
+    ghost says = { λ types operations fragments.
+        no_undefined_variables_faults operations fragments };
 
     fn add_errors<'a, 't>(
         &self,
@@ -129,7 +137,8 @@ impl<S: SchemaScalar> DocumentRule<S> for NoUndefinedVariables {
     ) -> Result<(), AllocError>
         ensures { let held = map operation_of operations.now in
             let fragments = map fragment_of index.now.fragments.now in
-            OnOk result (Reports (no_undefined_variables_faults held fragments) errors.old errors.new) }
+            OnOk result
+            (Reports (no_undefined_variables_faults held fragments) errors.old errors.new) }
     {
         no_undefined_variables(alloc, operations, index, errors)
     }

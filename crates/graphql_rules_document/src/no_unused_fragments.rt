@@ -5,7 +5,8 @@ ghost use Rattle.std.specs.List.{flat_map};
 ghost use Rattle.graphql_text.specs.Memory.{GivesBy};
 ghost use Rattle.graphql_names.specs.Names.{Bytes, is_one_of};
 ghost use Rattle.graphql_rules_document.specs.Lent.{fragment_of, operation_of, spread_of};
-ghost use Rattle.graphql_rules_document.specs.NoUnusedFragments.{no_unused_fragments_faults, unused_fragment};
+ghost use Rattle.graphql_rules_document.specs.NoUnusedFragments.{no_unused_fragments_faults};
+ghost use Rattle.graphql_rules_document.specs.NoUnusedFragments.{unused_fragment};
 ghost use Rattle.graphql_rule_errors.specs.Places.{Reports, error_if};
 
 use crate::document_rule::DocumentRule;
@@ -16,7 +17,8 @@ use graphql_schema::{SchemaScalar, SchemaType};
 use graphql_text::Items;
 use std::alloc::{AllocError, Global};
 
-/// Operations reach each fragment by spreads (GraphQL October 2021, 5.5.1.4 Fragments Must Be Used).
+/// Operations reach each fragment by spreads (GraphQL October 2021, 5.5.1.4 Fragments Must Be
+/// Used).
 ///
 /// An error names the start of the fragment.
 #[derive(Drop)]
@@ -30,14 +32,16 @@ pub fn factory() -> Once<NoUnusedFragments>
 }
 
 /// Adds an error for each fragment that no operation reaches, where it begins. Takes time in
-/// proportion to what the operations and the fragments hold. An error of the call is want of memory.
+/// proportion to what the operations and the fragments hold. An error of the call is want of
+/// memory.
 pub fn no_unused_fragments<'a, 't, S>(
     alloc: Global,
     operations: &[OperationScope<'a, 't, S>],
     index: &FragmentIndex<'_, 'a, 't>,
     errors: &mut Items<RuleError>,
 ) -> Result<(), AllocError>
-    ensures { OnOk result (Reports (no_unused_fragments_faults (map operation_of operations.now) (map fragment_of index.now.fragments.now)) errors.old errors.new) }
+    ensures { OnOk result (Reports (no_unused_fragments_faults (map operation_of operations.now)
+        (map fragment_of index.now.fragments.now)) errors.old errors.new) }
 {
     let spreads = all_spreads(alloc, operations)?;
     let mut reached = ReachedFragments::new(alloc);
@@ -50,7 +54,8 @@ fn all_spreads<'a, 't, S>(
     alloc: Global,
     operations: &[OperationScope<'a, 't, S>],
 ) -> Result<Items<Spread<'a>>, AllocError>
-    ensures { GivesBy (map spread_of) result (flat_map (λ o. o.spreads) (map operation_of operations.now)) }
+    ensures { GivesBy (map spread_of) result
+        (flat_map (λ o. o.spreads) (map operation_of operations.now)) }
 {
     let mut spreads = Items::new(alloc);
     'operations: for operation in operations {
@@ -66,7 +71,11 @@ fn report_all(
     index: &FragmentIndex<'_, '_, '_>,
     errors: &mut Items<RuleError>,
 ) -> Result<(), AllocError>
-    ensures { OnOk result ((names : List Bytes) → reached.now.marks ≡ map (λ f. is_one_of names f.name) (map fragment_of index.now.fragments.now) → Reports (flat_map (unused_fragment names) (map fragment_of index.now.fragments.now)) errors.old errors.new) }
+    ensures { OnOk result ((names : List Bytes)
+        → reached.now.marks
+        ≡ map
+        (λ f. is_one_of names f.name) (map fragment_of index.now.fragments.now) → Reports (flat_map
+        (unused_fragment names) (map fragment_of index.now.fragments.now)) errors.old errors.new) }
 {
     'fragments: for (place, fragment) in index.fragments().iter().enumerate() {
         report_unused(alloc, reached.is_reached(place), fragment, errors)?;
@@ -81,7 +90,8 @@ fn report_unused(
     fragment: &FragmentScope<'_, '_>,
     errors: &mut Items<RuleError>,
 ) -> Result<(), AllocError>
-    ensures { OnOk result (Reports (error_if (not is_reached) (fragment.now.place ∷ [])) errors.old errors.new) }
+    ensures { OnOk result
+        (Reports (error_if (not is_reached) (fragment.now.place ∷ [])) errors.old errors.new) }
 {
     if is_reached {
         return Ok(());
@@ -109,7 +119,8 @@ impl<S: SchemaScalar> DocumentRule<S> for NoUnusedFragments {
     ) -> Result<(), AllocError>
         ensures { let held = map operation_of operations.now in
             let fragments = map fragment_of index.now.fragments.now in
-            OnOk result (Reports (no_unused_fragments_faults held fragments) errors.old errors.new) }
+            OnOk result
+            (Reports (no_unused_fragments_faults held fragments) errors.old errors.new) }
     {
         no_unused_fragments(alloc, operations, index, errors)
     }

@@ -34,16 +34,17 @@ pub fn factory() -> Once<NoUnusedVariables>
     Once::new(NoUnusedVariables)
 }
 
-/// Adds an error for each variable of an operation that neither the operation nor a fragment that it
-/// reaches uses, where the variable is defined. Takes time in proportion to the operations times the
-/// fragments, and to what each operation reaches. An error of the call is want of memory.
+/// Adds an error for each variable of an operation that neither the operation nor a fragment that
+/// it reaches uses, where the variable is defined. Takes time in proportion to the operations times
+/// the fragments, and to what each operation reaches. An error of the call is want of memory.
 pub fn no_unused_variables<'a, 't, S>(
     alloc: Global,
     operations: &[OperationScope<'a, 't, S>],
     index: &FragmentIndex<'_, 'a, 't>,
     errors: &mut Items<RuleError>,
 ) -> Result<(), AllocError>
-    ensures { OnOk result (Reports (spec.no_unused_variables_faults (map operation_of operations.now) (map fragment_of index.now.fragments.now)) errors.old errors.new) }
+    ensures { OnOk result (Reports (spec.no_unused_variables_faults (map operation_of
+        operations.now) (map fragment_of index.now.fragments.now)) errors.old errors.new) }
 {
     let mut reached = ReachedFragments::new(alloc);
     'operations: for operation in operations {
@@ -60,7 +61,8 @@ fn report_operation<'a, 't, S>(
     operation: &OperationScope<'a, 't, S>,
     errors: &mut Items<RuleError>,
 ) -> Result<(), AllocError>
-    ensures { OnOk result (Reports (spec.unused_in (map fragment_of index.now.fragments.now) (operation_of operation.now)) errors.old errors.new) }
+    ensures { OnOk result (Reports (spec.unused_in (map fragment_of index.now.fragments.now)
+        (operation_of operation.now)) errors.old errors.new) }
 {
     let uses = reached.uses(alloc, index, operation)?;
     let used = used_names(alloc, uses.as_slice())?;
@@ -74,7 +76,9 @@ fn report_variables<'t, S>(
     defined: &[(Spanning<TextRef<'t>>, VariableDefinition<'t, S>)],
     errors: &mut Items<RuleError>,
 ) -> Result<(), AllocError>
-    ensures { OnOk result ((names : List Bytes) → ((q : Bytes) → has_name used.now q ≡ is_one_of names q) → Reports (flat_map (spec.unused_variable names) (map variable_part defined.now)) errors.old errors.new) }
+    ensures { OnOk result ((names : List Bytes)
+        → ((q : Bytes) → has_name used.now q ≡ is_one_of names q) → Reports (flat_map
+        (spec.unused_variable names) (map variable_part defined.now)) errors.old errors.new) }
 {
     'defined: for variable in defined {
         let name = variable.0.item.as_str();
@@ -90,7 +94,8 @@ fn report_variable(
     variable: &Spanning<TextRef<'_>>,
     errors: &mut Items<RuleError>,
 ) -> Result<(), AllocError>
-    ensures { OnOk result (Reports (error_if (not is_used) (variable.now.span.start ∷ [])) errors.old errors.new) }
+    ensures { OnOk result
+        (Reports (error_if (not is_used) (variable.now.span.start ∷ [])) errors.old errors.new) }
 {
     if is_used {
         return Ok(());
@@ -118,7 +123,8 @@ impl<S: SchemaScalar> DocumentRule<S> for NoUnusedVariables {
     ) -> Result<(), AllocError>
         ensures { let held = map operation_of operations.now in
             let fragments = map fragment_of index.now.fragments.now in
-            OnOk result (Reports (no_unused_variables_faults held fragments) errors.old errors.new) }
+            OnOk result
+            (Reports (no_unused_variables_faults held fragments) errors.old errors.new) }
     {
         no_unused_variables(alloc, operations, index, errors)
     }

@@ -20,8 +20,9 @@ use std::alloc::{AllocError, Global};
 
 /// The visitor of a rule over all operations and fragments of a document.
 ///
-/// The rule is asked of the whole document at the first event, and not again: a visitor is for one pass.
-/// For it the visitor walks over the document itself. `document_errors` does so once for all such rules.
+/// The rule is asked of the whole document at the first event, and not again: a visitor is for one
+/// pass. For it the visitor walks over the document itself. `document_errors` does so once for all
+/// such rules.
 #[derive(Drop)]
 pub struct Once<R> {
     rule: R,
@@ -59,8 +60,8 @@ impl<S: SchemaScalar, R: DocumentRule<S>> Visitor<S> for Once<R> {
     }
 }
 
-/// Reports the errors of the rule for the context's document, behind the errors that are there. Where
-/// memory runs out the context has failed.
+/// Reports the errors of the rule for the context's document, behind the errors that are there.
+/// Where memory runs out the context has failed.
 fn report_rule<'a, 't, S: SchemaScalar, R: DocumentRule<S>>(
     rule: &R,
     context: &mut ValidatorContext<'a, 't, S>,

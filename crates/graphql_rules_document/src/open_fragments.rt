@@ -8,9 +8,9 @@ ghost use Rattle.graphql_rules_document.specs.declared.scopes.FragmentScope.{Fra
 use graphql_text::Items;
 use std::alloc::{AllocError, Global};
 
-/// The fragments that a depth-first walk has met and not left, by their places, in the order in which
-/// they were met: a path, on which each leads to the next. It falls into parts, within which each
-/// leads to each (Gabow's path-based way to strongly connected components).
+/// The fragments that a depth-first walk has met and not left, by their places, in the order in
+/// which they were met: a path, on which each leads to the next. It falls into parts, within which
+/// each leads to each (Gabow's path-based way to strongly connected components).
 #[derive(Drop)]
 pub(crate) struct OpenFragments {
     path: Items<usize>,
@@ -76,10 +76,13 @@ impl OpenFragments {
         Ok(())
     }
 
-    /// The fragment at `place`, to which one of the last part leads, is a part of its own at the end.
-    /// An error is want of memory.
+    /// The fragment at `place`, to which one of the last part leads, is a part of its own at the
+    /// end. An error is want of memory.
     pub(crate) fn extend(&mut self, place: usize) -> Result<(), AllocError>
-        ensures { OnOk result ((fragments : List FragmentScope) (from position : ℕ) → IsOpen fragments self.old → self.old.start ≤ position → slice_get self.old.path position ≡ Some from → Leads fragments from place → IsOpen fragments self.new) }
+        ensures { OnOk result ((fragments : List FragmentScope) (from position : ℕ)
+            → IsOpen fragments self.old → self.old.start ≤ position
+            → slice_get self.old.path
+            position ≡ Some from → Leads fragments from place → IsOpen fragments self.new) }
     {
         self.earlier.push(self.start)?;
         self.start = self.path.len();
@@ -90,7 +93,10 @@ impl OpenFragments {
     /// The fragment at one position, in the last part, leads to the one at another: all parts from
     /// there on are one.
     pub(crate) fn merge(&mut self, to: usize)
-        ensures { (fragments : List FragmentScope) (from there position : ℕ) → IsOpen fragments self.old → self.old.start ≤ position → slice_get self.old.path position ≡ Some from → slice_get self.old.path to ≡ Some there → Leads fragments from there → IsOpen fragments self.new }
+        ensures { (fragments : List FragmentScope) (from there position : ℕ)
+            → IsOpen fragments self.old → self.old.start ≤ position
+            → slice_get self.old.path position ≡ Some from → slice_get self.old.path to ≡ Some there
+            → Leads fragments from there → IsOpen fragments self.new }
     {
         'parts: while to < self.start {
             match self.earlier.pop() {
@@ -102,7 +108,8 @@ impl OpenFragments {
 
     /// The last part is left.
     pub(crate) fn close(&mut self)
-        ensures { (fragments : List FragmentScope) → IsOpen fragments self.old → IsOpen fragments self.new }
+        ensures { (fragments : List FragmentScope) → IsOpen fragments self.old
+            → IsOpen fragments self.new }
     {
         self.path.truncate(self.start);
         let Some(start) = self.earlier.pop() else {

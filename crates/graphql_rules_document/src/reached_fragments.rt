@@ -1,11 +1,13 @@
 //! Which fragments are reached.
 
-ghost use Rattle.std.specs.Prelude.{◌≡◌, ◌++◌, ◌∷◌, [], List, OnOk, Some, map, true, false, slice_index_or, slice_set};
+ghost use Rattle.std.specs.Prelude.{◌≡◌, ◌++◌, ◌∷◌, [], List, OnOk, Some, map, true, false};
+ghost use Rattle.std.specs.Prelude.{slice_index_or, slice_set};
 ghost use Rattle.graphql_names.specs.Names.{Bytes, is_one_of};
 ghost use Rattle.graphql_rules_document.specs.Lent.{fragment_of, spread_of};
 ghost use Rattle.graphql_rules_document.specs.Named.{fragment_names, last_place};
 ghost use Rattle.graphql_rules_document.specs.Reached.{reached_marks};
-ghost use Rattle.graphql_rules_document.specs.Searches.{Marked, Marks, marks_of, spread_names, spread_names_at};
+ghost use Rattle.graphql_rules_document.specs.Searches.{Marked, Marks, marks_of, spread_names};
+ghost use Rattle.graphql_rules_document.specs.Searches.{spread_names_at};
 
 use crate::fragment_index::FragmentIndex;
 use crate::scopes::Spread;
@@ -43,15 +45,16 @@ impl ReachedFragments {
         self.marks.as_slice()
     }
 
-    /// Finds the fragments that these spreads reach. Takes time in proportion to the fragments and to
-    /// the spreads in those that are reached. An error is want of memory: what is marked then tells
-    /// nothing.
+    /// Finds the fragments that these spreads reach. Takes time in proportion to the fragments and
+    /// to the spreads in those that are reached. An error is want of memory: what is marked then
+    /// tells nothing.
     pub fn search(
         &mut self,
         index: &FragmentIndex<'_, '_, '_>,
         spreads: &[Spread<'_>],
     ) -> Result<(), AllocError>
-        ensures { OnOk result (self.new.marks ≡ reached_marks (map fragment_of index.now.fragments.now) (map spread_of spreads.now)) }
+        ensures { OnOk result (self.new.marks
+            ≡ reached_marks (map fragment_of index.now.fragments.now) (map spread_of spreads.now)) }
     {
         self.begin(index)?;
         self.mark_all(index, spreads)?;
@@ -63,7 +66,8 @@ impl ReachedFragments {
 
     /// No fragment is marked.
     fn begin(&mut self, index: &FragmentIndex<'_, '_, '_>) -> Result<(), AllocError>
-        ensures { OnOk result ((self.new.marks ≡ map (λ _. false) index.now.fragments.now) × (self.new.waiting ≡ [])) }
+        ensures { OnOk result ((self.new.marks ≡ map (λ _. false) index.now.fragments.now)
+            × (self.new.waiting ≡ [])) }
     {
         self.marks.clear();
         self.waiting.clear();
@@ -75,7 +79,9 @@ impl ReachedFragments {
 
     /// Goes on with what the fragment at `place` spreads.
     fn follow(&mut self, index: &FragmentIndex<'_, '_, '_>, place: usize) -> Result<(), AllocError>
-        ensures { OnOk result (Marks (fragment_names index.now.fragments.now) (spread_names_at index.now.fragments.now place) self.old.marks self.old.waiting self.new.marks self.new.waiting) }
+        ensures { OnOk result
+            (Marks (fragment_names index.now.fragments.now) (spread_names_at index.now.fragments.now
+            place) self.old.marks self.old.waiting self.new.marks self.new.waiting) }
     {
         match index.fragments().get(place) {
             Some(fragment) => self.mark_all(index, fragment.spreads.as_slice()),
@@ -89,7 +95,8 @@ impl ReachedFragments {
         index: &FragmentIndex<'_, '_, '_>,
         spreads: &[Spread<'_>],
     ) -> Result<(), AllocError>
-        ensures { OnOk result (Marks (fragment_names index.now.fragments.now) (spread_names spreads.now) self.old.marks self.old.waiting self.new.marks self.new.waiting) }
+        ensures { OnOk result (Marks (fragment_names index.now.fragments.now) (spread_names
+            spreads.now) self.old.marks self.old.waiting self.new.marks self.new.waiting) }
     {
         'spreads: for spread in spreads {
             self.mark_named(index, spread.name)?;
@@ -103,7 +110,8 @@ impl ReachedFragments {
         index: &FragmentIndex<'_, '_, '_>,
         name: &str,
     ) -> Result<(), AllocError>
-        ensures { OnOk result (Marks (fragment_names index.now.fragments.now) (name.now ∷ []) self.old.marks self.old.waiting self.new.marks self.new.waiting) }
+        ensures { OnOk result (Marks (fragment_names index.now.fragments.now) (name.now ∷ [])
+            self.old.marks self.old.waiting self.new.marks self.new.waiting) }
     {
         match index.last_named(name) {
             Some(last) => {
@@ -116,8 +124,8 @@ impl ReachedFragments {
         }
     }
 
-    /// Whether the last search reached the fragment at `place`, counted from zero in the order of the
-    /// document; no fragment past the end is reached.
+    /// Whether the last search reached the fragment at `place`, counted from zero in the order of
+    /// the document; no fragment past the end is reached.
     pub fn is_reached(&self, place: usize) -> bool
         ensures { result ≡ slice_index_or self.now.marks place false }
     {
@@ -133,7 +141,12 @@ impl ReachedFragments {
         index: &FragmentIndex<'_, '_, '_>,
         last: usize,
     ) -> Result<(), AllocError>
-        ensures { OnOk result ((name : Bytes) (found : List Bytes) → last_place (fragment_names index.now.fragments.now) name ≡ Some last → is_one_of found name ≡ false → self.old.marks ≡ marks_of (fragment_names index.now.fragments.now) found → Marked (fragment_names index.now.fragments.now) found (name ∷ []) self.old.marks self.old.waiting self.new.marks self.new.waiting) }
+        ensures { OnOk result ((name : Bytes) (found : List Bytes)
+            → last_place
+            (fragment_names index.now.fragments.now) name ≡ Some last → is_one_of found name ≡ false
+            → self.old.marks ≡ marks_of (fragment_names index.now.fragments.now) found
+            → Marked (fragment_names index.now.fragments.now) found (name ∷ []) self.old.marks
+            self.old.waiting self.new.marks self.new.waiting) }
     {
         let mut next = Some(last);
         'chain: while let Some(place) = next {
@@ -145,7 +158,8 @@ impl ReachedFragments {
 
     /// Marks the fragment at `place`, which then waits.
     fn mark(&mut self, place: usize) -> Result<(), AllocError>
-        ensures { OnOk result ((self.new.marks ≡ slice_set self.old.marks place true) × (self.new.waiting ≡ self.old.waiting ++ place ∷ [])) }
+        ensures { OnOk result ((self.new.marks ≡ slice_set self.old.marks place true)
+            × (self.new.waiting ≡ self.old.waiting ++ place ∷ [])) }
     {
         self.waiting.push(place)?;
         if place < self.marks.len() {

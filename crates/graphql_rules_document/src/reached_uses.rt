@@ -24,7 +24,8 @@ impl ReachedFragments {
         index: &FragmentIndex<'_, 'a, 't>,
         operation: &OperationScope<'a, 't, S>,
     ) -> Result<Items<Use<'a>>, AllocError>
-        ensures { GivesBy (map use_of) result (uses_from (map fragment_of index.now.fragments.now) (operation_of operation.now)) }
+        ensures { GivesBy (map use_of) result
+            (uses_from (map fragment_of index.now.fragments.now) (operation_of operation.now)) }
     {
         self.search(index, operation.spreads.as_slice())?;
         let mut uses = Items::new(alloc);
@@ -39,7 +40,13 @@ impl ReachedFragments {
         uses: &mut Items<Use<'a>>,
         index: &FragmentIndex<'_, 'a, 't>,
     ) -> Result<(), AllocError>
-        ensures { OnOk result ((test : FragmentScope → Bool) → self.now.marks ≡ map test (map fragment_of index.now.fragments.now) → map use_of uses.new ≡ map use_of uses.old ++ flat_map (λ f. f.uses) (filter test (map fragment_of index.now.fragments.now))) }
+        ensures { OnOk result ((test : FragmentScope → Bool)
+            → self.now.marks
+            ≡ map test
+            (map fragment_of index.now.fragments.now)
+            → map use_of uses.new
+            ≡ map use_of uses.old
+            ++ flat_map (λ f. f.uses) (filter test (map fragment_of index.now.fragments.now))) }
     {
         'fragments: for (place, fragment) in index.fragments().iter().enumerate() {
             add_if(uses, self.is_reached(place), fragment)?;
@@ -54,7 +61,9 @@ fn add_if<'a, 't>(
     is_marked: bool,
     fragment: &scopes::FragmentScope<'a, 't>,
 ) -> Result<(), AllocError>
-    ensures { OnOk result (map use_of uses.new ≡ map use_of uses.old ++ (if is_marked then map use_of fragment.now.uses else [])) }
+    ensures { OnOk result (map use_of uses.new
+        ≡ map use_of uses.old
+        ++ (if is_marked then map use_of fragment.now.uses else [])) }
 {
     if is_marked {
         uses.extend_from_slice(fragment.uses.as_slice())?;

@@ -87,8 +87,8 @@ pub struct Scopes<'a, 't, S> {
 }
 
 /// What the operations and the fragments of `document` hold, with the types of `schema`. It lends
-/// names and definitions of the document, and copies none. It walks over the document once. An error
-/// is want of memory.
+/// names and definitions of the document, and copies none. It walks over the document once. An
+/// error is want of memory.
 pub fn scopes_of<'a, 't, S, C>(
     alloc: Global,
     schema: &'a SchemaType<S, C>,

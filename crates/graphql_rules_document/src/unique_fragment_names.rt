@@ -5,7 +5,8 @@ ghost use Rattle.std.specs.Prelude.{◌≡◌, OnOk, false, map};
 ghost use Rattle.graphql_text.specs.Memory.{GivesBy};
 ghost use Rattle.graphql_rule_errors.specs.Places.{Reports};
 ghost use Rattle.graphql_rule_errors.specs.Repeats.{mention_lent};
-ghost use Rattle.graphql_rules_document.specs.UniqueFragmentNames.{fragment_mention, unique_fragment_names_faults};
+ghost use Rattle.graphql_rules_document.specs.UniqueFragmentNames.{fragment_mention};
+ghost use Rattle.graphql_rules_document.specs.UniqueFragmentNames.{unique_fragment_names_faults};
 ghost use Rattle.graphql_rules_document.specs.Lent.{fragment_of};
 
 use crate::document_rule::DocumentRule;
@@ -36,7 +37,8 @@ pub fn unique_fragment_names(
     fragments: &[FragmentScope<'_, '_>],
     errors: &mut Items<RuleError>,
 ) -> Result<(), AllocError>
-    ensures { OnOk result (Reports (unique_fragment_names_faults (map fragment_of fragments.now)) errors.old errors.new) }
+    ensures { OnOk result (Reports (unique_fragment_names_faults (map fragment_of fragments.now))
+        errors.old errors.new) }
 {
     let mentions = fragment_names(alloc, fragments)?;
     report_repeats(alloc, errors, "fragment", mentions.as_slice())
@@ -47,7 +49,8 @@ fn fragment_names<'a, 't>(
     alloc: Global,
     fragments: &[FragmentScope<'a, 't>],
 ) -> Result<Items<LentMention<'a>>, AllocError>
-    ensures { GivesBy (map mention_lent) result (map fragment_mention (map fragment_of fragments.now)) }
+    ensures { GivesBy (map mention_lent) result
+        (map fragment_mention (map fragment_of fragments.now)) }
 {
     let mut mentions = Items::with_capacity(alloc, fragments.len())?;
     'fragments: for fragment in fragments {
@@ -75,7 +78,8 @@ impl<S: SchemaScalar> DocumentRule<S> for UniqueFragmentNames {
         index: &FragmentIndex<'_, 'a, 't>,
         errors: &mut Items<RuleError>,
     ) -> Result<(), AllocError>
-        ensures { OnOk result (Reports (unique_fragment_names_faults (map fragment_of index.now.fragments.now)) errors.old errors.new) }
+        ensures { OnOk result (Reports (unique_fragment_names_faults
+            (map fragment_of index.now.fragments.now)) errors.old errors.new) }
     {
         unique_fragment_names(alloc, index.fragments(), errors)
     }

@@ -6,7 +6,8 @@ ghost use Rattle.std.specs.List.{flat_map};
 ghost use Rattle.graphql_text.specs.Memory.{GivesBy};
 ghost use Rattle.graphql_rule_errors.specs.Places.{Reports};
 ghost use Rattle.graphql_rule_errors.specs.Repeats.{mention_lent};
-ghost use Rattle.graphql_rules_document.specs.UniqueOperationNames.{operation_mention, unique_operation_names_faults};
+ghost use Rattle.graphql_rules_document.specs.UniqueOperationNames.{operation_mention};
+ghost use Rattle.graphql_rules_document.specs.UniqueOperationNames.{unique_operation_names_faults};
 ghost use Rattle.graphql_rules_document.specs.Lent.{operation_of};
 
 use crate::document_rule::DocumentRule;
@@ -37,7 +38,8 @@ pub fn unique_operation_names<S>(
     operations: &[OperationScope<'_, '_, S>],
     errors: &mut Items<RuleError>,
 ) -> Result<(), AllocError>
-    ensures { OnOk result (Reports (unique_operation_names_faults (map operation_of operations.now)) errors.old errors.new) }
+    ensures { OnOk result (Reports (unique_operation_names_faults (map operation_of operations.now))
+        errors.old errors.new) }
 {
     let mentions = operation_names(alloc, operations)?;
     report_repeats(alloc, errors, "operation", mentions.as_slice())
@@ -48,7 +50,8 @@ fn operation_names<'a, 't, S>(
     alloc: Global,
     operations: &[OperationScope<'a, 't, S>],
 ) -> Result<Items<LentMention<'a>>, AllocError>
-    ensures { GivesBy (map mention_lent) result (flat_map operation_mention (map operation_of operations.now)) }
+    ensures { GivesBy (map mention_lent) result
+        (flat_map operation_mention (map operation_of operations.now)) }
 {
     let mut mentions = Items::new(alloc);
     'operations: for operation in operations {
@@ -62,7 +65,9 @@ fn add_name<'a, 't, S>(
     mentions: &mut Items<LentMention<'a>>,
     operation: &OperationScope<'a, 't, S>,
 ) -> Result<(), AllocError>
-    ensures { OnOk result (map mention_lent mentions.new ≡ map mention_lent mentions.old ++ operation_mention (operation_of operation.now)) }
+    ensures { OnOk result (map mention_lent mentions.new
+        ≡ map mention_lent mentions.old
+        ++ operation_mention (operation_of operation.now)) }
 {
     match operation.name {
         Some(name) => {
@@ -90,7 +95,8 @@ impl<S: SchemaScalar> DocumentRule<S> for UniqueOperationNames {
         index: &FragmentIndex<'_, 'a, 't>,
         errors: &mut Items<RuleError>,
     ) -> Result<(), AllocError>
-        ensures { OnOk result (Reports (unique_operation_names_faults (map operation_of operations.now)) errors.old errors.new) }
+        ensures { OnOk result (Reports (unique_operation_names_faults
+            (map operation_of operations.now)) errors.old errors.new) }
     {
         unique_operation_names(alloc, operations, errors)
     }

@@ -5,7 +5,8 @@ ghost use Rattle.std.specs.Prelude.{◌≡◌, OnOk, false, map};
 ghost use Rattle.graphql_occurrences.specs.Occurrences.{variable_part};
 ghost use Rattle.graphql_rule_errors.specs.Places.{Reports};
 ghost use Rattle.graphql_rule_errors.specs.Repeats.{repeats};
-ghost use Rattle.graphql_rules_document.specs.UniqueVariableNames.{unique_variable_names_faults, variable_mention};
+ghost use Rattle.graphql_rules_document.specs.UniqueVariableNames.{unique_variable_names_faults};
+ghost use Rattle.graphql_rules_document.specs.UniqueVariableNames.{variable_mention};
 ghost use Rattle.graphql_rules_document.specs.Lent.{operation_of};
 
 use crate::document_rule::DocumentRule;
@@ -17,7 +18,8 @@ use graphql_text::{Items, Spanning, TextRef};
 use graphql_tree::VariableDefinition;
 use std::alloc::{AllocError, Global};
 
-/// No two variables of an operation have one name (GraphQL October 2021, 5.8.1 Variable Uniqueness).
+/// No two variables of an operation have one name (GraphQL October 2021, 5.8.1 Variable
+/// Uniqueness).
 ///
 /// An error names where the first variable of the name is defined, and where a later one is.
 #[derive(Drop)]
@@ -37,7 +39,8 @@ pub fn unique_variable_names<S>(
     operations: &[OperationScope<'_, '_, S>],
     errors: &mut Items<RuleError>,
 ) -> Result<(), AllocError>
-    ensures { OnOk result (Reports (unique_variable_names_faults (map operation_of operations.now)) errors.old errors.new) }
+    ensures { OnOk result (Reports (unique_variable_names_faults (map operation_of operations.now))
+        errors.old errors.new) }
 {
     'operations: for operation in operations {
         report_variables(alloc, operation.defined, errors)?;
@@ -52,7 +55,8 @@ fn report_variables<'t, S>(
     defined: &[(Spanning<TextRef<'t>>, VariableDefinition<'t, S>)],
     errors: &mut Items<RuleError>,
 ) -> Result<(), AllocError>
-    ensures { OnOk result (Reports (repeats (map variable_mention (map variable_part defined.now))) errors.old errors.new) }
+    ensures { OnOk result (Reports (repeats (map variable_mention (map variable_part defined.now)))
+        errors.old errors.new) }
 {
     report_repeats(alloc, errors, "variable", defined)
 }
@@ -73,7 +77,8 @@ impl<S: SchemaScalar> DocumentRule<S> for UniqueVariableNames {
         index: &FragmentIndex<'_, 'a, 't>,
         errors: &mut Items<RuleError>,
     ) -> Result<(), AllocError>
-        ensures { OnOk result (Reports (unique_variable_names_faults (map operation_of operations.now)) errors.old errors.new) }
+        ensures { OnOk result (Reports (unique_variable_names_faults
+            (map operation_of operations.now)) errors.old errors.new) }
     {
         unique_variable_names(alloc, operations, errors)
     }

@@ -1,4 +1,5 @@
-//! Variables where they are not allowed (GraphQL October 2021, 5.8.5 All Variable Usages Are Allowed).
+//! Variables where they are not allowed (GraphQL October 2021, 5.8.5 All Variable Usages Are
+//! Allowed).
 
 ghost use Rattle.std.specs.Prelude.{◌≡◌, ◌∷◌, [], OnOk, map, not, false};
 ghost use Rattle.std.specs.List.{flat_map};
@@ -25,8 +26,8 @@ use graphql_values::InputValue;
 use std::alloc::{AllocError, Global};
 use std::collections::HashMap;
 
-/// Each variable stands where values of its type are allowed (GraphQL October 2021, 5.8.5 All Variable
-/// Usages Are Allowed).
+/// Each variable stands where values of its type are allowed (GraphQL October 2021, 5.8.5 All
+/// Variable Usages Are Allowed).
 ///
 /// An error names where the variable is defined, and where it is used.
 #[derive(Drop)]
@@ -40,13 +41,13 @@ pub fn factory() -> Once<VariablesInAllowedPosition>
 }
 
 /// Adds an error for each operation and each use of one of its variables that it reaches, where a
-/// value of the variable's type need not be one of the type that is asked for: where the variable is
-/// defined, and where it is used. Where the type that is asked for has no `null` and the variable's
-/// has, a default of the variable that is not `null`, or one of the place, stands in for it; but at the
-/// one field that is given of an input object no default helps, and its type is asked for without
-/// `null`. Nothing is said where it is not known which type is asked for. Takes time in proportion to
-/// the operations times the fragments, and to what each operation reaches. An error of the call is want
-/// of memory.
+/// value of the variable's type need not be one of the type that is asked for: where the variable
+/// is defined, and where it is used. Where the type that is asked for has no `null` and the
+/// variable's has, a default of the variable that is not `null`, or one of the place, stands in for
+/// it; but at the one field that is given of an input object no default helps, and its type is
+/// asked for without `null`. Nothing is said where it is not known which type is asked for. Takes
+/// time in proportion to the operations times the fragments, and to what each operation reaches. An
+/// error of the call is want of memory.
 pub fn variables_in_allowed_position<'a, 't, S, C>(
     alloc: Global,
     schema: &SchemaType<S, C>,
@@ -54,7 +55,9 @@ pub fn variables_in_allowed_position<'a, 't, S, C>(
     index: &FragmentIndex<'_, 'a, 't>,
     errors: &mut Items<RuleError>,
 ) -> Result<(), AllocError>
-    ensures { OnOk result (Reports (spec.variables_in_allowed_position_faults schema.now.types (map operation_of operations.now) (map fragment_of index.now.fragments.now)) errors.old errors.new) }
+    ensures { OnOk result
+        (Reports (spec.variables_in_allowed_position_faults schema.now.types (map operation_of
+        operations.now) (map fragment_of index.now.fragments.now)) errors.old errors.new) }
 {
     let mut reached = ReachedFragments::new(alloc);
     'operations: for operation in operations {
@@ -72,7 +75,8 @@ fn report_operation<'a, 't, S, C>(
     operation: &OperationScope<'a, 't, S>,
     errors: &mut Items<RuleError>,
 ) -> Result<(), AllocError>
-    ensures { OnOk result (Reports (spec.disallowed_in schema.now.types (map fragment_of index.now.fragments.now) (operation_of operation.now)) errors.old errors.new) }
+    ensures { OnOk result (Reports (spec.disallowed_in schema.now.types (map fragment_of
+        index.now.fragments.now) (operation_of operation.now)) errors.old errors.new) }
 {
     let uses = reached.uses(alloc, index, operation)?;
     let first = first_variables(alloc, operation.defined)?;
@@ -87,7 +91,8 @@ fn report_uses<'t, S, C>(
     uses: &[Use<'_>],
     errors: &mut Items<RuleError>,
 ) -> Result<(), AllocError>
-    ensures { OnOk result (Reports (flat_map (λ u. spec.disallowed_by schema.now.types (variable_at first.now u.name) u) (map use_of uses.now)) errors.old errors.new) }
+    ensures { OnOk result (Reports (flat_map (λ u. spec.disallowed_by schema.now.types
+        (variable_at first.now u.name) u) (map use_of uses.now)) errors.old errors.new) }
 {
     'uses: for used in uses {
         let variable = first.get(used.name).copied();
@@ -104,7 +109,8 @@ fn report_use<'t, S, C>(
     used: &Use<'_>,
     errors: &mut Items<RuleError>,
 ) -> Result<(), AllocError>
-    ensures { OnOk result (Reports (spec.disallowed_by schema.now.types (option_map (λ v. variable_part v.now) variable.entry) (use_of used.now)) errors.old errors.new) }
+    ensures { OnOk result (Reports (spec.disallowed_by schema.now.types (option_map
+        (λ v. variable_part v.now) variable.entry) (use_of used.now)) errors.old errors.new) }
 {
     match variable {
         Some(variable) => match used.at {
@@ -124,7 +130,9 @@ fn report_at<'t, S, C>(
     place: InputPlace<'_>,
     errors: &mut Items<RuleError>,
 ) -> Result<(), AllocError>
-    ensures { OnOk result (Reports (error_if (not (spec.is_allowed schema.now.types (variable_part variable.now) (input_of place.entry))) (variable.now.0.span.start ∷ used.now.place ∷ [])) errors.old errors.new) }
+    ensures { OnOk result (Reports (error_if
+        (not (spec.is_allowed schema.now.types (variable_part variable.now) (input_of place.entry)))
+        (variable.now.0.span.start ∷ used.now.place ∷ [])) errors.old errors.new) }
 {
     if is_allowed(schema, variable, place) {
         return Ok(());
@@ -139,7 +147,8 @@ fn is_allowed<'t, S, C>(
     variable: &Variable<'t, S>,
     place: InputPlace<'_>,
 ) -> bool
-    ensures { result ≡ spec.is_allowed schema.now.types (variable_part variable.now) (input_of place.entry) }
+    ensures { result
+        ≡ spec.is_allowed schema.now.types (variable_part variable.now) (input_of place.entry) }
 {
     let defined = TypeLiteral::of_document(&variable.1.var_type.item);
     if place.is_only_field {
@@ -172,19 +181,22 @@ fn is_below<S, C>(
     defined: TypeLiteral<'_>,
     asked: TypeLiteral<'_>,
 ) -> bool
-    ensures { result ≡ is_subtype schema.now.types (literal_of defined.entry) (literal_of asked.entry) }
+    ensures { result
+        ≡ is_subtype schema.now.types (literal_of defined.entry) (literal_of asked.entry) }
 {
     schema.is_subtype(&borrowed(defined), &borrowed(asked))
 }
 
-/// The same where the type is asked for without `null`: the variable's type has no `null` either, and
-/// with `null` it is below the other with `null`.
+/// The same where the type is asked for without `null`: the variable's type has no `null` either,
+/// and with `null` it is below the other with `null`.
 fn is_below_without_null<S, C>(
     schema: &SchemaType<S, C>,
     defined: TypeLiteral<'_>,
     asked: TypeLiteral<'_>,
 ) -> bool
-    ensures { result ≡ is_subtype schema.now.types (literal_of defined.entry) (spec.without_null (literal_of asked.entry)) }
+    ensures { result
+        ≡ is_subtype schema.now.types (literal_of defined.entry)
+        (spec.without_null (literal_of asked.entry)) }
 {
     refuses_null(defined) && is_below(schema, with_null(defined), with_null(asked))
 }
@@ -221,8 +233,8 @@ fn borrowed<'a>(literal: TypeLiteral<'a>) -> BorrowedType<'a>
     }
 }
 
-/// The type that is asked for at a place: without `null` at the one field of an input object. An error is
-/// want of memory.
+/// The type that is asked for at a place: without `null` at the one field of an input object. An
+/// error is want of memory.
 fn expected_at<'a>(alloc: Global, place: InputPlace<'a>) -> Result<Type<TextRef<'a>>, AllocError>
     ensures { Gives result (spec.expected_at (input_of place.entry)) }
 {
@@ -259,7 +271,8 @@ impl<S: SchemaScalar> DocumentRule<S> for VariablesInAllowedPosition {
     ghost use Rattle.graphql_rules_document.specs.VariablesInAllowedPosition.{variables_in_allowed_position_faults};
     ghost use Rattle.graphql_rules_document.specs.Lent.{fragment_of, operation_of};
 
-    ghost says = { λ types operations fragments. variables_in_allowed_position_faults types operations fragments };
+    ghost says = { λ types operations fragments.
+        variables_in_allowed_position_faults types operations fragments };
 
     fn add_errors<'a, 't>(
         &self,
@@ -271,7 +284,8 @@ impl<S: SchemaScalar> DocumentRule<S> for VariablesInAllowedPosition {
     ) -> Result<(), AllocError>
         ensures { let held = map operation_of operations.now in
             let fragments = map fragment_of index.now.fragments.now in
-            OnOk result (Reports (variables_in_allowed_position_faults schema.now.types held fragments) errors.old errors.new) }
+            OnOk result (Reports (variables_in_allowed_position_faults schema.now.types held
+            fragments) errors.old errors.new) }
     {
         variables_in_allowed_position(alloc, schema, operations, index, errors)
     }

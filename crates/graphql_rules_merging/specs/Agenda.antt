@@ -1,4 +1,5 @@
--- Pairs of selection sets that wait to be compared, and those that are compared (GraphQL October 2021, 5.3.2 Field Selection Merging).
+-- Pairs of selection sets that wait to be compared, and those that are compared (GraphQL October
+-- 2021, 5.3.2 Field Selection Merging).
 use Rattle.std.specs.Prelude.{◌≡◌, ℕ, ltb, Bool, true, false, List, [], ◌⊎◌, if◌then◌else◌}
 use Rattle.std.specs.List.{Contains}
 use Rattle.graphql_merging.specs.Pieces.{Pieces}
@@ -8,7 +9,8 @@ use Rattle.graphql_rules_merging.specs.declared.agenda.Agenda.{Agenda}
 
 -- two sets, the smaller number first
 abbrev pub pair_of : ℕ → ℕ → Bool → SetPair
-pair_of p q around = if ltb q p then record { left = q; right = p; around = around } else record { left = p; right = q; around = around }
+pair_of p q around = if ltb q p then record { left = q; right = p; around = around }
+    else record { left = p; right = q; around = around }
 
 -- which pairs wait, and which were given out to be compared
 pub record Listed : Type 0 where
@@ -23,7 +25,9 @@ listed_in waiting given = record {
 }
 
 abbrev pub listed_of : Agenda → Listed
-listed_of agenda = listed_in (λ around. if around then agenda.apart.waiting else agenda.together.waiting) (λ around. if around then agenda.apart.given else agenda.together.given)
+listed_of agenda =
+    listed_in (λ around. if around then agenda.apart.waiting else agenda.together.waiting)
+    (λ around. if around then agenda.apart.given else agenda.together.given)
 
 -- a pair waits or was given out
 abbrev pub IsListed : Listed → SetPair → Type 0
@@ -73,5 +77,7 @@ module _ {S C : Type 0} (t : Pieces S C) where
   pub record Begins (Must May : SetPair → Type 0) (old new : Listed) : Type 0 where
     pub still : (pair : SetPair) → IsListed old pair → IsListed new pair
     pub each : (pair : SetPair) → Must pair → IsBegun new pair
-    pub waits : (pair : SetPair) → new.waits pair ≡ true → (old.waits pair ≡ true) ⊎ (May pair × IsFull pair)
+    pub waits : (pair : SetPair) → new.waits pair ≡ true
+        → (old.waits pair ≡ true)
+        ⊎ (May pair × IsFull pair)
     pub given : (pair : SetPair) → new.given pair ≡ old.given pair

@@ -1,5 +1,7 @@
--- Fields by numbers: those of one response key, those that have one name with arguments and one shape too, and those of one object type.
-use Rattle.std.specs.Prelude.{◌≡◌, ℕ, ◌-◌, eqb, Bool, true, not, List, [], Option, Some, get_or, slice_get, position, ◌⊎◌}
+-- Fields by numbers: those of one response key, those that have one name with arguments and one
+-- shape too, and those of one object type.
+use Rattle.std.specs.Prelude.{◌≡◌, ℕ, ◌-◌, eqb, Bool, true, not, List, [], Option, Some, get_or}
+use Rattle.std.specs.Prelude.{slice_get, position, ◌⊎◌}
 use Rattle.std.specs.List.{Contains}
 use Rattle.std.specs.Str.{bytes_eq}
 use Rattle.graphql_schema.specs.declared.meta.MetaType.{MetaType}

@@ -1,4 +1,5 @@
--- Which fields of two selection sets are compared, and what is told and begun of them (GraphQL October 2021, 5.3.2 Field Selection Merging).
+-- Which fields of two selection sets are compared, and what is told and begun of them (GraphQL
+-- October 2021, 5.3.2 Field Selection Merging).
 use Rattle.std.specs.Prelude.{◌≡◌, eqb, Bool, ◌||◌, List, [], ◌∷◌, ◌++◌, map, ◌⊎◌, if◌then◌else◌}
 use Rattle.std.specs.List.{Contains, flat_map}
 use Rattle.graphql_schema.specs.declared.meta.MetaType.{MetaType}
@@ -45,16 +46,26 @@ module _ {S C : Type 0} where
   abbrev pub own_sets : Bool → PieceField S C × PieceField S C → SetPair
   own_sets x p = pair_of p.0.own p.1.own (x || apart p.0.member p.1.member)
 
-  -- the own sets of a field of the one list and a field of the other, of one response key, that are such
-  abbrev pub OwnSets : Bool → (PieceField S C × PieceField S C → Type 0) → List (PieceField S C) → List (PieceField S C) → SetPair → Type 0
-  OwnSets x P fs gs other = (p : PieceField S C × PieceField S C) × Contains fs p.0 × Contains gs p.1 × HasOneKey p × P p × (other ≡ own_sets x p)
+  -- the own sets of a field of the one list and a field of the other, of one response key, that are
+  -- such
+  abbrev pub OwnSets : Bool → (PieceField S C × PieceField S C → Type 0) → List (PieceField S C)
+      → List (PieceField S C) → SetPair → Type 0
+  OwnSets x P fs gs other = (p : PieceField S C × PieceField S C)
+      × Contains fs p.0
+      × Contains gs p.1
+      × HasOneKey p
+      × P p
+      × (other ≡ own_sets x p)
 
   module _ (t : Pieces S C) where
-    -- the pairs of fields that two sets hold: of one set with itself each with each that stands later
+    -- the pairs of fields that two sets hold: of one set with itself each with each that stands
+    -- later
     abbrev pub fields_of : SetPair → List (PieceField S C × PieceField S C)
-    fields_of pair = if eqb pair.left pair.right then later (t.direct pair.left) else between (t.direct pair.left) (t.direct pair.right)
+    fields_of pair = if eqb pair.left pair.right then later (t.direct pair.left)
+        else between (t.direct pair.left) (t.direct pair.right)
 
-    -- two sets lead to a pair of sets: a fragment in the one with the other, or the own sets of two fields of one response key that are such
+    -- two sets lead to a pair of sets: a fragment in the one with the other, or the own sets of two
+    -- fields of one response key that are such
     abbrev pub LeadsTo : (PieceField S C × PieceField S C → Type 0) → SetPair → SetPair → Type 0
     LeadsTo P pair other =
         PairOf (λ r. pair_of r pair.right pair.around) (λ r. Unit {0}) (t.inner pair.left) other
@@ -66,12 +77,17 @@ module _ {S C : Type 0} (eq : S → S → Bool) (types : List (MetaType S C)) wh
   DoAgree x p = Agree eq types x p.0.member p.1.member
 
   module _ (t : Pieces S C) where
-    -- the pairs of fields are compared: the errors of those that do not fit are told, and the own sets of those that agree are begun
-    pub record Compares (x : Bool) (ps : List (PieceField S C × PieceField S C)) (old new : Stage) : Type 0 where
+    -- the pairs of fields are compared: the errors of those that do not fit are told, and the own
+    -- sets of those that agree are begun
+    pub record Compares (x : Bool) (ps : List (PieceField S C × PieceField S C))
+        (old new : Stage) : Type 0 where
       pub told : AddsErrors (Fits eq types x) (map members_in ps) old.told new.told
-      pub begun : Begins t (PairOf (own_sets x) (λ p. HasOneKey p × DoAgree x p) ps) (PairOf (own_sets x) HasOneKey ps) old.listed new.listed
+      pub begun : Begins t (PairOf (own_sets x) (λ p. HasOneKey p × DoAgree x p) ps)
+          (PairOf (own_sets x) HasOneKey ps) old.listed new.listed
 
     -- two sets are compared: their fields are told, and the pairs to which they lead are begun
     pub record ComparesSets (pair : SetPair) (old new : Stage) : Type 0 where
-      pub told : AddsErrors (Fits eq types pair.around) (map members_in (fields_of t pair)) old.told new.told
-      pub begun : Begins t (LeadsTo t (DoAgree pair.around) pair) (LeadsTo t (λ p. Unit {0}) pair) old.listed new.listed
+      pub told : AddsErrors (Fits eq types pair.around) (map members_in (fields_of t pair)) old.told
+          new.told
+      pub begun : Begins t (LeadsTo t (DoAgree pair.around) pair) (LeadsTo t (λ p. Unit {0}) pair)
+          old.listed new.listed

@@ -1,4 +1,5 @@
--- What the rule that fields merge tells, and when a visitor of it tells so (GraphQL October 2021, 5.3.2 Field Selection Merging).
+-- What the rule that fields merge tells, and when a visitor of it tells so (GraphQL October 2021,
+-- 5.3.2 Field Selection Merging).
 use Rattle.std.specs.Prelude.{◌≡◌, ℕ, ◌+◌, ◌*◌, ◌≤◌, Bool, true, false, []}
 use Rattle.graphql_rule_errors.specs.Places.{Places}
 use Rattle.graphql_written_out.specs.Written.{Settled}
@@ -25,13 +26,17 @@ module _ {S C : Type 0} (subject : Subject S C) where
   CountedBy true old new = new ≡ old
 
 module _ {S C : Type 0} (eq : S → S → Bool) (subject : Subject S C) where
-  -- errors at these places: each names two fields that do not merge, among them are all that differ directly in one set, and there is one where a set does not merge
+  -- errors at these places: each names two fields that do not merge, among them are all that differ
+  -- directly in one set, and there is one where a set does not merge
   pub record MergingTold (told : Places) : Type 0 where
     pub sound : IsSound eq subject.schema.types (document_sets subject.schema subject.document) told
-    pub direct : IsDirect eq subject.schema.types (document_sets subject.schema subject.document) told
-    pub complete : IsComplete eq subject.schema.types (document_sets subject.schema subject.document) told
+    pub direct : IsDirect eq subject.schema.types (document_sets subject.schema subject.document)
+        told
+    pub complete : IsComplete eq subject.schema.types
+        (document_sets subject.schema subject.document) told
 
-  -- what the rule tells of a document: these, where as many levels as there are fragments write all out
+  -- what the rule tells of a document: these, where as many levels as there are fragments write all
+  -- out
   abbrev pub RuleTold : Places → Type 0
   RuleTold told = Settled (fragments_listed subject.document) → MergingTold told
 

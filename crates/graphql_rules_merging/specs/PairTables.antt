@@ -1,5 +1,6 @@
 -- Tables of pairs of numbers: in the row of the second number the first.
-use Rattle.std.specs.Prelude.{◌≡◌, ℕ, eqb, Bool, true, false, not, ◌&&◌, ◌||◌, List, [], get_or, ◌⊎◌}
+use Rattle.std.specs.Prelude.{◌≡◌, ℕ, eqb, Bool, true, false, not, ◌&&◌, ◌||◌, List, [], get_or}
+use Rattle.std.specs.Prelude.{◌⊎◌}
 use Rattle.std.specs.List.{list_any}
 use Rattle.graphql_rules_merging.specs.Numbers.{has_number}
 
@@ -16,7 +17,8 @@ SamePairs old new = (p q : ℕ) → has_pair new p q ≡ has_pair old p q
 
 -- a table has one pair more
 abbrev pub PutsPair : ℕ → ℕ → List (List ℕ) → List (List ℕ) → Type 0
-PutsPair left right old new = (p q : ℕ) → has_pair new p q ≡ ((eqb q right && eqb p left) || has_pair old p q)
+PutsPair left right old new =
+    (p q : ℕ) → has_pair new p q ≡ ((eqb q right && eqb p left) || has_pair old p q)
 
 -- a table had a pair, and has all but it
 pub record TakesPair (left right : ℕ) (old new : List (List ℕ)) : Type 0 where
@@ -39,7 +41,9 @@ AreOnce given waiting = (p q : ℕ) → has_pair waiting p q ≡ true → has_pa
 pub record HasBegun (left right : ℕ) (given old new : List (List ℕ)) : Type 0 where
   pub begun : (has_pair new left right ≡ true) ⊎ (has_pair given left right ≡ true)
   pub still : (p q : ℕ) → has_pair old p q ≡ true → has_pair new p q ≡ true
-  pub only : (p q : ℕ) → has_pair new p q ≡ true → (has_pair old p q ≡ true) ⊎ ((p ≡ left) × (q ≡ right))
+  pub only : (p q : ℕ) → has_pair new p q ≡ true
+      → (has_pair old p q ≡ true)
+      ⊎ ((p ≡ left) × (q ≡ right))
 
 -- a pair that waited is given out for the first time
 pub record GivesPair (left right : ℕ) (given given' waiting waiting' : List (List ℕ)) : Type 0 where

@@ -37,8 +37,8 @@ fn pair_of(left: usize, right: usize, around: bool) -> SetPair
     }
 }
 
-/// Pairs that wait to be compared, and those that were given out. Each pair is given out once, so that
-/// there is an end. For each flag it takes two bits of memory for each two sets, or less.
+/// Pairs that wait to be compared, and those that were given out. Each pair is given out once, so
+/// that there is an end. For each flag it takes two bits of memory for each two sets, or less.
 #[derive(Drop)]
 pub(crate) struct Agenda {
     // Those without the flag, by the numbers of their sets.
@@ -51,7 +51,9 @@ pub(crate) struct Agenda {
 impl Agenda {
     /// No pairs. Takes no memory.
     pub(crate) fn new(alloc: Global) -> Agenda
-        ensures { (pair : _) → ((spec.listed_of result).waits pair ≡ false) × ((spec.listed_of result).given pair ≡ false) }
+        ensures { (pair : _)
+            → ((spec.listed_of result).waits pair ≡ false)
+            × ((spec.listed_of result).given pair ≡ false) }
     {
         Agenda {
             together: PairQueue::new(alloc),
@@ -59,14 +61,16 @@ impl Agenda {
         }
     }
 
-    /// Begins the pair of two sets, unless it was begun, either way round. An error is want of memory.
+    /// Begins the pair of two sets, unless it was begun, either way round. An error is want of
+    /// memory.
     pub(crate) fn begin(
         &mut self,
         left: usize,
         right: usize,
         around: bool,
     ) -> Result<(), AllocError>
-        ensures { OnOk result (spec.Lists (spec.pair_of left right around) (spec.listed_of self.old) (spec.listed_of self.new)) }
+        ensures { OnOk result (spec.Lists (spec.pair_of left right around) (spec.listed_of self.old)
+            (spec.listed_of self.new)) }
     {
         let pair = pair_of(left, right, around);
         if pair.around {
@@ -78,7 +82,9 @@ impl Agenda {
 
     /// Gives out a pair that waits, if there is one. An error is want of memory.
     pub(crate) fn next(&mut self) -> Result<Option<SetPair>, AllocError>
-        ensures { IfOk result (λ next. MatchOption next (spec.NoneWaits (spec.listed_of self.old) (spec.listed_of self.new)) (λ pair. spec.Takes pair (spec.listed_of self.old) (spec.listed_of self.new))) }
+        ensures { IfOk result (λ next.
+            MatchOption next (spec.NoneWaits (spec.listed_of self.old) (spec.listed_of self.new))
+            (λ pair. spec.Takes pair (spec.listed_of self.old) (spec.listed_of self.new))) }
     {
         if let Some((left, right)) = self.together.next()? {
             return Ok(Some(SetPair {

@@ -5,7 +5,8 @@ ghost use Rattle.std.specs.Prelude.{◌≡◌, ℕ, true, IfOk, IsTrue};
 ghost use Rattle.std.specs.List.{Contains};
 ghost use Rattle.graphql_merging.specs.declared.table.WrittenField.{WrittenField};
 ghost use Rattle.graphql_bundles.specs.Groups as groups;
-ghost use Rattle.graphql_rules_merging.specs.Classes.{AreAlike, AreAllNumbered, HasClass, HasPlace, IsNumbered};
+ghost use Rattle.graphql_rules_merging.specs.Classes.{AreAlike, AreAllNumbered, HasClass, HasPlace};
+ghost use Rattle.graphql_rules_merging.specs.Classes.{IsNumbered};
 
 use crate::field_numbers::{FieldNumbers, numbers_at};
 use graphql_bundles::{is_declared, object_name};
@@ -107,8 +108,8 @@ fn class_among<'d, 'a, S: PartialEq, C>(
     Ok(heads.len())
 }
 
-/// The number of a field's parent, whose name is put among those of object types. An error is want of
-/// memory.
+/// The number of a field's parent, whose name is put among those of object types. An error is want
+/// of memory.
 fn number_parent<'d, S, C>(
     parents: &mut IndexSet<TextRef<'d>>,
     field: &WrittenField<'d, '_, S, C>,
@@ -120,8 +121,8 @@ fn number_parent<'d, S, C>(
     Ok(place.saturating_add(1))
 }
 
-/// Finds the numbers of each field of a set. `places` holds for each response key where the heads of
-/// its classes are. An error is want of memory.
+/// Finds the numbers of each field of a set. `places` holds for each response key where the heads
+/// of its classes are. An error is want of memory.
 fn number_fields<'d, 'a, S: PartialEq, C>(
     alloc: Global,
     schema: &SchemaType<S, C>,

@@ -65,8 +65,8 @@ pub(crate) fn have_other_keys<S, C>(
     response_key(&left.selected.field.item) != response_key(&right.selected.field.item)
 }
 
-/// Whether of two fields of these numbers shapes alone are asked. Names of parents are compared only
-/// where both are object types and one of them has no number.
+/// Whether of two fields of these numbers shapes alone are asked. Names of parents are compared
+/// only where both are object types and one of them has no number.
 pub(crate) fn are_excused<S, C>(
     around: bool,
     one: FieldNumbers,

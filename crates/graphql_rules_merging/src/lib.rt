@@ -1,5 +1,5 @@
-//! The rule that fields merge (GraphQL October 2021, 5.3.2 Field Selection Merging): bundles of selection
-//! sets decide it, and where there are too many of them which pairs of sets are compared.
+//! The rule that fields merge (GraphQL October 2021, 5.3.2 Field Selection Merging): bundles of
+//! selection sets decide it, and where there are too many of them which pairs of sets are compared.
 #![tactic(auto)]
 
 mod agenda;

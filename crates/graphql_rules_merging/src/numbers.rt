@@ -1,13 +1,16 @@
 //! Sets of numbers, a bit for each.
 
-ghost use Rattle.std.specs.Prelude.{◌≡◌, ◌↔◌, ℕ, List, ◌+◌, ◌-◌, ◌/◌, ◌^◌, ◌<◌, ◌≤◌, ◌||◌, ◌&&◌, not, eqb, true, false, [], length, get_or, IsTrue, OnOk, OnErr, MatchOption};
+ghost use Rattle.std.specs.Prelude.{◌≡◌, ◌↔◌, ℕ, List, ◌+◌, ◌-◌, ◌/◌, ◌^◌, ◌<◌, ◌≤◌, ◌||◌, ◌&&◌};
+ghost use Rattle.std.specs.Prelude.{not, eqb, true, false, [], length, get_or, IsTrue, OnOk, OnErr};
+ghost use Rattle.std.specs.Prelude.{MatchOption};
 ghost use Rattle.graphql_rules_merging.specs.Numbers.{has_number};
 
 use graphql_text::Items;
 use std::alloc::{AllocError, Global};
 use std::marker::Model;
 
-/// A set of numbers. It takes a bit of memory for each number up to the greatest that was put into it.
+/// A set of numbers. It takes a bit of memory for each number up to the greatest that was put into
+/// it.
 #[derive(Drop)]
 pub(crate) struct Numbers {
     // Each has the bits of 64 numbers, the lowest that of the smallest number.
@@ -42,7 +45,9 @@ fn lengthen(words: &mut Items<u64>, place: usize) -> Result<(), AllocError>
 fn last_word(words: &mut Items<u64>) -> Option<u64>
     ensures bound { length words.new ≤ length words.old }
     ensures same { (k : ℕ) → get_or words.new k 0 ≡ get_or words.old k 0 }
-    ensures last { MatchOption result (words.new ≡ []) (λ word. (0 < word) × (0 < length words.new) × (get_or words.new (length words.new - 1) 0 ≡ word)) }
+    ensures last { MatchOption result (words.new ≡ []) (λ word. (0 < word)
+        × (0 < length words.new)
+        × (get_or words.new (length words.new - 1) 0 ≡ word)) }
 {
     'words: while let Some(word) = words.last().copied() {
         if word != 0 {
@@ -82,7 +87,8 @@ impl Numbers {
 
     /// Puts a number into the set. An error is want of memory.
     pub(crate) fn add(&mut self, number: usize) -> Result<(), AllocError>
-        ensures ok { OnOk result ((n : ℕ) → has_number self.new n ≡ (eqb n number || has_number self.old n)) }
+        ensures ok { OnOk result
+            ((n : ℕ) → has_number self.new n ≡ (eqb n number || has_number self.old n)) }
         ensures err { OnErr result ((n : ℕ) → has_number self.new n ≡ has_number self.old n) }
     {
         let place = number / 64;
@@ -91,10 +97,12 @@ impl Numbers {
         Ok(())
     }
 
-    /// Takes a number out of the set and gives it, if there is one. It is in the last word that has one,
-    /// and the words behind go.
+    /// Takes a number out of the set and gives it, if there is one. It is in the last word that has
+    /// one, and the words behind go.
     pub(crate) fn take(&mut self) -> Option<usize>
-        ensures { MatchOption result ((self.new ≡ []) × ((n : ℕ) → has_number self.old n ≡ false)) (λ number. (has_number self.old number ≡ true) × ((n : ℕ) → has_number self.new n ≡ (not (eqb n number) && has_number self.old n))) }
+        ensures { MatchOption result ((self.new ≡ []) × ((n : ℕ) → has_number self.old n ≡ false))
+            (λ number. (has_number self.old number ≡ true)
+            × ((n : ℕ) → has_number self.new n ≡ (not (eqb n number) && has_number self.old n))) }
     {
         let Some(last) = last_word(&mut self.words) else {
             return None;

@@ -30,11 +30,11 @@ use graphql_tree::Definition;
 use graphql_visitors::{ValidatorContext, Visitor};
 use std::alloc::{AllocError, Global};
 
-/// Each two fields of one response key that stand together in a selection set merge (GraphQL October
-/// 2021, 5.3.2 Field Selection Merging).
+/// Each two fields of one response key that stand together in a selection set merge (GraphQL
+/// October 2021, 5.3.2 Field Selection Merging).
 ///
-/// An error names the starts of two fields that do not, in the order of the text. The rule is asked of
-/// the whole document at the first event, and not again: a visitor is for one pass.
+/// An error names the starts of two fields that do not, in the order of the text. The rule is asked
+/// of the whole document at the first event, and not again: a visitor is for one pass.
 #[derive(Drop)]
 pub struct OverlappingFieldsCanBeMerged {
     /// Whether the rule has been asked.
@@ -56,9 +56,9 @@ pub fn factory() -> OverlappingFieldsCanBeMerged
 }
 
 impl OverlappingFieldsCanBeMerged {
-    /// How many times two fields were compared: over a document at most twice the square of its field
-    /// nodes, as the law `visitor_counts_comparisons` says. The count stays at the greatest number once
-    /// it is there. After want of memory it says nothing.
+    /// How many times two fields were compared: over a document at most twice the square of its
+    /// field nodes, as the law `visitor_counts_comparisons` says. The count stays at the greatest
+    /// number once it is there. After want of memory it says nothing.
     pub fn comparisons(&self) -> u128
         ensures { result ≡ self.now.comparisons }
     {
@@ -66,9 +66,9 @@ impl OverlappingFieldsCanBeMerged {
     }
 }
 
-/// Reports the errors of the fields of the context's document that do not merge, behind the errors that
-/// are there, and adds to `comparisons` how many times two fields were compared. Where memory runs out
-/// the context has failed.
+/// Reports the errors of the fields of the context's document that do not merge, behind the errors
+/// that are there, and adds to `comparisons` how many times two fields were compared. Where memory
+/// runs out the context has failed.
 fn report_counted<'a, 't, S: SchemaScalar>(
     context: &mut ValidatorContext<'a, 't, S>,
     comparisons: &mut u128,
@@ -88,8 +88,8 @@ fn report_counted<'a, 't, S: SchemaScalar>(
     }
 }
 
-/// Reports the errors of the fields of the context's document that do not merge, behind the errors that
-/// are there. Where memory runs out the context has failed.
+/// Reports the errors of the fields of the context's document that do not merge, behind the errors
+/// that are there. Where memory runs out the context has failed.
 pub fn report_overlapping_fields<'a, 't, S: SchemaScalar>(context: &mut ValidatorContext<'a, 't, S>)
     ensures { ReportsBy (RuleTold S.eq (subject_of context.old)) context.old context.new }
 {
@@ -190,9 +190,9 @@ fn errors_of_table<'d, 'a, S: Eq, C>(
 }
 
 /// The same as [`overlapping_fields_can_be_merged`], and how many times two fields were compared is
-/// added to `comparisons`: at most twice the square of the document's field nodes, also where fragments
-/// lead to themselves. The count stays at the greatest number once it is there. An error of the call is
-/// want of memory.
+/// added to `comparisons`: at most twice the square of the document's field nodes, also where
+/// fragments lead to themselves. The count stays at the greatest number once it is there. An error
+/// of the call is want of memory.
 pub fn overlapping_fields_counted<S: Eq, C>(
     alloc: Global,
     schema: &SchemaType<S, C>,
@@ -203,7 +203,8 @@ pub fn overlapping_fields_counted<S: Eq, C>(
         OnOk result (comparisons.new ≤ comparisons.old + 2 * nodes * nodes) }
     ensures merging { let types = schema.now.types in
         let sets = document_sets (declarations_of schema.now) document.now in
-        IfOk result (λ errors. Settled (fragments_listed document.now) → IsSound S.eq types sets (places errors)
+        IfOk result
+        (λ errors. Settled (fragments_listed document.now) → IsSound S.eq types sets (places errors)
         × IsDirect S.eq types sets (places errors) × IsComplete S.eq types sets (places errors)) }
     ensures sorted { IfOk result (IsSorted ⟦<RuleError as Ord>⟧.cmp) }
     ensures once { IfOk result (λ errors.
@@ -217,9 +218,9 @@ pub fn overlapping_fields_counted<S: Eq, C>(
 /// The errors of the fields of a document that do not merge, in the order of their places, no two
 /// of the same places: each two fields are told once, with the first reason that is found of names,
 /// arguments and types. Where no fragment leads to itself (5.5.2.2 Fragment Spreads Must Not Form
-/// Cycles) each names where two fields begin that stand together in a selection set and do not merge
-/// there, each two that stand directly in one set and differ in name or arguments are named, and
-/// without errors each set merges. On other documents it ends too, and of the errors nothing is
+/// Cycles) each names where two fields begin that stand together in a selection set and do not
+/// merge there, each two that stand directly in one set and differ in name or arguments are named,
+/// and without errors each set merges. On other documents it ends too, and of the errors nothing is
 /// promised but their order. An error of the call is want of memory.
 pub fn overlapping_fields_can_be_merged<S: Eq, C>(
     alloc: Global,
@@ -228,7 +229,8 @@ pub fn overlapping_fields_can_be_merged<S: Eq, C>(
 ) -> Result<Items<RuleError>, AllocError>
     ensures merging { let types = schema.now.types in
         let sets = document_sets (declarations_of schema.now) document.now in
-        IfOk result (λ errors. Settled (fragments_listed document.now) → IsSound S.eq types sets (places errors)
+        IfOk result
+        (λ errors. Settled (fragments_listed document.now) → IsSound S.eq types sets (places errors)
         × IsDirect S.eq types sets (places errors) × IsComplete S.eq types sets (places errors)) }
     ensures sorted { IfOk result (IsSorted ⟦<RuleError as Ord>⟧.cmp) }
     ensures once { IfOk result (λ errors.
@@ -238,9 +240,9 @@ pub fn overlapping_fields_can_be_merged<S: Eq, C>(
     overlapping_fields_counted(alloc, schema, document, &mut comparisons)
 }
 
-/// The conflicts of the fields of these sets that do not merge, in the order in which they are found
-/// by comparing each two fields of one response key that stand together; and these sets are let go.
-/// An error of the call is want of memory.
+/// The conflicts of the fields of these sets that do not merge, in the order in which they are
+/// found by comparing each two fields of one response key that stand together; and these sets are
+/// let go. An error of the call is want of memory.
 fn errors_by_pairs<'d, 'a, S: Eq, C>(
     alloc: Global,
     schema: &SchemaType<S, C>,
@@ -267,7 +269,8 @@ pub fn overlapping_fields_by_pairs<S: Eq, C>(
 ) -> Result<Items<RuleError>, AllocError>
     ensures merging { let types = schema.now.types in
         let sets = document_sets (declarations_of schema.now) document.now in
-        IfOk result (λ errors. Settled (fragments_listed document.now) → IsSound S.eq types sets (places errors)
+        IfOk result
+        (λ errors. Settled (fragments_listed document.now) → IsSound S.eq types sets (places errors)
         × IsDirect S.eq types sets (places errors) × IsComplete S.eq types sets (places errors)) }
     ensures sorted { IfOk result (IsSorted ⟦<RuleError as Ord>⟧.cmp) }
     ensures once { IfOk result (λ errors.

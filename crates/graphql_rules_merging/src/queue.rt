@@ -1,16 +1,19 @@
 //! Pairs of numbers that wait, each to be given out once.
 
-ghost use Rattle.std.specs.Prelude.{◌≡◌, ◌↔◌, ℕ, ◌<◌, eqb, true, false, [], length, IsTrue, IfOk, OnOk, OnErr, MatchOption};
+ghost use Rattle.std.specs.Prelude.{◌≡◌, ◌↔◌, ℕ, ◌<◌, eqb, true, false, [], length, IsTrue, IfOk};
+ghost use Rattle.std.specs.Prelude.{OnOk, OnErr, MatchOption};
 ghost use Rattle.std.specs.List.{list_any};
-ghost use Rattle.graphql_rules_merging.specs.PairTables.{has_pair, words_at, SamePairs, PutsPair, TakesPair, HasNone, AreListed, AreOnce, HasBegun, GivesPair};
+ghost use Rattle.graphql_rules_merging.specs.PairTables.{has_pair, words_at, SamePairs, PutsPair};
+ghost use Rattle.graphql_rules_merging.specs.PairTables.{TakesPair, HasNone, AreListed, AreOnce};
+ghost use Rattle.graphql_rules_merging.specs.PairTables.{HasBegun, GivesPair};
 
 use crate::numbers::Numbers;
 use graphql_text::Items;
 use std::alloc::{AllocError, Global};
 
-/// Pairs of numbers that wait, and those that were given out. For each second number that was put in
-/// it takes two bits of memory for each first number up to the greatest: no more for pairs that wait,
-/// however many they are.
+/// Pairs of numbers that wait, and those that were given out. For each second number that was put
+/// in it takes two bits of memory for each first number up to the greatest: no more for pairs that
+/// wait, however many they are.
 #[derive(Drop)]
 pub(crate) struct PairQueue {
     // Those that wait: in the row of the second number the first.
@@ -84,7 +87,9 @@ fn list_row(table: &Items<Numbers>, rows: &mut Items<usize>, right: usize) -> Re
 /// Takes a pair of this second number out of a table and gives its first, if there is one.
 fn take_of_row(table: &mut Items<Numbers>, right: usize) -> Option<usize>
     ensures others { (k : ℕ) → (k ≡ right → ⊥) → words_at table.new k ≡ words_at table.old k }
-    ensures taken { MatchOption result ((words_at table.new right ≡ []) × ((p : ℕ) → has_pair table.old p right ≡ false)) (λ left. TakesPair left right table.old table.new) }
+    ensures taken { MatchOption result
+        ((words_at table.new right ≡ []) × ((p : ℕ) → has_pair table.old p right ≡ false))
+        (λ left. TakesPair left right table.old table.new) }
 {
     if right < table.len() {
         return table[right].take();
@@ -92,12 +97,13 @@ fn take_of_row(table: &mut Items<Numbers>, right: usize) -> Option<usize>
     None
 }
 
-/// Takes a pair out of a table and gives it, if there is one: in the last of these rows in which there
-/// is one. Those that stand behind it are taken away.
+/// Takes a pair out of a table and gives it, if there is one: in the last of these rows in which
+/// there is one. Those that stand behind it are taken away.
 fn take_pair(table: &mut Items<Numbers>, rows: &mut Items<usize>) -> Option<(usize, usize)>
     requires { AreListed table.old rows.old }
     ensures listed { AreListed table.new rows.new }
-    ensures taken { MatchOption result (HasNone table.old table.new) (λ pair. TakesPair pair.0 pair.1 table.old table.new) }
+    ensures taken { MatchOption result (HasNone table.old table.new)
+        (λ pair. TakesPair pair.0 pair.1 table.old table.new) }
 {
     'rows: while let Some(right) = rows.last().copied() {
         if let Some(left) = take_of_row(table, right) {
@@ -124,7 +130,8 @@ impl PairQueue {
     /// Puts a pair in, unless it waits or was given out. An error is want of memory.
     pub(crate) fn begin(&mut self, left: usize, right: usize) -> Result<(), AllocError>
         ensures given { self.new.given ≡ self.old.given }
-        ensures begun { OnOk result (HasBegun left right self.old.given self.old.waiting self.new.waiting) }
+        ensures begun { OnOk result
+            (HasBegun left right self.old.given self.old.waiting self.new.waiting) }
     {
         if has_pair(&self.given, left, right) || has_pair(&self.waiting, left, right) {
             return Ok(());
@@ -135,7 +142,9 @@ impl PairQueue {
 
     /// Gives out one of the pairs that wait, if there is one. An error is want of memory.
     pub(crate) fn next(&mut self) -> Result<Option<(usize, usize)>, AllocError>
-        ensures { IfOk result (λ next. MatchOption next (HasNone self.old.waiting self.new.waiting × (self.new.given ≡ self.old.given)) (λ pair. GivesPair pair.0 pair.1 self.old.given self.new.given self.old.waiting self.new.waiting)) }
+        ensures { IfOk result (λ next. MatchOption next (HasNone self.old.waiting self.new.waiting
+            × (self.new.given ≡ self.old.given)) (λ pair. GivesPair pair.0 pair.1 self.old.given
+            self.new.given self.old.waiting self.new.waiting)) }
     {
         let Some((left, right)) = take_pair(&mut self.waiting, &mut self.rows) else {
             return Ok(None);

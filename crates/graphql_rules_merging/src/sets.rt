@@ -7,7 +7,8 @@ ghost use Rattle.graphql_merging.specs.Told.{AddsErrors, Fits};
 ghost use Rattle.graphql_rules_merging.specs.Agenda.{Begins};
 ghost use Rattle.graphql_rules_merging.specs.Classes.{AreNumbered, AreAllNumbered};
 ghost use Rattle.graphql_rules_merging.specs.Counted.{twice_compared};
-ghost use Rattle.graphql_rules_merging.specs.Comparing.{ComparesSets, DoAgree, OwnSets, later, members_in, stage_of};
+ghost use Rattle.graphql_rules_merging.specs.Comparing.{ComparesSets, DoAgree, OwnSets, later};
+ghost use Rattle.graphql_rules_merging.specs.Comparing.{members_in, stage_of};
 
 use crate::agenda::SetPair;
 use crate::begin::{begin_own_sets, begin_with};
@@ -32,7 +33,15 @@ fn compare_itself<S: Eq, C>(
     requires { AreNumbered S.eq schema.now.types numbers.now fields.now fields.now }
     ensures counted { let all = length fields.now in
         OnOk result (2 * progress.new.comparisons ≤ 2 * progress.old.comparisons + all * all) }
-    ensures compared { OnOk result ((fragments : List (Fragment S)) → AddsErrors (Fits S.eq schema.now.types around) (map members_in (later (map (piece_field fragments) fields.now))) (stage_of progress.old).told (stage_of progress.new).told × Begins (pieces_of fragments table.now) (OwnSets around (DoAgree S.eq schema.now.types around) (map (piece_field fragments) fields.now) (map (piece_field fragments) fields.now)) (OwnSets around (λ p. Unit {0}) (map (piece_field fragments) fields.now) (map (piece_field fragments) fields.now)) (stage_of progress.old).listed (stage_of progress.new).listed) }
+    ensures compared { OnOk result ((fragments : List (Fragment S))
+        → AddsErrors (Fits S.eq
+        schema.now.types around) (map members_in (later (map (piece_field fragments) fields.now)))
+        (stage_of progress.old).told (stage_of progress.new).told
+        × Begins
+        (pieces_of fragments table.now) (OwnSets around (DoAgree S.eq schema.now.types around)
+        (map (piece_field fragments) fields.now) (map (piece_field fragments) fields.now)) (OwnSets
+        around (λ p. Unit {0}) (map (piece_field fragments) fields.now) (map (piece_field fragments)
+        fields.now)) (stage_of progress.old).listed (stage_of progress.new).listed) }
 {
     begin_own_sets(table, &mut progress.agenda, fields, around)?;
     compare_within(alloc, schema, table, numbers, around, fields, progress)
@@ -51,7 +60,10 @@ pub(crate) fn compare_sets<S: Eq, C>(
     requires { AreAllNumbered S.eq schema.now.types table.now numbers.now }
     ensures counted { OnOk result (2 * progress.new.comparisons
         ≤ 2 * progress.old.comparisons + twice_compared table.now pair) }
-    ensures compared { OnOk result ((fragments : List (Fragment S)) → ComparesSets S.eq schema.now.types (pieces_of fragments table.now) pair (stage_of progress.old) (stage_of progress.new)) }
+    ensures compared { OnOk result
+        ((fragments : List (Fragment S))
+        → ComparesSets S.eq schema.now.types
+        (pieces_of fragments table.now) pair (stage_of progress.old) (stage_of progress.new)) }
 {
     let Some(one) = table.get(pair.left) else {
         return Ok(());

@@ -1,5 +1,7 @@
--- The records of the sample, and what its resolver answers from records (GraphQL October 2021, 6.4.2 Value Resolution) and changes in them (6.2.2 Mutation).
-use Rattle.std.specs.Prelude.{◌∷◌, ◌+◌, ◌-◌, ◌^◌, ◌||◌, min, ℕ, Bool, false, [], List, Option, Some, None, Ok, codes, position, slice_get, slice_set, if◌then◌else◌}
+-- The records of the sample, and what its resolver answers from records (GraphQL October 2021,
+-- 6.4.2 Value Resolution) and changes in them (6.2.2 Mutation).
+use Rattle.std.specs.Prelude.{◌∷◌, ◌+◌, ◌-◌, ◌^◌, ◌||◌, min, ℕ, Bool, false, [], List, Option, Some}
+use Rattle.std.specs.Prelude.{None, Ok, codes, position, slice_get, slice_set, if◌then◌else◌}
 use Rattle.std.specs.List.{find}
 use Rattle.std.specs.Option.{option_and_then, option_map_or}
 use Rattle.std.specs.Str.{bytes_eq}
@@ -40,7 +42,8 @@ place_of records id = position (λ r. bytes_eq id r.id) records
 
 -- the first human of an id, null where there is none
 abbrev pub human_of : List SampleRecord → Bytes → Answer
-human_of records id = option_map_or (λ place. resolved.Node (node.Human place)) (place_of records id) resolved.Null
+human_of records id =
+    option_map_or (λ place. resolved.Node (node.Human place)) (place_of records id) resolved.Null
 
 abbrev pub type_name : SampleNode → Bytes
 type_name node.Root = codes "Query"
@@ -50,7 +53,8 @@ abbrev pub of_human : List SampleRecord → SampleRecord → Bytes → Answer
 of_human records r field =
     if bytes_eq field (codes "id") then word r.id else
     if bytes_eq field (codes "name") then option_map_or word r.name resolved.Null else
-    if bytes_eq field (codes "friend") then option_map_or (human_of records) r.friend resolved.Null else resolved.Null
+    if bytes_eq field (codes "friend") then option_map_or (human_of records) r.friend resolved.Null
+    else resolved.Null
 
 -- the text that a scalar is, if it is one
 abbrev pub text_of_scalar : DefaultScalarValue → Option Bytes
@@ -74,11 +78,14 @@ text_of v = text_layer (out-InputValue DefaultScalarValue v)
 abbrev pub text_given : Given DefaultScalarValue → Bytes → Option Bytes
 text_given given name = option_and_then text_of (value_named given name)
 
-abbrev pub field_layer : Bytes → InputValue-F DefaultScalarValue (InputValue DefaultScalarValue) → Option Bytes
-field_layer name (InputValue-F.Object pairs) = option_and_then (λ p. text_of p.1.item) (find (λ p. bytes_eq p.0.item name) pairs)
+abbrev pub field_layer : Bytes → InputValue-F DefaultScalarValue (InputValue DefaultScalarValue)
+    → Option Bytes
+field_layer name (InputValue-F.Object pairs) =
+    option_and_then (λ p. text_of p.1.item) (find (λ p. bytes_eq p.0.item name) pairs)
 field_layer name _ = None
 
--- the text that the field of a name of an object is, the first where several have it: none where it is absent, or is no text
+-- the text that the field of a name of an object is, the first where several have it: none where it
+-- is absent, or is no text
 abbrev pub text_within : Bytes → InputValue DefaultScalarValue → Option Bytes
 text_within name v = field_layer name (out-InputValue DefaultScalarValue v)
 
@@ -98,22 +105,27 @@ fits id name r = are_same id (Some r.id) || are_same name r.name
 abbrev pub place_found : List SampleRecord → Option Bytes → Option Bytes → Option ℕ
 place_found records id name = position (fits id name) records
 
--- `find`: the first human who has the id or the name that the argument `by` is of, null where there is none
+-- `find`: the first human who has the id or the name that the argument `by` is of, null where there
+-- is none
 abbrev pub found_by : List SampleRecord → Option Bytes → Option Bytes → Answer
-found_by records id name = option_map_or (λ place. resolved.Node (node.Human place)) (place_found records id name) resolved.Null
+found_by records id name = option_map_or (λ place. resolved.Node (node.Human place))
+    (place_found records id name) resolved.Null
 
 abbrev pub found : List SampleRecord → Given DefaultScalarValue → Answer
-found records given = found_by records (text_given_in given (codes "by") (codes "id")) (text_given_in given (codes "by") (codes "name"))
+found records given = found_by records (text_given_in given (codes "by") (codes "id"))
+    (text_given_in given (codes "by") (codes "name"))
 
 abbrev pub of_root : List SampleRecord → Bytes → Given DefaultScalarValue → Answer
 of_root records field given =
     if bytes_eq field (codes "hero") then human_of records (codes "h1") else
     if bytes_eq field (codes "find") then found records given else resolved.Null
 
--- what a node answers for a field: null for a field that it lacks, and at a place beyond the records
+-- what a node answers for a field: null for a field that it lacks, and at a place beyond the
+-- records
 abbrev pub answer : List SampleRecord → SampleNode → Bytes → Given DefaultScalarValue → Answer
 answer records node.Root field given = of_root records field given
-answer records (node.Human place) field given = option_map_or (λ r. of_human records r field) (slice_get records place) resolved.Null
+answer records (node.Human place) field given =
+    option_map_or (λ r. of_human records r field) (slice_get records place) resolved.Null
 
 -- the same human, of this name
 abbrev pub named : Option Bytes → SampleRecord → SampleRecord
@@ -121,19 +133,23 @@ named name r = record { id = r.id; name = name; friend = r.friend }
 
 -- the human at a place has this name
 abbrev pub named_at : List SampleRecord → Option Bytes → ℕ → List SampleRecord
-named_at records name place = option_map_or (λ r. slice_set records place (named name r)) (slice_get records place) records
+named_at records name place =
+    option_map_or (λ r. slice_set records place (named name r)) (slice_get records place) records
 
 -- the first human of an id has this name; none where there is no id
 abbrev pub named_of : List SampleRecord → Option Bytes → Option Bytes → List SampleRecord
-named_of records id name = option_map_or (named_at records name) (option_and_then (place_of records) id) records
+named_of records id name =
+    option_map_or (named_at records name) (option_and_then (place_of records) id) records
 
 -- `rename`: the human of the argument `id`, null where there is none
 abbrev pub renamed_answer : List SampleRecord → Given DefaultScalarValue → Answer
-renamed_answer records given = option_map_or (human_of records) (text_given given (codes "id")) resolved.Null
+renamed_answer records given =
+    option_map_or (human_of records) (text_given given (codes "id")) resolved.Null
 
 -- its name is the argument `name` then, which is none where that is no text
 abbrev pub renamed : List SampleRecord → Given DefaultScalarValue → List SampleRecord
-renamed records given = named_of records (text_given given (codes "id")) (text_given given (codes "name"))
+renamed records given =
+    named_of records (text_given given (codes "id")) (text_given given (codes "name"))
 
 -- one call more, up to the greatest number of 32 bits
 abbrev pub one_more : ℕ → ℕ
@@ -141,7 +157,8 @@ one_more calls = min (calls + 1) (2 ^ 32 - 1)
 
 -- what a field of a mutation is answered: null for each but `rename`
 abbrev pub root_answer : SampleRecords → Bytes → Given DefaultScalarValue → Answer
-root_answer c field given = if bytes_eq field (codes "rename") then renamed_answer c.records given else resolved.Null
+root_answer c field given =
+    if bytes_eq field (codes "rename") then renamed_answer c.records given else resolved.Null
 
 -- each field of a mutation counts as a call, and `rename` changes a name
 abbrev pub root_after : SampleRecords → Bytes → Given DefaultScalarValue → SampleRecords

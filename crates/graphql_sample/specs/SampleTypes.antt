@@ -3,7 +3,8 @@ use Rattle.std.specs.Prelude.{◌++◌, ◌∷◌, [], true, List, Some, None, c
 use Rattle.std.specs.Borrow.{Bor}
 use Rattle.graphql_names.specs.Names.{Bytes}
 use Rattle.graphql_scalars.specs.declared.default_scalar.DefaultScalarValue.{DefaultScalarValue}
-use Rattle.graphql_scalars.specs.declared.default_scalar.DefaultScalarValue.TheVariants as scalar_value
+use Rattle.graphql_scalars.specs.declared.default_scalar.DefaultScalarValue.TheVariants as
+    scalar_value
 use Rattle.graphql_names.specs.declared.type_modifier.TypeModifier.{TypeModifier}
 use Rattle.graphql_names.specs.declared.type_modifier.TypeModifier.TheVariants as modifier
 use Rattle.graphql_introspection.specs.Metadata.{introspection_types}
@@ -28,21 +29,37 @@ non_null = modifier.NonNull ∷ []
 -- an argument of a name, and of the type of a name within wraps
 abbrev pub argument : Bytes → Bytes → Wraps → Argument DefaultScalarValue
 argument name type_name wraps =
-    record { name = name; description = None; arg_type = record { name = type_name; modifiers = wraps }; default_value = None }
+    record {
+      name = name;
+      description = None;
+      arg_type = record { name = type_name; modifiers = wraps };
+      default_value = None;
+    }
 
 -- a field of a name, and of the type of a name within wraps
-abbrev pub field : Bytes → Bytes → Wraps → List (Argument DefaultScalarValue) → Field DefaultScalarValue
+abbrev pub field : Bytes → Bytes → Wraps → List (Argument DefaultScalarValue)
+    → Field DefaultScalarValue
 field name type_name wraps arguments =
-    record { name = name; description = None; arguments = Some arguments; field_type = record { name = type_name; modifiers = wraps }; deprecation_status = status.Current }
+    record {
+      name = name;
+      description = None;
+      arguments = Some arguments;
+      field_type = record { name = type_name; modifiers = wraps };
+      deprecation_status = status.Current;
+    }
 
 abbrev pub object : Bytes → List (Field DefaultScalarValue) → ObjectMeta DefaultScalarValue
-object name fields = record { name = name; description = None; fields = fields; interface_names = [] }
+object name fields =
+    record { name = name; description = None; fields = fields; interface_names = [] }
 
 -- what a row of a table stands for
 abbrev pub argument_of : Bor Bytes × Bor Bytes × Bor Wraps → Argument DefaultScalarValue
 argument_of row = argument row.0.now row.1.now row.2.now
 
-abbrev pub field_of : Bor Bytes × Bor Bytes × Bor Wraps × Bor (List (Bor Bytes × Bor Bytes × Bor Wraps)) → Field DefaultScalarValue
+abbrev pub field_of : Bor Bytes
+    × Bor Bytes
+    × Bor Wraps
+    × Bor (List (Bor Bytes × Bor Bytes × Bor Wraps)) → Field DefaultScalarValue
 field_of row = field row.0.now row.1.now row.2.now (map argument_of row.3.now)
 
 -- `hero: Human`
@@ -51,28 +68,35 @@ query = field (codes "hero") (codes "Human") nullable [] ∷ []
 
 -- `hero: Human`, `find(by: By!): Human`
 abbrev pub query_by : List (Field DefaultScalarValue)
-query_by = field (codes "hero") (codes "Human") nullable [] ∷ field (codes "find") (codes "Human") nullable (argument (codes "by") (codes "By") non_null ∷ []) ∷ []
+query_by = field (codes "hero") (codes "Human") nullable [] ∷ field (codes "find") (codes "Human")
+    nullable (argument (codes "by") (codes "By") non_null ∷ []) ∷ []
 
 -- `id: String`, `name: String`
 abbrev pub by_fields : List (Argument DefaultScalarValue)
-by_fields = argument (codes "id") (codes "String") nullable ∷ argument (codes "name") (codes "String") nullable ∷ []
+by_fields = argument (codes "id") (codes "String") nullable
+    ∷ argument (codes "name") (codes "String") nullable ∷ []
 
 -- `id: String!`, `name: String!`, `friend: Human`
 abbrev pub human : List (Field DefaultScalarValue)
 human =
-    field (codes "id") (codes "String") non_null [] ∷ field (codes "name") (codes "String") non_null [] ∷ field (codes "friend") (codes "Human") nullable [] ∷ []
+    field (codes "id") (codes "String") non_null [] ∷ field (codes "name") (codes "String") non_null
+    [] ∷ field (codes "friend") (codes "Human") nullable [] ∷ []
 
 -- `rename(id: String!, name: String!): Human`
 abbrev pub mutation : List (Field DefaultScalarValue)
 mutation =
-    field (codes "rename") (codes "Human") nullable (argument (codes "id") (codes "String") non_null ∷ argument (codes "name") (codes "String") non_null ∷ []) ∷ []
+    field (codes "rename") (codes "Human") nullable (argument (codes "id") (codes "String") non_null
+    ∷ argument (codes "name") (codes "String") non_null ∷ []) ∷ []
 
 module _ {C : Type 0} where
   abbrev pub scalar : Bytes → C → MetaType DefaultScalarValue C
-  scalar name check = meta.Scalar (record { name = name; description = None; specified_by_url = None; check = check })
+  scalar name check = meta.Scalar
+      (record { name = name; description = None; specified_by_url = None; check = check })
 
-  -- of the fields of the query root; with the types of introspection; of the checks of `Int`, `String`, `Boolean` and `ID`, and of theirs
-  abbrev pub types_of : List (Field DefaultScalarValue) → C → C → C → C → IntrospectionChecks C → List (MetaType DefaultScalarValue C)
+  -- of the fields of the query root; with the types of introspection; of the checks of `Int`,
+  -- `String`, `Boolean` and `ID`, and of theirs
+  abbrev pub types_of : List (Field DefaultScalarValue) → C → C → C → C → IntrospectionChecks C
+      → List (MetaType DefaultScalarValue C)
   types_of root int string boolean id introspection =
       (scalar (codes "Int") int ∷ scalar (codes "String") string
       ∷ scalar (codes "Boolean") boolean ∷ scalar (codes "ID") id
@@ -85,11 +109,19 @@ module _ {C : Type 0} where
 
   -- `input By @oneOf { id: String, name: String }`
   abbrev pub by_type : C → MetaType DefaultScalarValue C
-  by_type check = meta.InputObject (record { name = codes "By"; description = None; input_fields = by_fields; check = check; exactly_one = true })
+  by_type check = meta.InputObject (record {
+    name = codes "By";
+    description = None;
+    input_fields = by_fields;
+    check = check;
+    exactly_one = true;
+  })
 
   -- with `find`, and the check of `By`
-  abbrev pub types_by : C → C → C → C → IntrospectionChecks C → C → List (MetaType DefaultScalarValue C)
-  types_by int string boolean id introspection by = types_of query_by int string boolean id introspection ++ by_type by ∷ []
+  abbrev pub types_by : C → C → C → C → IntrospectionChecks C → C
+      → List (MetaType DefaultScalarValue C)
+  types_by int string boolean id introspection by =
+      types_of query_by int string boolean id introspection ++ by_type by ∷ []
 
 -- the roots: `Query` and `Mutation` (3.3.1 Root Operation Types)
 abbrev pub roots : Roots

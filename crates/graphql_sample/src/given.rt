@@ -30,8 +30,8 @@ fn first_named<'a>(pairs: &'a [Pair], name: &str) -> Option<&'a Pair>
     pairs.iter().find(|pair| pair.0.item.is(name))
 }
 
-/// The text that the field of this name of an object is, if it is one: the first where several have the
-/// name.
+/// The text that the field of this name of an object is, if it is one: the first where several have
+/// the name.
 fn text_within<'a>(value: &'a InputValue<DefaultScalarValue>, name: &str) -> Option<&'a Text>
     ensures { option_copied result ≡ spec.text_within name.now value.now }
 {
@@ -63,7 +63,8 @@ pub(crate) fn text_given_in<'a>(
     argument: &str,
     name: &str,
 ) -> Option<&'a Text>
-    ensures { option_copied result ≡ spec.text_given_in (arguments_told arguments.now) argument.now name.now }
+    ensures { option_copied result
+        ≡ spec.text_given_in (arguments_told arguments.now) argument.now name.now }
 {
     match arguments.get_input_value(argument) {
         Some(value) => text_within(value, name),

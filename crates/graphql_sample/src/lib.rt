@@ -1,5 +1,5 @@
-//! A sample: a few records, a resolver over them with a mutation, and a schema (GraphQL October 2021, 3.3
-//! Schema, 6.2.2 Mutation, 6.4.2 Value Resolution).
+//! A sample: a few records, a resolver over them with a mutation, and a schema (GraphQL October
+//! 2021, 3.3 Schema, 6.2.2 Mutation, 6.4.2 Value Resolution).
 #![tactic(auto)]
 
 mod given;

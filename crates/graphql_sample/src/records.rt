@@ -27,7 +27,8 @@ pub struct SampleRecords {
     /// The humans. Of those with one `id` the first is found.
     pub records: Items<SampleRecord>,
 
-    /// How often a field of a mutation was resolved, up to the greatest number of 32 bits, at which it stays.
+    /// How often a field of a mutation was resolved, up to the greatest number of 32 bits, at which
+    /// it stays.
     pub root_calls: u32,
 }
 
@@ -48,7 +49,11 @@ fn human(
     name: &str,
     friend: Option<&str>,
 ) -> Result<SampleRecord, AllocError>
-    ensures { Gives result (record { id = id.now; name = Some name.now; friend = option_map (λ word. word.now) friend.entry }) }
+    ensures { Gives result (record {
+      id = id.now;
+      name = Some name.now;
+      friend = option_map (λ word. word.now) friend.entry;
+    }) }
 {
     Ok(SampleRecord {
         id: Text::from_str(alloc, id)?,

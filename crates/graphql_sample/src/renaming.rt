@@ -34,15 +34,16 @@ fn set_name(records: &mut Items<SampleRecord>, name: Option<Text>, place: usize)
     }
 }
 
-/// Gives the first human whose `id` is the argument `id` the name that the argument `name` is, or none where
-/// that is no text; and answers this human. Where there is none, or `id` is no text, it answers `Null`, and
-/// nothing changes. An error is want of memory, and changes nothing.
+/// Gives the first human whose `id` is the argument `id` the name that the argument `name` is, or
+/// none where that is no text; and answers this human. Where there is none, or `id` is no text, it
+/// answers `Null`, and nothing changes. An error is want of memory, and changes nothing.
 pub(crate) fn rename(
     records: &mut Items<SampleRecord>,
     arguments: &Arguments<'_, DefaultScalarValue>,
 ) -> Result<Answer, AllocError>
     ensures answer { Gives result (spec.renamed_answer records.old (arguments_told arguments.now)) }
-    ensures after { OnOk result (records.new ≡ spec.renamed records.old (arguments_told arguments.now)) }
+    ensures after { OnOk result
+        (records.new ≡ spec.renamed records.old (arguments_told arguments.now)) }
     ensures kept { OnErr result (records.new ≡ records.old) }
 {
     let Some(id) = text_given(arguments, "id") else {

@@ -99,14 +99,16 @@ fn fits(id: Option<&Text>, name: Option<&Text>, human: &SampleRecord) -> bool
 
 /// The place of the first human who has this `id` or this name.
 fn place_found(records: &[SampleRecord], id: Option<&Text>, name: Option<&Text>) -> Option<usize>
-    ensures { result ≡ spec.place_found records.now (option_copied id.entry) (option_copied name.entry) }
+    ensures { result
+        ≡ spec.place_found records.now (option_copied id.entry) (option_copied name.entry) }
 {
     records.iter().position(|record| fits(id, name, record))
 }
 
 /// The first human who has this `id` or this name, `Null` where there is none.
 fn found_by(records: &[SampleRecord], id: Option<&Text>, name: Option<&Text>) -> Answer
-    ensures { result ≡ spec.found_by records.now (option_copied id.entry) (option_copied name.entry) }
+    ensures { result
+        ≡ spec.found_by records.now (option_copied id.entry) (option_copied name.entry) }
 {
     match place_found(records, id, name) {
         Some(place) => Resolved::Node(SampleNode::Human(place)),
@@ -114,7 +116,8 @@ fn found_by(records: &[SampleRecord], id: Option<&Text>, name: Option<&Text>) ->
     }
 }
 
-/// The first human who has the `id` or the name that the argument `by` is of, `Null` where there is none.
+/// The first human who has the `id` or the name that the argument `by` is of, `Null` where there is
+/// none.
 fn found(records: &[SampleRecord], arguments: &Arguments<'_, DefaultScalarValue>) -> Answer
     ensures { result ≡ spec.found records.now (arguments_told arguments.now) }
 {
@@ -155,7 +158,8 @@ impl GraphQLValue<DefaultScalarValue> for SampleResolver {
 
     ghost answer = { λ _ context n field given. Ok (spec.answer context.records n field given) };
 
-    ghost respects = { λ _ context n field a b same. ap Ok (answered-alike context.records a b same n field) };
+    ghost respects = { λ _ context n field a b same.
+        ap Ok (answered-alike context.records a b same n field) };
 
     ghost tells_distinct_keys = { λ _ _ _ _ _. record { beside = tt } };
 
@@ -206,12 +210,13 @@ impl GraphQLMutationValue<DefaultScalarValue> for SampleResolver {
 
     ghost changes = { λ _. spec.changes };
 
-    ghost respects_root = { λ _ c field a b same. (answers-same c field a b same, leaves-same c field a b same) };
+    ghost respects_root = { λ _ c field a b same.
+        (answers-same c field a b same, leaves-same c field a b same) };
 
     ghost root_tells_distinct_keys = { λ _ _ _ _. record { beside = tt } };
 
-    /// What `rename` answers, and changes; null for each other field. Each call counts, whatever is asked, but
-    /// for want of memory, which changes nothing.
+    /// What `rename` answers, and changes; null for each other field. Each call counts, whatever is
+    /// asked, but for want of memory, which changes nothing.
     fn resolve_root(
         &self,
         _alloc: Global,

@@ -19,7 +19,8 @@ use std::alloc::{AllocError, Global};
 
 type Meta = MetaType<DefaultScalarValue>;
 
-/// An argument in short: its name, the name of its type, and the wraps of that, the innermost first.
+/// An argument in short: its name, the name of its type, and the wraps of that, the innermost
+/// first.
 type ArgumentRow = (&'static str, &'static str, &'static [TypeModifier]);
 
 /// A field in short: its name, the name of its type, the wraps of that, and its arguments.
@@ -116,14 +117,15 @@ fn scalar(alloc: Global, name: &str, check: TypeCheck) -> Result<Meta, AllocErro
     Ok(ScalarMeta::new(name, check).into_meta())
 }
 
-/// The types of the sample, with these fields of the query root, and with those of introspection. An
-/// error is want of memory.
+/// The types of the sample, with these fields of the query root, and with those of introspection.
+/// An error is want of memory.
 fn metadata(
     alloc: Global,
     checks: StandardChecks,
     query: &[FieldRow],
 ) -> Result<Items<Meta>, AllocError>
-    ensures { Gives result (spec.types_of (map spec.field_of query.now) checks.int checks.string checks.boolean checks.id checks.introspection) }
+    ensures { Gives result (spec.types_of (map spec.field_of query.now) checks.int checks.string
+        checks.boolean checks.id checks.introspection) }
 {
     let mut types = Items::new(alloc);
     types.push(scalar(alloc, "Int", checks.int)?)?;
@@ -138,22 +140,25 @@ fn metadata(
     Ok(types)
 }
 
-/// The schema of the sample, with the roots `Query` and `Mutation` (GraphQL October 2021, 3.3.1 Root
-/// Operation Types), which tells of itself (4.2 Schema Introspection). Its `Boolean` has the check that is given
-/// for it. `SchemaError::Memory` is want of memory.
+/// The schema of the sample, with the roots `Query` and `Mutation` (GraphQL October 2021, 3.3.1
+/// Root Operation Types), which tells of itself (4.2 Schema Introspection). Its `Boolean` has the
+/// check that is given for it. `SchemaError::Memory` is want of memory.
 pub fn schema_s(
     alloc: Global,
     checks: StandardChecks,
 ) -> Result<SchemaType<DefaultScalarValue>, SchemaError>
-    ensures made { let types = spec.types checks.int checks.string checks.boolean checks.id checks.introspection in
+    ensures made { let types =
+        spec.types checks.int checks.string checks.boolean checks.id checks.introspection in
         Makes ⟦<DefaultScalarValue as ScalarValue>⟧.of_text types spec.roots result }
-    ensures boolean { IfOk result (λ schema. type_named schema.types (codes "Boolean") ≡ Some (spec.scalar (codes "Boolean") checks.boolean)) }
+    ensures boolean { IfOk result (λ schema. type_named schema.types (codes "Boolean")
+        ≡ Some (spec.scalar (codes "Boolean") checks.boolean)) }
 {
     let types = metadata(alloc, checks, QUERY)?;
     SchemaType::new(alloc, types, "Query", Some("Mutation"), None)
 }
 
-/// The input object `By`, of which exactly one field is given, of this check. An error is want of memory.
+/// The input object `By`, of which exactly one field is given, of this check. An error is want of
+/// memory.
 fn by_type(alloc: Global, check: TypeCheck) -> Result<Meta, AllocError>
     ensures { Gives result (spec.by_type check) }
 {
@@ -172,23 +177,26 @@ fn metadata_by(
     checks: StandardChecks,
     by: TypeCheck,
 ) -> Result<Items<Meta>, AllocError>
-    ensures { Gives result (spec.types_by checks.int checks.string checks.boolean checks.id checks.introspection by) }
+    ensures { Gives result
+        (spec.types_by checks.int checks.string checks.boolean checks.id checks.introspection by) }
 {
     let mut types = metadata(alloc, checks, QUERY_BY)?;
     types.push(by_type(alloc, by)?)?;
     Ok(types)
 }
 
-/// The same with `find(by: By!): Human` in `Query`, and with `input By @oneOf { id: String, name: String }`,
-/// which has the check that is given for it.
+/// The same with `find(by: By!): Human` in `Query`, and with `input By @oneOf { id: String, name:
+/// String }`, which has the check that is given for it.
 pub fn schema_by(
     alloc: Global,
     checks: StandardChecks,
     by: TypeCheck,
 ) -> Result<SchemaType<DefaultScalarValue>, SchemaError>
-    ensures made { let types = spec.types_by checks.int checks.string checks.boolean checks.id checks.introspection by in
+    ensures made { let types =
+        spec.types_by checks.int checks.string checks.boolean checks.id checks.introspection by in
         Makes ⟦<DefaultScalarValue as ScalarValue>⟧.of_text types spec.roots result }
-    ensures boolean { IfOk result (λ schema. type_named schema.types (codes "Boolean") ≡ Some (spec.scalar (codes "Boolean") checks.boolean)) }
+    ensures boolean { IfOk result (λ schema. type_named schema.types (codes "Boolean")
+        ≡ Some (spec.scalar (codes "Boolean") checks.boolean)) }
 {
     let types = metadata_by(alloc, checks, by)?;
     SchemaType::new(alloc, types, "Query", Some("Mutation"), None)

@@ -1,4 +1,5 @@
--- What is said of a value that is none of a type (GraphQL October 2021, 3.5 Scalars, input coercion).
+-- What is said of a value that is none of a type (GraphQL October 2021, 3.5 Scalars, input
+-- coercion).
 use Rattle.std.specs.Prelude.{ℕ, List, [], ◌++◌, codes}
 use Rattle.graphql_scalars.specs.declared.check_error.CheckError.{CheckError}
 use Rattle.graphql_scalars.specs.declared.check_error.CheckError.TheVariants.{Message, Memory}

@@ -1,4 +1,5 @@
--- What a token means as a scalar of the default type (GraphQL October 2021, 2.9 Input Values, 3.5 Scalars).
+-- What a token means as a scalar of the default type (GraphQL October 2021, 2.9 Input Values, 3.5
+-- Scalars).
 use Rattle.std.specs.Prelude.{Result, Err, codes}
 use Rattle.graphql_text.specs.declared.token.ScalarToken.{ScalarToken}
 use Rattle.graphql_text.specs.declared.token.ScalarToken.TheVariants as token

@@ -33,5 +33,6 @@ module _ {S : Type 0} where
   -- integers of 32 bits alone
   abbrev pub reads_int : (ℤ → S) → ScalarToken → Result S ParseError
   reads_int of_int (token.String source) = refusal_of (token.String source)
-  reads_int of_int (token.Int source) = int_or of_int (int_value source) (refusal_of (token.Int source))
+  reads_int of_int (token.Int source) =
+      int_or of_int (int_value source) (refusal_of (token.Int source))
   reads_int of_int (token.Float source) = refusal_of (token.Float source)

@@ -1,4 +1,5 @@
--- The text of a scalar, by what it answers (GraphQL October 2021, 2.9.1 Int Value, 2.9.3 Boolean Value, 2.9.4 String Value).
+-- The text of a scalar, by what it answers (GraphQL October 2021, 2.9.1 Int Value, 2.9.3 Boolean
+-- Value, 2.9.4 String Value).
 use Rattle.std.specs.Prelude.{ℕ, Bool, List, ◌++◌, if◌then◌else◌, codes}
 use Rattle.std.specs.Fmt.{signed_decimal}
 use Rattle.graphql_scalars.specs.ScalarAnswers.{ScalarAnswer, integer, boolean, text}

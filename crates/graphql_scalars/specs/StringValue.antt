@@ -1,17 +1,21 @@
 -- What the source text of a string stands for (GraphQL October 2021, 2.9.4 String Value).
--- Characters outside an escape stand for themselves, whichever they are: the lexer has refused those that may not stand there.
-use Rattle.std.specs.Prelude.{ℕ, zero, suc, ◌+◌, ◌*◌, ◌||◌, ◌==◌, if◌then◌else◌, Option, Some, None, Result, Ok, Err, List, [], ◌∷◌, drop, encode_utf8_all}
+-- Characters outside an escape stand for themselves, whichever they are: the lexer has refused
+-- those that may not stand there.
+use Rattle.std.specs.Prelude.{ℕ, zero, suc, ◌+◌, ◌*◌, ◌||◌, ◌==◌, if◌then◌else◌, Option, Some, None}
+use Rattle.std.specs.Prelude.{Result, Ok, Err, List, [], ◌∷◌, drop, encode_utf8_all}
 use Rattle.std.specs.Char.{is_ascii_hexdigit, is_ascii_alphanumeric, digit_value}
 use Rattle.std.specs.Option.{option_and_then}
 use Rattle.std.specs.Str.{chars}
 use lib.Utf8.{scalar}
 use Rattle.graphql_text.specs.Memory.{◌>>=◌}
-use Rattle.graphql_text.specs.declared.token.LexerError.TheVariants.{UnterminatedString, UnknownEscapeSequence}
+use Rattle.graphql_text.specs.declared.token.LexerError.TheVariants.{UnterminatedString}
+use Rattle.graphql_text.specs.declared.token.LexerError.TheVariants.{UnknownEscapeSequence}
 use Rattle.graphql_text.specs.declared.parse_error.ParseError.{ParseError}
 use Rattle.graphql_text.specs.declared.parse_error.ParseError.TheVariants.{LexerError}
 
--- the character that a backslash and this one stand for, the code's `u` aside: a quote, a slash and a backslash
--- for themselves, `b` for a backspace, `f` for a form feed, `n` for a line feed, `r` for a carriage return, `t` for a tab
+-- the character that a backslash and this one stand for, the code's `u` aside: a quote, a slash and
+-- a backslash for themselves, `b` for a backspace, `f` for a form feed, `n` for a line feed, `r`
+-- for a carriage return, `t` for a tab
 abbrev pub escaped_character : ℕ → Option ℕ
 escaped_character c =
     if c == 34 || c == 47 || c == 92 then Some c
@@ -36,7 +40,8 @@ and_then o f = option_and_then f o
 -- the character of four hexadecimal digits
 abbrev pub code_character : ℕ → ℕ → ℕ → ℕ → Option ℕ
 code_character a b c d =
-    and_then (hex_digit a) (λ w. and_then (hex_digit b) (λ x. and_then (hex_digit c) (λ y. and_then (hex_digit d) (λ z.
+    and_then (hex_digit a)
+    (λ w. and_then (hex_digit b) (λ x. and_then (hex_digit c) (λ y. and_then (hex_digit d) (λ z.
     character (4096 * w + 256 * x + 16 * y + z)))))
 
 -- the letters and digits, at most n, that come next
@@ -62,7 +67,8 @@ code_at cs = None
 -- of what stands behind a backslash: the character, and how many characters stand for it there
 unfoldable pub escape : List ℕ → Result (ℕ × ℕ) ParseError
 escape [] = Err (LexerError UnterminatedString)
-escape (c ∷ cs) = if c == 117 then escape_or_refusal (code_at cs) 5 (117 ∷ letters 4 cs) else escape_or_refusal (escaped_character c) 1 (c ∷ [])
+escape (c ∷ cs) = if c == 117 then escape_or_refusal (code_at cs) 5 (117 ∷ letters 4 cs)
+    else escape_or_refusal (escaped_character c) 1 (c ∷ [])
 
 -- the same, with what stands behind the escape
 unfoldable pub escape_and_rest : List ℕ → Result (ℕ × List ℕ) ParseError
@@ -76,7 +82,8 @@ abbrev pub decoded_behind : ℕ → List ℕ → Result (List ℕ) ParseError
 decoded_behind n [] = Ok []
 decoded_behind (suc n) (c ∷ cs) = decoded_behind n cs
 decoded_behind zero (c ∷ cs) =
-    if c == 92 then escape cs >>= (λ e. preceded_by e.0 (decoded_behind e.1 cs)) else preceded_by c (decoded_behind 0 cs)
+    if c == 92 then escape cs >>= (λ e. preceded_by e.0 (decoded_behind e.1 cs))
+    else preceded_by c (decoded_behind 0 cs)
 
 -- the characters that these stand for
 abbrev pub decoded_characters : List ℕ → Result (List ℕ) ParseError

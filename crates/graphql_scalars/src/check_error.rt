@@ -3,7 +3,8 @@
 ghost use Rattle.std.specs.Prelude.{◌≡◌, ◌≢◌, Some};
 ghost use Rattle.graphql_scalars.specs.CheckErrors as spec;
 ghost use Rattle.graphql_scalars.specs.ScalarText.{scalar_text};
-ghost use Rattle.graphql_scalars.specs.declared.check_error.CheckError.TheVariants.{Message, Memory};
+ghost use Rattle.graphql_scalars.specs.declared.check_error.CheckError.TheVariants.{Message};
+ghost use Rattle.graphql_scalars.specs.declared.check_error.CheckError.TheVariants.{Memory};
 
 use crate::lent_scalar::Scalar;
 use crate::scalar::ScalarValue;
@@ -90,7 +91,9 @@ pub struct WrongInputScalarTypeError<'a, S> {
 impl<'a, S: ScalarValue> WrongInputScalarTypeError<'a, S> {
     /// The error with this one's text as its message, or want of memory.
     pub fn to_check_error(&self, alloc: Global) -> CheckError
-        ensures { result ≢ Memory → result ≡ Message (spec.wrong_type self.now.type_name (scalar_text (S.answer self.now.input))) }
+        ensures { result ≢ Memory
+            → result
+            ≡ Message (spec.wrong_type self.now.type_name (scalar_text (S.answer self.now.input))) }
     {
         match self.to_string(alloc) {
             Ok(text) => CheckError::Message(Text::from_string(text)),

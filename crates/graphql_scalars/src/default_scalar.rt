@@ -3,7 +3,11 @@
 ghost use Rattle.std.specs.Prelude.{◌≡◌, Some, refl, string_bytes};
 ghost use Rattle.graphql_scalars.specs.DefaultScalar as spec;
 ghost use Rattle.graphql_scalars.specs.ScalarText.{plain_text};
-ghost use Rattle.graphql_scalars.specs.declared.default_scalar.DefaultScalarValue.TheVariants.{Int, String, Boolean};
+ghost use Rattle.graphql_scalars.specs.declared.default_scalar.DefaultScalarValue.TheVariants.{
+  Int,
+  String,
+  Boolean,
+};
 
 use crate::int_value::int_value;
 use crate::literals::refusal;
@@ -86,8 +90,8 @@ impl fmt::Display for DefaultScalarValue {
     }
 }
 
-/// Reads strings, with their escapes decoded, and integers of 32 bits. A number with a fraction or an
-/// exponent is refused, and so is an integer of more bits.
+/// Reads strings, with their escapes decoded, and integers of 32 bits. A number with a fraction or
+/// an exponent is refused, and so is an integer of more bits.
 impl ParseScalarValue<DefaultScalarValue> for DefaultScalarValue {
     ghost reads = { spec.reads };
 

@@ -48,7 +48,8 @@ impl<'s, S: ScalarValue> FromScalarValue<'s, S> for bool {
 
     ghost means = { λ s value. as_bool (S.answer s) ≡ Some value };
 
-    ghost refuses = { λ s e. Refused (codes "Boolean") (scalar_text (S.answer s)) (as_bool (S.answer s)) e };
+    ghost refuses = { λ s e.
+        Refused (codes "Boolean") (scalar_text (S.answer s)) (as_bool (S.answer s)) e };
 
     ghost is_memory = { λ e. e ≡ Memory };
 
@@ -67,7 +68,8 @@ impl<'s, S: ScalarValue> FromScalarValue<'s, S> for i32 {
 
     ghost means = { λ s value. as_int (S.answer s) ≡ Some value };
 
-    ghost refuses = { λ s e. Refused (codes "Int") (scalar_text (S.answer s)) (as_int (S.answer s)) e };
+    ghost refuses = { λ s e.
+        Refused (codes "Int") (scalar_text (S.answer s)) (as_int (S.answer s)) e };
 
     ghost is_memory = { λ e. e ≡ Memory };
 
@@ -86,7 +88,8 @@ impl<'s, S: ScalarValue> FromScalarValue<'s, S> for &'s str {
 
     ghost means = { λ s text. as_text (S.answer s) ≡ Some text.now };
 
-    ghost refuses = { λ s e. Refused (codes "String") (scalar_text (S.answer s)) (as_text (S.answer s)) e };
+    ghost refuses = { λ s e.
+        Refused (codes "String") (scalar_text (S.answer s)) (as_text (S.answer s)) e };
 
     ghost is_memory = { λ e. e ≡ Memory };
 
@@ -105,7 +108,8 @@ impl<'s, S: ScalarValue> FromScalarValue<'s, S> for String {
 
     ghost means = { λ s text. as_text (S.answer s) ≡ Some (string_bytes text) };
 
-    ghost refuses = { λ s e. Refused (codes "String") (scalar_text (S.answer s)) (as_text (S.answer s)) e };
+    ghost refuses = { λ s e.
+        Refused (codes "String") (scalar_text (S.answer s)) (as_text (S.answer s)) e };
 
     ghost is_memory = { λ e. e ≡ Memory };
 
@@ -124,7 +128,8 @@ impl<'s, S: ScalarValue> FromScalarValue<'s, S> for Text {
 
     ghost means = { λ s text. as_text (S.answer s) ≡ Some text };
 
-    ghost refuses = { λ s e. Refused (codes "String") (scalar_text (S.answer s)) (as_text (S.answer s)) e };
+    ghost refuses = { λ s e.
+        Refused (codes "String") (scalar_text (S.answer s)) (as_text (S.answer s)) e };
 
     ghost is_memory = { λ e. e ≡ Memory };
 

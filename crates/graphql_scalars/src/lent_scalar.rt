@@ -7,8 +7,8 @@ use crate::scalar::ScalarValue;
 use std::fmt;
 use std::marker::Model;
 
-/// A scalar, lent, that displays as a message names it: an integer in decimal, a boolean as `true` or
-/// `false`, a text between quotes. Contracts see the scalar alone, wherever it stands.
+/// A scalar, lent, that displays as a message names it: an integer in decimal, a boolean as `true`
+/// or `false`, a text between quotes. Contracts see the scalar alone, wherever it stands.
 #[derive(Debug, Drop)]
 pub struct Scalar<'a, S> {
     held: &'a S,
@@ -39,7 +39,8 @@ impl<'a, S> From<&'a S> for Scalar<'a, S> {
 }
 
 /// Writes an integer in decimal, a boolean as `true` or `false`, and a text between quotes, with
-/// nothing escaped (GraphQL October 2021, 2.9.1 Int Value, 2.9.3 Boolean Value, 2.9.4 String Value).
+/// nothing escaped (GraphQL October 2021, 2.9.1 Int Value, 2.9.3 Boolean Value, 2.9.4 String
+/// Value).
 impl<'a, S: ScalarValue> fmt::Display for Scalar<'a, S> {
     ghost output = { λ scalar. Some (scalar_text (S.answer scalar)) };
 

@@ -1,5 +1,5 @@
-//! The scalars of GraphQL: what a type of scalars offers, how scalars are read from a text's tokens,
-//! and the scalars of a schema that declares none of its own.
+//! The scalars of GraphQL: what a type of scalars offers, how scalars are read from a text's
+//! tokens, and the scalars of a schema that declares none of its own.
 #![tactic(auto)]
 
 mod check_error;

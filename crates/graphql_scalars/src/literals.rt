@@ -38,7 +38,8 @@ fn int_scalar<S: ScalarValue>(
     source: &str,
     token: &ScalarToken<'_>,
 ) -> ParseScalarResult<S>
-    ensures { Meets IsMemory result (spec.int_or S.of_int (int_value source.now) (spec.refusal_of token.now)) }
+    ensures { Meets IsMemory result
+        (spec.int_or S.of_int (int_value source.now) (spec.refusal_of token.now)) }
 {
     match int_value(source) {
         Some(value) => Ok(S::from_int(value)),

@@ -8,7 +8,8 @@ ghost use Rattle.graphql_text.specs.Memory.{Answers};
 ghost use Rattle.graphql_scalars.specs.Conversions.{Refused};
 ghost use Rattle.graphql_scalars.specs.ScalarText.{scalar_text};
 ghost use Rattle.graphql_scalars.specs.ScalarAnswers.{as_int, as_bool, as_text};
-ghost use Rattle.graphql_scalars.specs.declared.check_error.CheckError.TheVariants.{Message, Memory};
+ghost use Rattle.graphql_scalars.specs.declared.check_error.CheckError.TheVariants.{Message};
+ghost use Rattle.graphql_scalars.specs.declared.check_error.CheckError.TheVariants.{Memory};
 
 use crate::check_error::{CheckError, WrongInputScalarTypeError};
 use crate::lent_scalar::Scalar;
@@ -44,7 +45,8 @@ pub trait TryToPrimitive<'me, T> {
 
 /// The refusal of a scalar that is no value of the type of this name.
 fn refusal<S: ScalarValue>(alloc: Global, type_name: &str, scalar: &S) -> CheckError
-    ensures { result ≢ Memory → result ≡ Message (spec.wrong_type type_name.now (scalar_text (S.answer scalar.now))) }
+    ensures { result ≢ Memory
+        → result ≡ Message (spec.wrong_type type_name.now (scalar_text (S.answer scalar.now))) }
 {
     let error = WrongInputScalarTypeError {
         type_name: TextRef::new(type_name),
@@ -59,7 +61,8 @@ impl<'me, S: ScalarValue> TryToPrimitive<'me, bool> for S {
 
     ghost means = { λ s value. as_bool (S.answer s) ≡ Some value };
 
-    ghost refuses = { λ s e. Refused (codes "Boolean") (scalar_text (S.answer s)) (as_bool (S.answer s)) e };
+    ghost refuses = { λ s e.
+        Refused (codes "Boolean") (scalar_text (S.answer s)) (as_bool (S.answer s)) e };
 
     ghost is_memory = { λ e. e ≡ Memory };
 
@@ -81,7 +84,8 @@ impl<'me, S: ScalarValue> TryToPrimitive<'me, i32> for S {
 
     ghost means = { λ s value. as_int (S.answer s) ≡ Some value };
 
-    ghost refuses = { λ s e. Refused (codes "Int") (scalar_text (S.answer s)) (as_int (S.answer s)) e };
+    ghost refuses = { λ s e.
+        Refused (codes "Int") (scalar_text (S.answer s)) (as_int (S.answer s)) e };
 
     ghost is_memory = { λ e. e ≡ Memory };
 
@@ -103,7 +107,8 @@ impl<'me, S: ScalarValue> TryToPrimitive<'me, &'me str> for S {
 
     ghost means = { λ s text. as_text (S.answer s) ≡ Some text.now };
 
-    ghost refuses = { λ s e. Refused (codes "String") (scalar_text (S.answer s)) (as_text (S.answer s)) e };
+    ghost refuses = { λ s e.
+        Refused (codes "String") (scalar_text (S.answer s)) (as_text (S.answer s)) e };
 
     ghost is_memory = { λ e. e ≡ Memory };
 
@@ -125,7 +130,8 @@ impl<'me, S: ScalarValue> TryToPrimitive<'me, String> for S {
 
     ghost means = { λ s text. as_text (S.answer s) ≡ Some (string_bytes text) };
 
-    ghost refuses = { λ s e. Refused (codes "String") (scalar_text (S.answer s)) (as_text (S.answer s)) e };
+    ghost refuses = { λ s e.
+        Refused (codes "String") (scalar_text (S.answer s)) (as_text (S.answer s)) e };
 
     ghost is_memory = { λ e. e ≡ Memory };
 

@@ -1,7 +1,8 @@
 //! Scalars, how they are read from the tokens of a text, and what they answer.
 
 ghost use mir.Syntax.{w32};
-ghost use Rattle.std.specs.Prelude.{◌≡◌, ℤ, Result, Bool, List, ℕ, string_bytes, FitsSigned, IfSome};
+ghost use Rattle.std.specs.Prelude.{◌≡◌, ℤ, Result, Bool, List, ℕ, string_bytes, FitsSigned};
+ghost use Rattle.std.specs.Prelude.{IfSome};
 ghost use Rattle.std.specs.Option.{option_map};
 ghost use Rattle.std.specs.Str.{IsUtf8};
 ghost use Rattle.graphql_text.specs.declared.token.ScalarToken.{ScalarToken};
@@ -9,7 +10,8 @@ ghost use Rattle.graphql_text.specs.declared.parse_error.ParseError.{ParseError}
 ghost use Rattle.graphql_text.specs.Memory.{Answers, Gives, GivesBy, Meets};
 ghost use Rattle.graphql_scalars.specs.Another.{of_answer};
 ghost use Rattle.graphql_scalars.specs.Reading.{IsMemory};
-ghost use Rattle.graphql_scalars.specs.ScalarAnswers.{ScalarAnswer, integer, boolean, text, as_int, as_bool, as_text};
+ghost use Rattle.graphql_scalars.specs.ScalarAnswers.{ScalarAnswer, integer, boolean, text, as_int};
+ghost use Rattle.graphql_scalars.specs.ScalarAnswers.{as_bool, as_text};
 
 use crate::from_scalar::FromScalarValue;
 use graphql_text::{ParseError, ScalarToken, Text};
@@ -74,10 +76,11 @@ pub trait ScalarValue: ParseScalarValue<Self> + Clone + Eq {
     fn try_into_string(self) -> Option<String>
         ensures { option_map (λ text. string_bytes text) result ≡ as_text (answer self) };
 
-    /// The text that the scalar answers, if it answers one, as a text of its own. An error is want of
-    /// memory.
+    /// The text that the scalar answers, if it answers one, as a text of its own. An error is want
+    /// of memory.
     final fn try_to_string(&self, alloc: Global) -> Result<Option<String>, AllocError>
-        ensures { GivesBy (λ text. option_map (λ t. string_bytes t) text) result (as_text (answer self.now)) }
+        ensures { GivesBy (λ text. option_map (λ t. string_bytes t) text) result
+            (as_text (answer self.now)) }
     {
         match self.try_as_str() {
             Some(text) => Ok(Some(Text::from_str(alloc, text)?.into_string())),
@@ -95,8 +98,8 @@ pub trait ScalarValue: ParseScalarValue<Self> + Clone + Eq {
         T::from_scalar_value(alloc, self)
     }
 
-    /// The scalar of another type that gives the same answer: the integer, else the boolean, else the
-    /// text. Takes no memory.
+    /// The scalar of another type that gives the same answer: the integer, else the boolean, else
+    /// the text. Takes no memory.
     final fn into_another<T: ScalarValue>(self) -> T
     where
         Self: Drop,

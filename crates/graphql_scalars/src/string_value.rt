@@ -1,6 +1,7 @@
 //! What strings stand for.
 
-ghost use Rattle.std.specs.Prelude.{◌≡◌, ◌<◌, ◌∷◌, [], length, drop, encode_utf8_all, Some, None, MatchOption, IfSome, IfOk};
+ghost use Rattle.std.specs.Prelude.{◌≡◌, ◌<◌, ◌∷◌, [], length, drop, encode_utf8_all, Some, None};
+ghost use Rattle.std.specs.Prelude.{MatchOption, IfSome, IfOk};
 ghost use Rattle.std.specs.Str.{chars};
 ghost use Rattle.graphql_text.specs.Memory.{Gives, Meets, MeetsBy, UnlessMemory};
 ghost use Rattle.graphql_scalars.specs.Reading.{IsMemory};
@@ -78,7 +79,8 @@ fn code_letters(alloc: Global, text: &str) -> Result<Text, AllocError>
 
 /// The refusal of the code that stands behind a backslash and `u` at the head of a text.
 fn unknown_code(alloc: Global, text: &str) -> ParseError
-    ensures { UnlessMemory IsMemory result (result ≡ spec.unknown_escape (117 ∷ spec.letters 4 (chars text.now))) }
+    ensures { UnlessMemory IsMemory result
+        (result ≡ spec.unknown_escape (117 ∷ spec.letters 4 (chars text.now))) }
 {
     match code_letters(alloc, text) {
         Ok(escape) => ParseError::LexerError(LexerError::UnknownEscapeSequence(escape)),
@@ -101,10 +103,11 @@ fn unknown_character(alloc: Global, character: char) -> ParseError
     }
 }
 
-/// The character of four hexadecimal digits at the head of a text, and what follows them; none where
-/// they are missing or write half of a pair.
+/// The character of four hexadecimal digits at the head of a text, and what follows them; none
+/// where they are missing or write half of a pair.
 fn code_at(text: &str) -> Option<(char, &str)>
-    ensures code { MatchOption result (spec.code_at (chars text.now) ≡ None) (λ p. (spec.code_at (chars text.now) ≡ Some p.0) × (chars p.1.now ≡ drop 4 (chars text.now))) }
+    ensures code { MatchOption result (spec.code_at (chars text.now) ≡ None) (λ p.
+        (spec.code_at (chars text.now) ≡ Some p.0) × (chars p.1.now ≡ drop 4 (chars text.now))) }
     ensures shorter { IfSome result (λ p. length p.1.now < length text.now) }
 {
     let (a, text) = first_character(text)?;
@@ -118,7 +121,8 @@ fn code_at(text: &str) -> Option<(char, &str)>
 /// The character of the escape whose backslash stands before a text, and what follows the escape.
 #[tactic(auto, unfolding(crate::specs::StringValue::escape, crate::specs::StringValue::escape_and_rest))]
 fn escape<'a>(alloc: Global, text: &'a str) -> Result<(char, &'a str), ParseError>
-    ensures escape { MeetsBy (λ p. (p.0, chars p.1.now)) IsMemory result (spec.escape_and_rest (chars text.now)) }
+    ensures escape { MeetsBy (λ p. (p.0, chars p.1.now)) IsMemory result
+        (spec.escape_and_rest (chars text.now)) }
     ensures shorter { IfOk result (λ p. length p.1.now < length text.now) }
 {
     let Some((first, rest)) = first_character(text) else {

@@ -1,4 +1,5 @@
--- What a check says of a value (GraphQL October 2021, 3.5 Scalars, 3.9 Enums, 3.10 Input Objects: input coercion).
+-- What a check says of a value (GraphQL October 2021, 3.5 Scalars, 3.9 Enums, 3.10 Input Objects:
+-- input coercion).
 use Rattle.std.specs.Prelude.{Bool, List, ℕ, Result, Ok, Err}
 use Rattle.std.specs.Borrow.{Bor}
 use Rattle.graphql_scalars.specs.declared.check_error.CheckError.{CheckError}
@@ -31,5 +32,10 @@ module _ {S : Type 0} (eq : S → S → Bool) (says : CheckRelation S) where
   IsConsistent = (value : InputValue S) → Accepts value → Refuses value → ⊥
 
 -- what is accepted is accepted wherever it stands
-pub accepts_same : {S : Type 0} {eq : S → S → Bool} {says : CheckRelation S} → IsEquivalence eq → (a b : InputValue S) → SameValue S eq a b → Accepts eq says a → Accepts eq says b
-accepts_same {S} {eq} laws a b same accepted = record { reference = accepted.reference; same = by_a_third eq laws _ a b accepted.same same; answers = accepted.answers }
+pub accepts_same : {S : Type 0} {eq : S → S → Bool} {says : CheckRelation S} → IsEquivalence eq
+    → (a b : InputValue S) → SameValue S eq a b → Accepts eq says a → Accepts eq says b
+accepts_same {S} {eq} laws a b same accepted = record {
+  reference = accepted.reference;
+  same = by_a_third eq laws _ a b accepted.same same;
+  answers = accepted.answers;
+}

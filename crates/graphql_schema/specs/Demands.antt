@@ -1,11 +1,14 @@
--- What is asked of the types that names refer to (GraphQL October 2021, 3.4.2 Input and Output Types, 3.6 to 3.8).
+-- What is asked of the types that names refer to (GraphQL October 2021, 3.4.2 Input and Output
+-- Types, 3.6 to 3.8).
 use Rattle.std.specs.Prelude.{◌&&◌, not, List, [], Bool, Option}
 use Rattle.std.specs.Option.{is_some}
 use Rattle.graphql_schema.specs.declared.meta.MetaType.{MetaType}
 use Rattle.graphql_schema.specs.declared.faults.demand.Demand.{Demand}
 use Rattle.graphql_schema.specs.declared.faults.demand.Demand.TheVariants as demand
 use Rattle.graphql_names.specs.Names.{Bytes, is_one_of, passes}
-use Rattle.graphql_schema.specs.Lookups.{type_named, is_object, is_scalar, is_interface, is_input_object, interfaces_of, members_of, output_names, input_names, references_of}
+use Rattle.graphql_schema.specs.Lookups.{type_named, is_object, is_scalar, is_interface}
+use Rattle.graphql_schema.specs.Lookups.{is_input_object, interfaces_of, members_of, output_names}
+use Rattle.graphql_schema.specs.Lookups.{input_names, references_of}
 use Rattle.graphql_schema.specs.Faults.{is_composite, refers}
 
 module _ {S C : Type 0} where
@@ -33,4 +36,5 @@ module _ {S C : Type 0} where
 
   -- one of the types refers to it where that is asked, and its type is not what is asked for
   abbrev pub is_referred : Demand → List (MetaType S C) → Bytes → Bool
-  is_referred wanted types name = refers (asked_of wanted) types name && is_unmet wanted (type_named types name)
+  is_referred wanted types name =
+      refers (asked_of wanted) types name && is_unmet wanted (type_named types name)

@@ -1,7 +1,8 @@
 -- The places of directives (GraphQL October 2021, 3.13 Directives, DirectiveLocation).
 use Rattle.std.specs.Prelude.{ℕ, List, codes}
 use Rattle.graphql_schema.specs.declared.directive_location.DirectiveLocation.{DirectiveLocation}
-use Rattle.graphql_schema.specs.declared.directive_location.DirectiveLocation.TheVariants as location
+use Rattle.graphql_schema.specs.declared.directive_location.DirectiveLocation.TheVariants as
+    location
 
 -- a place in words
 abbrev pub words : DirectiveLocation → List ℕ

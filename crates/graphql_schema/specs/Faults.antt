@@ -1,5 +1,7 @@
--- What is wrong with the types of a schema, in the order in which it is told (GraphQL October 2021, 3.3 Schema, 3.4.2 Input and Output Types, 3.6 to 3.10).
-use Rattle.std.specs.Prelude.{◌≡◌, ◌++◌, ◌&&◌, ◌||◌, not, ℕ, List, [], ◌∷◌, map, take, slice_get, All, Bool, true, false, Option, Some, codes}
+-- What is wrong with the types of a schema, in the order in which it is told (GraphQL October 2021,
+-- 3.3 Schema, 3.4.2 Input and Output Types, 3.6 to 3.10).
+use Rattle.std.specs.Prelude.{◌≡◌, ◌++◌, ◌&&◌, ◌||◌, not, ℕ, List, [], ◌∷◌, map, take, slice_get}
+use Rattle.std.specs.Prelude.{All, Bool, true, false, Option, Some, codes}
 use Rattle.std.specs.List.{list_all, list_any}
 use Rattle.std.specs.Option.{is_some, option_to_list}
 use Rattle.graphql_text.specs.Memory.{UnlessMemory}
@@ -15,7 +17,9 @@ use Rattle.graphql_schema.specs.declared.faults.kind.FaultKind.TheVariants as fa
 use Rattle.graphql_names.specs.declared.name_map.NameMapError.{NameMapError}
 use Rattle.graphql_names.specs.declared.name_map.NameMapError.TheVariants as repeat
 use Rattle.graphql_names.specs.Names.{Bytes, stands_twice, is_one_of, is_named}
-use Rattle.graphql_schema.specs.Lookups.{own_name, is_object, is_scalar, is_interface, is_input_object, interfaces_of, members_of, output_names, input_names, references_of}
+use Rattle.graphql_schema.specs.Lookups.{own_name, is_object, is_scalar, is_interface}
+use Rattle.graphql_schema.specs.Lookups.{is_input_object, interfaces_of, members_of, output_names}
+use Rattle.graphql_schema.specs.Lookups.{input_names, references_of}
 
 -- the refusal of types of which two have one name
 abbrev pub refusal_of : NameMapError → SchemaError
@@ -34,7 +38,8 @@ root_names roots = roots.query ∷ option_to_list roots.mutation ++ option_to_li
 -- the kinds of faults, in the order in which they are told
 abbrev pub order : List FaultKind
 order =
-    fault.DuplicateName ∷ fault.MissingBuiltin ∷ fault.UnknownType ∷ fault.NotOutputType ∷ fault.NotInputType ∷ fault.BadRoot ∷ fault.BadMember ∷ fault.BadOneOf ∷ []
+    fault.DuplicateName ∷ fault.MissingBuiltin ∷ fault.UnknownType ∷ fault.NotOutputType
+    ∷ fault.NotInputType ∷ fault.BadRoot ∷ fault.BadMember ∷ fault.BadOneOf ∷ []
 
 -- what tells a fault of a kind at a name
 abbrev pub error_of : FaultKind → Bytes → SchemaError
@@ -47,15 +52,19 @@ error_of fault.BadRoot name = error.BadRoot name
 error_of fault.BadMember name = error.BadMember name
 error_of fault.BadOneOf name = error.BadOneOf name
 
--- what a field has to be of an input object of which exactly one field is given (September 2025, 3.10.1 OneOf Input Objects): null is among its values, and it has no default
+-- what a field has to be of an input object of which exactly one field is given (September 2025,
+-- 3.10.1 OneOf Input Objects): null is among its values, and it has no default
 abbrev pub is_nullable_without_default : {S : Type 0} → Argument S → Bool
-is_nullable_without_default field = not (is_non_null (outermost field.arg_type.modifiers)) && not (is_some field.default_value)
+is_nullable_without_default field =
+    not (is_non_null (outermost field.arg_type.modifiers)) && not (is_some field.default_value)
 
 module _ {S C : Type 0} where
-  -- the lists of names of one type in which no name may stand twice: its fields, its values, its input fields, and the arguments of each field
+  -- the lists of names of one type in which no name may stand twice: its fields, its values, its
+  -- input fields, and the arguments of each field
   abbrev pub scopes_of : MetaType S C → List (List Bytes)
   scopes_of m =
-      map (λ field. field.name) (fields_of m) ∷ map (λ value. value.name) (values_of m) ∷ map (λ field. field.name) (input_fields_of m)
+      map (λ field. field.name) (fields_of m) ∷ map (λ value. value.name) (values_of m)
+      ∷ map (λ field. field.name) (input_fields_of m)
       ∷ map (λ field. map (λ argument. argument.name) (arguments_of field)) (fields_of m)
 
   -- an object, an interface or a union
@@ -65,9 +74,11 @@ module _ {S C : Type 0} where
   is_composite (meta.Union m) = true
   is_composite _ = false
 
-  -- an input object of which exactly one field is given has a field that is non-null or has a default
+  -- an input object of which exactly one field is given has a field that is non-null or has a
+  -- default
   abbrev pub is_bad_one_of : MetaType S C → Bool
-  is_bad_one_of (meta.InputObject m) = m.exactly_one && not (list_all is_nullable_without_default m.input_fields)
+  is_bad_one_of (meta.InputObject m) =
+      m.exactly_one && not (list_all is_nullable_without_default m.input_fields)
   is_bad_one_of _ = false
 
   -- one of the types has this name and passes the test
@@ -80,16 +91,23 @@ module _ {S C : Type 0} where
 
   -- a fault of the kind stands at the name
   abbrev pub has_fault : List (MetaType S C) → Roots → FaultKind → Bytes → Bool
-  has_fault types roots fault.DuplicateName name = stands_twice (map own_name types) name || list_any (λ m. list_any (λ names. stands_twice names name) (scopes_of m)) types
+  has_fault types roots fault.DuplicateName name = stands_twice (map own_name types) name
+      || list_any (λ m. list_any (λ names. stands_twice names name) (scopes_of m)) types
   has_fault types roots fault.MissingBuiltin name =
       is_one_of (codes "__Schema" ∷ codes "__Type" ∷ []) name && not (has_type is_object types name)
-      || is_one_of (codes "String" ∷ codes "Boolean" ∷ []) name && not (has_type is_scalar types name)
-  has_fault types roots fault.UnknownType name = refers references_of types name && not (has_type (λ m. true) types name)
-  has_fault types roots fault.NotOutputType name = refers output_names types name && has_type is_input_object types name
-  has_fault types roots fault.NotInputType name = refers input_names types name && has_type is_composite types name
-  has_fault types roots fault.BadRoot name = is_one_of (root_names roots) name && not (has_type is_object types name)
+      || is_one_of (codes "String" ∷ codes "Boolean" ∷ []) name
+      && not (has_type is_scalar types name)
+  has_fault types roots fault.UnknownType name =
+      refers references_of types name && not (has_type (λ m. true) types name)
+  has_fault types roots fault.NotOutputType name =
+      refers output_names types name && has_type is_input_object types name
+  has_fault types roots fault.NotInputType name =
+      refers input_names types name && has_type is_composite types name
+  has_fault types roots fault.BadRoot name =
+      is_one_of (root_names roots) name && not (has_type is_object types name)
   has_fault types roots fault.BadMember name =
-      refers members_of types name && not (has_type is_object types name) || refers interfaces_of types name && not (has_type is_interface types name)
+      refers members_of types name && not (has_type is_object types name)
+      || refers interfaces_of types name && not (has_type is_interface types name)
   has_fault types roots fault.BadOneOf name = has_type is_bad_one_of types name
 
   -- no fault of the kind stands
@@ -99,8 +117,10 @@ module _ {S C : Type 0} where
   abbrev pub IsFaultless : List (MetaType S C) → Roots → Type 0
   IsFaultless types roots = (kind : FaultKind) → IsAbsent types roots kind
 
-  -- the error tells a fault that stands, of the kind at a place of the order, and none of the kinds before that place stands
-  pub record TellsFirst (types : List (MetaType S C)) (roots : Roots) (e : SchemaError) : Type 0 where
+  -- the error tells a fault that stands, of the kind at a place of the order, and none of the kinds
+  -- before that place stands
+  pub record TellsFirst (types : List (MetaType S C)) (roots : Roots)
+      (e : SchemaError) : Type 0 where
     pub kind : FaultKind
     pub name : Bytes
     pub told : e ≡ error_of kind name

@@ -1,4 +1,5 @@
--- The types of a schema by their names (GraphQL October 2021, 3.3 Schema: all types have unique names), and what they refer to.
+-- The types of a schema by their names (GraphQL October 2021, 3.3 Schema: all types have unique
+-- names), and what they refer to.
 use Rattle.std.specs.Prelude.{◌++◌, Bool, true, false, List, map, Option}
 use Rattle.std.specs.List.{filter, flat_map}
 use Rattle.graphql_schema.specs.declared.meta.argument.Argument.{Argument}
@@ -52,7 +53,8 @@ module _ {S C : Type 0} where
   -- the types in the order of kinds: enums, input objects, interfaces, scalars, objects, unions
   abbrev pub by_kind : List (MetaType S C) → List (MetaType S C)
   by_kind types =
-      filter is_enum types ++ filter is_input_object types ++ filter is_interface types ++ filter is_scalar types ++ filter is_object types ++ filter is_union types
+      filter is_enum types ++ filter is_input_object types ++ filter is_interface types
+      ++ filter is_scalar types ++ filter is_object types ++ filter is_union types
 
 module _ {S : Type 0} where
   abbrev pub argument_type_name : Argument S → Bytes
@@ -68,7 +70,8 @@ module _ {S C : Type 0} where
 
   -- the names of the types of the arguments of its fields, and of its input fields
   abbrev pub input_names : MetaType S C → List Bytes
-  input_names m = flat_map (λ field. map argument_type_name (arguments_of field)) (fields_of m) ++ map argument_type_name (input_fields_of m)
+  input_names m = flat_map (λ field. map argument_type_name (arguments_of field)) (fields_of m)
+      ++ map argument_type_name (input_fields_of m)
 
   -- the names of all types that it refers to
   abbrev pub references_of : MetaType S C → List Bytes

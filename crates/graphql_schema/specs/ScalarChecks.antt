@@ -1,4 +1,5 @@
--- Which values the built-in scalars accept, and what is said of the others (GraphQL October 2021, 3.5 Scalars: input coercion).
+-- Which values the built-in scalars accept, and what is said of the others (GraphQL October 2021,
+-- 3.5 Scalars: input coercion).
 use Rattle.std.specs.Prelude.{◌≡◌, ◌≢◌, ◌⊎◌, IsSome, ℕ, List}
 use Rattle.graphql_scalars.specs.declared.check_error.CheckError.{CheckError}
 use Rattle.graphql_scalars.specs.declared.check_error.CheckError.TheVariants.{Message}
@@ -33,8 +34,11 @@ IsBoolean = IsScalar (λ s. IsSome (as_bool (answer s)))
 abbrev pub IsId : InputValue DefaultScalarValue → Type 0
 IsId = IsScalar (λ s. IsSome (as_text (answer s)) ⊎ IsSome (as_int (answer s)))
 
--- the error says of a scalar which type was expected, and of any other value that it is no scalar, by its text
+-- the error says of a scalar which type was expected, and of any other value that it is no scalar,
+-- by its text
 abbrev pub SaysWhy : List ℕ → InputValue DefaultScalarValue → CheckError → Type 0
 SaysWhy type_name v e =
-    ((s : DefaultScalarValue) → v ≡ value.Scalar s → e ≡ Message (wrong_type type_name (scalar_text (answer s))))
-    × (((s : DefaultScalarValue) → v ≢ value.Scalar s) → e ≡ Message (no_scalar (input_value_text answer v)))
+    ((s : DefaultScalarValue) → v ≡ value.Scalar s
+    → e ≡ Message (wrong_type type_name (scalar_text (answer s))))
+    × (((s : DefaultScalarValue) → v ≢ value.Scalar s)
+    → e ≡ Message (no_scalar (input_value_text answer v)))

@@ -83,7 +83,8 @@ module _ {S C : Type 0} where
   check_of (meta.InputObject m) = Some m.check
   check_of _ = None
 
-  -- the reference to the type (2.11 Type References): no null is among its values but where the metadata adds it
+  -- the reference to the type (2.11 Type References): no null is among its values but where the
+  -- metadata adds it
   abbrev pub type_of : MetaType S C → TypeOf
   type_of (meta.Scalar m) = reference_to m.name
   type_of (meta.Object m) = reference_to m.name
@@ -91,6 +92,10 @@ module _ {S C : Type 0} where
   type_of (meta.Interface m) = reference_to m.name
   type_of (meta.Union m) = reference_to m.name
   type_of (meta.InputObject m) = reference_to m.name
-  type_of (meta.List m) = record { name = m.of_type.name; modifiers = m.of_type.modifiers ++ modifier.List m.expected_size ∷ modifier.NonNull ∷ [] }
-  type_of (meta.Nullable m) = record { name = m.of_type.name; modifiers = nullable m.of_type.modifiers }
+  type_of (meta.List m) = record {
+    name = m.of_type.name;
+    modifiers = m.of_type.modifiers ++ modifier.List m.expected_size ∷ modifier.NonNull ∷ [];
+  }
+  type_of (meta.Nullable m) =
+      record { name = m.of_type.name; modifiers = nullable m.of_type.modifiers }
   type_of (meta.Placeholder m) = m.of_type

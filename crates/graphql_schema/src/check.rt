@@ -17,13 +17,14 @@ pub trait Check<S: PartialEq> {
     /// It accepts the value.
     ghost accepts: { Self → InputValue S → Type 0 };
 
-    /// Whether it accepts the value: `Ok` where it does. `CheckError::Message` says why it does not.
-    /// `CheckError::Memory` is want of memory, and tells nothing of the value.
+    /// Whether it accepts the value: `Ok` where it does. `CheckError::Message` says why it does
+    /// not. `CheckError::Memory` is want of memory, and tells nothing of the value.
     fn check(&self, value: &InputValue<S>) -> Result<(), CheckError>
         ensures { Told (λ e. e ≡ Memory) result (accepts self.now value.now) };
 
     /// Of values that are the same wherever they stand, it accepts all or none.
-    ghost respects_same: { (c : Self) (a b : InputValue S) → SameValue S S.eq a b → accepts c a → accepts c b };
+    ghost respects_same: { (c : Self) (a b : InputValue S) → SameValue S S.eq a b → accepts c a
+        → accepts c b };
 }
 
 /// Scalars that a schema may be over: they name the checks of its types.
@@ -52,7 +53,8 @@ impl TypeCheck {
     /// scalars, by `scalar_consistent`.
     pub fn new(function: Function) -> TypeCheck
         requires callable { Function.IsAlwaysCallable function }
-        requires consistent { IsConsistent ⟦<DefaultScalarValue as PartialEq>⟧.eq (Function.post function) }
+        requires consistent { IsConsistent ⟦<DefaultScalarValue as PartialEq>⟧.eq
+            (Function.post function) }
         ensures { result.function ≡ function }
     {
         TypeCheck { function }
@@ -70,7 +72,8 @@ impl Check<DefaultScalarValue> for TypeCheck {
     ghost use Rattle.graphql_schema.specs.Checks.{Accepts, accepts_same};
     ghost use Rattle.graphql_scalars.specs.contracts.default_scalar.DefaultScalarValueEq.TheImpl.Laws.{lawful};
 
-    ghost accepts = { λ c. Accepts ⟦<DefaultScalarValue as PartialEq>⟧.eq (Function.post c.function) };
+    ghost accepts = { λ c.
+        Accepts ⟦<DefaultScalarValue as PartialEq>⟧.eq (Function.post c.function) };
 
     ghost respects_same = { λ c a b same accepted. accepts_same lawful.laws a b same accepted };
 

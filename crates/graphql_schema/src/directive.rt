@@ -37,7 +37,13 @@ impl<S> DirectiveType<S> {
         arguments: NamedItems<Argument<S>>,
         is_repeatable: bool,
     ) -> DirectiveType<S>
-        ensures { result ≡ record { name = name; description = None; locations = locations; arguments = arguments; is_repeatable = is_repeatable } }
+        ensures { result ≡ record {
+          name = name;
+          description = None;
+          locations = locations;
+          arguments = arguments;
+          is_repeatable = is_repeatable;
+        } }
     {
         DirectiveType {
             name,
@@ -68,8 +74,8 @@ impl<S> DirectiveType<S> {
 impl<S: ScalarValue + Drop> Clone for DirectiveType<S> {
     ghost is_clone = { λ directive copy. copy ≡ directive };
 
-    /// The same directive once more. Takes stack for each level that a default value of its arguments
-    /// nests. An error is want of memory.
+    /// The same directive once more. Takes stack for each level that a default value of its
+    /// arguments nests. An error is want of memory.
     fn clone(&self) -> Result<DirectiveType<S>, AllocError> {
         let name = self.name.clone()?;
         let description = self.description.clone()?;

@@ -17,7 +17,8 @@ pub enum SchemaError {
     #[error("More than one type, field, argument or value of one type is named \"{0}\"")]
     DuplicateName(Text),
 
-    /// One of the objects `__Schema` and `__Type` or of the scalars `String` and `Boolean` is missing.
+    /// One of the objects `__Schema` and `__Type` or of the scalars `String` and `Boolean` is
+    /// missing.
     #[error("Type \"{0}\" is missing")]
     MissingBuiltin(Text),
 
@@ -37,13 +38,13 @@ pub enum SchemaError {
     #[error("Root type \"{0}\" is no object")]
     BadRoot(Text),
 
-    /// A member of a union has this name, which no object has; or it is listed as an interface, and no
-    /// interface has it.
+    /// A member of a union has this name, which no object has; or it is listed as an interface, and
+    /// no interface has it.
     #[error("Type \"{0}\" is no object among a union's members, or no interface among those listed")]
     BadMember(Text),
 
-    /// The input object of this name, of which exactly one field is given, has a field that is non-null or
-    /// has a default.
+    /// The input object of this name, of which exactly one field is given, has a field that is
+    /// non-null or has a default.
     #[error("Input object \"{0}\", of which exactly one field is given, has a field that is non-null or has a default")]
     BadOneOf(Text),
 

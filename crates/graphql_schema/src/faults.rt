@@ -25,9 +25,9 @@ use one_of::bad_one_of;
 use references::{bad_member, unmet_reference};
 use std::alloc::{AllocError, Global};
 
-/// The first fault of the types, in the order of [`SchemaError`], each with a name at which it stands
-/// (GraphQL October 2021, 3.3 Schema, 3.4.2 Input and Output Types, 3.6 to 3.10). `SchemaError::Memory`
-/// is want of memory.
+/// The first fault of the types, in the order of [`SchemaError`], each with a name at which it
+/// stands (GraphQL October 2021, 3.3 Schema, 3.4.2 Input and Output Types, 3.6 to 3.10).
+/// `SchemaError::Memory` is want of memory.
 pub fn find_fault<S, C>(
     alloc: Global,
     types: &NameMap<MetaType<S, C>>,
@@ -35,7 +35,8 @@ pub fn find_fault<S, C>(
     mutation: &Option<Text>,
     subscription: &Option<Text>,
 ) -> Result<(), SchemaError>
-    ensures { let roots : Roots = record { query = query.now; mutation = mutation.now; subscription = subscription.now } in
+    ensures { let roots : Roots =
+        record { query = query.now; mutation = mutation.now; subscription = subscription.now } in
         MatchResult result (λ _. IsFaultless types.now roots) (IsFirstFault types.now roots) }
 {
     'kinds: for kind in KINDS {
@@ -56,7 +57,8 @@ fn faulty_name<'a, S, C>(
     mutation: &'a Option<Text>,
     subscription: &'a Option<Text>,
 ) -> Result<Option<&'a str>, AllocError>
-    ensures { let roots : Roots = record { query = query.now; mutation = mutation.now; subscription = subscription.now } in
+    ensures { let roots : Roots =
+        record { query = query.now; mutation = mutation.now; subscription = subscription.now } in
         IfOk result (Finds (has_fault types.now roots kind)) }
 {
     let all = types.as_slice();

@@ -2,7 +2,8 @@
 
 ghost use Rattle.std.specs.Prelude.{◌≡◌, ◌++◌, [], ◌∷◌, None, OnOk, IsOkAnd};
 ghost use Rattle.graphql_text.specs.Memory.{Gives};
-ghost use Rattle.graphql_schema.specs.Completed.{schema_field, type_field, name_argument, with_introspection, completed};
+ghost use Rattle.graphql_schema.specs.Completed.{schema_field, type_field, name_argument};
+ghost use Rattle.graphql_schema.specs.Completed.{with_introspection, completed};
 ghost use Rattle.graphql_schema.specs.declared.meta.deprecation.DeprecationStatus.TheVariants as status;
 
 use crate::{Argument, DeprecationStatus, Field, MetaType, ObjectMeta};
@@ -10,8 +11,8 @@ use graphql_names::Type;
 use graphql_text::{Items, Text};
 use std::alloc::{AllocError, Global};
 
-/// The named metadata, with the fields of introspection at the query root (GraphQL October 2021, 4.2
-/// Schema Introspection). An error is want of memory.
+/// The named metadata, with the fields of introspection at the query root (GraphQL October 2021,
+/// 4.2 Schema Introspection). An error is want of memory.
 pub fn completed<S: Drop, C: Drop>(
     alloc: Global,
     metadata: Items<MetaType<S, C>>,
@@ -75,7 +76,8 @@ fn with_fields<S: Drop>(
     alloc: Global,
     mut object: ObjectMeta<S>,
 ) -> Result<ObjectMeta<S>, AllocError>
-    ensures { Gives result (record object { fields = object.fields ++ schema_field ∷ type_field ∷ [] }) }
+    ensures { Gives result
+        (record object { fields = object.fields ++ schema_field ∷ type_field ∷ [] }) }
 {
     object.fields.push(schema_field(alloc)?)?;
     object.fields.push(type_field(alloc)?)?;
@@ -111,7 +113,13 @@ fn name_argument<S>(alloc: Global) -> Result<Argument<S>, AllocError>
 
 /// The field of this name and type, without arguments.
 fn field<S>(alloc: Global, name: &str, field_type: Type<Text>) -> Result<Field<S>, AllocError>
-    ensures { Gives result (record { name = name.now; description = None; arguments = None; field_type = field_type; deprecation_status = status.Current }) }
+    ensures { Gives result (record {
+      name = name.now;
+      description = None;
+      arguments = None;
+      field_type = field_type;
+      deprecation_status = status.Current;
+    }) }
 {
     Ok(Field {
         name: Text::from_str(alloc, name)?,

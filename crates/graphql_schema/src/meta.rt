@@ -36,9 +36,9 @@ pub use scalar::ScalarMeta;
 pub use type_kind::TypeKind;
 pub use union_type::UnionMeta;
 
-/// What a schema says of a type (GraphQL October 2021, 3.4 Types). It has no `clone`, since a check may
-/// be a boxed function, which can't be copied; the metadata without a check, and the arguments, fields
-/// and enum values within it, have.
+/// What a schema says of a type (GraphQL October 2021, 3.4 Types). It has no `clone`, since a check
+/// may be a boxed function, which can't be copied; the metadata without a check, and the arguments,
+/// fields and enum values within it, have.
 #[derive(Drop)]
 pub enum MetaType<S, C = <S as SchemaScalar>::Check> {
     /// A scalar.

@@ -16,8 +16,8 @@ use graphql_text::TextRef;
 use graphql_values::{DefaultScalarValue, InputValue, no_scalar};
 use std::alloc::Global;
 
-/// The checks of the built-in scalars, made of closures that call the functions of this module (GraphQL October
-/// 2021, 3.5 Scalars), and those of the enums of introspection.
+/// The checks of the built-in scalars, made of closures that call the functions of this module
+/// (GraphQL October 2021, 3.5 Scalars), and those of the enums of introspection.
 #[derive(Drop)]
 pub struct StandardChecks {
     /// Which values `Int` accepts.
@@ -101,7 +101,8 @@ pub fn boolean_check(
 /// refusal takes, and tells nothing of the value.
 pub fn id_check(alloc: Global, value: &InputValue<DefaultScalarValue>) -> Result<(), CheckError>
     ensures tells { Told (λ e. e ≡ Memory) result (IsId value.now) }
-    ensures says_why { IfErr result (λ e. e ≢ Memory → SaysWhy (codes "String` or `Int") value.now e) }
+    ensures says_why { IfErr result
+        (λ e. e ≢ Memory → SaysWhy (codes "String` or `Int") value.now e) }
 {
     match value {
         InputValue::Scalar(DefaultScalarValue::String(_) | DefaultScalarValue::Int(_)) => Ok(()),

@@ -1,5 +1,7 @@
--- What an answer comes to at a type (GraphQL October 2021, 6.4.3 Value Completion, 6.4.4 Handling Field Errors).
-use Rattle.std.specs.Prelude.{Bool, true, false, List, [], ◌∷◌, ◌++◌, map, reverse, Result, Ok, Err, codes}
+-- What an answer comes to at a type (GraphQL October 2021, 6.4.3 Value Completion, 6.4.4 Handling
+-- Field Errors).
+use Rattle.std.specs.Prelude.{Bool, true, false, List, [], ◌∷◌, ◌++◌, map, reverse, Result, Ok, Err}
+use Rattle.std.specs.Prelude.{codes}
 use Rattle.graphql_names.specs.Names.{Bytes}
 use Rattle.graphql_text.specs.declared.position.SourcePosition.{SourcePosition}
 use Rattle.graphql_names.specs.TypeReference.{written}
@@ -12,7 +14,8 @@ use Rattle.graphql_field_results.specs.declared.execution_error.ExecutionError.{
 use Rattle.graphql_field_results.specs.declared.field_error.FieldError.{FieldError}
 use Rattle.graphql_field_results.specs.declared.resolved.Resolved.{Resolved, out-Resolved}
 use Rattle.graphql_field_results.specs.declared.resolved.Resolved.TheOpen.{Resolved-F}
-use Rattle.graphql_semantics.specs.Outcomes.{Outcome, no_value, gives, fails, outcome_map, show_place, together}
+use Rattle.graphql_semantics.specs.Outcomes.{Outcome, no_value, gives, fails, outcome_map}
+use Rattle.graphql_semantics.specs.Outcomes.{show_place, together}
 
 -- the error of a field, by its path and where it starts
 abbrev pub blame_at : {S : Type 0} → List Bytes → SourcePosition → FieldError S → ExecutionError S
@@ -42,8 +45,10 @@ Members S = List (Pair (Value S))
 abbrev pub object_members : {S : Type 0} → Members S → Value S
 object_members members = value.Object (record { fields = members })
 
--- `run`: what the field's own selections give on a node; `blame`: the error of a failure here; of the type's name, whether it is a leaf and which nodes can stand there
-module _ {S N : Type 0} (run : N → Outcome S (Members S)) (blame : FieldError S → ExecutionError S) (name : Bytes) (is_leaf : Bool) (is_possible : N → Bool) where
+-- `run`: what the field's own selections give on a node; `blame`: the error of a failure here; of
+-- the type's name, whether it is a leaf and which nodes can stand there
+module _ {S N : Type 0} (run : N → Outcome S (Members S)) (blame : FieldError S → ExecutionError S)
+    (name : Bytes) (is_leaf : Bool) (is_possible : N → Bool) where
   abbrev pub misfit : List TypeModifier → Outcome S (Value S)
   misfit wraps = fails (blame (misfit_error name wraps))
 
@@ -63,7 +68,8 @@ module _ {S N : Type 0} (run : N → Outcome S (Members S)) (blame : FieldError 
   at_name (Resolved-F.Node node) = run_if (is_possible node) node
 
   -- at a list type a list fits; `item`: what an item comes to
-  abbrev pub at_list : List TypeModifier → (Resolved S N → Outcome S (Value S)) → Resolved-F S N (Resolved S N) → Outcome S (Value S)
+  abbrev pub at_list : List TypeModifier → (Resolved S N → Outcome S (Value S))
+      → Resolved-F S N (Resolved S N) → Outcome S (Value S)
   at_list wraps item Resolved-F.Null = no_value
   at_list wraps item (Resolved-F.Scalar scalar) = misfit wraps
   at_list wraps item (Resolved-F.List items) = outcome_map value.List (together (map item items))
@@ -80,9 +86,11 @@ module _ {S N : Type 0} (run : N → Outcome S (Members S)) (blame : FieldError 
   abbrev pub complete : List TypeModifier → Resolved S N → Outcome S (Value S)
   complete [] r = at_name (out-Resolved S N r)
   complete (modifier.NonNull ∷ wraps) r = at_required (complete wraps r) (out-Resolved S N r)
-  complete (modifier.List size ∷ wraps) r = at_list (modifier.List size ∷ wraps) (λ x. show_place (is_required wraps) (complete wraps x)) (out-Resolved S N r)
+  complete (modifier.List size ∷ wraps) r = at_list (modifier.List size ∷ wraps)
+      (λ x. show_place (is_required wraps) (complete wraps x)) (out-Resolved S N r)
 
   -- a resolver's error is a failure
-  abbrev pub complete_result : List TypeModifier → Result (Resolved S N) (FieldError S) → Outcome S (Value S)
+  abbrev pub complete_result : List TypeModifier → Result (Resolved S N) (FieldError S)
+      → Outcome S (Value S)
   complete_result wraps (Ok r) = complete wraps r
   complete_result wraps (Err e) = fails (blame e)

@@ -1,5 +1,7 @@
--- What selection sets give on a node (GraphQL October 2021, 6.3 Executing Selection Sets, 6.4 Executing Fields).
-use Rattle.std.specs.Prelude.{ℕ, zero, suc, max, List, [], ◌∷◌, ◌++◌, map, reverse, Option, Some, None, Result}
+-- What selection sets give on a node (GraphQL October 2021, 6.3 Executing Selection Sets, 6.4
+-- Executing Fields).
+use Rattle.std.specs.Prelude.{ℕ, zero, suc, max, List, [], ◌∷◌, ◌++◌, map, reverse, Option, Some}
+use Rattle.std.specs.Prelude.{None, Result}
 use Rattle.std.specs.List.{flat_map}
 use Rattle.graphql_names.specs.Names.{Bytes}
 use Rattle.graphql_output_values.specs.Objects.{Pair}
@@ -13,7 +15,8 @@ use Rattle.graphql_field_results.specs.declared.field_error.FieldError.{FieldErr
 use Rattle.graphql_field_results.specs.declared.resolved.Resolved.{Resolved}
 use Rattle.graphql_schema.specs.Types.{TypeOf}
 use Rattle.graphql_semantics.specs.Engines.{Engine}
-use Rattle.graphql_semantics.specs.Outcomes.{Outcome, no_value, gives, outcome_map, show_place, together}
+use Rattle.graphql_semantics.specs.Outcomes.{Outcome, no_value, gives, outcome_map, show_place}
+use Rattle.graphql_semantics.specs.Outcomes.{together}
 use Rattle.graphql_semantics.specs.Completion.{Members, blame_at, complete_result, is_required}
 
 -- what sets of selections give on a node of an object type, at a path
@@ -30,26 +33,34 @@ Group S = Bytes × List (Found S)
 
 module _ {S N : Type 0} (e : Engine S N) where
   -- what is answered for a field, completed at a type; `run` runs the field's own selections
-  abbrev pub at_type : (N → Outcome S (Members S)) → (FieldError S → ExecutionError S) → TypeOf → Result (Resolved S N) (FieldError S) → Outcome S (Value S)
+  abbrev pub at_type : (N → Outcome S (Members S)) → (FieldError S → ExecutionError S) → TypeOf
+      → Result (Resolved S N) (FieldError S) → Outcome S (Value S)
   at_type run blame type answer =
       show_place (is_required (reverse type.modifiers))
-      (complete_result run blame type.name (e.is_leaf type.name) (λ m. e.is_possible type.name (e.concrete m)) (reverse type.modifiers) answer)
+      (complete_result run blame type.name (e.is_leaf type.name)
+      (λ m. e.is_possible type.name (e.concrete m)) (reverse type.modifiers) answer)
 
   -- a field without a declaration, which no valid document has, is null
-  abbrev pub at_declared : Option TypeOf → (N → Outcome S (Members S)) → (FieldError S → ExecutionError S) → Result (Resolved S N) (FieldError S) → Outcome S (Value S)
+  abbrev pub at_declared : Option TypeOf → (N → Outcome S (Members S))
+      → (FieldError S → ExecutionError S) → Result (Resolved S N) (FieldError S)
+      → Outcome S (Value S)
   at_declared None run blame answer = gives value.Null
   at_declared (Some type) run blame answer = at_type run blame type answer
 
   -- the answer of a field at its path
-  abbrev pub answer_of : (N → Outcome S (Members S)) → List Bytes → Bytes → N → Head S → Outcome S (Value S)
+  abbrev pub answer_of : (N → Outcome S (Members S)) → List Bytes → Bytes → N → Head S
+      → Outcome S (Value S)
   answer_of run path object node head =
-      at_declared (e.declared object head.name) run (blame_at path head.place) (e.answer node object head.name (e.arguments object head))
+      at_declared (e.declared object head.name) run (blame_at path head.place)
+      (e.answer node object head.name (e.arguments object head))
 
   -- a group has one answer, that of its first field, with the selections of all its fields
-  abbrev pub group : Runs S N → List Bytes → Bytes → N → Bytes → List (Found S) → Outcome S (Value S)
+  abbrev pub group : Runs S N → List Bytes → Bytes → N → Bytes → List (Found S)
+      → Outcome S (Value S)
   group run path object node key [] = no_value
   group run path object node key (x ∷ xs) =
-      answer_of (λ m. run (path ++ key ∷ []) (e.concrete m) m (sets_below (x ∷ xs))) (path ++ key ∷ []) object node x.head
+      answer_of (λ m. run (path ++ key ∷ []) (e.concrete m) m (sets_below (x ∷ xs)))
+      (path ++ key ∷ []) object node x.head
 
   abbrev pub keyed : Runs S N → List Bytes → Bytes → N → Group S → Outcome S (Pair (Value S))
   keyed run path object node g = outcome_map (λ x. (g.0, x)) (group run path object node g.0 g.1)
@@ -61,7 +72,8 @@ module _ {S N : Type 0} (e : Engine S N) where
   -- to a depth of selection sets
   abbrev pub run : ℕ → Runs S N
   run zero path object node sets = gives []
-  run (suc n) path object node sets = together (map (keyed (run n) path object node) (groups (found_in object sets)))
+  run (suc n) path object node sets =
+      together (map (keyed (run n) path object node) (groups (found_in object sets)))
 
 -- the height of the highest
 abbrev pub highest : {S : Type 0} → List (Tree S) → ℕ

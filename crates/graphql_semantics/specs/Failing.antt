@@ -1,5 +1,7 @@
--- Where failures stand, and what fails (GraphQL October 2021, 6.4.3 Value Completion, 6.4.4 Handling Field Errors, 7.1.2 Errors).
-use Rattle.std.specs.Prelude.{◌≡◌, ◌⊎◌, Bool, true, false, List, [], ◌∷◌, ◌++◌, Option, Some, None, ℕ, reverse, Ok, Err}
+-- Where failures stand, and what fails (GraphQL October 2021, 6.4.3 Value Completion, 6.4.4
+-- Handling Field Errors, 7.1.2 Errors).
+use Rattle.std.specs.Prelude.{◌≡◌, ◌⊎◌, Bool, true, false, List, [], ◌∷◌, ◌++◌, Option, Some, None}
+use Rattle.std.specs.Prelude.{ℕ, reverse, Ok, Err}
 use Rattle.std.specs.List.{All, Contains}
 use Rattle.graphql_names.specs.Names.{Bytes}
 use Rattle.graphql_names.specs.declared.type_modifier.TypeModifier.{TypeModifier}
@@ -42,47 +44,74 @@ module _ {S N : Type 0} where
   abbrev pub IsNode : Resolved S N → N → Type 0
   IsNode r node = out-Resolved S N r ≡ Resolved-F.Node node
 
--- of a type's name, whether it is a leaf and which nodes can stand there; wraps have the outermost first
+-- of a type's name, whether it is a leaf and which nodes can stand there; wraps have the outermost
+-- first
 module _ {S N : Type 0} (name : Bytes) (is_leaf : Bool) (is_possible : N → Bool) where
   -- a value of another kind than the type's
   abbrev pub IsMisfit : List TypeModifier → Resolved S N → Type 0
-  IsMisfit [] r = ((scalar : S) × IsScalar r scalar × (is_leaf ≡ false)) ⊎ (((items : List (Resolved S N)) × IsList r items) ⊎ ((node : N) × IsNode r node × (is_possible node ≡ false)))
+  IsMisfit [] r = ((scalar : S) × IsScalar r scalar × (is_leaf ≡ false))
+      ⊎ (((items : List (Resolved S N)) × IsList r items)
+      ⊎ ((node : N) × IsNode r node × (is_possible node ≡ false)))
   IsMisfit (modifier.NonNull ∷ wraps) r = ⊥
-  IsMisfit (modifier.List size ∷ wraps) r = ((scalar : S) × IsScalar r scalar) ⊎ ((node : N) × IsNode r node)
+  IsMisfit (modifier.List size ∷ wraps) r =
+      ((scalar : S) × IsScalar r scalar) ⊎ ((node : N) × IsNode r node)
 
   -- why an answer fails at a type, itself or an item of it
   pub data FailsAt : List TypeModifier → Resolved S N → FieldError S → Type 0 where
-    misfit : (wraps : List TypeModifier) (r : Resolved S N) → IsMisfit wraps r → FailsAt wraps r (misfit_error name wraps)
-    required_null : (wraps : List TypeModifier) (r : Resolved S N) → IsNull r → FailsAt (modifier.NonNull ∷ wraps) r own_null
-    required : (wraps : List TypeModifier) (r : Resolved S N) (error : FieldError S) → (IsNull r → ⊥) → FailsAt wraps r error → FailsAt (modifier.NonNull ∷ wraps) r error
-    item : (size : Option ℕ) (wraps : List TypeModifier) (r x : Resolved S N) (items : List (Resolved S N)) (error : FieldError S) → IsList r items → Contains items x → FailsAt wraps x error
+    misfit : (wraps : List TypeModifier) (r : Resolved S N) → IsMisfit wraps r
+        → FailsAt wraps r (misfit_error name wraps)
+    required_null : (wraps : List TypeModifier) (r : Resolved S N) → IsNull r
+        → FailsAt (modifier.NonNull ∷ wraps) r own_null
+    required : (wraps : List TypeModifier) (r : Resolved S N) (error : FieldError S)
+        → (IsNull r → ⊥) → FailsAt wraps r error → FailsAt (modifier.NonNull ∷ wraps) r error
+    item : (size : Option ℕ) (wraps : List TypeModifier) (r x : Resolved S N)
+        (items : List (Resolved S N)) (error : FieldError S) → IsList r items → Contains items x
+        → FailsAt wraps x error
         → FailsAt (modifier.List size ∷ wraps) r error
 
   -- a node that is answered at a type, itself or an item, and can stand there
   pub data Answers : List TypeModifier → Resolved S N → N → Type 0 where
     node : (r : Resolved S N) (m : N) → IsNode r m → is_possible m ≡ true → Answers [] r m
-    required_node : (wraps : List TypeModifier) (r : Resolved S N) (m : N) → (IsNull r → ⊥) → Answers wraps r m → Answers (modifier.NonNull ∷ wraps) r m
-    item_node : (size : Option ℕ) (wraps : List TypeModifier) (r x : Resolved S N) (items : List (Resolved S N)) (m : N) → IsList r items → Contains items x → Answers wraps x m
+    required_node : (wraps : List TypeModifier) (r : Resolved S N) (m : N) → (IsNull r → ⊥)
+        → Answers wraps r m → Answers (modifier.NonNull ∷ wraps) r m
+    item_node : (size : Option ℕ) (wraps : List TypeModifier) (r x : Resolved S N)
+        (items : List (Resolved S N)) (m : N) → IsList r items → Contains items x
+        → Answers wraps x m
         → Answers (modifier.List size ∷ wraps) r m
 
 module _ {S N : Type 0} (e : Engine S N) where
   abbrev pub ReasonAt : TypeOf → Resolved S N → FieldError S → Type 0
-  ReasonAt type = FailsAt type.name (e.is_leaf type.name) (λ m. e.is_possible type.name (e.concrete m)) (reverse type.modifiers)
+  ReasonAt type = FailsAt type.name (e.is_leaf type.name)
+      (λ m. e.is_possible type.name (e.concrete m)) (reverse type.modifiers)
 
   abbrev pub NodeAt : TypeOf → Resolved S N → N → Type 0
-  NodeAt type = Answers type.name (e.is_leaf type.name) (λ m. e.is_possible type.name (e.concrete m)) (reverse type.modifiers)
+  NodeAt type = Answers type.name (e.is_leaf type.name)
+      (λ m. e.is_possible type.name (e.concrete m)) (reverse type.modifiers)
 
-  -- something fails of what sets of selections ask of a node of an object type, at a path: always told at the first field of a group
+  -- something fails of what sets of selections ask of a node of an object type, at a path: always
+  -- told at the first field of a group
   pub data Fails : List Bytes → Bytes → N → List (Tree S) → ExecutionError S → Type 0 where
     -- the resolver's error
-    resolver : (path : List Bytes) (of : Bytes) (on : N) (sets : List (Tree S)) (key : Bytes) (x : Found S) (xs : List (Found S)) (type : TypeOf) (error : FieldError S)
-        → Contains (groups (found_in e of sets)) (key, x ∷ xs) → e.declared of x.head.name ≡ Some type
-        → e.answer on of x.head.name (e.arguments of x.head) ≡ Err error → Fails path of on sets (blame_at (path ++ key ∷ []) x.head.place error)
+    resolver : (path : List Bytes) (of : Bytes) (on : N) (sets : List (Tree S)) (key : Bytes)
+        (x : Found S) (xs : List (Found S)) (type : TypeOf) (error : FieldError S)
+        → Contains (groups (found_in e of sets)) (key, x ∷ xs)
+        → e.declared of x.head.name ≡ Some type
+        → e.answer on of x.head.name (e.arguments of x.head) ≡ Err error
+        → Fails path of on sets (blame_at (path ++ key ∷ []) x.head.place error)
     -- an answer that fails at the type of the field
-    answer : (path : List Bytes) (of : Bytes) (on : N) (sets : List (Tree S)) (key : Bytes) (x : Found S) (xs : List (Found S)) (type : TypeOf) (r : Resolved S N) (error : FieldError S)
-        → Contains (groups (found_in e of sets)) (key, x ∷ xs) → e.declared of x.head.name ≡ Some type
-        → e.answer on of x.head.name (e.arguments of x.head) ≡ Ok r → ReasonAt type r error → Fails path of on sets (blame_at (path ++ key ∷ []) x.head.place error)
+    answer : (path : List Bytes) (of : Bytes) (on : N) (sets : List (Tree S)) (key : Bytes)
+        (x : Found S) (xs : List (Found S)) (type : TypeOf) (r : Resolved S N)
+        (error : FieldError S)
+        → Contains (groups (found_in e of sets)) (key, x ∷ xs)
+        → e.declared of x.head.name ≡ Some type
+        → e.answer on of x.head.name (e.arguments of x.head) ≡ Ok r → ReasonAt type r error
+        → Fails path of on sets (blame_at (path ++ key ∷ []) x.head.place error)
     -- below a node that is answered
-    below : (path : List Bytes) (of : Bytes) (on : N) (sets : List (Tree S)) (key : Bytes) (x : Found S) (xs : List (Found S)) (type : TypeOf) (r : Resolved S N) (m : N) (f : ExecutionError S)
-        → Contains (groups (found_in e of sets)) (key, x ∷ xs) → e.declared of x.head.name ≡ Some type
-        → e.answer on of x.head.name (e.arguments of x.head) ≡ Ok r → NodeAt type r m → Fails (path ++ key ∷ []) (e.concrete m) m (sets_below (x ∷ xs)) f → Fails path of on sets f
+    below : (path : List Bytes) (of : Bytes) (on : N) (sets : List (Tree S)) (key : Bytes)
+        (x : Found S) (xs : List (Found S)) (type : TypeOf) (r : Resolved S N) (m : N)
+        (f : ExecutionError S)
+        → Contains (groups (found_in e of sets)) (key, x ∷ xs)
+        → e.declared of x.head.name ≡ Some type
+        → e.answer on of x.head.name (e.arguments of x.head) ≡ Ok r → NodeAt type r m
+        → Fails (path ++ key ∷ []) (e.concrete m) m (sets_below (x ∷ xs)) f
+        → Fails path of on sets f

@@ -1,5 +1,8 @@
--- How many turns a walk takes to answer selections (GraphQL October 2021, 6.3 Executing Selection Sets, 6.4 Executing Fields): one for a value, one to begin and one to end an object and a list, and one to set out for each member and each item.
-use Rattle.std.specs.Prelude.{ℕ, zero, suc, ◌+◌, Bool, true, false, List, [], ◌∷◌, map, reverse, Option, Some, None, Result, Ok, Err}
+-- How many turns a walk takes to answer selections (GraphQL October 2021, 6.3 Executing Selection
+-- Sets, 6.4 Executing Fields): one for a value, one to begin and one to end an object and a list,
+-- and one to set out for each member and each item.
+use Rattle.std.specs.Prelude.{ℕ, zero, suc, ◌+◌, Bool, true, false, List, [], ◌∷◌, map, reverse}
+use Rattle.std.specs.Prelude.{Option, Some, None, Result, Ok, Err}
 use Rattle.std.specs.List.{sum}
 use Rattle.graphql_names.specs.Names.{Bytes}
 use Rattle.graphql_names.specs.declared.type_modifier.TypeModifier.{TypeModifier}
@@ -53,21 +56,26 @@ module _ {S N : Type 0} (run : N → ℕ) (is_possible : N → Bool) where
   turns_of_result wraps (Err e) = 1
 
 module _ {S N : Type 0} (e : Engine S N) where
-  -- over what is answered for a field, at the type that is declared; `run`: the turns of the field's own selections
+  -- over what is answered for a field, at the type that is declared; `run`: the turns of the
+  -- field's own selections
   abbrev pub turns_at_declared : Option TypeOf → (N → ℕ) → Result (Resolved S N) (FieldError S) → ℕ
   turns_at_declared None run answer = 1
-  turns_at_declared (Some type) run answer = turns_of_result run (λ m. e.is_possible type.name (e.concrete m)) (reverse type.modifiers) answer
+  turns_at_declared (Some type) run answer = turns_of_result run
+      (λ m. e.is_possible type.name (e.concrete m)) (reverse type.modifiers) answer
 
   -- over the one answer of a group
   abbrev pub turns_of_group : (Bytes → N → List (Tree S) → ℕ) → Bytes → N → List (Found S) → ℕ
   turns_of_group run object node [] = 1
   turns_of_group run object node (x ∷ xs) =
-      turns_at_declared (e.declared object x.head.name) (λ m. run (e.concrete m) m (sets_below (x ∷ xs))) (e.answer node object x.head.name (e.arguments object x.head))
+      turns_at_declared (e.declared object x.head.name) (λ m. run (e.concrete m) m
+      (sets_below (x ∷ xs))) (e.answer node object x.head.name (e.arguments object x.head))
 
   -- to a depth of selection sets
   abbrev pub turns : ℕ → Bytes → N → List (Tree S) → ℕ
   turns zero object node sets = 0
-  turns (suc n) object node sets = sum (map (λ (g : Group S). 1 + turns_of_group (turns n) object node g.1) (groups (found_in e object sets)))
+  turns (suc n) object node sets =
+      sum (map (λ (g : Group S). 1 + turns_of_group (turns n) object node g.1)
+      (groups (found_in e object sets)))
 
   -- over what sets of selections give: any depth that suffices has the same
   abbrev pub all_turns : Bytes → N → List (Tree S) → ℕ

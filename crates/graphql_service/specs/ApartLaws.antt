@@ -29,7 +29,8 @@ module _ {S C N X : Type 0} (a : Answerer S C N X) where
   AreAnswered = Run (AnswersLine a)
 
   -- some lines are answered, and others on the context that they left
-  pub record AreAnsweredApart (old : X) (ls others : List Bytes) (text : Bytes) (new : X) : Type 0 where
+  pub record AreAnsweredApart (old : X) (ls others : List Bytes) (text : Bytes)
+      (new : X) : Type 0 where
     pub between : X
     pub first : Bytes
     pub second : Bytes

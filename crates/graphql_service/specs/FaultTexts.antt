@@ -2,7 +2,12 @@
 use Rattle.std.specs.Prelude.{codes}
 use Rattle.graphql_names.specs.Names.{Bytes}
 use Rattle.graphql_service.specs.declared.service.ServiceFault.{ServiceFault}
-use Rattle.graphql_service.specs.declared.service.ServiceFault.TheVariants.{Memory, NotExecutable, OtherBoolean, OtherConditions}
+use Rattle.graphql_service.specs.declared.service.ServiceFault.TheVariants.{
+  Memory,
+  NotExecutable,
+  OtherBoolean,
+  OtherConditions,
+}
 
 abbrev pub service_fault_text : ServiceFault → Bytes
 service_fault_text NotExecutable = codes "a type of the schema does not keep what it promises"

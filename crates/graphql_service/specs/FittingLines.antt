@@ -1,4 +1,5 @@
--- Answer lines whose data fit what is selected (GraphQL October 2021, 6.4.3 Value Completion, 6.4.4 Handling Field Errors).
+-- Answer lines whose data fit what is selected (GraphQL October 2021, 6.4.3 Value Completion, 6.4.4
+-- Handling Field Errors).
 use Rattle.std.specs.Prelude.{◌≡◌, ◌⊎◌, List, Option}
 use Rattle.graphql_names.specs.Names.{Bytes}
 use Rattle.graphql_values.specs.InputValues.{Placed}
@@ -21,11 +22,15 @@ module _ {S C N X : Type 0} (a : Answerer S C N X) (line : Bytes) (old : X) wher
   -- the line of a refusal, of the line itself or of its request
   abbrev pub IsRefusalLine : Bytes → Type 0
   IsRefusalLine answered =
-      ((refusal : LineRefusal) × IsNoRequest a line refusal × (answered ≡ line_of (refusal_of (told_of_line a.limit refusal))))
-      ⊎ ((refusal : GraphQLError) × IsNotExecuted a line refusal × (answered ≡ line_of (refusal_of (told_of_request refusal))))
+      ((refusal : LineRefusal)
+      × IsNoRequest a line refusal
+      × (answered ≡ line_of (refusal_of (told_of_line a.limit refusal))))
+      ⊎ ((refusal : GraphQLError)
+      × IsNotExecuted a line refusal
+      × (answered ≡ line_of (refusal_of (told_of_request refusal))))
 
-  -- the line of data and errors: the data fit what the operation selects, so that no null stands at a place that is
-  -- declared without null, and there is an error exactly where something fails
+  -- the line of data and errors: the data fit what the operation selects, so that no null stands at
+  -- a place that is declared without null, and there is an error exactly where something fails
   pub record IsFittingLine (answered : Bytes) : Type 0 where
     pub request : Request
     pub document : List (Definition S)
@@ -35,4 +40,5 @@ module _ {S C N X : Type 0} (a : Answerer S C N X) (line : Bytes) (old : X) wher
     pub found : Value S
     pub errors : List (ExecutionError S)
     pub is : answered ≡ line_of (response_of a.scalars.answer found errors)
-    pub fits : FitsAnswer a.scalars (asked_by a line request) a.resolver document operation.item root old found errors
+    pub fits : FitsAnswer a.scalars (asked_by a line request) a.resolver document operation.item
+        root old found errors

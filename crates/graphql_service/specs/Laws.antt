@@ -1,4 +1,5 @@
--- What holds of answers (GraphQL October 2021, 6.4.4 Handling Field Errors, 7.2.2 Serialized Map Ordering).
+-- What holds of answers (GraphQL October 2021, 6.4.4 Handling Field Errors, 7.2.2 Serialized Map
+-- Ordering).
 use Rattle.std.specs.Prelude.{◌≡◌, List}
 use Rattle.std.specs.declared.cmp.Ordering.{Ordering}
 use Rattle.graphql_names.specs.Names.{Bytes}

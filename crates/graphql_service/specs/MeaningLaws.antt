@@ -31,9 +31,9 @@ module _ {S C : Type 0} (s : Scalars S C) (root : RootNode S C) where
       → IsAnswered s (asked_at root (chars bytes) name given) r cmp old told others after
       → (answered ≡ told) × ((errors ≡ []) ↔ (others ≡ [])) × (new ≡ after)
 
-  -- what is answered without errors to a request is answered to its plain text, with the same operation
-  -- name and the same values for the variables that the plain text uses, and the other way round: the
-  -- same data, and the same context after
+  -- what is answered without errors to a request is answered to its plain text, with the same
+  -- operation name and the same values for the variables that the plain text uses, and the other
+  -- way round: the same data, and the same context after
   abbrev pub PlainIsAnsweredAlike : {N X : Type 0} → Resolver S N X → Type 0
   PlainIsAnsweredAlike {N} {X} r =
       TakesStandIn s root.schema

@@ -18,7 +18,8 @@ use Rattle.graphql_service.specs.Texts.{told_of_line, told_of_plain}
 use Rattle.graphql_service.specs.declared.plain_lines.PlainLines.{PlainLines}
 use Rattle.graphql_service.specs.declared.service.Service.{Service}
 
--- by what a service answers, and by the greatest size of a plain text, in fields and inline fragments
+-- by what a service answers, and by the greatest size of a plain text, in fields and inline
+-- fragments
 module _ {S C N X : Type 0} (a : Answerer S C N X) (size_limit : ℕ) where
   module _ (line : Bytes) where
     -- the line asks for a request with this plain text
@@ -40,7 +41,8 @@ module _ {S C N X : Type 0} (a : Answerer S C N X) (size_limit : ℕ) where
           → answered ≡ line_of (refusal_of (told_of_line a.limit refusal)) → IsPlainAnswer answered
       not_plain : (why : PlainError) → HasNoPlain why
           → answered ≡ line_of (refusal_of (told_of_plain size_limit why)) → IsPlainAnswer answered
-      plain_to : (plain : Bytes) → HasPlain plain → answered ≡ line_of (plain_answer_of plain) → IsPlainAnswer answered
+      plain_to : (plain : Bytes) → HasPlain plain → answered ≡ line_of (plain_answer_of plain)
+          → IsPlainAnswer answered
 
     -- the answer is one line of JSON with distinct keys
     pub record AnswersPlain (text : Bytes) : Type 0 where
@@ -57,9 +59,11 @@ module _ {S C N X : Type 0} (a : Answerer S C N X) (size_limit : ℕ) where
 
 -- the same of what gives the plain texts of a service
 module _ {S C N X R : Type 0} (scalars : Scalars S C) (by_rules : RuleError → RuleError → Ordering)
-    (by_fields : ExecutionError S → ExecutionError S → Ordering) (resolving : R → Resolver S N X) where
+    (by_fields : ExecutionError S → ExecutionError S → Ordering)
+    (resolving : R → Resolver S N X) where
   abbrev pub PlainOfLines : PlainLines S R X C → Bytes → Bytes → PlainLines S R X C → Type 0
   PlainOfLines old line text new =
       let service : Service S R X C = old.service.now in
-      AnswersPlain (answerer_of scalars by_rules by_fields resolving service) service.selection_limit line text
+      AnswersPlain (answerer_of scalars by_rules by_fields resolving service)
+      service.selection_limit line text
       × (new.service.now ≡ service)

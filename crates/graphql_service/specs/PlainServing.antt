@@ -9,28 +9,35 @@ use Rattle.graphql_rule_errors.specs.declared.rule_error.RuleError.{RuleError}
 use Rattle.graphql_executor.specs.Requests.{Scalars}
 use Rattle.graphql_executor.specs.Resolvers.{Resolver}
 use Rattle.graphql_service.specs.Answers.{Answerer, answerer_of}
-use Rattle.graphql_service.specs.PlainAnswers.{IsPlainAnswer, PlainOfLines, asks_nothing, not_plain, plain_to}
+use Rattle.graphql_service.specs.PlainAnswers.{IsPlainAnswer, PlainOfLines, asks_nothing, not_plain}
+use Rattle.graphql_service.specs.PlainAnswers.{plain_to}
 use Rattle.graphql_service.specs.Serving.{still-no_request}
 use Rattle.graphql_service.specs.declared.plain_lines.PlainLines.{PlainLines}
 use Rattle.graphql_service.specs.declared.service.Service.{Service}
 
-module _ {S C N X : Type 0} (a : Answerer S C N X) (line : Bytes) (longer : a.limit < length line) (size_limit : ℕ) where
-  long-plain : (text : Bytes) → IsPlainAnswer a size_limit (kept_of a.limit line) text → IsPlainAnswer a size_limit line text
-  long-plain text (asks_nothing refusal h e) = asks_nothing refusal (still-no_request a line longer refusal h) e
+module _ {S C N X : Type 0} (a : Answerer S C N X) (line : Bytes) (longer : a.limit < length line)
+    (size_limit : ℕ) where
+  long-plain : (text : Bytes) → IsPlainAnswer a size_limit (kept_of a.limit line) text
+      → IsPlainAnswer a size_limit line text
+  long-plain text (asks_nothing refusal h e) =
+      asks_nothing refusal (still-no_request a line longer refusal h) e
   long-plain text (not_plain why h e) = absurd (front-longer a.limit line longer h.asks.within)
   long-plain text (plain_to plain h e) = absurd (front-longer a.limit line longer h.asks.within)
 
 module _ {S C N X R : Type 0} (scalars : Scalars S C) (by_rules : RuleError → RuleError → Ordering)
-    (by_fields : ExecutionError S → ExecutionError S → Ordering) (resolving : R → Resolver S N X) where
+    (by_fields : ExecutionError S → ExecutionError S → Ordering)
+    (resolving : R → Resolver S N X) where
   pub plain-kept : (old : PlainLines S R X C) (line text : Bytes) (new : PlainLines S R X C)
       → old.service.now.line_limit < length line
-      → PlainOfLines scalars by_rules by_fields resolving old (kept_of old.service.now.line_limit line) text new
+      → PlainOfLines scalars by_rules by_fields resolving old
+      (kept_of old.service.now.line_limit line) text new
       → PlainOfLines scalars by_rules by_fields resolving old line text new
   plain-kept old line text new longer (h, same) =
       let service : Service S R X C = old.service.now in (
         record {
           answer =
-              long-plain (answerer_of scalars by_rules by_fields resolving service) line longer service.selection_limit text h.answer;
+              long-plain (answerer_of scalars by_rules by_fields resolving service) line longer
+              service.selection_limit text h.answer;
           one_line = h.one_line;
           distinct = h.distinct;
         },

@@ -19,7 +19,8 @@ use Rattle.graphql_plain_requests.specs.Laws.{AreAskedAlike}
 -- by what scalars mean, two requests, and what a resolver answers
 module _ {S C N X : Type 0} (s : Scalars S C) (a b : Asking S C) (r : Resolver S N X) where
   -- they are refused at one step, or executed both, with one plain text within each limit; answered
-  -- on one context they have the same data, errors in both or in neither, and leave the same context
+  -- on one context they have the same data, errors in both or in neither, and leave the same
+  -- context
   pub record AreAnsweredAlike : Type 0 where
     pub asked : AreAskedAlike s a b
     pub answered : (cmp : ExecutionError S → ExecutionError S → Ordering) (old new after : X)

@@ -18,8 +18,8 @@ use Rattle.graphql_executor.specs.Executed.{Yields, runs}
 use Rattle.graphql_executor.specs.Resolvers.{Resolver}
 
 module _ {S C : Type 0} (s : Scalars S C) (N X : Type 0) where
-  -- they give one value, and failures that differ in their places alone, and leave one context, also
-  -- where variables have other values then that no field of the plain document uses
+  -- they give one value, and failures that differ in their places alone, and leave one context,
+  -- also where variables have other values then that no field of the plain document uses
   abbrev pub PlainRunsAreAlike : Type 0
   PlainRunsAreAlike =
       (schema : SchemaType S C) (r : Resolver S N X) → IsLawful s.eq r.answer r.changes

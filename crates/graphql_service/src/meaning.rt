@@ -1,5 +1,5 @@
-//! Laws of what plain texts of requests mean, and texts of the same tokens: each function's contract is a law, and its body asks
-//! for the laws below it.
+//! Laws of what plain texts of requests mean, and texts of the same tokens: each function's
+//! contract is a law, and its body asks for the laws below it.
 
 ghost use Rattle.graphql_service.specs.MeaningLaws.{PlainIsAnsweredAlike, PlainIsAnsweredToo};
 ghost use Rattle.graphql_service.specs.MeaningLaws.{PlainMeansTheSame};
@@ -57,10 +57,10 @@ pub fn plain_means_the_same<S: SchemaScalar, R: GraphQLMutationValue<S>>(
     plain_operations_yield_alike::<S, R::Node, R::Context>();
 }
 
-/// What is answered without errors to a request is answered to its plain text too, asked on the same
-/// context with the same operation name and the same values for the variables that the plain text
-/// uses, whatever other values there are, and the other way round: evaluation is a function, so an
-/// answer is there (GraphQL October 2021, 6.1.2 Coercing Variable Values).
+/// What is answered without errors to a request is answered to its plain text too, asked on the
+/// same context with the same operation name and the same values for the variables that the plain
+/// text uses, whatever other values there are, and the other way round: evaluation is a function,
+/// so an answer is there (GraphQL October 2021, 6.1.2 Coercing Variable Values).
 pub fn plain_is_answered_alike<S: SchemaScalar, R: GraphQLMutationValue<S>>(
     root_node: &RootNode<S>,
     resolver: &R,
@@ -76,8 +76,9 @@ pub fn plain_is_answered_alike<S: SchemaScalar, R: GraphQLMutationValue<S>>(
     plain_document_is_plain::<S>();
 }
 
-/// What is answered without errors to a request is answered to its plain text too, asked on the same
-/// context with the same operation name and the same values for variables, and the other way round.
+/// What is answered without errors to a request is answered to its plain text too, asked on the
+/// same context with the same operation name and the same values for variables, and the other way
+/// round.
 pub fn plain_is_answered_too<S: SchemaScalar, R: GraphQLMutationValue<S>>(
     root_node: &RootNode<S>,
     resolver: &R,

@@ -5,7 +5,14 @@ ghost use Rattle.graphql_answers.specs.Lines.{IsLine};
 ghost use Rattle.graphql_lines.specs.Request.{HoldsRequest, Request};
 ghost use Rattle.graphql_json.specs.Writing.{KeepsFront};
 ghost use Rattle.graphql_names.specs.Names.{Bytes};
-ghost use Rattle.graphql_service.specs.PlainRequests.{HasNoPlainText, IsAcceptedAgain, IsDocumentAgain, IsPlainTextWithin, TakesStandIn, asked_of};
+ghost use Rattle.graphql_service.specs.PlainRequests.{
+  HasNoPlainText,
+  IsAcceptedAgain,
+  IsDocumentAgain,
+  IsPlainTextWithin,
+  TakesStandIn,
+  asked_of,
+};
 ghost use Rattle.graphql_service.specs.Answers.{Appends, Asks, answerer_of};
 ghost use Rattle.graphql_service.specs.Laws.{IsLineOfDistinctKeys};
 ghost use Rattle.graphql_service.specs.PlainAnswers.{AnswersPlain, IsPlainAnswer};
@@ -25,33 +32,38 @@ use graphql_schema::SchemaScalar;
 use std::alloc::{AllocError, Global};
 
 impl<S: SchemaScalar + Drop, R: GraphQLMutationValue<S>> Service<S, R, R::Context> {
-    /// The plain text of a request, as [`plain_request`] gives it over the service's root node and its
-    /// greatest size: one operation without named fragments, variable conditions or unused variables.
-    /// No resolver is asked, and nothing of the context decides. The text is executed in the request's place,
-    /// with the same operation name and the same values for variables: [`Service::new`] tells that the schema
-    /// takes the stand-in for it.
+    /// The plain text of a request, as [`plain_request`] gives it over the service's root node and
+    /// its greatest size: one operation without named fragments, variable conditions or unused
+    /// variables. No resolver is asked, and nothing of the context decides. The text is executed in
+    /// the request's place, with the same operation name and the same values for variables:
+    /// [`Service::new`] tells that the schema takes the stand-in for it.
     ///
-    /// An error is `PlainError::Refused` where the request is refused, with the step that fails first as
-    /// `execute_sync` tells it; else `PlainError::TooLarge` where it has more fields and inline fragments
-    /// than [`Service::selection_limit`]. `PlainError::Memory` comes only where memory ran out.
+    /// An error is `PlainError::Refused` where the request is refused, with the step that fails
+    /// first as `execute_sync` tells it; else `PlainError::TooLarge` where it has more fields and
+    /// inline fragments than [`Service::selection_limit`]. `PlainError::Memory` comes only where
+    /// memory ran out.
     pub fn plain(&self, alloc: Global, request: &GraphQLRequest<S>) -> Result<String, PlainError>
         ensures plain { let asked = asked_of self.now.root_node request.now in
-            IfOk result (λ text. IsPlainTextWithin ⟦<S as Meaning>⟧.meaning asked self.now.selection_limit (string_bytes text)) }
+            IfOk result (λ text. IsPlainTextWithin ⟦<S as Meaning>⟧.meaning asked
+            self.now.selection_limit (string_bytes text)) }
         ensures document { let asked = asked_of self.now.root_node request.now in
-            IfOk result (λ text. IsDocumentAgain ⟦<S as Meaning>⟧.meaning asked (string_bytes text)) }
+            IfOk result
+            (λ text. IsDocumentAgain ⟦<S as Meaning>⟧.meaning asked (string_bytes text)) }
         ensures accepted { let asked = asked_of self.now.root_node request.now in
             TakesStandIn ⟦<S as Meaning>⟧.meaning self.now.root_node.schema →
-            IfOk result (λ text. IsAcceptedAgain ⟦<S as Meaning>⟧.meaning asked (string_bytes text)) }
+            IfOk result
+            (λ text. IsAcceptedAgain ⟦<S as Meaning>⟧.meaning asked (string_bytes text)) }
         ensures refused { let asked = asked_of self.now.root_node request.now in
-            IfErr result (HasNoPlainText ⟦<S as Meaning>⟧.meaning asked ⟦<RuleError as Ord>⟧.cmp self.now.selection_limit) }
+            IfErr result (HasNoPlainText ⟦<S as Meaning>⟧.meaning asked ⟦<RuleError as Ord>⟧.cmp
+            self.now.selection_limit) }
     {
         plain_request(alloc, request, &self.root_node, self.selection_limit)
     }
 
-    /// The answer line that tells the plain text of a request line, its line feed included, which is then
-    /// all that `out` holds: `{"plain":TEXT}`, or the refusal that comes first, in the order of
-    /// [`LineRefusal`] and then of [`Service::plain`]. The line is given without its line feed. Nothing is
-    /// executed, so the context stays as it is.
+    /// The answer line that tells the plain text of a request line, its line feed included, which
+    /// is then all that `out` holds: `{"plain":TEXT}`, or the refusal that comes first, in the
+    /// order of [`LineRefusal`] and then of [`Service::plain`]. The line is given without its line
+    /// feed. Nothing is executed, so the context stays as it is.
     ///
     /// The only error is want of memory, after which `out` is empty.
     pub fn plain_line(
@@ -71,8 +83,9 @@ impl<S: SchemaScalar + Drop, R: GraphQLMutationValue<S>> Service<S, R, R::Contex
         self.append_plain_line(alloc, line, out)
     }
 
-    /// Writes the answer line that tells the plain text of a request line behind what `out` holds, as
-    /// [`Service::plain_line`] gives it. The only error is want of memory, after which `out` is as it was.
+    /// Writes the answer line that tells the plain text of a request line behind what `out` holds,
+    /// as [`Service::plain_line`] gives it. The only error is want of memory, after which `out` is
+    /// as it was.
     pub(crate) fn append_plain_line(
         &self,
         alloc: Global,
@@ -81,7 +94,8 @@ impl<S: SchemaScalar + Drop, R: GraphQLMutationValue<S>> Service<S, R, R::Contex
     ) -> Result<(), AllocError>
         ensures answers { let a = answerer_of ⟦<S as Meaning>⟧.meaning ⟦<RuleError as Ord>⟧.cmp
             ⟦<ExecutionError<S> as Ord>⟧.cmp ⟦<R as Resolving<S>>⟧.resolving self.now in
-            OnOk result (Appends (AnswersPlain a self.now.selection_limit line.now) out.old.items out.new.items) }
+            OnOk result (Appends (AnswersPlain a self.now.selection_limit line.now) out.old.items
+            out.new.items) }
         ensures kept { OnErr result (out.new.items ≡ out.old.items) }
     {
         values_are_lines();
@@ -97,8 +111,8 @@ impl<S: SchemaScalar + Drop, R: GraphQLMutationValue<S>> Service<S, R, R::Contex
         }
     }
 
-    /// Writes the answer line that tells the plain text of a request line, at the end of `out`. An error
-    /// is want of memory: then `out` may hold a part of it, behind what it held.
+    /// Writes the answer line that tells the plain text of a request line, at the end of `out`. An
+    /// error is want of memory: then `out` may hold a part of it, behind what it held.
     fn push_plain_answer(
         &self,
         alloc: Global,
@@ -107,7 +121,8 @@ impl<S: SchemaScalar + Drop, R: GraphQLMutationValue<S>> Service<S, R, R::Contex
     ) -> Result<(), AllocError>
         ensures answers { let a = answerer_of ⟦<S as Meaning>⟧.meaning ⟦<RuleError as Ord>⟧.cmp
             ⟦<ExecutionError<S> as Ord>⟧.cmp ⟦<R as Resolving<S>>⟧.resolving self.now in
-            OnOk result (Appends (IsPlainAnswer a self.now.selection_limit line.now) out.old.items out.new.items) }
+            OnOk result (Appends (IsPlainAnswer a self.now.selection_limit line.now) out.old.items
+            out.new.items) }
         ensures front { KeepsFront out.old.items out.new.items }
     {
         if line.len() > self.line_limit {
@@ -119,8 +134,8 @@ impl<S: SchemaScalar + Drop, R: GraphQLMutationValue<S>> Service<S, R, R::Contex
         }
     }
 
-    /// Writes the answer line that tells the plain text of a request, at the end of `out`. An error is
-    /// want of memory: then `out` may hold a part of it, behind what it held.
+    /// Writes the answer line that tells the plain text of a request, at the end of `out`. An error
+    /// is want of memory: then `out` may hold a part of it, behind what it held.
     fn push_plain(
         &self,
         alloc: Global,

@@ -17,14 +17,14 @@ use graphql_streams::{ByteSink, ByteSource, LineEngine, ServeError, serve_lines}
 use std::alloc::{AllocError, Global};
 
 impl<S: SchemaScalar + Drop, R: GraphQLMutationValue<S>> Service<S, R, R::Context> {
-    /// Tells the plain text of each line that is not empty until the input ends, in order: what is written
-    /// is what [`Service::plain_line`] gives for each. Nothing is executed, so the context stays as it is.
-    /// Lines end, are read, are cut and are answered as [`Service::serve`] has it.
+    /// Tells the plain text of each line that is not empty until the input ends, in order: what is
+    /// written is what [`Service::plain_line`] gives for each. Nothing is executed, so the context
+    /// stays as it is. Lines end, are read, are cut and are answered as [`Service::serve`] has it.
     ///
-    /// Errors: a read that failed, a write that failed or took nothing, and want of memory, each at the
-    /// first that comes. After a failed read the answers to the whole lines before it are written; after
-    /// want of memory those to the lines before the one that met it, or a beginning of them where a
-    /// write failed then; after a failed write a beginning of the answers' text.
+    /// Errors: a read that failed, a write that failed or took nothing, and want of memory, each at
+    /// the first that comes. After a failed read the answers to the whole lines before it are
+    /// written; after want of memory those to the lines before the one that met it, or a beginning
+    /// of them where a write failed then; after a failed write a beginning of the answers' text.
     pub fn serve_plain<I: ByteSource, O: ByteSink>(
         &self,
         alloc: Global,

@@ -8,7 +8,8 @@ ghost use Rattle.graphql_executor.specs.Requests as request;
 ghost use Rattle.graphql_lines.specs.declared.refusal.LineRefusal.TheVariants as line_refusal;
 ghost use Rattle.graphql_json.specs.Writing.{KeepsFront};
 ghost use Rattle.graphql_names.specs.Names.{Bytes};
-ghost use Rattle.graphql_service.specs.Answers.{Appends, IsAnswer, IsNoRequest, IsNotExecuted, LeavesBroken, answerer_of};
+ghost use Rattle.graphql_service.specs.Answers.{Appends, IsAnswer, IsNoRequest, IsNotExecuted};
+ghost use Rattle.graphql_service.specs.Answers.{LeavesBroken, answerer_of};
 ghost use Rattle.graphql_service.specs.Made.{IsOf};
 ghost use Rattle.graphql_service.specs.Reading.{Executes};
 ghost use Rattle.graphql_service.specs.Serving.{AnswersLine};
@@ -32,8 +33,8 @@ impl<S: SchemaScalar + Drop, R: GraphQLMutationValue<S>> Service<S, R, R::Contex
     /// Writes the answer line of a line that is no request behind what `out` holds, as
     /// [`Service::answer`] gives it to the line.
     ///
-    /// The only error is want of memory, for which the line may have been refused too; `out` is then
-    /// as it was.
+    /// The only error is want of memory, for which the line may have been refused too; `out` is
+    /// then as it was.
     pub fn append_line_refusal(
         &self,
         alloc: Global,
@@ -44,7 +45,8 @@ impl<S: SchemaScalar + Drop, R: GraphQLMutationValue<S>> Service<S, R, R::Contex
             ⟦<ExecutionError<S> as Ord>⟧.cmp ⟦<R as Resolving<S>>⟧.resolving self.now in
             let context = self.now.context in
             OnOk result ((line : Bytes) → IsNoRequest a line refusal
-            → Appends (λ text. AnswersLine a context line text context) out.old.items out.new.items) }
+            → Appends (λ text. AnswersLine a context line text context) out.old.items
+            out.new.items) }
         ensures memory { OnOk result (refusal ≡ line_refusal.Memory → ⊥) }
         ensures kept { OnErr result (out.new.items ≡ out.old.items) }
     {
@@ -76,7 +78,8 @@ impl<S: SchemaScalar + Drop, R: GraphQLMutationValue<S>> Service<S, R, R::Contex
             ⟦<ExecutionError<S> as Ord>⟧.cmp ⟦<R as Resolving<S>>⟧.resolving self.now in
             let context = self.now.context in
             OnOk result ((line : Bytes) → IsNotExecuted a line error
-            → Appends (λ text. AnswersLine a context line text context) out.old.items out.new.items) }
+            → Appends (λ text. AnswersLine a context line text context) out.old.items
+            out.new.items) }
         ensures memory { OnOk result (error ≡ request.Memory → ⊥) }
         ensures kept { OnErr result (out.new.items ≡ out.old.items) }
     {
@@ -92,12 +95,12 @@ impl<S: SchemaScalar + Drop, R: GraphQLMutationValue<S>> Service<S, R, R::Contex
         }
     }
 
-    /// Writes the answer line of a request that is read and accepted already behind what `out` holds,
-    /// as [`Service::answer`] gives it to its line. Nothing is read or checked again. A query leaves
-    /// the context as it was; a mutation changes it, response key after response key.
+    /// Writes the answer line of a request that is read and accepted already behind what `out`
+    /// holds, as [`Service::answer`] gives it to its line. Nothing is read or checked again. A
+    /// query leaves the context as it was; a mutation changes it, response key after response key.
     ///
-    /// The only error is want of memory, after which `out` is as it was; a mutation has then changed
-    /// the context by a beginning of its response keys, by none in part.
+    /// The only error is want of memory, after which `out` is as it was; a mutation has then
+    /// changed the context by a beginning of its response keys, by none in part.
     pub fn append_executed(
         &mut self,
         alloc: Global,
@@ -131,8 +134,8 @@ impl<S: SchemaScalar + Drop, R: GraphQLMutationValue<S>> Service<S, R, R::Contex
         }
     }
 
-    /// Writes the answer line of a request that is accepted, at the end of `out`. An error is want of
-    /// memory: then `out` may hold a part of it, behind what it held.
+    /// Writes the answer line of a request that is accepted, at the end of `out`. An error is want
+    /// of memory: then `out` may hold a part of it, behind what it held.
     fn push_accepted(
         &mut self,
         alloc: Global,

@@ -88,7 +88,8 @@ pub const VALID_TEXT_LIMIT: usize = 1_000;
 /// otherwise.
 pub const VALID_BYTE_LIMIT: usize = 1_048_576;
 
-/// A schema that can be executed, a resolver and its context, over which request lines are answered.
+/// A schema that can be executed, a resolver and its context, over which request lines are
+/// answered.
 #[derive(Drop)]
 pub struct Service<S, R, X, C = <S as SchemaScalar>::Check> {
     pub(crate) root_node: RootNode<S, C>,
@@ -115,17 +116,18 @@ impl<S: SchemaScalar + Drop, R: GraphQLMutationValue<S>> Service<S, R, R::Contex
     ghost use Rattle.graphql_lines.specs.Request.{HoldsRequest, Request};
     ghost use Rattle.graphql_json.specs.Writing.{KeepsFront};
     ghost use Rattle.graphql_names.specs.Names.{Bytes};
-    ghost use Rattle.graphql_service.specs.Answers.{Appends, Asks, IsAnswer, LeavesBroken, answerer_of};
+    ghost use Rattle.graphql_service.specs.Answers.{Appends, Asks, IsAnswer, LeavesBroken};
+    ghost use Rattle.graphql_service.specs.Answers.{answerer_of};
     ghost use Rattle.graphql_service.specs.Laws.{IsLineOfDistinctKeys};
     ghost use Rattle.graphql_service.specs.Made.{IsOf, Makes};
     ghost use Rattle.graphql_service.specs.KeptTexts.{AreKept};
     ghost use Rattle.graphql_service.specs.Serving.{AnswersLine};
 
-    /// A service over this root node, this resolver and this context. Its lines have at most `line_limit`
-    /// bytes, and plain texts at most `selection_limit` fields and inline fragments.
+    /// A service over this root node, this resolver and this context. Its lines have at most
+    /// `line_limit` bytes, and plain texts at most `selection_limit` fields and inline fragments.
     ///
-    /// The first fault that stands is told, in the order of [`ServiceFault`]; the parts are let go then.
-    /// So the schema of a service takes the stand-in of a plain text, `@skip(if: true)`.
+    /// The first fault that stands is told, in the order of [`ServiceFault`]; the parts are let go
+    /// then. So the schema of a service takes the stand-in of a plain text, `@skip(if: true)`.
     pub fn new(
         root_node: RootNode<S>,
         resolver: R,
@@ -136,7 +138,8 @@ impl<S: SchemaScalar + Drop, R: GraphQLMutationValue<S>> Service<S, R, R::Contex
     where
         R: Drop,
         R::Context: Drop,
-        ensures { Makes root_node resolver context line_limit selection_limit ⟦<S as Meaning>⟧.meaning result }
+        ensures { Makes root_node resolver context line_limit selection_limit
+            ⟦<S as Meaning>⟧.meaning result }
     {
         if !root_node.schema().schema_is_executable() {
             return Err(ServiceFault::NotExecutable);
@@ -194,14 +197,15 @@ impl<S: SchemaScalar + Drop, R: GraphQLMutationValue<S>> Service<S, R, R::Contex
         self.selection_limit
     }
 
-    /// The answer line of a request line, its line feed included, which is then all that `out` holds: the
-    /// refusal that comes first, in the order of [`LineRefusal`] and then of `execute_sync`, or data and
-    /// errors (GraphQL October 2021, 7 Response). The line is given without its line feed. Each object in
-    /// the answer has distinct keys, however deep. A refusal and a query leave the context as it was; a mutation
-    /// changes it, response key after response key. The other parts of the service stay as they were.
+    /// The answer line of a request line, its line feed included, which is then all that `out`
+    /// holds: the refusal that comes first, in the order of [`LineRefusal`] and then of
+    /// `execute_sync`, or data and errors (GraphQL October 2021, 7 Response). The line is given
+    /// without its line feed. Each object in the answer has distinct keys, however deep. A refusal
+    /// and a query leave the context as it was; a mutation changes it, response key after response
+    /// key. The other parts of the service stay as they were.
     ///
-    /// The only error is want of memory, after which `out` is empty; a mutation has then changed the context by a
-    /// beginning of its response keys, by none in part.
+    /// The only error is want of memory, after which `out` is empty; a mutation has then changed
+    /// the context by a beginning of its response keys, by none in part.
     pub fn answer(
         &mut self,
         alloc: Global,
@@ -235,7 +239,8 @@ impl<S: SchemaScalar + Drop, R: GraphQLMutationValue<S>> Service<S, R, R::Contex
     ) -> Result<(), AllocError>
         ensures answers { let a = answerer_of ⟦<S as Meaning>⟧.meaning ⟦<RuleError as Ord>⟧.cmp
             ⟦<ExecutionError<S> as Ord>⟧.cmp ⟦<R as Resolving<S>>⟧.resolving self.old in
-            OnOk result (Appends (λ text. AnswersLine a self.old.context line.now text self.new.context)
+            OnOk result
+            (Appends (λ text. AnswersLine a self.old.context line.now text self.new.context)
             out.old.items out.new.items) }
         ensures parts { IsOf self.old.root_node self.old.resolver self.new.context
             self.old.line_limit self.old.selection_limit self.new }
@@ -259,7 +264,8 @@ impl<S: SchemaScalar + Drop, R: GraphQLMutationValue<S>> Service<S, R, R::Contex
         requires { AreKept ⟦<S as Meaning>⟧.meaning self.old }
         ensures answers { let a = answerer_of ⟦<S as Meaning>⟧.meaning ⟦<RuleError as Ord>⟧.cmp
             ⟦<ExecutionError<S> as Ord>⟧.cmp ⟦<R as Resolving<S>>⟧.resolving self.old in
-            OnOk result (Appends (λ text. AnswersLine a self.old.context line.now text self.new.context)
+            OnOk result
+            (Appends (λ text. AnswersLine a self.old.context line.now text self.new.context)
             out.old.items out.new.items) }
         ensures parts { IsOf self.old.root_node self.old.resolver self.new.context
             self.old.line_limit self.old.selection_limit self.new }
@@ -292,7 +298,8 @@ impl<S: SchemaScalar + Drop, R: GraphQLMutationValue<S>> Service<S, R, R::Contex
         requires { AreKept ⟦<S as Meaning>⟧.meaning self.old }
         ensures answers { let a = answerer_of ⟦<S as Meaning>⟧.meaning ⟦<RuleError as Ord>⟧.cmp
             ⟦<ExecutionError<S> as Ord>⟧.cmp ⟦<R as Resolving<S>>⟧.resolving self.old in
-            OnOk result (Appends (λ text. IsAnswer a line.now self.old.context text self.new.context)
+            OnOk result
+            (Appends (λ text. IsAnswer a line.now self.old.context text self.new.context)
             out.old.items out.new.items) }
         ensures parts { IsOf self.old.root_node self.old.resolver self.new.context
             self.old.line_limit self.old.selection_limit self.new }
@@ -324,7 +331,8 @@ impl<S: SchemaScalar + Drop, R: GraphQLMutationValue<S>> Service<S, R, R::Contex
             ⟦<ExecutionError<S> as Ord>⟧.cmp ⟦<R as Resolving<S>>⟧.resolving self.old in
             OnOk result ((line : Bytes) (asked : Request) → Asks a line asked
             → HoldsRequest S.of_bool S.of_int S.of_text asked request.now
-            → Appends (λ text. IsAnswer a line self.old.context text self.new.context) out.old.items out.new.items) }
+            → Appends (λ text. IsAnswer a line self.old.context text self.new.context) out.old.items
+            out.new.items) }
         ensures parts { IsOf self.old.root_node self.old.resolver self.new.context
             self.old.line_limit self.old.selection_limit self.new }
         ensures broken { let a = answerer_of ⟦<S as Meaning>⟧.meaning ⟦<RuleError as Ord>⟧.cmp

@@ -6,7 +6,8 @@ ghost use Rattle.graphql_streams.specs.Served.{Ends, ServedAll, WritesAfter, rea
 ghost use Rattle.graphql_service.specs.Answers.{answerer_of};
 ghost use Rattle.graphql_service.specs.KeptTexts.{AreKept};
 ghost use Rattle.graphql_service.specs.Made.{IsOf};
-ghost use Rattle.graphql_service.specs.Serving.{AnswersLine, BreaksAtLine, ServiceAnswers, ServiceBreaks, answers-kept, breaks-kept};
+ghost use Rattle.graphql_service.specs.Serving.{AnswersLine, BreaksAtLine, ServiceAnswers};
+ghost use Rattle.graphql_service.specs.Serving.{ServiceBreaks, answers-kept, breaks-kept};
 
 use crate::service::Service;
 use graphql_executor::{GraphQLMutationValue, Meaning, Resolving, ValidTexts};
@@ -17,10 +18,10 @@ use graphql_streams::{ByteSink, ByteSource, LineEngine, ServeError, serve_lines}
 use std::alloc::{AllocError, Global};
 
 impl<S: SchemaScalar + Drop, R: GraphQLMutationValue<S>> Service<S, R, R::Context> {
-    /// Sets how many texts of requests [`Service::serve`] keeps that were found valid, so that no rule
-    /// is asked of a text that comes again (GraphQL October 2021, 5 Validation): at most `text_limit`
-    /// texts, of at most `byte_limit` bytes in all; none where one of them is zero. Where one more
-    /// would be too many, all go and it begins anew. A service begins with
+    /// Sets how many texts of requests [`Service::serve`] keeps that were found valid, so that no
+    /// rule is asked of a text that comes again (GraphQL October 2021, 5 Validation): at most
+    /// `text_limit` texts, of at most `byte_limit` bytes in all; none where one of them is zero.
+    /// Where one more would be too many, all go and it begins anew. A service begins with
     /// [`VALID_TEXT_LIMIT`](crate::VALID_TEXT_LIMIT) and
     /// [`VALID_BYTE_LIMIT`](crate::VALID_BYTE_LIMIT).
     ///

@@ -1,5 +1,6 @@
 -- What the resolver of the tests answers.
-use Rattle.std.specs.Prelude.{◌∷◌, [], true, Option, Some, None, Result, Ok, Err, codes, if◌then◌else◌}
+use Rattle.std.specs.Prelude.{◌∷◌, [], true, Option, Some, None, Result, Ok, Err, codes}
+use Rattle.std.specs.Prelude.{if◌then◌else◌}
 use Rattle.std.specs.Str.{bytes_eq}
 use Rattle.graphql_names.specs.Names.{Bytes}
 use Rattle.graphql_scalars.specs.declared.default_scalar.DefaultScalarValue.{DefaultScalarValue}
@@ -82,7 +83,8 @@ abbrev pub of_being : Bytes → Bytes → Answer
 of_being own field =
     if bytes_eq field (codes "name") then word own else
     if bytes_eq field (codes "owner") then one being.Ann else
-    if bytes_eq field (codes "lives") then Err (reason (codes "Nobody counts")) else Ok resolved.Null
+    if bytes_eq field (codes "lives") then Err (reason (codes "Nobody counts"))
+    else Ok resolved.Null
 
 abbrev pub answer : Being → Bytes → Given DefaultScalarValue → Answer
 answer being.Root field given = of_root field given

@@ -1,4 +1,5 @@
--- Answer lines whose data have no null at the root where the schema keeps it out (GraphQL October 2021, 6.4.4 Handling Field Errors).
+-- Answer lines whose data have no null at the root where the schema keeps it out (GraphQL October
+-- 2021, 6.4.4 Handling Field Errors).
 use Rattle.std.specs.Prelude.{◌≡◌, ◌≢◌, ◌⊎◌, true, List, [], ◌∷◌, reverse, Option, Some, unwrap_or}
 use Rattle.std.specs.List.{AllZip}
 use Rattle.graphql_names.specs.Names.{Bytes}
@@ -19,19 +20,23 @@ use Rattle.graphql_mutation.specs.Serial.{Mutation, root_groups}
 use Rattle.graphql_service.specs.Answers.{Answerer, asked_by, given}
 use Rattle.graphql_service.specs.FittingLines.{IsFittingLine}
 
--- by the types that are declared for the fields of an object type: a member under the key of a group of fields, which is
--- not null where the first of them is declared without null
-pub record KeepsNullOut {S : Type 0} (declared : Bytes → Option TypeOf) (group : Group S) (member : Bytes × Value S) : Type 0 where
+-- by the types that are declared for the fields of an object type: a member under the key of a
+-- group of fields, which is not null where the first of them is declared without null
+pub record KeepsNullOut {S : Type 0} (declared : Bytes → Option TypeOf) (group : Group S)
+    (member : Bytes × Value S) : Type 0 where
   pub key : member.0 ≡ group.0
   pub kept : (first : Found S) (others : List (Found S)) (type : TypeOf) → group.1 ≡ first ∷ others
-      → declared first.head.name ≡ Some type → is_required (reverse type.modifiers) ≡ true → member.1 ≢ value.Null
+      → declared first.head.name ≡ Some type → is_required (reverse type.modifiers) ≡ true
+      → member.1 ≢ value.Null
 
 -- a member for each group, in order
-abbrev pub AllKeepNullOut : {S : Type 0} → (Bytes → Option TypeOf) → List (Group S) → Members S → Type 0
+abbrev pub AllKeepNullOut : {S : Type 0} → (Bytes → Option TypeOf) → List (Group S) → Members S
+    → Type 0
 AllKeepNullOut declared groups members = AllZip (KeepsNullOut declared) groups members
 
 -- by what a service answers a line, on a context
-module _ {S C N X : Type 0} (a : Answerer S C N X) (line : Bytes) (old : X) {answered : Bytes} (is : IsFittingLine a line old answered) where
+module _ {S C N X : Type 0} (a : Answerer S C N X) (line : Bytes) (old : X) {answered : Bytes}
+    (is : IsFittingLine a line old answered) where
   -- the root of the operation that is executed
   abbrev pub root_of : Bytes
   root_of = unwrap_or is.root a.schema.query
@@ -39,14 +44,20 @@ module _ {S C N X : Type 0} (a : Answerer S C N X) (line : Bytes) (old : X) {ans
   -- what it asks there
   abbrev pub asked_of : Mutation S (Asked S N C) X
   asked_of =
-      let values = final_value (given a.scalars is.request) (variables_in is.operation.item.variable_definitions) in
-      mutation_over a.scalars.of_text a.scalars.of_bool a.scalars.answer a.schema values a.resolver.type_of a.resolver.answer a.resolver.changes
+      let values = final_value (given a.scalars is.request)
+      (variables_in is.operation.item.variable_definitions) in
+      mutation_over a.scalars.of_text a.scalars.of_bool a.scalars.answer a.schema values
+      a.resolver.type_of a.resolver.answer a.resolver.changes
 
   abbrev pub groups_of : List (Group S)
-  groups_of = root_groups asked_of root_of old (written (fragments_listed is.document) is.operation.item.selection_set ∷ [])
+  groups_of = root_groups asked_of root_of old
+      (written (fragments_listed is.document) is.operation.item.selection_set ∷ [])
 
-  -- the data are null and there is an error; or they have a member for each group, and null nowhere that it is kept out
+  -- the data are null and there is an error; or they have a member for each group, and null nowhere
+  -- that it is kept out
   abbrev pub KeepsNullOutAtRoot : Type 0
   KeepsNullOutAtRoot =
       ((is.found ≡ value.Null) × (is.errors ≡ [] → ⊥))
-      ⊎ ((members : Members S) × (is.found ≡ object_members members) × AllKeepNullOut (declared_type a.schema.types root_of) groups_of members)
+      ⊎ ((members : Members S)
+      × (is.found ≡ object_members members)
+      × AllKeepNullOut (declared_type a.schema.types root_of) groups_of members)

@@ -24,7 +24,8 @@ module _ {S C : Type 0} (s : Scalars S C) (a : Asking S C) where
       → IsExecutable s a document operation → ⊥
 
   -- each answer to it on this context has these data, and leaves this context
-  abbrev pub OnlyResponse : {N X : Type 0} → Resolver S N X → (ExecutionError S → ExecutionError S → Ordering)
+  abbrev pub OnlyResponse : {N X : Type 0} → Resolver S N X
+      → (ExecutionError S → ExecutionError S → Ordering)
       → X → Value S → X → Type 0
   OnlyResponse {N} {X} r cmp old answered new =
       (other : Value S) (others : List (ExecutionError S)) (after : X)

@@ -8,7 +8,8 @@ use Rattle.graphql_field_results.specs.declared.field_error.FieldError.{FieldErr
 use Rattle.graphql_field_results.specs.declared.resolved.Resolved.{Resolved}
 use Rattle.graphql_field_results.specs.declared.resolved.Resolved.TheVariants as resolved
 use Rattle.graphql_service_tests.specs.declared.executor.look_ahead.watcher.Person.{Person}
-use Rattle.graphql_service_tests.specs.declared.executor.look_ahead.watcher.Person.TheVariants as person
+use Rattle.graphql_service_tests.specs.declared.executor.look_ahead.watcher.Person.TheVariants as
+    person
 
 abbrev pub Answer : Type 0
 Answer = Result (Resolved DefaultScalarValue Person) (FieldError DefaultScalarValue)
@@ -21,7 +22,8 @@ abbrev pub word : Bytes → Answer
 word text = Ok (resolved.Scalar (scalar.String text))
 
 abbrev pub of_root : Bytes → Answer
-of_root field = if bytes_eq field (codes "hero") then Ok (resolved.Node person.Luke) else Ok resolved.Null
+of_root field =
+    if bytes_eq field (codes "hero") then Ok (resolved.Node person.Luke) else Ok resolved.Null
 
 abbrev pub of_luke : Bytes → Answer
 of_luke field =

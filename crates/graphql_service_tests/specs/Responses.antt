@@ -11,7 +11,8 @@ Answer S = Value S × List (ExecutionError S)
 
 -- the same data, errors in both or in neither, and the same context afterwards
 abbrev pub AreResponsesAlike : {S X : Type 0} → Answer S → X → Answer S → X → Type 0
-AreResponsesAlike one new other after = (one.0 ≡ other.0) × ((one.1 ≡ []) ↔ (other.1 ≡ [])) × (new ≡ after)
+AreResponsesAlike one new other after =
+    (one.0 ≡ other.0) × ((one.1 ≡ []) ↔ (other.1 ≡ [])) × (new ≡ after)
 
 -- it is this text, or else memory ran out; `bytes_of`: the bytes of a text
 abbrev pub IsTheSameText : {A : Type 0} → (A → Bytes) → Bytes → Result A PlainError → Type 0

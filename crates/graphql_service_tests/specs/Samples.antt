@@ -1,6 +1,7 @@
 -- A value and the data that it is, and data in which a number is too wide.
 use Rattle.std.specs.Prelude.{[], ◌∷◌, List, pos, negsuc, true, codes}
-use Rattle.serde_json.specs.Data.{Data, null, boolean, number, string, array, object, no_items, item, no_members, member}
+use Rattle.serde_json.specs.Data.{Data, null, boolean, number, string, array, object, no_items}
+use Rattle.serde_json.specs.Data.{item, no_members, member}
 use Rattle.serde_json.specs.Find.{of_integer}
 use Rattle.graphql_scalars.specs.declared.default_scalar.DefaultScalarValue.{DefaultScalarValue}
 use Rattle.graphql_scalars.specs.declared.default_scalar.DefaultScalarValue.TheVariants as scalar
@@ -10,7 +11,8 @@ use Rattle.graphql_output_values.specs.declared.value.Value.TheVariants as value
 
 -- `{"c":[null,true,-7]}`
 abbrev pub list : Value DefaultScalarValue
-list = value.List (value.Null ∷ value.Scalar (scalar.Boolean true) ∷ value.Scalar (scalar.Int (negsuc 6)) ∷ [])
+list = value.List
+    (value.Null ∷ value.Scalar (scalar.Boolean true) ∷ value.Scalar (scalar.Int (negsuc 6)) ∷ [])
 
 abbrev pub sample : Object DefaultScalarValue
 sample = record { fields = (codes "c", list) ∷ [] }

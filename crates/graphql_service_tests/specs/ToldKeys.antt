@@ -9,7 +9,8 @@ use Rattle.graphql_field_results.specs.Answered.{TellsInDistinctKeys}
 use Rattle.graphql_field_results.specs.Reasons.{reason_alone}
 use Rattle.graphql_field_results.specs.declared.resolved.Resolved.{Resolved}
 use Rattle.graphql_field_results.specs.declared.resolved.Resolved.TheVariants as resolved
-use Rattle.graphql_service_tests.specs.Beings.{Answer, answer, both, flag, flags, given_kind, of_being, of_root_by, own_name, packs}
+use Rattle.graphql_service_tests.specs.Beings.{Answer, answer, both, flag, flags, given_kind}
+use Rattle.graphql_service_tests.specs.Beings.{of_being, of_root_by, own_name, packs}
 use Rattle.graphql_service_tests.specs.declared.executor.beings.Being.{Being}
 use Rattle.graphql_service_tests.specs.declared.executor.beings.Being.TheVariants as being
 
@@ -20,7 +21,8 @@ given x = Ok x
 pub fine : (x : Resolved DefaultScalarValue Being) → TellsInDistinctKeys (given x)
 fine x = record { beside = tt }
 
-pub either : (b : Bool) (x y : Answer) → TellsInDistinctKeys x → TellsInDistinctKeys y → TellsInDistinctKeys (if b then x else y)
+pub either : (b : Bool) (x y : Answer) → TellsInDistinctKeys x → TellsInDistinctKeys y
+    → TellsInDistinctKeys (if b then x else y)
 either true x y h k = h
 either false x y h k = k
 
@@ -28,7 +30,8 @@ pub being-tells : (own field : Bytes) → TellsInDistinctKeys (of_being own fiel
 being-tells own field =
     either (bytes_eq field (codes "name")) _ _ (fine (resolved.Scalar (scalar.String own)))
     (either (bytes_eq field (codes "owner")) _ _ (fine (resolved.Node being.Ann))
-    (either (bytes_eq field (codes "lives")) _ _ (reason_alone (codes "Nobody counts")) (fine resolved.Null)))
+    (either (bytes_eq field (codes "lives")) _ _ (reason_alone (codes "Nobody counts"))
+    (fine resolved.Null)))
 
 pub root-tells : (shown field : Bytes) → TellsInDistinctKeys (of_root_by shown field)
 root-tells shown field =
@@ -45,9 +48,11 @@ root-tells shown field =
     (either (bytes_eq field (codes "one")) _ _ (fine flag)
     (either (bytes_eq field (codes "given")) _ _ (fine (resolved.Scalar (scalar.String shown)))
     (either (bytes_eq field (codes "many")) _ _ (fine (resolved.Scalar (scalar.String shown)))
-    (either (bytes_eq field (codes "shape")) _ _ (fine (resolved.Scalar (scalar.String shown))) (fine resolved.Null))))))))))))))
+    (either (bytes_eq field (codes "shape")) _ _ (fine (resolved.Scalar (scalar.String shown)))
+    (fine resolved.Null))))))))))))))
 
-pub answers-tell : (node : Being) (field : Bytes) (values : Given DefaultScalarValue) → TellsInDistinctKeys (answer node field values)
+pub answers-tell : (node : Being) (field : Bytes) (values : Given DefaultScalarValue)
+    → TellsInDistinctKeys (answer node field values)
 answers-tell being.Root field values = root-tells (given_kind values (codes "value")) field
 answers-tell being.Ann field values = being-tells (own_name being.Ann) field
 answers-tell being.Rex field values = being-tells (own_name being.Rex) field

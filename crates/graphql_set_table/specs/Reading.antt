@@ -32,20 +32,24 @@ nodes_in = sum_by (λ set. set_nodes set.selections)
 
 -- a set takes up these fields and these sets of fragments, for which more sets have numbers
 pub record Reads {S C : Type 0} (schema : Declarations S C) (all_old all_new : List (SetAt S C))
-    (old new : WrittenSet S C) (fields : List (FieldAt S C)) (inner : List (SetAt S C)) : Type 0 where
+    (old new : WrittenSet S C) (fields : List (FieldAt S C))
+    (inner : List (SetAt S C)) : Type 0 where
   pub numbered : Extends all_old all_new
   pub of_fields : Adds (IsFieldOf all_new schema) old.fields new.fields fields
   pub of_inner : Adds (IsNumberOf all_new) old.inner new.inner inner
 
--- of so many fields none is taken up twice: they go into the set, or are in sets that have numbers from then on
-abbrev pub ReadsOnce : {S C : Type 0} → List (SetAt S C) → List (SetAt S C) → WrittenSet S C → WrittenSet S C → ℕ
+-- of so many fields none is taken up twice: they go into the set, or are in sets that have numbers
+-- from then on
+abbrev pub ReadsOnce : {S C : Type 0} → List (SetAt S C) → List (SetAt S C) → WrittenSet S C
+    → WrittenSet S C → ℕ
     → Type 0
 ReadsOnce all_old all_new old new nodes =
     length new.fields + nodes_in all_new ≤ length old.fields + nodes_in all_old + nodes
 
 -- a table takes up one more set
 -- `most`: how many fields are written in it and in the sets that had numbers before, however deep
-pub record AddsSet {S C : Type 0} (schema : Declarations S C) (document : List (Definition S)) (all : List (SetAt S C))
+pub record AddsSet {S C : Type 0} (schema : Declarations S C) (document : List (Definition S))
+    (all : List (SetAt S C))
     (old new : List (WrittenSet S C)) (set : SetAt S C) (most : ℕ) : Type 0 where
   pub written : WrittenSet S C
   pub grown : new ≡ old ++ written ∷ []

@@ -1,4 +1,5 @@
--- Selection sets as a document writes them: what stands directly in one (GraphQL October 2021, 2.4 Selection Sets, 2.5 Fields, 2.8 Fragments).
+-- Selection sets as a document writes them: what stands directly in one (GraphQL October 2021, 2.4
+-- Selection Sets, 2.5 Fields, 2.8 Fragments).
 use Rattle.std.specs.Prelude.{List, [], ◌∷◌, Some, None}
 use Rattle.std.specs.List.{flat_map}
 use Rattle.std.specs.Option.{option_map, option_to_list}
@@ -52,24 +53,33 @@ module _ {S C : Type 0} where
 module _ {S C : Type 0} (schema : Declarations S C) where
   -- the set of a fragment
   abbrev pub fragment_set : Fragment S → SetAt S C
-  fragment_set f = record { scope = type_named schema.types f.type_condition.item; selections = f.selection_set }
+  fragment_set f =
+      record { scope = type_named schema.types f.type_condition.item; selections = f.selection_set }
 
   -- the set of a definition
   abbrev pub definition_set : Definition S → SetAt S C
-  definition_set (definition.Operation o) = record { scope = root_of schema o.item.operation_type; selections = o.item.selection_set }
+  definition_set (definition.Operation o) =
+      record { scope = root_of schema o.item.operation_type; selections = o.item.selection_set }
   definition_set (definition.Fragment f) = fragment_set f.item
 
   -- a field's own set, which is empty where it has none
   abbrev pub own_set : FieldAt S C → SetAt S C
-  own_set f = record { scope = scope_of schema.types f.parent f.field.item.name.item; selections = listed f.field.item.selection_set }
+  own_set f = record {
+    scope = scope_of schema.types f.parent f.field.item.name.item;
+    selections = listed f.field.item.selection_set;
+  }
 
   -- `fragments`: those of the document
   module _ (fragments : List (Fragment S)) where
     abbrev pub inner_opened : MetaType S C → Opened S → List (SetAt S C)
     inner_opened parent (Selection-F.Field x) = []
-    inner_opened parent (Selection-F.FragmentSpread x) = option_to_list (option_map fragment_set (fragment_meant fragments x.item.name.item))
+    inner_opened parent (Selection-F.FragmentSpread x) =
+        option_to_list (option_map fragment_set (fragment_meant fragments x.item.name.item))
     inner_opened parent (Selection-F.InlineFragment x) =
-        record { scope = inside schema.types (Some parent) (condition_of x.item); selections = x.item.selection_set } ∷ []
+        record {
+          scope = inside schema.types (Some parent) (condition_of x.item);
+          selections = x.item.selection_set;
+        } ∷ []
 
     -- the set of the fragment that a selection is or means, if there is one
     abbrev pub inner_of : MetaType S C → Selection S → List (SetAt S C)

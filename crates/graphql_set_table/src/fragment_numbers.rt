@@ -18,12 +18,13 @@ pub(crate) struct FragmentNumbers<'d, 'a, S> {
     // Of each name, the number of the first fragment that has it.
     numbers: HashMap<&'a str, usize>,
 
-    ghost firsts: { (name : List ℕ) → get_by (λ k. bytes_eq name k.now) numbers ≡ fragment_number document.now name },
+    ghost firsts: { (name : List ℕ)
+        → get_by (λ k. bytes_eq name k.now) numbers ≡ fragment_number document.now name },
 }
 
 impl<'d, 'a, S> FragmentNumbers<'d, 'a, S> {
-    /// The fragments of this document. Takes time in proportion to its definitions. An error is want of
-    /// memory.
+    /// The fragments of this document. Takes time in proportion to its definitions. An error is
+    /// want of memory.
     pub(crate) fn new(
         alloc: Global,
         document: &'d [Definition<'a, S>],
@@ -45,13 +46,17 @@ impl<'d, 'a, S> FragmentNumbers<'d, 'a, S> {
     }
 }
 
-/// Adds a definition, unless it is no fragment or there is one of its name. An error is want of memory.
+/// Adds a definition, unless it is no fragment or there is one of its name. An error is want of
+/// memory.
 fn add<'a, S>(
     numbers: &mut HashMap<&'a str, usize>,
     number: usize,
     definition: &Definition<'a, S>,
 ) -> Result<(), AllocError>
-    ensures { OnOk result ((name : List ℕ) → get_by (λ k. bytes_eq name k.now) numbers.new ≡ option_or (get_by (λ k. bytes_eq name k.now) numbers.old) (if defines_fragment name definition.now then Some number else None)) }
+    ensures { OnOk result ((name : List ℕ)
+        → get_by (λ k. bytes_eq name k.now) numbers.new
+        ≡ option_or (get_by (λ k. bytes_eq name k.now) numbers.old)
+        (if defines_fragment name definition.now then Some number else None)) }
 {
     let Definition::Fragment(fragment) = definition else {
         return Ok(());

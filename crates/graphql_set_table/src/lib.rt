@@ -1,5 +1,5 @@
-//! The selection sets of a document by numbers, a fragment's once (GraphQL October 2021, 2.4 Selection
-//! Sets, 2.8 Fragments): what the rule that fields merge goes through.
+//! The selection sets of a document by numbers, a fragment's once (GraphQL October 2021, 2.4
+//! Selection Sets, 2.8 Fragments): what the rule that fields merge goes through.
 #![tactic(auto)]
 
 mod fragment_numbers;

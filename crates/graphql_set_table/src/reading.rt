@@ -10,7 +10,8 @@ ghost use Rattle.graphql_merging.specs.Members.{inside};
 ghost use Rattle.graphql_tree.specs.Definitions.{fragments_listed};
 ghost use Rattle.graphql_set_table.specs.FragmentNumbers.{fragment_number};
 ghost use Rattle.graphql_set_table.specs.Numbered.{DefinitionsFirst, IsSetOf};
-ghost use Rattle.graphql_set_table.specs.Reading.{Extends, Reads, ReadsOnce, nodes_in, set_at, sets_at};
+ghost use Rattle.graphql_set_table.specs.Reading.{Extends, Reads, ReadsOnce, nodes_in, set_at};
+ghost use Rattle.graphql_set_table.specs.Reading.{sets_at};
 ghost use Rattle.graphql_set_table.specs.SetsAt.{fields_of, inner_of};
 
 use crate::fragment_numbers::FragmentNumbers;
@@ -66,7 +67,8 @@ fn read_inline<'d, 'a, S, C>(
     Ok(())
 }
 
-/// Reads a spread: the fragment that it means has a number, if there is one. An error is want of memory.
+/// Reads a spread: the fragment that it means has a number, if there is one. An error is want of
+/// memory.
 fn read_spread<'d, 'a, S, C>(
     fragments: &FragmentNumbers<'d, 'a, S>,
     spread: &FragmentSpread<'a, S>,
@@ -91,14 +93,17 @@ fn read_selection<'d, 'a, S, C>(
     ahead: &mut Items<OpenSet<'d, 'a, S, C>>,
     written: &mut WrittenSet<'d, 'a, S, C>,
 ) -> Result<(), AllocError>
-    requires { DefinitionsFirst (declarations_of schema.now) fragments.now.document.now (sets_at ahead.old) }
+    requires { DefinitionsFirst (declarations_of schema.now) fragments.now.document.now
+        (sets_at ahead.old) }
     ensures reads { let all_old = sets_at ahead.old in let all_new = sets_at ahead.new in
         let declarations = declarations_of schema.now in
         let meant = fragments_listed fragments.now.document.now in
         OnOk result (Reads declarations all_old all_new written.old written.new
-        (fields_of parent.now selection.now) (inner_of declarations meant parent.now selection.now)) }
+        (fields_of parent.now selection.now)
+        (inner_of declarations meant parent.now selection.now)) }
     ensures once { let all_old = sets_at ahead.old in let all_new = sets_at ahead.new in
-        OnOk result (ReadsOnce all_old all_new written.old written.new (selection_nodes selection.now)) }
+        OnOk result
+        (ReadsOnce all_old all_new written.old written.new (selection_nodes selection.now)) }
 {
     match selection {
         Selection::Field(field) => read_field(schema, parent, field, ahead, written),
@@ -118,7 +123,8 @@ fn read_selections<'d, 'a, S, C>(
     ahead: &mut Items<OpenSet<'d, 'a, S, C>>,
     written: &mut WrittenSet<'d, 'a, S, C>,
 ) -> Result<(), AllocError>
-    requires { DefinitionsFirst (declarations_of schema.now) fragments.now.document.now (sets_at ahead.old) }
+    requires { DefinitionsFirst (declarations_of schema.now) fragments.now.document.now
+        (sets_at ahead.old) }
     ensures reads { let all_old = sets_at ahead.old in let all_new = sets_at ahead.new in
         let declarations = declarations_of schema.now in
         let meant = fragments_listed fragments.now.document.now in
@@ -134,9 +140,9 @@ fn read_selections<'d, 'a, S, C>(
     Ok(())
 }
 
-/// Reads a set. The sets that stand directly in it have numbers from then on, and each of its fields is
-/// taken up once: there, or in one of these. A set that selects from an unknown type is not read. An
-/// error is want of memory.
+/// Reads a set. The sets that stand directly in it have numbers from then on, and each of its
+/// fields is taken up once: there, or in one of these. A set that selects from an unknown type is
+/// not read. An error is want of memory.
 pub(crate) fn read_set<'d, 'a, S, C>(
     alloc: Global,
     schema: &'d SchemaType<S, C>,
@@ -144,11 +150,13 @@ pub(crate) fn read_set<'d, 'a, S, C>(
     set: OpenSet<'d, 'a, S, C>,
     ahead: &mut Items<OpenSet<'d, 'a, S, C>>,
 ) -> Result<WrittenSet<'d, 'a, S, C>, AllocError>
-    requires { DefinitionsFirst (declarations_of schema.now) fragments.now.document.now (sets_at ahead.old) }
+    requires { DefinitionsFirst (declarations_of schema.now) fragments.now.document.now
+        (sets_at ahead.old) }
     ensures numbered { OnOk result (Extends (sets_at ahead.old) (sets_at ahead.new)) }
     ensures written { let document = fragments.now.document.now in
         IfOk result (λ written.
-        IsSetOf (sets_at ahead.new) (declarations_of schema.now) document written (set_at set.entry)) }
+        IsSetOf (sets_at ahead.new) (declarations_of schema.now) document written
+        (set_at set.entry)) }
     ensures once { let most = nodes_in (sets_at ahead.old) + set_nodes set.entry.selections.now in
         IfOk result (λ written. length written.fields + nodes_in (sets_at ahead.new) ≤ most) }
 {

@@ -63,7 +63,8 @@ pub(crate) fn set_of_field<'d, 'a, S, C>(
     parent: &'d MetaType<S, C>,
     field: &'d Spanning<Field<'a, S>>,
 ) -> OpenSet<'d, 'a, S, C>
-    ensures { set_at result ≡ own_set (declarations_of schema.now) (record { parent = parent.now; field = field.now }) }
+    ensures { set_at result
+        ≡ own_set (declarations_of schema.now) (record { parent = parent.now; field = field.now }) }
 {
     OpenSet {
         scope: scope_of_field(schema, parent, field.item.name.item.as_str()),
@@ -77,7 +78,8 @@ fn scope_inside<'d, 'a, S, C>(
     parent: &'d MetaType<S, C>,
     fragment: &InlineFragment<'a, S>,
 ) -> Option<&'d MetaType<S, C>>
-    ensures { option_copied result ≡ spec.inside schema.now.types (Some parent.now) (condition_of fragment.now) }
+    ensures { option_copied result
+        ≡ spec.inside schema.now.types (Some parent.now) (condition_of fragment.now) }
 {
     match &fragment.type_condition {
         Some(on) => schema.concrete_type_by_name(on.item.as_str()),
@@ -91,7 +93,11 @@ pub(crate) fn set_of_inline<'d, 'a, S, C>(
     parent: &'d MetaType<S, C>,
     fragment: &'d InlineFragment<'a, S>,
 ) -> OpenSet<'d, 'a, S, C>
-    ensures { set_at result ≡ record { scope = spec.inside schema.now.types (Some parent.now) (condition_of fragment.now); selections = fragment.now.selection_set } }
+    ensures { set_at result ≡ record {
+      scope = spec.inside schema.now.types (Some parent.now)
+          (condition_of fragment.now);
+      selections = fragment.now.selection_set;
+    } }
 {
     OpenSet {
         scope: scope_inside(schema, parent, fragment),

@@ -23,7 +23,8 @@ fn sets_of_definitions<'d, 'a, S, C>(
     schema: &'d SchemaType<S, C>,
     document: &'d [Definition<'a, S>],
 ) -> Result<Items<OpenSet<'d, 'a, S, C>>, AllocError>
-    ensures { IfOk result (λ sets. sets_at sets ≡ map (definition_set (declarations_of schema.now)) document.now) }
+    ensures { IfOk result
+        (λ sets. sets_at sets ≡ map (definition_set (declarations_of schema.now)) document.now) }
 {
     let mut sets = Items::new(alloc);
     'definitions: for definition in document {
@@ -32,8 +33,8 @@ fn sets_of_definitions<'d, 'a, S, C>(
     Ok(sets)
 }
 
-/// Adds a set to the table. The sets that stand directly in it have numbers from then on, and each of
-/// its fields is taken up once: there, or in one of these. An error is want of memory.
+/// Adds a set to the table. The sets that stand directly in it have numbers from then on, and each
+/// of its fields is taken up once: there, or in one of these. An error is want of memory.
 fn add_set<'d, 'a, S, C>(
     alloc: Global,
     schema: &'d SchemaType<S, C>,
@@ -42,7 +43,8 @@ fn add_set<'d, 'a, S, C>(
     ahead: &mut Items<OpenSet<'d, 'a, S, C>>,
     table: &mut SetTable<'d, 'a, S, C>,
 ) -> Result<(), AllocError>
-    requires { DefinitionsFirst (declarations_of schema.now) fragments.now.document.now (sets_at ahead.old) }
+    requires { DefinitionsFirst (declarations_of schema.now) fragments.now.document.now
+        (sets_at ahead.old) }
     ensures numbered { OnOk result (Extends (sets_at ahead.old) (sets_at ahead.new)) }
     ensures added { let document = fragments.now.document.now in
         let most = nodes_in (sets_at ahead.old) + set_nodes set.entry.selections.now in
@@ -59,8 +61,8 @@ fn add_set<'d, 'a, S, C>(
     }
 }
 
-/// Adds the sets that are ahead to a table that has none yet, and those that have numbers on the way. An
-/// error is want of memory.
+/// Adds the sets that are ahead to a table that has none yet, and those that have numbers on the
+/// way. An error is want of memory.
 fn add_sets<'d, 'a, S, C>(
     alloc: Global,
     schema: &'d SchemaType<S, C>,
@@ -68,10 +70,12 @@ fn add_sets<'d, 'a, S, C>(
     mut ahead: Items<OpenSet<'d, 'a, S, C>>,
     table: &mut SetTable<'d, 'a, S, C>,
 ) -> Result<(), AllocError>
-    requires first { DefinitionsFirst (declarations_of schema.now) fragments.now.document.now (sets_at ahead) }
+    requires first { DefinitionsFirst (declarations_of schema.now) fragments.now.document.now
+        (sets_at ahead) }
     requires none { table.old.sets ≡ [] }
     ensures numbered { let document = fragments.now.document.now in
-        OnOk result ((all : List (SetAt S C)) × IsTable (declarations_of schema.now) document all table.new.sets) }
+        OnOk result ((all : List (SetAt S C))
+        × IsTable (declarations_of schema.now) document all table.new.sets) }
     ensures once { OnOk result (fields_written table.new.sets ≤ nodes_in (sets_at ahead.entry)) }
 {
     'sets: while let Some(set) = ahead.get(table.sets.len()).copied() {
@@ -80,27 +84,29 @@ fn add_sets<'d, 'a, S, C>(
     Ok(())
 }
 
-/// Lets a table go, set by set. A function for any scalar does so before it ends: that a table which it
-/// owns may go by itself is not known there.
+/// Lets a table go, set by set. A function for any scalar does so before it ends: that a table
+/// which it owns may go by itself is not known there.
 pub fn let_go<'d, 'a, S, C>(table: SetTable<'d, 'a, S, C>) {
     let mut sets = table.sets;
     'sets: while let Some(_set) = sets.pop() {}
     sets.into_vec().destroy_empty();
 }
 
-/// The selection sets of a document by numbers from zero (GraphQL October 2021, 2.4 Selection Sets):
-/// first those of its definitions, in order, then those of its fields and of its inline fragments. A
-/// spread has the number of the first fragment of its name (5.5.2.1 Fragment Spread Target Defined), so
-/// that the fields of the sets are at most those that the document writes. A set that selects from an
-/// unknown type is empty. Takes time and memory in proportion to the document, and no more stack however
-/// deep it is. An error is want of memory.
+/// The selection sets of a document by numbers from zero (GraphQL October 2021, 2.4 Selection
+/// Sets):
+/// first those of its definitions, in order, then those of its fields and of its inline fragments.
+/// A spread has the number of the first fragment of its name (5.5.2.1 Fragment Spread Target
+/// Defined), so that the fields of the sets are at most those that the document writes. A set that
+/// selects from an unknown type is empty. Takes time and memory in proportion to the document, and
+/// no more stack however deep it is. An error is want of memory.
 pub fn numbered_sets<'d, 'a, S, C>(
     alloc: Global,
     schema: &'d SchemaType<S, C>,
     document: &'d [Definition<'a, S>],
 ) -> Result<SetTable<'d, 'a, S, C>, AllocError>
     ensures numbered { let declarations = declarations_of schema.now in
-        IfOk result (λ table. (all : List (SetAt S C)) × IsTable declarations document.now all table.sets) }
+        IfOk result
+        (λ table. (all : List (SetAt S C)) × IsTable declarations document.now all table.sets) }
     ensures once { IfOk result (λ table. fields_written table.sets ≤ document_nodes document.now) }
 {
     let fragments = FragmentNumbers::new(alloc, document)?;

@@ -1,5 +1,5 @@
--- Laws of what a store allows: it suffices to review the texts that are stored (GraphQL October 2021,
--- 2.1.7 Ignored Tokens, 6.1 Executing Requests, 7.1 Response Format).
+-- Laws of what a store allows: it suffices to review the texts that are stored (GraphQL October
+-- 2021, 2.1.7 Ignored Tokens, 6.1 Executing Requests, 7.1 Response Format).
 use Rattle.std.specs.Prelude.{◌≡◌, ◌↔◌, true, ℕ, List, [], Option}
 use Rattle.std.specs.declared.cmp.Ordering.{Ordering}
 use Rattle.std.specs.Str.{chars, IsUtf8}
@@ -24,8 +24,8 @@ use Rattle.graphql_stores.specs.Stored.{IsRefusedFirst}
 
 -- by what scalars mean, two requests, and what a resolver answers
 module _ {S C N X : Type 0} (s : Scalars S C) (a b : Asking S C) (r : Resolver S N X) where
-  -- answered on one context they have the same data, errors in both or in neither, and leave the same
-  -- context; and what the one is answered without errors, the other is
+  -- answered on one context they have the same data, errors in both or in neither, and leave the
+  -- same context; and what the one is answered without errors, the other is
   pub record MeanTheSame : Type 0 where
     pub alike : (cmp : ExecutionError S → ExecutionError S → Ordering) (old new after : X)
         (answered told : Value S) (errors others : List (ExecutionError S))
@@ -56,8 +56,8 @@ module _ {S C : Type 0} (s : Scalars S C) (root : RootNode S C) where
       → IsAllowed s store size_limit (asked_at root (chars one) name given)
       ↔ IsAllowed s store size_limit (asked_at root (chars other) name given)
 
-  -- a text of the store that stands for a request: asked in its place, with the same operation name and
-  -- the same values for variables, it is allowed and means the same
+  -- a text of the store that stands for a request: asked in its place, with the same operation name
+  -- and the same values for variables, it is allowed and means the same
   pub record StandsFor {N X : Type 0} (r : Resolver S N X) (store : AllowedQueries) (size_limit : ℕ)
       (source : Bytes) (name : Option Bytes) (given : Bytes → Option (InputValue S)) : Type 0 where
     pub text : Bytes

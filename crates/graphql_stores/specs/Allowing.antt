@@ -42,15 +42,18 @@ module _ {S C N X : Type 0} (a : Answerer S C N X) (size_limit : ℕ) (store : A
     Passes true = AsksAllowed ⊎ IsRefusedFirst a size_limit line
     Passes false = AsksOther
 
-    -- the answer line: the service's where the store allows what is asked; else, with the context as
-    -- it was, its refusal on the way to a plain text, or that the query is not allowed
+    -- the answer line: the service's where the store allows what is asked; else, with the context
+    -- as it was, its refusal on the way to a plain text, or that the query is not allowed
     pub data IsAnswerIfAllowed (old : X) (answered : Bytes) (new : X) : Type 0 where
       served : AsksAllowed → IsAnswer a line old answered new → IsAnswerIfAllowed old answered new
-      refused_first : IsRefusedFirst a size_limit line → IsAnswer a line old answered new → new ≡ old
+      refused_first : IsRefusedFirst a size_limit line → IsAnswer a line old answered new
+          → new ≡ old
           → IsAnswerIfAllowed old answered new
-      not_allowed : AsksOther → answered ≡ not_allowed_line → new ≡ old → IsAnswerIfAllowed old answered new
+      not_allowed : AsksOther → answered ≡ not_allowed_line → new ≡ old
+          → IsAnswerIfAllowed old answered new
 
-  -- on this context the line is given its answer, one line of JSON with distinct keys, and leaves that context
+  -- on this context the line is given its answer, one line of JSON with distinct keys, and leaves
+  -- that context
   pub record AnswersIfAllowed (old : X) (line text : Bytes) (new : X) : Type 0 where
     pub answer : IsAnswerIfAllowed line old text new
     pub one_line : IsLine text

@@ -10,9 +10,11 @@ use Rattle.graphql_field_results.specs.declared.execution_error.ExecutionError.{
 use Rattle.graphql_rule_errors.specs.declared.rule_error.RuleError.{RuleError}
 use Rattle.graphql_executor.specs.Requests.{Scalars}
 use Rattle.graphql_executor.specs.Resolvers.{Resolver}
-use Rattle.graphql_service.specs.Answers.{Answerer, IsAnswer, answerer_of, executed_to, no_request, not_executed}
+use Rattle.graphql_service.specs.Answers.{Answerer, IsAnswer, answerer_of, executed_to, no_request}
+use Rattle.graphql_service.specs.Answers.{not_executed}
 use Rattle.graphql_service.specs.Serving.{HasPartsOf, still-no_request}
-use Rattle.graphql_stores.specs.Allowing.{AnswersIfAllowed, BreaksIfAllowed, IsAnswerIfAllowed, not_allowed, refused_first, served}
+use Rattle.graphql_stores.specs.Allowing.{AnswersIfAllowed, BreaksIfAllowed, IsAnswerIfAllowed}
+use Rattle.graphql_stores.specs.Allowing.{not_allowed, refused_first, served}
 use Rattle.graphql_stores.specs.Stored.{IsRefusedFirst}
 use Rattle.graphql_stores.specs.Stored as first
 use Rattle.graphql_stores.specs.declared.allowing_service.AllowingService.{AllowingService}
@@ -23,8 +25,10 @@ pub record KeepsParts {S R X C : Type 0} (old new : AllowingService S R X C) : T
   pub allowed : new.allowed ≡ old.allowed
 
 module _ {S C N X R : Type 0} (scalars : Scalars S C) (by_rules : RuleError → RuleError → Ordering)
-    (by_fields : ExecutionError S → ExecutionError S → Ordering) (resolving : R → Resolver S N X) where
-  abbrev pub AllowingAnswers : AllowingService S R X C → Bytes → Bytes → AllowingService S R X C → Type 0
+    (by_fields : ExecutionError S → ExecutionError S → Ordering)
+    (resolving : R → Resolver S N X) where
+  abbrev pub AllowingAnswers : AllowingService S R X C → Bytes → Bytes → AllowingService S R X C
+      → Type 0
   AllowingAnswers old line text new =
       AnswersIfAllowed (answerer_of scalars by_rules by_fields resolving old.service)
       old.service.selection_limit old.allowed old.service.context line text new.service.context
@@ -37,10 +41,13 @@ module _ {S C N X R : Type 0} (scalars : Scalars S C) (by_rules : RuleError → 
       × KeepsParts old new
 
 -- a line that is too long is refused, whatever stands in it
-module _ {S C N X : Type 0} (a : Answerer S C N X) (size_limit : ℕ) (store : AllowedQueries) (line : Bytes)
+module _ {S C N X : Type 0} (a : Answerer S C N X) (size_limit : ℕ) (store : AllowedQueries)
+    (line : Bytes)
     (longer : a.limit < length line) where
-  still-refused : IsRefusedFirst a size_limit (kept_of a.limit line) → IsRefusedFirst a size_limit line
-  still-refused (first.no_request refusal h) = first.no_request refusal (still-no_request a line longer refusal h)
+  still-refused : IsRefusedFirst a size_limit (kept_of a.limit line)
+      → IsRefusedFirst a size_limit line
+  still-refused (first.no_request refusal h) =
+      first.no_request refusal (still-no_request a line longer refusal h)
   still-refused (first.no_plain why h) = absurd (front-longer a.limit line longer h.asks.within)
 
   still-answer : (old new : X) (text : Bytes) → IsAnswer a (kept_of a.limit line) old text new
@@ -55,7 +62,8 @@ module _ {S C N X : Type 0} (a : Answerer S C N X) (size_limit : ℕ) (store : A
   long-answer : (old new : X) (text : Bytes)
       → IsAnswerIfAllowed a size_limit store (kept_of a.limit line) old text new
       → IsAnswerIfAllowed a size_limit store line old text new
-  long-answer old new text (served h answer) = absurd (front-longer a.limit line longer h.asks.within)
+  long-answer old new text (served h answer) =
+      absurd (front-longer a.limit line longer h.asks.within)
   long-answer old new text (refused_first h answer kept) =
       refused_first (still-refused h) (still-answer old new text answer) kept
   long-answer old new text (not_allowed (inl h) e kept) =
@@ -69,28 +77,35 @@ module _ {S C N X : Type 0} (a : Answerer S C N X) (size_limit : ℕ) (store : A
   long-broken old new (inr h) = absurd (front-longer a.limit line longer h.0.asks.within)
 
 module _ {S C N X R : Type 0} (scalars : Scalars S C) (by_rules : RuleError → RuleError → Ordering)
-    (by_fields : ExecutionError S → ExecutionError S → Ordering) (resolving : R → Resolver S N X) where
-  pub allowing-kept : (old : AllowingService S R X C) (line text : Bytes) (new : AllowingService S R X C)
+    (by_fields : ExecutionError S → ExecutionError S → Ordering)
+    (resolving : R → Resolver S N X) where
+  pub allowing-kept : (old : AllowingService S R X C) (line text : Bytes)
+      (new : AllowingService S R X C)
       → old.service.line_limit < length line
-      → AllowingAnswers scalars by_rules by_fields resolving old (kept_of old.service.line_limit line) text new
+      → AllowingAnswers scalars by_rules by_fields resolving old
+      (kept_of old.service.line_limit line) text new
       → AllowingAnswers scalars by_rules by_fields resolving old line text new
   allowing-kept old line text new longer (h, parts) = (
     record {
       answer =
           long-answer (answerer_of scalars by_rules by_fields resolving old.service)
-          old.service.selection_limit old.allowed line longer old.service.context new.service.context text h.answer;
+          old.service.selection_limit old.allowed line longer old.service.context
+          new.service.context text h.answer;
       one_line = h.one_line;
       distinct = h.distinct;
     },
     parts,
   )
 
-  pub allowing-breaks-kept : (old : AllowingService S R X C) (line : Bytes) (new : AllowingService S R X C)
+  pub allowing-breaks-kept : (old : AllowingService S R X C) (line : Bytes)
+      (new : AllowingService S R X C)
       → old.service.line_limit < length line
-      → AllowingBreaks scalars by_rules by_fields resolving old (kept_of old.service.line_limit line) new
+      → AllowingBreaks scalars by_rules by_fields resolving old
+      (kept_of old.service.line_limit line) new
       → AllowingBreaks scalars by_rules by_fields resolving old line new
   allowing-breaks-kept old line new longer (h, parts) = (
     long-broken (answerer_of scalars by_rules by_fields resolving old.service)
-        old.service.selection_limit old.allowed line longer old.service.context new.service.context h,
+        old.service.selection_limit old.allowed line longer old.service.context new.service.context
+        h,
     parts,
   )

@@ -13,8 +13,10 @@ use Rattle.graphql_stores.specs.declared.answer_cache.AnswerCache.{AnswerCache}
 
 -- a line that is too long is answered by its front, as the service does
 module _ {S C N X R : Type 0} (scalars : Scalars S C) (by_rules : RuleError → RuleError → Ordering)
-    (by_fields : ExecutionError S → ExecutionError S → Ordering) (resolving : R → Resolver S N X) where
-  pub cache-answers-kept : (old : AnswerCache S R X C) (line text : Bytes) (new : AnswerCache S R X C)
+    (by_fields : ExecutionError S → ExecutionError S → Ordering)
+    (resolving : R → Resolver S N X) where
+  pub cache-answers-kept : (old : AnswerCache S R X C) (line text : Bytes)
+      (new : AnswerCache S R X C)
       → old.service.line_limit < length line
       → CacheAnswers scalars by_rules by_fields resolving old
       (kept_of old.service.line_limit line) text new

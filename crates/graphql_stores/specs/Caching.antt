@@ -13,7 +13,8 @@ use Rattle.graphql_stores.specs.StoredAnswers.{AreAnswers, AreWholeAnswers}
 use Rattle.graphql_stores.specs.declared.answer_cache.AnswerCache.{AnswerCache}
 
 module _ {S C N X R : Type 0} (scalars : Scalars S C) (by_rules : RuleError → RuleError → Ordering)
-    (by_fields : ExecutionError S → ExecutionError S → Ordering) (resolving : R → Resolver S N X) where
+    (by_fields : ExecutionError S → ExecutionError S → Ordering)
+    (resolving : R → Resolver S N X) where
   -- each answer that is kept is the service's on the present context; the schema takes the stand-in
   -- of plain texts
   pub record KeepsAnswers (cache : AnswerCache S R X C) : Type 0 where

@@ -5,5 +5,6 @@ use Rattle.graphql_stores.specs.declared.allowed_fault.AllowedFault.{AllowedFaul
 use Rattle.graphql_stores.specs.declared.allowed_fault.AllowedFault.TheVariants as fault
 
 abbrev pub allowed_fault_text : AllowedFault → List ℕ
-allowed_fault_text (fault.Line number) = codes "line " ++ decimal number ++ codes " tells no plain text"
+allowed_fault_text (fault.Line number) =
+    codes "line " ++ decimal number ++ codes " tells no plain text"
 allowed_fault_text fault.Memory = codes "out of memory"

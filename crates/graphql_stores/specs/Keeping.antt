@@ -5,7 +5,8 @@ use Rattle.graphql_stores.specs.declared.kept_texts.KeptTexts.{KeptTexts}
 
 -- the text is kept under the key
 abbrev pub IsKept : KeptTexts → List ℕ → List ℕ → Type 0
-IsKept store key text = (text_at store.younger key ≡ Some text) ⊎ (text_at store.older key ≡ Some text)
+IsKept store key text =
+    (text_at store.younger key ≡ Some text) ⊎ (text_at store.older key ≡ Some text)
 
 -- no text is kept
 abbrev pub KeepsNothing : KeptTexts → Type 0
@@ -13,7 +14,8 @@ KeepsNothing store = (key text : List ℕ) → IsKept store key text → ⊥
 
 -- what is kept then was kept before, or is this text under its key
 abbrev pub KeepsAtMost : KeptTexts → KeptTexts → List ℕ → List ℕ → Type 0
-KeepsAtMost old new key text = (k t : List ℕ) → IsKept new k t → IsKept old k t ⊎ ((key ≡ k) × (text ≡ t))
+KeepsAtMost old new key text =
+    (k t : List ℕ) → IsKept new k t → IsKept old k t ⊎ ((key ≡ k) × (text ≡ t))
 
 -- what is kept then was kept before
 abbrev pub KeepsNoMore : KeptTexts → KeptTexts → Type 0

@@ -61,8 +61,8 @@ module _ {S C N X R : Type 0} (scalars : Scalars S C) (by_rules : RuleError → 
     pub shared : IsSharedWith line other plain
 
 module _ {S C N X : Type 0} (a : Answerer S C N X) where
-  -- an answer line that does not begin with data is that of a refusal, which leaves the context; one
-  -- that does, and does not end with the end of a list, is that of data without errors
+  -- an answer line that does not begin with data is that of a refusal, which leaves the context;
+  -- one that does, and does not end with the end of a list, is that of data without errors
   abbrev pub AnswersShowErrors : Type 0
   AnswersShowErrors =
       (line text : Bytes) (old new : X) → IsAnswer a line old text new

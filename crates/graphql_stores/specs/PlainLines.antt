@@ -18,8 +18,8 @@ members_of_plain plain name variables =
     put_given (codes "variables") variables
     (put_given (codes "operationName") name (put (codes "query") (string plain) no_members))
 
--- `key` asks what is asked, but for the text of the query, which is the plain text, and with the values of
--- the variables of these names alone; the query that is asked is UTF-8
+-- `key` asks what is asked, but for the text of the query, which is the plain text, and with the
+-- values of the variables of these names alone; the query that is asked is UTF-8
 abbrev pub AsksPlain : Option Request → Bytes → List Bytes → Bytes → Type 0
 AsksPlain asked plain names key =
     (request : Request) → asked ≡ Some request

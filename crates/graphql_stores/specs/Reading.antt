@@ -1,4 +1,5 @@
--- What is read of a line for which no answer is kept (GraphQL October 2021, 6.1 Executing Requests).
+-- What is read of a line for which no answer is kept (GraphQL October 2021, 6.1 Executing
+-- Requests).
 use Rattle.std.specs.Prelude.{List, string_bytes}
 use Rattle.std.specs.HashMap.{get_by_text}
 use Rattle.std.specs.Option.{option_map}
@@ -21,7 +22,8 @@ module _ {S C N X : Type 0} (a : Answerer S C N X) where
   abbrev pub asking_of : GraphQLRequest S → Asking S C
   asking_of request =
       asking a.schema a.introspection_disabled (chars (string_bytes request.query))
-      (option_map (λ name. string_bytes name) request.operation_name) (get_by_text request.variables)
+      (option_map (λ name. string_bytes name) request.operation_name)
+      (get_by_text request.variables)
 
   module _ (line : Bytes) where
     -- the line asks this request

@@ -17,8 +17,8 @@ members_of names no_members = no_members
 members_of names (member name d ms) =
     if is_one_of names name then member name d (members_of names ms) else members_of names ms
 
--- the request that asks another text, with the same operation name, and of the values for variables those
--- of these names
+-- the request that asks another text, with the same operation name, and of the values for variables
+-- those of these names
 abbrev pub with_query : Request → Bytes → List Bytes → Request
 with_query request text names = record {
   query = text;
@@ -28,7 +28,8 @@ with_query request text names = record {
 
 -- by what a service answers, and by the greatest size of a plain text
 module _ {S C N X : Type 0} (a : Answerer S C N X) (size_limit : ℕ) (line : Bytes) where
-  -- the line is refused on its way to a plain text: it is no request, or its request is not executed
+  -- the line is refused on its way to a plain text: it is no request, or its request is not
+  -- executed
   pub data IsRefusedFirst : Type 0 where
     no_request : (refusal : LineRefusal) → IsNoRequest a line refusal → IsRefusedFirst
     no_plain : (why : GraphQLError) → HasNoPlain a size_limit line (Refused why) → IsRefusedFirst

@@ -15,7 +15,8 @@ is_allowed store plain = contains_text store.texts plain
 
 -- the new store allows what the old one does, and the text that a line tells
 abbrev pub AllowsMore : AllowedQueries → Bytes → AllowedQueries → Type 0
-AllowsMore old line new = (plain : Bytes) → is_allowed new plain ≡ (is_allowed old plain || tells plain line)
+AllowsMore old line new =
+    (plain : Bytes) → is_allowed new plain ≡ (is_allowed old plain || tells plain line)
 
 -- a line that so many stand before: one that is fine adds the text that it tells, and the number of
 -- another one, counted from one, is told. Want of memory tells nothing
@@ -25,7 +26,8 @@ TakesLine old line before new (Ok done) = IsFine line × AllowsMore old line new
 TakesLine old line before new (Err (fault.Line number)) = (number ≡ before + 1) × (IsFine line → ⊥)
 TakesLine old line before new (Err fault.Memory) = Unit {0}
 
--- each line of the file is fine, and the store allows what they tell; or the first that is not is told
+-- each line of the file is fine, and the store allows what they tell; or the first that is not is
+-- told
 abbrev pub ReadsFile : Bytes → Result AllowedQueries AllowedFault → Type 0
 ReadsFile file (Ok store) =
     All IsFine (lines file)

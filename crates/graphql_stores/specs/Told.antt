@@ -1,5 +1,7 @@
--- Plain texts in the lines of a file, each a JSON object that has the text under `plain` (RFC 8259).
-use Rattle.std.specs.Prelude.{◌≡◌, ℕ, ◌+◌, false, Bool, List, [], ◌∷◌, ◌++◌, length, Option, None, IsSome, codes, option_and_then}
+-- Plain texts in the lines of a file, each a JSON object that has the text under `plain` (RFC
+-- 8259).
+use Rattle.std.specs.Prelude.{◌≡◌, ℕ, ◌+◌, false, Bool, List, [], ◌∷◌, ◌++◌, length, Option, None}
+use Rattle.std.specs.Prelude.{IsSome, codes, option_and_then}
 use Rattle.std.specs.List.{All}
 use Rattle.std.specs.Option.{option_map_or}
 use Rattle.std.specs.Str.{bytes_eq}

@@ -7,8 +7,8 @@ use std::fmt;
 /// Why a file has no allowed queries.
 #[derive(Clone, Copy, Debug, PartialEq, Eq)]
 pub enum AllowedFault {
-    /// This line, counted from one, is the first that is neither empty nor a JSON object whose `plain`
-    /// is a text.
+    /// This line, counted from one, is the first that is neither empty nor a JSON object whose
+    /// `plain` is a text.
     Line(usize),
 
     /// Memory ran out, which tells nothing of the file.

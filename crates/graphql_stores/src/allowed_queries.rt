@@ -1,6 +1,7 @@
 //! Stores of allowed queries.
 
-ghost use Rattle.std.specs.Prelude.{◌≡◌, ◌==◌, ◌<◌, ◌+◌, ◌^◌, false, IfOk, IfSome, length, option_map, option_and_then, position, string_bytes};
+ghost use Rattle.std.specs.Prelude.{◌≡◌, ◌==◌, ◌<◌, ◌+◌, ◌^◌, false, IfOk, IfSome, length};
+ghost use Rattle.std.specs.Prelude.{option_map, option_and_then, position, string_bytes};
 ghost use Rattle.serde_json.specs.Find.{as_str, get_member};
 ghost use Rattle.serde_json.specs.View.{members_view, view};
 ghost use Rattle.graphql_names.specs.Names.{Bytes};
@@ -31,8 +32,8 @@ impl AllowedQueries {
         }
     }
 
-    /// A store that allows the plain texts which the lines of a file tell, each as `{"plain":TEXT}`;
-    /// members of other names are passed over, and so are empty lines.
+    /// A store that allows the plain texts which the lines of a file tell, each as
+    /// `{"plain":TEXT}`; members of other names are passed over, and so are empty lines.
     ///
     /// An error is the first other line, by its number, or want of memory.
     pub fn read(alloc: Global, file: &[u8]) -> Result<AllowedQueries, AllowedFault>
@@ -57,8 +58,8 @@ impl AllowedQueries {
         self.texts.contains(plain)
     }
 
-    /// Allows the plain text that a line tells, before which so many lines stand; an empty line tells
-    /// none.
+    /// Allows the plain text that a line tells, before which so many lines stand; an empty line
+    /// tells none.
     fn take_line(&mut self, alloc: Global, line: &[u8], before: usize) -> Result<(), AllowedFault>
         requires { before + length line.now < 2 ^ 64 }
         ensures { TakesLine self.old line.now before self.new result }

@@ -5,7 +5,8 @@ ghost use Rattle.graphql_streams.specs.Counts.{HasRisen};
 ghost use Rattle.graphql_streams.specs.Served.{Ends, ServedAll, WritesAfter, reads_after};
 ghost use Rattle.graphql_service.specs.Answers.{answerer_of};
 ghost use Rattle.graphql_stores.specs.Allowing.{AnswersIfAllowed, BreaksIfAllowed};
-ghost use Rattle.graphql_stores.specs.AllowingLines.{AllowingAnswers, AllowingBreaks, KeepsParts, allowing-breaks-kept, allowing-kept};
+ghost use Rattle.graphql_stores.specs.AllowingLines.{AllowingAnswers, AllowingBreaks, KeepsParts};
+ghost use Rattle.graphql_stores.specs.AllowingLines.{allowing-breaks-kept, allowing-kept};
 
 use crate::allowing_service::AllowingService;
 use graphql_executor::{Meaning, Resolving};
@@ -17,12 +18,12 @@ use graphql_streams::{ByteSink, ByteSource, LineEngine, ServeError, serve_lines}
 use std::alloc::{AllocError, Global};
 
 impl<S: SchemaScalar + Drop, R: GraphQLMutationValue<S>> AllowingService<S, R, R::Context> {
-    /// Answers each line that is not empty until the input ends, in order, each on the context that the lines
-    /// before left: what is written is the answer of [`AllowingService::answer`] to each. Lines end, are read,
-    /// are cut and are answered as `Service::serve` has it.
+    /// Answers each line that is not empty until the input ends, in order, each on the context that
+    /// the lines before left: what is written is the answer of [`AllowingService::answer`] to each.
+    /// Lines end, are read, are cut and are answered as `Service::serve` has it.
     ///
-    /// Errors: those of `Service::serve`, each where it comes there, and what is read, written and left then is
-    /// what is said there.
+    /// Errors: those of `Service::serve`, each where it comes there, and what is read, written and
+    /// left then is what is said there.
     pub fn serve<I: ByteSource, O: ByteSink>(
         &mut self,
         alloc: Global,
@@ -31,12 +32,14 @@ impl<S: SchemaScalar + Drop, R: GraphQLMutationValue<S>> AllowingService<S, R, R
     ) -> Result<(), ServeError>
         ensures served { let a = answerer_of ⟦<S as Meaning>⟧.meaning ⟦<RuleError as Ord>⟧.cmp
             ⟦<ExecutionError<S> as Ord>⟧.cmp ⟦<R as Resolving<S>>⟧.resolving self.old.service in
-            OnOk result (ServedAll (AnswersIfAllowed a self.old.service.selection_limit self.old.allowed)
+            OnOk result
+            (ServedAll (AnswersIfAllowed a self.old.service.selection_limit self.old.allowed)
             self.old.service.context (I.left reader.old) (I.left reader.new)
             (O.written writer.old) (O.written writer.new) self.new.service.context) }
         ensures ended { let a = answerer_of ⟦<S as Meaning>⟧.meaning ⟦<RuleError as Ord>⟧.cmp
             ⟦<ExecutionError<S> as Ord>⟧.cmp ⟦<R as Resolving<S>>⟧.resolving self.old.service in
-            IfErr result (λ error. Ends (AnswersIfAllowed a self.old.service.selection_limit self.old.allowed)
+            IfErr result
+            (λ error. Ends (AnswersIfAllowed a self.old.service.selection_limit self.old.allowed)
             (BreaksIfAllowed a self.old.service.selection_limit self.old.allowed)
             (HasRisen (O.faults writer.old) (O.faults writer.new)) error self.old.service.context
             (I.left reader.old) (I.left reader.new)

@@ -5,7 +5,8 @@ ghost use Rattle.graphql_answers.specs.Lines.{IsLine};
 ghost use Rattle.graphql_json.specs.Writing.{KeepsFront};
 ghost use Rattle.graphql_service.specs.Answers.{Appends, answerer_of};
 ghost use Rattle.graphql_service.specs.Laws.{IsLineOfDistinctKeys};
-ghost use Rattle.graphql_stores.specs.Allowing.{AnswersIfAllowed, BreaksIfAllowed, IsAnswerIfAllowed, Passes, not_allowed_line};
+ghost use Rattle.graphql_stores.specs.Allowing.{AnswersIfAllowed, BreaksIfAllowed};
+ghost use Rattle.graphql_stores.specs.Allowing.{IsAnswerIfAllowed, Passes, not_allowed_line};
 ghost use Rattle.graphql_stores.specs.AllowingLines.{KeepsParts};
 
 use crate::AllowedQueries;
@@ -53,15 +54,16 @@ impl<S: SchemaScalar + Drop, R: GraphQLMutationValue<S>> AllowingService<S, R, R
         &self.allowed
     }
 
-    /// The answer line of a request line, its line feed included, which is then all that `out` holds: that of
-    /// [`Service::answer`] where the request's plain text is in the store; else the refusal of the line on its
-    /// way to a plain text, as [`Service::answer`] has it, or, where it has one that is not in the store or is
-    /// larger than the service takes, `{"errors":[{"message":"Query is not allowed"}]}`. The line is given
-    /// without its line feed. Only a request that is allowed changes the context (GraphQL October 2021,
-    /// 6.1 Executing Requests).
+    /// The answer line of a request line, its line feed included, which is then all that `out`
+    /// holds: that of [`Service::answer`] where the request's plain text is in the store; else the
+    /// refusal of the line on its way to a plain text, as [`Service::answer`] has it, or, where it
+    /// has one that is not in the store or is larger than the service takes,
+    /// `{"errors":[{"message":"Query is not allowed"}]}`. The line is given without its line feed.
+    /// Only a request that is allowed changes the context (GraphQL October 2021, 6.1 Executing
+    /// Requests).
     ///
-    /// The only error is want of memory, after which `out` is empty, and the context is as it was, or, of a
-    /// request that is allowed, as [`Service::answer`] leaves it then.
+    /// The only error is want of memory, after which `out` is empty, and the context is as it was,
+    /// or, of a request that is allowed, as [`Service::answer`] leaves it then.
     pub fn answer(
         &mut self,
         alloc: Global,
@@ -70,7 +72,8 @@ impl<S: SchemaScalar + Drop, R: GraphQLMutationValue<S>> AllowingService<S, R, R
     ) -> Result<(), AllocError>
         ensures answers { let a = answerer_of ⟦<S as Meaning>⟧.meaning ⟦<RuleError as Ord>⟧.cmp
             ⟦<ExecutionError<S> as Ord>⟧.cmp ⟦<R as Resolving<S>>⟧.resolving self.old.service in
-            OnOk result (IsAnswerIfAllowed a self.old.service.selection_limit self.old.allowed line.now
+            OnOk result
+            (IsAnswerIfAllowed a self.old.service.selection_limit self.old.allowed line.now
             self.old.service.context out.new.items self.new.service.context) }
         ensures line { OnOk result (IsLine out.new.items) }
         ensures distinct { OnOk result (IsLineOfDistinctKeys out.new.items) }
@@ -85,8 +88,9 @@ impl<S: SchemaScalar + Drop, R: GraphQLMutationValue<S>> AllowingService<S, R, R
         self.append_line(alloc, line, out)
     }
 
-    /// Writes the answer line of a request line behind what `out` holds, as [`AllowingService::answer`] gives
-    /// it. The only error is want of memory, after which `out` is as it was.
+    /// Writes the answer line of a request line behind what `out` holds, as
+    /// [`AllowingService::answer`] gives it. The only error is want of memory, after which `out` is
+    /// as it was.
     pub(crate) fn append_line(
         &mut self,
         alloc: Global,
@@ -95,8 +99,10 @@ impl<S: SchemaScalar + Drop, R: GraphQLMutationValue<S>> AllowingService<S, R, R
     ) -> Result<(), AllocError>
         ensures answers { let a = answerer_of ⟦<S as Meaning>⟧.meaning ⟦<RuleError as Ord>⟧.cmp
             ⟦<ExecutionError<S> as Ord>⟧.cmp ⟦<R as Resolving<S>>⟧.resolving self.old.service in
-            OnOk result (Appends (λ text. AnswersIfAllowed a self.old.service.selection_limit self.old.allowed
-            self.old.service.context line.now text self.new.service.context) out.old.items out.new.items) }
+            OnOk result
+            (Appends (λ text. AnswersIfAllowed a self.old.service.selection_limit self.old.allowed
+            self.old.service.context line.now text self.new.service.context) out.old.items
+            out.new.items) }
         ensures parts { KeepsParts self.old self.new }
         ensures broken { let a = answerer_of ⟦<S as Meaning>⟧.meaning ⟦<RuleError as Ord>⟧.cmp
             ⟦<ExecutionError<S> as Ord>⟧.cmp ⟦<R as Resolving<S>>⟧.resolving self.old.service in
@@ -114,8 +120,8 @@ impl<S: SchemaScalar + Drop, R: GraphQLMutationValue<S>> AllowingService<S, R, R
         }
     }
 
-    /// Whether the service answers the line: it asks for what is allowed, or is refused before that is asked.
-    /// An error is want of memory.
+    /// Whether the service answers the line: it asks for what is allowed, or is refused before that
+    /// is asked. An error is want of memory.
     fn passes(&self, alloc: Global, line: &[u8]) -> Result<bool, AllocError>
         ensures { let a = answerer_of ⟦<S as Meaning>⟧.meaning ⟦<RuleError as Ord>⟧.cmp
             ⟦<ExecutionError<S> as Ord>⟧.cmp ⟦<R as Resolving<S>>⟧.resolving self.now.service in
@@ -130,8 +136,8 @@ impl<S: SchemaScalar + Drop, R: GraphQLMutationValue<S>> AllowingService<S, R, R
     }
 }
 
-/// Writes the answer line that a query is not allowed behind what `out` holds. The only error is want of
-/// memory, after which `out` is as it was.
+/// Writes the answer line that a query is not allowed behind what `out` holds. The only error is
+/// want of memory, after which `out` is as it was.
 fn append_not_allowed(out: &mut Vec<u8>) -> Result<(), AllocError>
     ensures written { OnOk result (out.new.items ≡ out.old.items ++ not_allowed_line) }
     ensures kept { OnErr result (out.new.items ≡ out.old.items) }
@@ -146,8 +152,8 @@ fn append_not_allowed(out: &mut Vec<u8>) -> Result<(), AllocError>
     }
 }
 
-/// Writes the answer line that a query is not allowed, at the end of `out`. An error is want of memory: then
-/// `out` may hold a part of it, behind what it held.
+/// Writes the answer line that a query is not allowed, at the end of `out`. An error is want of
+/// memory: then `out` may hold a part of it, behind what it held.
 #[tactic(auto, using(graphql_json::proofs::Fronts::fronts))]
 fn push_not_allowed(out: &mut Vec<u8>) -> Result<(), AllocError>
     ensures written { OnOk result (out.new.items ≡ out.old.items ++ not_allowed_line) }

@@ -74,9 +74,9 @@ impl<S: SchemaScalar + Drop, R: GraphQLMutationValue<S>> AnswerCache<S, R, R::Co
 
     /// The answer line of a request line, as `Service::answer` gives it, which is then all that
     /// `out` holds: one that is kept, or else that of the service, for which the line is read and
-    /// validated once. A refusal leaves what is kept, and so does a query; what is kept is let go at
-    /// a request that is executed and is no query, or whose plain text is larger than the service's
-    /// limit, or where memory runs out once it is accepted.
+    /// validated once. A refusal leaves what is kept, and so does a query; what is kept is let go
+    /// at a request that is executed and is no query, or whose plain text is larger than the
+    /// service's limit, or where memory runs out once it is accepted.
     ///
     /// The only error is want of memory, after which `out` is empty; a mutation has then changed
     /// the context by a beginning of its response keys. Want of memory for keeping an answer is no
@@ -251,8 +251,8 @@ impl<S: SchemaScalar + Drop, R: GraphQLMutationValue<S>> AnswerCache<S, R, R::Co
         Ok(())
     }
 
-    /// Writes the service's answer to a request that is accepted. Where memory runs out, what is kept
-    /// is let go.
+    /// Writes the service's answer to a request that is accepted. Where memory runs out, what is
+    /// kept is let go.
     fn ask(
         &mut self,
         alloc: Global,

@@ -26,7 +26,8 @@ pub(crate) enum Asked {
     /// A request whose plain text has more fields and inline fragments than the service takes.
     TooLarge,
 
-    /// No request, or one that is refused on its way to a plain text. The service refuses the line, too.
+    /// No request, or one that is refused on its way to a plain text. The service refuses the line,
+    /// too.
     Refused,
 }
 

@@ -11,9 +11,9 @@ use std::mem;
 /// The texts of some keys.
 type Texts = HashMap<String, Vec<u8>>;
 
-/// Texts under keys, of which at most so many bytes are kept. They stand in two generations: where one more text does
-/// not fit into half of the bytes, the younger generation becomes the older one, and what was the older
-/// one is let go. The bytes of keys and texts count.
+/// Texts under keys, of which at most so many bytes are kept. They stand in two generations: where
+/// one more text does not fit into half of the bytes, the younger generation becomes the older one,
+/// and what was the older one is let go. The bytes of keys and texts count.
 #[derive(Drop)]
 pub struct KeptTexts {
     younger: Texts,
@@ -48,9 +48,9 @@ impl KeptTexts {
         }
     }
 
-    /// Keeps a text under a key, in place of the one that it had; older ones may be let go for it. A key and a
-    /// text that are larger than half of the bytes are not kept. An error is want of memory: then this
-    /// text is not kept.
+    /// Keeps a text under a key, in place of the one that it had; older ones may be let go for it.
+    /// A key and a text that are larger than half of the bytes are not kept. An error is want of
+    /// memory: then this text is not kept.
     pub fn keep(&mut self, alloc: Global, key: &str, text: &[u8]) -> Result<(), AllocError>
         ensures { KeepsAtMost self.old self.new key.now text.now }
     {

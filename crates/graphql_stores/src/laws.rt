@@ -1,13 +1,19 @@
-//! Laws of what a store allows, and of answers that are kept: each function's contract is a law, and its body
-//! asks for the laws below it.
+//! Laws of what a store allows, and of answers that are kept: each function's contract is a law,
+//! and its body asks for the laws below it.
 
 ghost use Rattle.graphql_stores.specs.declared.allowed_queries.AllowedQueries.{AllowedQueries};
 ghost use Rattle.graphql_names.specs.Names.{Bytes};
 ghost use Rattle.graphql_service.specs.Answers.{answerer_of};
 ghost use Rattle.graphql_service.specs.declared.service.Service.{Service};
-ghost use Rattle.graphql_stores.specs.AllowedLaws.{AreToldApart, SameTokensAreAllowedAlike, StoredTextsAreAllowed, StoredTextsStandForRequests};
+ghost use Rattle.graphql_stores.specs.AllowedLaws.{
+  AreToldApart,
+  SameTokensAreAllowedAlike,
+  StoredTextsAreAllowed,
+  StoredTextsStandForRequests,
+};
 ghost use Rattle.graphql_stores.specs.AnswerEnds.{LinesShowErrors};
-ghost use Rattle.graphql_stores.specs.Laws.{AnswersAreShared, AnswersShowErrors, QueriesLeaveTheContext};
+ghost use Rattle.graphql_stores.specs.Laws.{AnswersAreShared, AnswersShowErrors};
+ghost use Rattle.graphql_stores.specs.Laws.{QueriesLeaveTheContext};
 
 use graphql_executor::{Meaning, Resolving};
 use graphql_field_results::ExecutionError;
@@ -22,28 +28,29 @@ use graphql_service::laws::{
 use graphql_service::meaning::{plain_is_answered_too, plain_means_the_same};
 use graphql_service::{GraphQLMutationValue, Service};
 
-/// A plain text that is in a store, asked as a request with the same operation name and the same values for
-/// variables, is allowed. For this the schema takes the stand-in of a plain text, of which `Service::new`
-/// tells (GraphQL October 2021, 2.1.7 Ignored Tokens).
+/// A plain text that is in a store, asked as a request with the same operation name and the same
+/// values for variables, is allowed. For this the schema takes the stand-in of a plain text, of
+/// which `Service::new` tells (GraphQL October 2021, 2.1.7 Ignored Tokens).
 pub fn stored_texts_are_allowed<S: SchemaScalar>(root_node: &RootNode<S>)
     ensures { StoredTextsAreAllowed ⟦<S as Meaning>⟧.meaning root_node.now }
 {
     plain_again_is_the_same(root_node);
 }
 
-/// Requests of the same tokens, with one operation name and the same values for variables, are allowed alike,
-/// whatever their blanks, commas and comments (GraphQL October 2021, 2.1.7 Ignored Tokens).
+/// Requests of the same tokens, with one operation name and the same values for variables, are
+/// allowed alike, whatever their blanks, commas and comments (GraphQL October 2021, 2.1.7 Ignored
+/// Tokens).
 pub fn same_tokens_are_allowed_alike<S: SchemaScalar>(root_node: &RootNode<S>)
     ensures { SameTokensAreAllowedAlike ⟦<S as Meaning>⟧.meaning root_node.now }
 {
     same_tokens_are_asked_alike(root_node);
 }
 
-/// For each request that a store allows a text of it stands: asked in the request's place, with the same
-/// operation name and the same values for variables, it is allowed, and answered on the same context it has the
-/// same data, errors in both answers or in neither, and leaves the same context. So it suffices to review the
-/// texts that are stored. For this the schema takes the stand-in of a plain text, of which `Service::new` tells
-/// (GraphQL October 2021, 7.1 Response Format).
+/// For each request that a store allows a text of it stands: asked in the request's place, with the
+/// same operation name and the same values for variables, it is allowed, and answered on the same
+/// context it has the same data, errors in both answers or in neither, and leaves the same context.
+/// So it suffices to review the texts that are stored. For this the schema takes the stand-in of a
+/// plain text, of which `Service::new` tells (GraphQL October 2021, 7.1 Response Format).
 pub fn stored_texts_stand_for_requests<S: SchemaScalar, R: GraphQLMutationValue<S>>(
     root_node: &RootNode<S>,
     resolver: &R,
@@ -56,8 +63,9 @@ pub fn stored_texts_stand_for_requests<S: SchemaScalar, R: GraphQLMutationValue<
     plain_is_answered_too(root_node, resolver);
 }
 
-/// A line asks for what a store allows, or for what it does not allow, or is refused first: never two of these,
-/// so a service that answers what is allowed answers as its own service does exactly there.
+/// A line asks for what a store allows, or for what it does not allow, or is refused first: never
+/// two of these, so a service that answers what is allowed answers as its own service does exactly
+/// there.
 pub fn lines_are_told_apart<S: SchemaScalar, R: GraphQLMutationValue<S>>()
     ensures { (service : Service S R R.Context S.Check) (store : AllowedQueries) (line : Bytes)
         → let a = answerer_of ⟦<S as Meaning>⟧.meaning ⟦<RuleError as Ord>⟧.cmp
@@ -71,9 +79,9 @@ pub fn lines_are_told_apart<S: SchemaScalar, R: GraphQLMutationValue<S>>()
 
 /// What a service answers on a context to the line of a plain text, without errors, is its answer
 /// to each line that has this plain text, with the same operation name and the same values for the
-/// variables that the plain text uses; and what it answers to such a line, without errors, is its answer to the line of the
-/// plain text. For this the schema takes the stand-in of a plain text, of which `Service::new`
-/// tells (GraphQL October 2021, 7.1 Response Format).
+/// variables that the plain text uses; and what it answers to such a line, without errors, is its
+/// answer to the line of the plain text. For this the schema takes the stand-in of a plain text, of
+/// which `Service::new` tells (GraphQL October 2021, 7.1 Response Format).
 pub fn answers_are_shared<S: SchemaScalar, R: GraphQLMutationValue<S>>(
     service: &Service<S, R, R::Context>,
 )

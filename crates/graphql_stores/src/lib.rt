@@ -1,5 +1,5 @@
-//! What stands on plain texts of requests: a service that answers those alone which a store allows, and
-//! a cache of answers, which keeps texts under keys, in so many bytes at most.
+//! What stands on plain texts of requests: a service that answers those alone which a store allows,
+//! and a cache of answers, which keeps texts under keys, in so many bytes at most.
 #![tactic(auto)]
 
 mod allowed_fault;

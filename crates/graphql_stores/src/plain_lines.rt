@@ -20,13 +20,15 @@ use std::alloc::{AllocError, Global};
 /// The members of a JSON object.
 type Members = Map<String, Value>;
 
-/// The line that asks for a plain text with the operation name that a line gives, and its values for
-/// the variables that the plain text uses: a JSON object with these alone. Lines that differ only in
-/// the spelling of their requests have one, and so have those that differ in values that no field uses.
+/// The line that asks for a plain text with the operation name that a line gives, and its values
+/// for the variables that the plain text uses: a JSON object with these alone. Lines that differ
+/// only in the spelling of their requests have one, and so have those that differ in values that no
+/// field uses.
 ///
 /// None where the line is no request, or memory ran out.
 pub(crate) fn plain_line_of(alloc: Global, line: &[u8], printed: Printed<'_>) -> Option<String>
-    ensures { IfSome result (λ key. AsksPlain (request_of line.now) (string_bytes printed.entry.text)
+    ensures { IfSome result
+        (λ key. AsksPlain (request_of line.now) (string_bytes printed.entry.text)
         printed.entry.used.keys (string_bytes key)) }
 {
     let Ok(value) = Value::from_slice(alloc, line) else {
@@ -97,7 +99,8 @@ fn used_of(value: Value, printed: &Printed<'_>) -> Option<Value>
 fn used_members(members: Members, printed: &Printed<'_>) -> Option<Value>
     ensures values { variables_in (option_map view result)
         ≡ Some (spec.members_of printed.now.used.keys (members_view members.entries)) }
-    ensures nests { depth_of (option_map view result) ≤ depth (object (members_view members.entries)) }
+    ensures nests { depth_of (option_map view result)
+        ≤ depth (object (members_view members.entries)) }
 {
     let mut members = members;
     members.retain(|name, _| printed.uses(name.as_str()));

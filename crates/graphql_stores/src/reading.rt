@@ -1,5 +1,5 @@
-//! Lines for which no answer is kept: each is read and validated once, for its plain text and for its
-//! answer.
+//! Lines for which no answer is kept: each is read and validated once, for its plain text and for
+//! its answer.
 
 ghost use Rattle.std.specs.Prelude.{string_bytes};
 ghost use Rattle.std.specs.Str.{chars};
@@ -130,8 +130,8 @@ impl<S: SchemaScalar + Drop, R: GraphQLMutationValue<S>> AnswerCache<S, R, R::Co
         }
     }
 
-    /// The same of a request that is accepted: of its plain text, unless that has too many fields and
-    /// inline fragments, or memory runs out for it.
+    /// The same of a request that is accepted: of its plain text, unless that has too many fields
+    /// and inline fragments, or memory runs out for it.
     fn answer_accepted<'d, 'a>(
         &mut self,
         alloc: Global,

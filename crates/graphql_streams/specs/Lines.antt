@@ -1,5 +1,6 @@
 -- The lines of a stream.
-use Rattle.std.specs.Prelude.{◌≡◌, ℕ, ◌+◌, List, [], ◌∷◌, ◌++◌, take, drop, if◌then◌else◌, ◌==◌, Option, Some, None}
+use Rattle.std.specs.Prelude.{◌≡◌, ℕ, ◌+◌, List, [], ◌∷◌, ◌++◌, take, drop, if◌then◌else◌, ◌==◌}
+use Rattle.std.specs.Prelude.{Option, Some, None}
 
 -- the lines that end in these bytes, each at a line feed; the first has begun with other bytes
 abbrev pub whole_lines : List ℕ → List ℕ → List (List ℕ)

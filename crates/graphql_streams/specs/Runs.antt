@@ -6,7 +6,8 @@ Bytes = List ℕ
 
 -- `answers`: from this state, this line is given this text, and leaves that state
 module _ {S : Type 0} (answers : S → Bytes → Bytes → S → Type 0) where
-  -- what a line is given, and the state that it leaves: an empty one gets nothing and changes nothing
+  -- what a line is given, and the state that it leaves: an empty one gets nothing and changes
+  -- nothing
   abbrev pub Answered : S → Bytes → Bytes → S → Type 0
   Answered s [] text t = (text ≡ []) × (t ≡ s)
   Answered s (b ∷ bs) text t = answers s (b ∷ bs) text t
@@ -20,7 +21,8 @@ module _ {S : Type 0} (answers : S → Bytes → Bytes → S → Type 0) where
 
   -- `breaks`: from this state, want of memory at this line leaves that state
   module _ (breaks : S → Bytes → S → Type 0) where
-    -- memory may run out before these lines are answered: the first alone may have changed the state
+    -- memory may run out before these lines are answered: the first alone may have changed the
+    -- state
     abbrev pub Broken : S → List Bytes → S → Type 0
     Broken s [] t = t ≡ s
     Broken s (line ∷ ls) t = (t ≡ s) ⊎ breaks s line t

@@ -20,8 +20,8 @@ reads_after (Err Write) n = n
 reads_after (Err Memory) n = n
 reads_after (Ok x) n = n
 
--- what the count of failed writes becomes: it rises where a write is told, and may rise where want of memory is told,
--- since the answers that were made before are written then
+-- what the count of failed writes becomes: it rises where a write is told, and may rise where want
+-- of memory is told, since the answers that were made before are written then
 abbrev pub WritesAfter : {A : Type 0} → Result A ServeError → ℕ → ℕ → Type 0
 WritesAfter (Err Read) old new = new ≡ old
 WritesAfter (Err Write) old new = HasRisen old new
@@ -67,8 +67,10 @@ module _ {S : Type 0} (answers : S → Bytes → Bytes → S → Type 0) where
 
   -- `failed`: a write has failed
   module _ (breaks : S → Bytes → S → Type 0) (failed : Type 0) where
-    -- memory ran out: the answers to a front of the lines are written, or a beginning of them where a write then failed
-    pub record StopsAtMemory (s : S) (ls : List Bytes) (old new : Option Bytes) (t : S) : Type 0 where
+    -- memory ran out: the answers to a front of the lines are written, or a beginning of them where
+    -- a write then failed
+    pub record StopsAtMemory (s : S) (ls : List Bytes) (old new : Option Bytes)
+        (t : S) : Type 0 where
       pub text : Bytes
       pub run : RunPartly answers breaks s ls text t
       pub more : Bytes
@@ -80,15 +82,18 @@ module _ {S : Type 0} (answers : S → Bytes → Bytes → S → Type 0) where
     Stops Write s ls old new t = StopsAtWrite s ls old new t
     Stops Memory s ls old new t = StopsAtMemory s ls old new t
 
-    -- the same at the whole lines of the bytes that were read; what stands behind the last line feed is a line too only
-    -- where the source has come to its end
-    pub record Stopped (e : ServeError) (s : S) (left rest old new : Option Bytes) (t : S) : Type 0 where
+    -- the same at the whole lines of the bytes that were read; what stands behind the last line
+    -- feed is a line too only where the source has come to its end
+    pub record Stopped (e : ServeError) (s : S) (left rest old new : Option Bytes)
+        (t : S) : Type 0 where
       pub bytes : Bytes
       pub reads : Consumes left rest bytes
-      pub stops : Stops e s (whole_lines [] bytes) old new t ⊎ (IsAtEnd rest × Stops e s (lines bytes) old new t)
+      pub stops : Stops e s (whole_lines [] bytes) old new t
+          ⊎ (IsAtEnd rest × Stops e s (lines bytes) old new t)
 
     -- why no more lines are answered, and what was read, answered and written by then
-    abbrev pub Ends : ServeError → S → Option Bytes → Option Bytes → Option Bytes → Option Bytes → S → Type 0
+    abbrev pub Ends : ServeError → S → Option Bytes → Option Bytes → Option Bytes → Option Bytes → S
+        → Type 0
     Ends Read s left rest old new t = ServedWhole s left rest old new t
     Ends Write s left rest old new t = Stopped Write s left rest old new t
     Ends Memory s left rest old new t = Stopped Memory s left rest old new t

@@ -20,12 +20,14 @@ module _ {S : Type 0} (answers : S → Bytes → Bytes → S → Type 0) where
       pub is : new ≡ old ++ text
       pub run : RunPartly answers breaks s ls text t
 
--- why not all answers were made and written: memory ran out, and all that were made are written, or a write failed then;
--- or a write failed where all were made
-abbrev pub WroteSome : {A : Type 0} → Type 0 → ServeError → Result A AllocError → Bytes → Option Bytes → Option Bytes
+-- why not all answers were made and written: memory ran out, and all that were made are written, or
+-- a write failed then; or a write failed where all were made
+abbrev pub WroteSome : {A : Type 0} → Type 0 → ServeError → Result A AllocError → Bytes
+    → Option Bytes → Option Bytes
     → Type 0
 WroteSome failed Read made bytes old new = ⊥
 WroteSome failed Write (Ok x) bytes old new = (more : Bytes) × Sent old new bytes more
 WroteSome failed Write (Err e) bytes old new = ⊥
 WroteSome failed Memory (Ok x) bytes old new = ⊥
-WroteSome failed Memory (Err e) bytes old new = (more : Bytes) × Sent old new bytes more × ((more ≡ []) ⊎ failed)
+WroteSome failed Memory (Err e) bytes old new =
+    (more : Bytes) × Sent old new bytes more × ((more ≡ []) ⊎ failed)

@@ -1,6 +1,7 @@
 //! Lines that begin and end in the blocks that are read.
 
-ghost use Rattle.std.specs.Prelude.{◌≡◌, ◌==◌, ◌<◌, ◌+◌, ◌^◌, ◌++◌, ◌∷◌, [], ℕ, List, IfSome, OnOk, OnErr, length, position};
+ghost use Rattle.std.specs.Prelude.{◌≡◌, ◌==◌, ◌<◌, ◌+◌, ◌^◌, ◌++◌, ◌∷◌, [], ℕ, List, IfSome, OnOk};
+ghost use Rattle.std.specs.Prelude.{OnErr, length, position};
 ghost use Rattle.graphql_streams.specs.Lines.{kept_of, last_line, whole_lines, EndsAt};
 ghost use Rattle.graphql_streams.specs.Runs.{Broken};
 ghost use Rattle.graphql_streams.specs.Waiting.{Made, MadePartly};

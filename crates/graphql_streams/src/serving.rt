@@ -3,7 +3,8 @@
 ghost use Rattle.std.specs.Prelude.{◌≡◌, ◌<◌, ◌∷◌, [], ℕ, List, IfErr, OnOk, length};
 ghost use Rattle.graphql_streams.specs.Counts.{HasRisen};
 ghost use Rattle.graphql_streams.specs.Lines.{kept_of, last_line, whole_lines};
-ghost use Rattle.graphql_streams.specs.Served.{Ends, ServedAll, Serves, Stops, WritesAfter, reads_after};
+ghost use Rattle.graphql_streams.specs.Served.{Ends, ServedAll, Serves, Stops, WritesAfter};
+ghost use Rattle.graphql_streams.specs.Served.{reads_after};
 
 use crate::line_engine::LineEngine;
 use crate::lines::{Buffers, end_line, feed};
@@ -33,7 +34,8 @@ fn answer_block<E: LineEngine, O: ByteSink>(
     ensures kept { (begun : List ℕ) → buffers.old.line.items ≡ kept_of limit begun
         → OnOk result (buffers.new.line.items ≡ kept_of limit (last_line begun block.now)) }
     ensures err { (begun : List ℕ) → buffers.old.line.items ≡ kept_of limit begun
-        → IfErr result (λ e. Stops E.answers E.breaks (HasRisen (O.faults writer.old) (O.faults writer.new)) e engine.old (whole_lines begun block.now)
+        → IfErr result (λ e. Stops E.answers E.breaks (HasRisen (O.faults writer.old)
+        (O.faults writer.new)) e engine.old (whole_lines begun block.now)
         (O.written writer.old) (O.written writer.new) engine.new) }
     ensures none { buffers.new.answers.items ≡ [] }
     ensures limit { E.limit engine.new ≡ E.limit engine.old }
@@ -59,7 +61,8 @@ fn answer_rest<E: LineEngine, O: ByteSink>(
         → OnOk result (Serves E.answers engine.old (begun ∷ [])
         (O.written writer.old) (O.written writer.new) engine.new) }
     ensures err { (begun : List ℕ) → buffers.old.line.items ≡ kept_of limit begun
-        → IfErr result (λ e. Stops E.answers E.breaks (HasRisen (O.faults writer.old) (O.faults writer.new)) e engine.old (begun ∷ [])
+        → IfErr result (λ e. Stops E.answers E.breaks
+        (HasRisen (O.faults writer.old) (O.faults writer.new)) e engine.old (begun ∷ [])
         (O.written writer.old) (O.written writer.new) engine.new) }
     ensures faults { WritesAfter result (O.faults writer.old) (O.faults writer.new) }
 {
@@ -80,8 +83,10 @@ fn serve_over<E: LineEngine, I: ByteSource, O: ByteSink>(
     requires holds { E.holds engine.old }
     ensures ok { OnOk result (ServedAll E.answers engine.old (I.left reader.old) (I.left reader.new)
         (O.written writer.old) (O.written writer.new) engine.new) }
-    ensures err { IfErr result (λ e. Ends E.answers E.breaks (HasRisen (O.faults writer.old) (O.faults writer.new)) e engine.old
-        (I.left reader.old) (I.left reader.new) (O.written writer.old) (O.written writer.new) engine.new) }
+    ensures err { IfErr result (λ e.
+        Ends E.answers E.breaks (HasRisen (O.faults writer.old) (O.faults writer.new)) e engine.old
+        (I.left reader.old) (I.left reader.new) (O.written writer.old) (O.written writer.new)
+        engine.new) }
     ensures reads { I.faults reader.new ≡ reads_after result (I.faults reader.old) }
     ensures writes { WritesAfter result (O.faults writer.old) (O.faults writer.new) }
 {
@@ -126,8 +131,10 @@ pub fn serve_lines<E: LineEngine, I: ByteSource, O: ByteSink>(
     requires { E.holds engine.old }
     ensures ok { OnOk result (ServedAll E.answers engine.old (I.left reader.old) (I.left reader.new)
         (O.written writer.old) (O.written writer.new) engine.new) }
-    ensures err { IfErr result (λ e. Ends E.answers E.breaks (HasRisen (O.faults writer.old) (O.faults writer.new)) e engine.old
-        (I.left reader.old) (I.left reader.new) (O.written writer.old) (O.written writer.new) engine.new) }
+    ensures err { IfErr result (λ e.
+        Ends E.answers E.breaks (HasRisen (O.faults writer.old) (O.faults writer.new)) e engine.old
+        (I.left reader.old) (I.left reader.new) (O.written writer.old) (O.written writer.new)
+        engine.new) }
     ensures reads { I.faults reader.new ≡ reads_after result (I.faults reader.old) }
     ensures writes { WritesAfter result (O.faults writer.old) (O.faults writer.new) }
 {

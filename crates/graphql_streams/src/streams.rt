@@ -1,6 +1,7 @@
 //! Bytes from somewhere, and bytes to somewhere.
 
-ghost use Rattle.std.specs.Prelude.{◌≡◌, ◌<◌, ◌≤◌, ℕ, List, length, codes, IfOk, OnOk, MatchResult, Option, Some};
+ghost use Rattle.std.specs.Prelude.{◌≡◌, ◌<◌, ◌≤◌, ℕ, List, length, codes, IfOk, OnOk, MatchResult};
+ghost use Rattle.std.specs.Prelude.{Option, Some};
 ghost use Rattle.std.specs.Io.KnownBytes.{ReadConsumes, WriteAppends};
 ghost use Rattle.graphql_streams.specs.Counts.{risen, risen_if_none};
 

@@ -12,13 +12,15 @@ use Rattle.graphql_records.specs.declared.table_type.TableField.{TableField}
 use Rattle.graphql_records.specs.declared.table_type.TableType.{TableType}
 
 module _ {S C : Type 0} (types : List (MetaType S C)) where
-  -- texts are links where the innermost type is composite; a mutation may set what is, non-null aside, a scalar
+  -- texts are links where the innermost type is composite; a mutation may set what is, non-null
+  -- aside, a scalar
   abbrev pub table_field : Field S → TableField
   table_field f = record {
     name = f.name;
     of_type = f.field_type.name;
     is_leaf = not (passes is_composite (type_named types f.field_type.name));
-    is_settable = passes is_scalar (type_named types f.field_type.name) && not (has_list f.field_type.modifiers);
+    is_settable = passes is_scalar (type_named types f.field_type.name)
+        && not (has_list f.field_type.modifiers);
   }
 
   abbrev pub table_type : MetaType S C → TableType

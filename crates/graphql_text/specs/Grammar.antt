@@ -1,13 +1,27 @@
--- The lexical grammar of a text: which characters spell each token, what can't follow it directly (so that
--- the longest is taken), what stands between tokens, and what each fault is.
--- (GraphQL October 2021, 2.1 Source Text, 2.9 Input Values. A name may follow a number directly here.)
-use Rattle.std.specs.Prelude.{◌≡◌, ◌≢◌, ◌≤◌, ◌<◌, ◌⊎◌, ℕ, nat_le, not, true, false, ◌&&◌, ◌||◌, Bool, None, List, [], ◌∷◌, ◌++◌, ◌+◌, ◌-◌, ◌*◌, length, ◌==◌, if◌then◌else◌, encode_utf8_all}
+-- The lexical grammar of a text: which characters spell each token, what can't follow it directly
+-- (so that the longest is taken), what stands between tokens, and what each fault is.
+-- (GraphQL October 2021, 2.1 Source Text, 2.9 Input Values. A name may follow a number directly
+-- here.)
+use Rattle.std.specs.Prelude.{◌≡◌, ◌≢◌, ◌≤◌, ◌<◌, ◌⊎◌, ℕ, nat_le, not, true, false, ◌&&◌, ◌||◌}
+use Rattle.std.specs.Prelude.{Bool, None, List, [], ◌∷◌, ◌++◌, ◌+◌, ◌-◌, ◌*◌, length, ◌==◌}
+use Rattle.std.specs.Prelude.{if◌then◌else◌, encode_utf8_all}
 use Rattle.std.specs.Char.{is_ascii_digit, is_ascii_hexdigit, is_ascii_alphanumeric}
 use Rattle.graphql_text.specs.declared.token.Token.{Token}
-use Rattle.graphql_text.specs.declared.token.Token.TheVariants.{Name, Scalar, ExclamationMark, Dollar, ParenOpen, ParenClose, BracketOpen, BracketClose, CurlyOpen, CurlyClose, Ellipsis, Colon, Equals, At, Pipe, EndOfFile}
+use Rattle.graphql_text.specs.declared.token.Token.TheVariants.{Name, Scalar, ExclamationMark}
+use Rattle.graphql_text.specs.declared.token.Token.TheVariants.{Dollar, ParenOpen, ParenClose}
+use Rattle.graphql_text.specs.declared.token.Token.TheVariants.{BracketOpen, BracketClose}
+use Rattle.graphql_text.specs.declared.token.Token.TheVariants.{CurlyOpen, CurlyClose, Ellipsis}
+use Rattle.graphql_text.specs.declared.token.Token.TheVariants.{Colon, Equals, At, Pipe, EndOfFile}
 use Rattle.graphql_text.specs.declared.token.ScalarToken.TheVariants.{String, Float, Int}
 use Rattle.graphql_text.specs.declared.token.LexerError.{LexerError}
-use Rattle.graphql_text.specs.declared.token.LexerError.TheVariants.{UnknownCharacter, UnexpectedCharacter, UnterminatedString, UnknownCharacterInString, UnknownEscapeSequence, UnexpectedEndOfFile}
+use Rattle.graphql_text.specs.declared.token.LexerError.TheVariants.{
+  UnknownCharacter,
+  UnexpectedCharacter,
+  UnterminatedString,
+  UnknownCharacterInString,
+  UnknownEscapeSequence,
+  UnexpectedEndOfFile,
+}
 use Rattle.graphql_text.specs.declared.class.Class.{Class}
 use Rattle.graphql_text.specs.declared.class.Class.TheVariants as class
 use Rattle.graphql_text.specs.Characters.{is_blank, continues_name}
@@ -16,7 +30,8 @@ use Rattle.graphql_text.specs.Reading.{is_in, Refusal}
 use Rattle.graphql_text.specs.Strings.{is_escape}
 use Rattle.graphql_text.specs.Tokens.{Located, punctuator_of, is_end}
 
--- each character passes a test; one by one, as proofs take a text apart, where the library's AllPass goes by index
+-- each character passes a test; one by one, as proofs take a text apart, where the library's
+-- AllPass goes by index
 abbrev pub Each : (ℕ → Bool) → List ℕ → Type 0
 Each p [] = Unit {0}
 Each p (c ∷ cs) = (p c ≡ true) × Each p cs
@@ -125,7 +140,8 @@ hex_value c = if nat_le c 57 then c - 48 else (if nat_le c 70 then c - 55 else c
 abbrev pub IsCode : List ℕ → Type 0
 IsCode (a ∷ b ∷ c ∷ d ∷ []) =
     Each is_ascii_hexdigit (a ∷ b ∷ c ∷ d ∷ [])
-    × (let value = 4096 * hex_value a + 256 * hex_value b + 16 * hex_value c + hex_value d in (value < 0xD800) ⊎ (0xDFFF < value))
+    × (let value = 4096 * hex_value a + 256 * hex_value b + 16 * hex_value c + hex_value d in
+    (value < 0xD800) ⊎ (0xDFFF < value))
 IsCode _ = ⊥
 
 abbrev pub IsPiece : Piece → Type 0
@@ -179,12 +195,15 @@ abbrev pub HasExponent : List ℕ → Type 0
 HasExponent [] = ⊥
 HasExponent (c ∷ cs) = (is_in class.Exponent c ≡ true) ⊎ HasExponent cs
 
--- what may follow a token directly: nothing that would make it longer, no digit behind a leading zero,
--- and nothing at all behind the end
+-- what may follow a token directly: nothing that would make it longer, no digit behind a leading
+-- zero, and nothing at all behind the end
 abbrev pub Ends : Token → List ℕ → List ℕ → Type 0
 Ends (Name s) cs rest = NextIsNot continues_name rest
-Ends (Scalar (Int s)) cs rest = NextIsNot is_ascii_digit rest × NextIsNot (is_in class.Point) rest × NextIsNot (is_in class.Exponent) rest
-Ends (Scalar (Float s)) cs rest = NextIsNot is_ascii_digit rest × (HasExponent cs ⊎ NextIsNot (is_in class.Exponent) rest)
+Ends (Scalar (Int s)) cs rest = NextIsNot is_ascii_digit rest
+    × NextIsNot (is_in class.Point) rest
+    × NextIsNot (is_in class.Exponent) rest
+Ends (Scalar (Float s)) cs rest =
+    NextIsNot is_ascii_digit rest × (HasExponent cs ⊎ NextIsNot (is_in class.Exponent) rest)
 Ends EndOfFile cs rest = rest ≡ []
 Ends _ cs rest = Unit {0}
 
@@ -207,9 +226,11 @@ pub record NeedsExponent (cs rest : List ℕ) : Type 0 where
   pub sign_is : IsOptional class.Sign sign
   pub no_sign : (sign ≡ []) → NextIsNot (is_in class.Sign) rest
 
--- the beginning of a number that a digit must follow: a minus, a point, or a letter of an exponent with its sign
+-- the beginning of a number that a digit must follow: a minus, a point, or a letter of an exponent
+-- with its sign
 abbrev pub NeedsDigit : List ℕ → List ℕ → Type 0
-NeedsDigit cs rest = (cs ≡ 45 ∷ []) ⊎ (((integer : List ℕ) × IsInteger integer × (cs ≡ integer ++ 46 ∷ [])) ⊎ NeedsExponent cs rest)
+NeedsDigit cs rest = (cs ≡ 45 ∷ [])
+    ⊎ (((integer : List ℕ) × IsInteger integer × (cs ≡ integer ++ 46 ∷ [])) ⊎ NeedsExponent cs rest)
 
 -- a leading zero, with a minus or none before it
 abbrev pub IsZero : List ℕ → Type 0
@@ -229,32 +250,52 @@ IsOpenEscape cs = (text : List ℕ) × IsStringText text × (cs ≡ 34 ∷ (text
 
 -- the beginning of a string, up to fewer than four letters or digits behind a backslash and `u`
 abbrev pub IsOpenCode : List ℕ → Type 0
-IsOpenCode cs = (text letters : List ℕ) × IsStringText text × Each is_ascii_alphanumeric letters × (length letters ≤ 3) × (cs ≡ 34 ∷ (text ++ 92 ∷ 117 ∷ letters))
+IsOpenCode cs = (text letters : List ℕ)
+    × IsStringText text
+    × Each is_ascii_alphanumeric letters
+    × (length letters ≤ 3)
+    × (cs ≡ 34 ∷ (text ++ 92 ∷ 117 ∷ letters))
 
--- an escape that stands for no character, from behind its backslash on: one character, or `u` and the letters
--- and digits, at most four, that follow it directly
+-- an escape that stands for no character, from behind its backslash on: one character, or `u` and
+-- the letters and digits, at most four, that follow it directly
 abbrev pub IsBadEscape : List ℕ → List ℕ → Type 0
 IsBadEscape [] behind = ⊥
 IsBadEscape (c ∷ cs) behind =
     ((cs ≡ []) × (is_escape c ≡ false) × (c ≢ 117))
-    ⊎ ((c ≡ 117) × Each is_ascii_alphanumeric cs × (((length cs ≡ 4) × (IsCode cs → ⊥)) ⊎ ((length cs ≤ 3) × NextIsNot is_ascii_alphanumeric behind × (behind ≢ []))))
+    ⊎ ((c ≡ 117) × Each is_ascii_alphanumeric cs × (((length cs ≡ 4) × (IsCode cs → ⊥))
+    ⊎ ((length cs ≤ 3) × NextIsNot is_ascii_alphanumeric behind × (behind ≢ []))))
 
 -- what begins no token
 abbrev pub BeginsNone : ℕ → Type 0
-BeginsNone c = (is_in class.NameStart c ≡ false) × (is_ascii_digit c ≡ false) × (c ≢ 45) × (c ≢ 46) × (c ≢ 34) × (punctuator_of c ≡ None)
+BeginsNone c = (is_in class.NameStart c ≡ false)
+    × (is_ascii_digit c ≡ false)
+    × (c ≢ 45)
+    × (c ≢ 46)
+    × (c ≢ 34)
+    × (punctuator_of c ≡ None)
 
 -- a fault: the characters of its token before it, and those from it on
 abbrev pub IsFault : LexerError → List ℕ → List ℕ → Type 0
 IsFault (UnknownCharacter c) cs rest = (cs ≡ []) × NextIs c rest × BeginsNone c
 IsFault (UnexpectedCharacter c) cs rest =
-    ((cs ≡ []) × (c ≡ 46) × ((points more : List ℕ) × ArePoints points × (rest ≡ points ++ more) × NextIsNot (is_in class.Point) more × (more ≢ [])))
-    ⊎ ((NeedsDigit cs rest × NextIs c rest × (is_ascii_digit c ≡ false)) ⊎ (IsZero cs × NextIs c rest × (is_ascii_digit c ≡ true)))
+    ((cs ≡ []) × (c ≡ 46) × ((points more : List ℕ)
+    × ArePoints points
+    × (rest ≡ points ++ more)
+    × NextIsNot (is_in class.Point) more
+    × (more ≢ [])))
+    ⊎ ((NeedsDigit cs rest × NextIs c rest × (is_ascii_digit c ≡ false))
+    ⊎ (IsZero cs × NextIs c rest × (is_ascii_digit c ≡ true)))
 IsFault UnexpectedEndOfFile cs rest = (rest ≡ []) × (NeedsDigit cs rest ⊎ ArePoints cs)
 IsFault UnterminatedString cs rest =
-    (IsOpenString cs × (NextIs 10 rest ⊎ NextIs 13 rest)) ⊎ ((rest ≡ []) × (IsOpenString cs ⊎ (IsOpenEscape cs ⊎ IsOpenCode cs)))
-IsFault (UnknownCharacterInString c) cs rest = IsOpenString cs × NextIs c rest × (c < 32) × (c ≢ 9) × (c ≢ 10) × (c ≢ 13)
+    (IsOpenString cs × (NextIs 10 rest ⊎ NextIs 13 rest))
+    ⊎ ((rest ≡ []) × (IsOpenString cs ⊎ (IsOpenEscape cs ⊎ IsOpenCode cs)))
+IsFault (UnknownCharacterInString c) cs rest =
+    IsOpenString cs × NextIs c rest × (c < 32) × (c ≢ 9) × (c ≢ 10) × (c ≢ 13)
 IsFault (UnknownEscapeSequence s) cs rest =
-    IsOpenEscape cs × ((escape behind : List ℕ) × (rest ≡ escape ++ behind) × IsBadEscape escape behind × (s ≡ 92 ∷ encode_utf8_all escape))
+    IsOpenEscape cs × ((escape behind : List ℕ)
+    × (rest ≡ escape ++ behind)
+    × IsBadEscape escape behind
+    × (s ≡ 92 ∷ encode_utf8_all escape))
 IsFault _ cs rest = ⊥
 
 -- ---- what stands between tokens (2.1.1 to 2.1.7)
@@ -273,7 +314,9 @@ gap_of (comment cs ∷ is) = 35 ∷ (cs ++ gap_of is)
 abbrev pub AreIgnored : List Ignored → List ℕ → Type 0
 AreIgnored [] rest = Unit {0}
 AreIgnored (blank c ∷ is) rest = (is_blank c ≡ true) × AreIgnored is rest
-AreIgnored (comment cs ∷ is) rest = Each (is_in class.Comment) cs × NextIsNot (is_in class.Comment) (gap_of is ++ rest) × AreIgnored is rest
+AreIgnored (comment cs ∷ is) rest = Each (is_in class.Comment) cs
+    × NextIsNot (is_in class.Comment) (gap_of is ++ rest)
+    × AreIgnored is rest
 
 -- what stands between two tokens, and ends where a token or a fault begins
 pub record IsGap (gap rest : List ℕ) : Type 0 where
@@ -284,8 +327,9 @@ pub record IsGap (gap rest : List ℕ) : Type 0 where
 
 -- ---- whole texts
 
--- a token behind these characters, at the head of those: what is ignored, its own characters, and what is behind;
--- its places are the positions of its first character and of the one behind its last
+-- a token behind these characters, at the head of those: what is ignored, its own characters, and
+-- what is behind; its places are the positions of its first character and of the one behind its
+-- last
 pub record Heads (before rest : List ℕ) (t : Located) (after behind : List ℕ) : Type 0 where
   pub gap : List ℕ
   pub own : List ℕ
@@ -301,7 +345,10 @@ pub record Heads (before rest : List ℕ) (t : Located) (after behind : List ℕ
 abbrev pub Divides : List ℕ → List ℕ → List Located → List ℕ → List ℕ → Type 0
 Divides before rest [] after behind = (before ≡ after) × (rest ≡ behind)
 Divides before rest (t ∷ ts) after behind =
-    (middle more : List ℕ) × Heads before rest t middle more × (is_end t.item ≡ false) × Divides middle more ts after behind
+    (middle more : List ℕ)
+    × Heads before rest t middle more
+    × (is_end t.item ≡ false)
+    × Divides middle more ts after behind
 
 -- the text is divided into these tokens, the end last and nowhere else
 pub record IsDivided (text : List ℕ) (ts : List Located) : Type 0 where

@@ -18,7 +18,8 @@ module _ (T : RattleType) (items : MutBor (List T.Denot)) where
 
   -- the list ends as what the iterator leaves of it
   abbrev pub LendsIter : IterMut T.Denot → Fml
-  LendsIter rest = follows (the_row T) (Array T 0) items.ghost_name (iter_mut_name rest) (with_items items.now)
+  LendsIter rest =
+      follows (the_row T) (Array T 0) items.ghost_name (iter_mut_name rest) (with_items items.now)
 
   -- the list ends with the item at the index as it is last
   abbrev pub LendsItem : ℕ → MutBor T.Denot → Fml

@@ -1,4 +1,5 @@
--- Words for what a call answers, want of memory aside: an error that is want of memory tells nothing. Of a word's arguments the result comes behind what reads it, and what is wanted last.
+-- Words for what a call answers, want of memory aside: an error that is want of memory tells
+-- nothing. Of a word's arguments the result comes behind what reads it, and what is wanted last.
 --     Gives       memory is the only error: the value is the wanted one
 --     GivesBy     the same, of what a view shows of the value
 --     Meets       errors of its own: the value or the error is the wanted one
@@ -31,7 +32,8 @@ abbrev pub Meets : {A E : Type 0} → (E → Type 0) → Result A E → Result A
 Meets is_memory result wanted = MeetsBy (λ x. x) is_memory result wanted
 
 -- the value has the one property, or the error the other
-abbrev pub Answers : {A E : Type 0} → (A → Type 0) → (E → Type 0) → (E → Type 0) → Result A E → Type 0
+abbrev pub Answers : {A E : Type 0} → (A → Type 0) → (E → Type 0) → (E → Type 0) → Result A E
+    → Type 0
 Answers means refuses is_memory (Ok x) = means x
 Answers means refuses is_memory (Err e) = UnlessMemory is_memory e (refuses e)
 

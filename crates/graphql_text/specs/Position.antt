@@ -1,4 +1,5 @@
--- Places in a text, as a list of characters (GraphQL October 2021, 2.1.3 Line Terminators; of these a line feed alone is counted).
+-- Places in a text, as a list of characters (GraphQL October 2021, 2.1.3 Line Terminators; of these
+-- a line feed alone is counted).
 use Rattle.std.specs.Prelude.{ℕ, ◌+◌, List, [], ◌∷◌, length, take, count_by, if◌then◌else◌, ◌==◌}
 use Rattle.graphql_text.specs.declared.position.SourcePosition.{SourcePosition}
 
@@ -26,7 +27,8 @@ column_from column (c ∷ cs) = if c == 10 then column_from 0 cs else column_fro
 -- the place behind all characters of a text: their number, the line feeds among them,
 -- the characters after the last of these
 abbrev pub position_of : List ℕ → SourcePosition
-position_of cs = record { index = length cs; line = count_by (λ c. c == 10) cs; column = column_from 0 cs }
+position_of cs =
+    record { index = length cs; line = count_by (λ c. c == 10) cs; column = column_from 0 cs }
 
 -- the place of an index in a text
 abbrev pub position_at : List ℕ → ℕ → SourcePosition

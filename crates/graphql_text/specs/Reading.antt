@@ -1,5 +1,6 @@
 -- Reading a text of characters, from one place to the next.
-use Rattle.std.specs.Prelude.{◌≡◌, ℕ, nat_le, false, ◌-◌, ◌||◌, Bool, List, [], ◌∷◌, ◌++◌, length, take, if◌then◌else◌, ◌==◌, Result, Err}
+use Rattle.std.specs.Prelude.{◌≡◌, ℕ, nat_le, false, ◌-◌, ◌||◌, Bool, List, [], ◌∷◌, ◌++◌, length}
+use Rattle.std.specs.Prelude.{take, if◌then◌else◌, ◌==◌, Result, Err}
 use Rattle.std.specs.Char.{is_ascii_digit, is_ascii_alphabetic}
 use Rattle.std.specs.Str.{chars}
 use Rattle.graphql_text.specs.declared.position.SourcePosition.{SourcePosition}
@@ -53,7 +54,8 @@ past_one k p = past_at p.at p.rest
   where
     past_at : SourcePosition → List ℕ → Place
     past_at at [] = record { at = at; rest = [] }
-    past_at at (c ∷ cs) = if is_in k c then record { at = step at c; rest = cs } else record { at = at; rest = c ∷ cs }
+    past_at at (c ∷ cs) = if is_in k c then record { at = step at c; rest = cs }
+        else record { at = at; rest = c ∷ cs }
 
 -- the place behind the characters of a kind
 abbrev pub past : Class → SourcePosition → List ℕ → Place

@@ -23,4 +23,6 @@ IsMemory e = e.item ≡ parse_errors.Memory
 
 -- the fault at which the division of a text into tokens ends
 abbrev pub IsLexical : List ℕ → Fault → Type 0
-IsLexical text e = (fault : Refusal) × IsBroken text fault × (e ≡ record { item = parse_error_of fault.item; span = fault.span })
+IsLexical text e = (fault : Refusal)
+    × IsBroken text fault
+    × (e ≡ record { item = parse_error_of fault.item; span = fault.span })

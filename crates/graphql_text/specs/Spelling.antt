@@ -1,7 +1,11 @@
 -- The source text of a token (GraphQL October 2021, 2.1.6 Lexical Tokens).
 use Rattle.std.specs.Prelude.{ℕ, List, [], ◌++◌, codes}
 use Rattle.graphql_text.specs.declared.token.Token.{Token}
-use Rattle.graphql_text.specs.declared.token.Token.TheVariants.{Name, Scalar, ExclamationMark, Dollar, ParenOpen, ParenClose, BracketOpen, BracketClose, CurlyOpen, CurlyClose, Ellipsis, Colon, Equals, At, Pipe, EndOfFile}
+use Rattle.graphql_text.specs.declared.token.Token.TheVariants.{Name, Scalar, ExclamationMark}
+use Rattle.graphql_text.specs.declared.token.Token.TheVariants.{Dollar, ParenOpen, ParenClose}
+use Rattle.graphql_text.specs.declared.token.Token.TheVariants.{BracketOpen, BracketClose}
+use Rattle.graphql_text.specs.declared.token.Token.TheVariants.{CurlyOpen, CurlyClose, Ellipsis}
+use Rattle.graphql_text.specs.declared.token.Token.TheVariants.{Colon, Equals, At, Pipe, EndOfFile}
 use Rattle.graphql_text.specs.declared.token.ScalarToken.{ScalarToken}
 use Rattle.graphql_text.specs.declared.token.ScalarToken.TheVariants.{String, Float, Int}
 

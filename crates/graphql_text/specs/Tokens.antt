@@ -1,24 +1,37 @@
 -- The tokens of a text (GraphQL October 2021, 2.1.6 Lexical Tokens to 2.1.9 Names).
-use Rattle.std.specs.Prelude.{◌≡◌, ℕ, true, false, ◌&&◌, Option, Some, None, ◌||◌, Bool, List, [], ◌∷◌, ◌++◌, if◌then◌else◌, ◌==◌, Result, Ok, Err, encode_utf8_all}
+use Rattle.std.specs.Prelude.{◌≡◌, ℕ, true, false, ◌&&◌, Option, Some, None, ◌||◌, Bool, List, []}
+use Rattle.std.specs.Prelude.{◌∷◌, ◌++◌, if◌then◌else◌, ◌==◌, Result, Ok, Err, encode_utf8_all}
 use Rattle.std.specs.Char.{is_ascii_digit}
 use Rattle.graphql_text.specs.declared.position.SourcePosition.{SourcePosition}
 use Rattle.graphql_text.specs.declared.position.Span.{Span}
 use Rattle.graphql_text.specs.declared.spanning.Spanning.{Spanning}
 use Rattle.graphql_text.specs.declared.token.Token.{Token}
-use Rattle.graphql_text.specs.declared.token.Token.TheVariants.{Name, ExclamationMark, Dollar, ParenOpen, ParenClose, BracketOpen, BracketClose, CurlyOpen, CurlyClose, Ellipsis, Colon, Equals, At, Pipe, EndOfFile}
-use Rattle.graphql_text.specs.declared.token.LexerError.TheVariants.{UnknownCharacter, UnexpectedCharacter, UnexpectedEndOfFile}
+use Rattle.graphql_text.specs.declared.token.Token.TheVariants.{Name, ExclamationMark, Dollar}
+use Rattle.graphql_text.specs.declared.token.Token.TheVariants.{ParenOpen, ParenClose, BracketOpen}
+use Rattle.graphql_text.specs.declared.token.Token.TheVariants.{BracketClose, CurlyOpen, CurlyClose}
+use Rattle.graphql_text.specs.declared.token.Token.TheVariants.{Ellipsis, Colon, Equals, At, Pipe}
+use Rattle.graphql_text.specs.declared.token.Token.TheVariants.{EndOfFile}
+use Rattle.graphql_text.specs.declared.token.LexerError.TheVariants.{
+  UnknownCharacter,
+  UnexpectedCharacter,
+  UnexpectedEndOfFile,
+}
 use Rattle.graphql_text.specs.declared.class.Class.TheVariants as class
 use Rattle.graphql_text.specs.Position.{step}
-use Rattle.graphql_text.specs.Reading.{Place, Refusal, refused, ◌>>=◌, is_in, past, between, start_of}
+use Rattle.graphql_text.specs.Reading.{Place, Refusal, refused, ◌>>=◌, is_in, past, between}
+use Rattle.graphql_text.specs.Reading.{start_of}
 use Rattle.graphql_text.specs.Numbers.{number}
 use Rattle.graphql_text.specs.Strings.{string}
 
 -- the punctuator of one character
 abbrev pub punctuator_of : ℕ → Option Token
 punctuator_of c =
-    if c == 33 then Some ExclamationMark else (if c == 36 then Some Dollar else (if c == 40 then Some ParenOpen else (if c == 41 then Some ParenClose
-    else (if c == 91 then Some BracketOpen else (if c == 93 then Some BracketClose else (if c == 123 then Some CurlyOpen else (if c == 125 then Some CurlyClose
-    else (if c == 58 then Some Colon else (if c == 61 then Some Equals else (if c == 64 then Some At else (if c == 124 then Some Pipe else None)))))))))))
+    if c == 33 then Some ExclamationMark else (if c == 36 then Some Dollar
+    else (if c == 40 then Some ParenOpen else (if c == 41 then Some ParenClose
+    else (if c == 91 then Some BracketOpen else (if c == 93 then Some BracketClose
+    else (if c == 123 then Some CurlyOpen else (if c == 125 then Some CurlyClose
+    else (if c == 58 then Some Colon else (if c == 61 then Some Equals
+    else (if c == 64 then Some At else (if c == 124 then Some Pipe else None)))))))))))
 
 -- a point, of three that begin at first
 unfoldable pub point : SourcePosition → Place → Result Place Refusal
@@ -26,7 +39,8 @@ point first p = point_at p.at p.rest
   where
     point_at : SourcePosition → List ℕ → Result Place Refusal
     point_at at [] = refused UnexpectedEndOfFile at
-    point_at at (c ∷ cs) = if c == 46 then Ok (record { at = step at c; rest = cs }) else refused (UnexpectedCharacter 46) first
+    point_at at (c ∷ cs) = if c == 46 then Ok (record { at = step at c; rest = cs })
+        else refused (UnexpectedCharacter 46) first
 
 unfoldable pub ellipsis : Place → Result (Token × Place) Refusal
 ellipsis p = do
@@ -37,7 +51,8 @@ ellipsis p = do
 
 -- the name that begins at p, with its first character before q
 unfoldable pub name_from : Place → Place → Token × Place
-name_from p q = let end = past class.NameContinue q.at q.rest in (Name (encode_utf8_all (between p.rest end.rest)), end)
+name_from p q = let end = past class.NameContinue q.at q.rest in
+    (Name (encode_utf8_all (between p.rest end.rest)), end)
 
 abbrev pub punctuated : Option Token → ℕ → SourcePosition → Place → Result (Token × Place) Refusal
 punctuated None c at q = refused (UnknownCharacter c) at
@@ -63,7 +78,9 @@ abbrev pub ahead_from : Bool → SourcePosition → List ℕ → Place
 ahead_from is_comment at [] = record { at = at; rest = [] }
 ahead_from is_comment at (c ∷ cs) =
     let goes_on = (is_comment && is_in class.Comment c) || c == 35 in
-    if goes_on || is_in class.Ignored c then ahead_from goes_on (step at c) cs else record { at = at; rest = c ∷ cs }
+    if goes_on
+    || is_in class.Ignored c then ahead_from goes_on (step at c) cs
+    else record { at = at; rest = c ∷ cs }
 
 unfoldable pub ahead : Place → Place
 ahead p = ahead_from false p.at p.rest
@@ -74,7 +91,8 @@ Located = Spanning Token Span
 
 -- the next token, and the place behind it
 unfoldable pub cut : Place → Result (Located × Place) Refusal
-cut p = token (ahead p) >>= (λ r. Ok (record { item = r.0; span = record { start = (ahead p).at; end = r.1.at } }, r.1))
+cut p = token (ahead p)
+    >>= (λ r. Ok (record { item = r.0; span = record { start = (ahead p).at; end = r.1.at } }, r.1))
 
 abbrev pub is_end : Token → Bool
 is_end EndOfFile = true

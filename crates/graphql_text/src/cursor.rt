@@ -33,9 +33,12 @@ impl<'a> Cursor<'a> {
 
     /// The next character, and the place behind it.
     pub fn next(self) -> Option<(char, Cursor<'a>)>
-        ensures rest { MatchOption result (chars self.entry.rest.now ≡ []) (λ r. chars self.entry.rest.now ≡ r.0 ∷ chars r.1.rest.now) }
-        ensures at { MatchOption result (chars self.entry.rest.now ≡ []) (λ r. r.1.at ≡ step self.entry.at r.0) }
-        ensures shorter { MatchOption result (chars self.entry.rest.now ≡ []) (λ r. length r.1.rest.now < length self.entry.rest.now) }
+        ensures rest { MatchOption result (chars self.entry.rest.now ≡ [])
+            (λ r. chars self.entry.rest.now ≡ r.0 ∷ chars r.1.rest.now) }
+        ensures at { MatchOption result (chars self.entry.rest.now ≡ [])
+            (λ r. r.1.at ≡ step self.entry.at r.0) }
+        ensures shorter { MatchOption result (chars self.entry.rest.now ≡ [])
+            (λ r. length r.1.rest.now < length self.entry.rest.now) }
     {
         let (c, rest) = first_character(self.rest)?;
         let mut at = self.at;

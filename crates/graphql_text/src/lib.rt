@@ -1,7 +1,7 @@
 //! The text layer of GraphQL: places in a text, what a token of it is, its lexical faults.
 //!
-//! What a token is, and what each fault, is said by the lexical grammar in `specs/Grammar.antt`, for
-//! all crates above; `graphql_lexer` reads a text by it.
+//! What a token is, and what each fault, is said by the lexical grammar in `specs/Grammar.antt`,
+//! for all crates above; `graphql_lexer` reads a text by it.
 //!
 //! The small types that the contracts of the other crates compare: a `Vec` or a `String` within a
 //! value carries an address and a capacity, so two equal ones are not the same value in a contract.

@@ -32,8 +32,8 @@ impl ParseError {
     ghost use Rattle.graphql_text.specs.declared.parse_error.ParseError.TheVariants.{UnexpectedToken};
     ghost use Rattle.graphql_text.specs.Spelling.{source_of};
 
-    /// The refusal of a token, with its source text: a string's with its quotes, and escapes as they
-    /// are written. An error is want of memory.
+    /// The refusal of a token, with its source text: a string's with its quotes, and escapes as
+    /// they are written. An error is want of memory.
     pub fn unexpected_token(alloc: Global, token: &Token) -> Result<ParseError, AllocError>
         ensures { IfOk result (λ refusal. refusal ≡ UnexpectedToken (source_of token.now)) }
     {
@@ -109,7 +109,8 @@ impl From<AllocError> for Spanning<ParseError> {
 impl From<Spanning<LexerError>> for Spanning<ParseError> {
     ghost use Rattle.graphql_text.specs.Refusals.{parse_error_of};
 
-    ghost from_gives = { λ fault e. e ≡ record { item = parse_error_of fault.item; span = fault.span } };
+    ghost from_gives = { λ fault e.
+        e ≡ record { item = parse_error_of fault.item; span = fault.span } };
 
     fn from(fault: Spanning<LexerError>) -> Spanning<ParseError> {
         Spanning::new(fault.span, ParseError::from(fault.item))

@@ -1,6 +1,7 @@
 //! Values with the part of a text that they stand in.
 
-ghost use Rattle.std.specs.Prelude.{◌≡◌, ◌-◌, ◌<◌, [], ◌∷◌, ◌++◌, Some, None, length, slice_get, IsSome, IfSome, ◌↔◌, vec_len, IsTrue};
+ghost use Rattle.std.specs.Prelude.{◌≡◌, ◌-◌, ◌<◌, [], ◌∷◌, ◌++◌, Some, None, length, slice_get};
+ghost use Rattle.std.specs.Prelude.{IsSome, IfSome, ◌↔◌, vec_len, IsTrue};
 ghost use Rattle.std.specs.Option.{option_map};
 ghost use Rattle.graphql_text.specs.Position.{origin, next_column};
 
@@ -71,7 +72,8 @@ impl<T, Sp: Drop> Spanning<T, Sp> {
 impl<T> Spanning<T> {
     /// A value in the empty part at a place.
     pub fn zero_width(position: SourcePosition, item: T) -> Spanning<T>
-        ensures { result ≡ record { item = item; span = record { start = position; end = position } } }
+        ensures { result
+            ≡ record { item = item; span = record { start = position; end = position } } }
     {
         Spanning {
             item,
@@ -83,7 +85,10 @@ impl<T> Spanning<T> {
     pub fn single_width(position: SourcePosition, item: T) -> Spanning<T>
         requires index { position.index < usize.MAX }
         requires column { position.column < usize.MAX }
-        ensures { result ≡ record { item = item; span = record { start = position; end = next_column position } } }
+        ensures { result ≡ record {
+          item = item;
+          span = record { start = position; end = next_column position };
+        } }
     {
         Spanning {
             item,
@@ -117,8 +122,10 @@ impl<T> Spanning<T> {
         T: Drop,
         ensures some { IsSome result ↔ (0 < vec_len list) }
         ensures item { IfSome result (λ s. s.item ≡ list) }
-        ensures start { IfSome result (λ s. option_map (λ x. x.span.start) (slice_get list.items 0) ≡ Some s.span.start) }
-        ensures end { IfSome result (λ s. option_map (λ x. x.span.end) (slice_get list.items (vec_len list - 1)) ≡ Some s.span.end) }
+        ensures start { IfSome result
+            (λ s. option_map (λ x. x.span.start) (slice_get list.items 0) ≡ Some s.span.start) }
+        ensures end { IfSome result (λ s. option_map (λ x. x.span.end)
+            (slice_get list.items (vec_len list - 1)) ≡ Some s.span.end) }
     {
         let start = list.first()?.span.start;
         let end = list.last()?.span.end;
@@ -148,7 +155,8 @@ impl<T: fmt::Display> fmt::Display for Spanning<T> {
     ghost use Rattle.std.specs.Prelude.{codes};
     ghost use Rattle.std.specs.Fmt.{decimal};
 
-    ghost output = { λ s. option_map (λ item. item ++ codes ". At " ++ decimal s.span.start.line ++ codes ":" ++ decimal s.span.start.column) (T.output s.item) };
+    ghost output = { λ s. option_map (λ item. item ++ codes ". At " ++ decimal s.span.start.line
+        ++ codes ":" ++ decimal s.span.start.column) (T.output s.item) };
 
     fn fmt<W: fmt::Write>(&self, f: &mut fmt::Formatter<W>) -> fmt::Result {
         let item = &self.item;

@@ -2,7 +2,8 @@
 use Rattle.std.specs.Prelude.{ℕ, ◌+◌, Option, Some, None, List, sum}
 use Rattle.std.specs.List.{sum_by}
 use Rattle.graphql_tree.specs.declared.selection.Selection.{Selection, fold-Selection}
-use Rattle.graphql_tree.specs.declared.selection.Selection.TheOpen.{Selection-F, Field-F, InlineFragment-F}
+use Rattle.graphql_tree.specs.declared.selection.Selection.TheOpen.{Selection-F, Field-F}
+use Rattle.graphql_tree.specs.declared.selection.Selection.TheOpen.{InlineFragment-F}
 
 module _ {S : Type 0} where
   abbrev pub count_layer : Selection-F S ℕ ℕ ℕ → ℕ

@@ -29,6 +29,7 @@ module _ {S : Type 0} where
   abbrev pub fragments_listed : List (Definition S) → List (Fragment S)
   fragments_listed document = map (λ f. f.item) (fragments_of document)
 
-  -- the fragment that a spread means: the first of its name (5.5.2.1 Fragment Spread Target Defined)
+  -- the fragment that a spread means: the first of its name (5.5.2.1 Fragment Spread Target
+  -- Defined)
   abbrev pub fragment_named : List (Definition S) → Bytes → Option (Placed (Fragment S))
   fragment_named document = named (λ f. f.item.name.item) (fragments_of document)

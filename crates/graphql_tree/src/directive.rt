@@ -25,7 +25,8 @@ pub struct Arguments<'a, S = DefaultScalarValue> {
     pub items: Items<(Spanning<TextRef<'a>>, Spanning<InputValue<S>>)>,
 }
 
-/// The arguments between a field's or a directive's parentheses, in order; none where there are none.
+/// The arguments between a field's or a directive's parentheses, in order; none where there are
+/// none.
 pub fn arguments_in<'b, 't, S>(
     arguments: &'b Option<Spanning<Arguments<'t, S>>>,
 ) -> &'b [(Spanning<TextRef<'t>>, Spanning<InputValue<S>>)]
@@ -42,7 +43,8 @@ impl<'a, S> Arguments<'a, S> {
     pub fn iter(&self) -> Iter<'_, (Spanning<TextRef<'a>>, Spanning<InputValue<S>>)>
         ensures rest { iter_rest result ≡ self.now.items }
         ensures bound { length (iter_rest result) < 2 ^ 64 }
-        ensures runs { EveryRun (iter_steps {A = Argument S}) (λ p. ItemsMapTo p (λ y. y.now) (iter_rest p.from)) }
+        ensures runs { EveryRun (iter_steps {A = Argument S})
+            (λ p. ItemsMapTo p (λ y. y.now) (iter_rest p.from)) }
     {
         self.items.iter()
     }
@@ -78,7 +80,11 @@ impl<'a, S: Drop> IntoIterator for Arguments<'a, S> {
 
     type IntoIter = IntoIter<(Spanning<TextRef<'a>>, Spanning<InputValue<S>>), Global>;
 
-    ghost into_iter_gives = { λ arguments r. (into_iter_items r ≡ arguments.items) × (into_iter_len r ≡ length arguments.items) × (into_iter_len r < 2 ^ 64) × EveryRun (into_iter_steps {X = Argument S} {Z = Global}) (λ p. ItemsAre p (into_iter_items p.from)) };
+    ghost into_iter_gives = { λ arguments r. (into_iter_items r ≡ arguments.items)
+        × (into_iter_len r ≡ length arguments.items)
+        × (into_iter_len r < 2 ^ 64)
+        × EveryRun (into_iter_steps {X = Argument S} {Z = Global})
+        (λ p. ItemsAre p (into_iter_items p.from)) };
 
     fn into_iter(self) -> IntoIter<(Spanning<TextRef<'a>>, Spanning<InputValue<S>>), Global> {
         let Arguments { items } = self;
@@ -91,7 +97,10 @@ impl<'b, 'a, S> IntoIterator for &'b Arguments<'a, S> {
 
     type IntoIter = Iter<'b, (Spanning<TextRef<'a>>, Spanning<InputValue<S>>)>;
 
-    ghost into_iter_gives = { λ arguments r. (iter_rest r ≡ arguments.now.items) × (length (iter_rest r) < 2 ^ 64) × EveryRun (iter_steps {A = Argument S}) (λ p. ItemsMapTo p (λ y. y.now) (iter_rest p.from)) };
+    ghost into_iter_gives = { λ arguments r. (iter_rest r ≡ arguments.now.items)
+        × (length (iter_rest r) < 2 ^ 64)
+        × EveryRun (iter_steps {A = Argument S})
+        (λ p. ItemsMapTo p (λ y. y.now) (iter_rest p.from)) };
 
     fn into_iter(self) -> Iter<'b, (Spanning<TextRef<'a>>, Spanning<InputValue<S>>)> {
         self.iter()

@@ -1,4 +1,5 @@
-//! The syntax trees of GraphQL documents, which borrow the names of the text that they were read from.
+//! The syntax trees of GraphQL documents, which borrow the names of the text that they were read
+//! from.
 //!
 //! Two trees that differ in places alone are one by `specs/Unlocated.antt`.
 #![tactic(auto)]

@@ -65,8 +65,8 @@ pub enum Selection<'a, S = DefaultScalarValue> {
     InlineFragment(Spanning<InlineFragment<'a, S>>),
 }
 
-/// A loop, which takes no memory, and no more stack however deep the selection is. It ends since each
-/// turn lets one go of the selections that stand in this one, itself among them.
+/// A loop, which takes no memory, and no more stack however deep the selection is. It ends since
+/// each turn lets one go of the selections that stand in this one, itself among them.
 impl<'a, S: Drop> Drop for Selection<'a, S> {
     fn drop(mut self) {
         'selections: while let Some(others) = self.let_one_go() {

@@ -37,7 +37,8 @@ impl<'a, S> VariableDefinitions<'a, S> {
     pub fn iter(&self) -> Iter<'_, (Spanning<TextRef<'a>>, VariableDefinition<'a, S>)>
         ensures rest { iter_rest result ≡ self.now.items }
         ensures bound { length (iter_rest result) < 2 ^ 64 }
-        ensures runs { EveryRun (iter_steps {A = Variable S}) (λ p. ItemsMapTo p (λ y. y.now) (iter_rest p.from)) }
+        ensures runs { EveryRun (iter_steps {A = Variable S})
+            (λ p. ItemsMapTo p (λ y. y.now) (iter_rest p.from)) }
     {
         self.items.iter()
     }

@@ -17,9 +17,11 @@ use Rattle.graphql_validation.specs.Valid.{HasNoFault}
 module _ {S C : Type 0} (eq : S → S → Bool) (subject : Subject S C) where
   -- in each selection set, fragments written out, each two fields of one response key merge
   abbrev pub FieldsMerge : Type 0
-  FieldsMerge = All (λ set. Merging eq subject.schema.types (members_of subject.schema.types set)) (document_sets subject.schema subject.document)
+  FieldsMerge = All (λ set. Merging eq subject.schema.types (members_of subject.schema.types set))
+      (document_sets subject.schema subject.document)
 
-module _ {S C : Type 0} (eq : S → S → Bool) (answer : S → ScalarAnswer) (accepts : C → InputValue S → Type 0) (subject : Subject S C) where
+module _ {S C : Type 0} (eq : S → S → Bool) (answer : S → ScalarAnswer)
+    (accepts : C → InputValue S → Type 0) (subject : Subject S C) where
   -- what all rules tell: the first stage, if it tells anything, else the rule that fields merge
   pub data AllRules (told : Places) : Type 0 where
     of_first_stage : FirstStage answer accepts subject told → (told ≡ [] → ⊥) → AllRules told
@@ -41,7 +43,9 @@ module _ {S C : Type 0} (eq : S → S → Bool) (answer : S → ScalarAnswer) (a
   RequestTold true told = WithoutIntrospection told
   RequestTold false told = AllRules told
 
-  -- valid as a request: where introspection is disabled, no field is `__schema` or `__type` either (4.2 Schema Introspection)
+  -- valid as a request: where introspection is disabled, no field is `__schema` or `__type` either
+  -- (4.2 Schema Introspection)
   pub record IsValidAt (introspection_disabled : Bool) : Type 0 where
     pub valid : IsValid
-    pub introspects_nothing : introspection_disabled ≡ true → EachOf AField (λ f. introspects f.name ≡ false) (parts subject)
+    pub introspects_nothing : introspection_disabled ≡ true
+        → EachOf AField (λ f. introspects f.name ≡ false) (parts subject)

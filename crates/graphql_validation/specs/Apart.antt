@@ -1,4 +1,5 @@
--- The rule against introspection, which keeps its errors apart from those of other rules (GraphQL October 2021, 4.2 Schema Introspection).
+-- The rule against introspection, which keeps its errors apart from those of other rules (GraphQL
+-- October 2021, 4.2 Schema Introspection).
 use Rattle.std.specs.Prelude.{◌≡◌, ◌++◌, Bool, [], if◌then◌else◌}
 use Rattle.graphql_occurrences.specs.Nodes.{Seen}
 use Rattle.graphql_rule_errors.specs.Places.{Places, places}
@@ -12,11 +13,14 @@ use Rattle.graphql_validation.specs.declared.introspection.Introspection.{Intros
 module _ {S C : Type 0} where
   -- what it tells at an event, where it is asked
   abbrev pub asked_at : Bool → Subject S C → Seen S C → Places
-  asked_at is_asked subject e = if is_asked then told_at disable_introspection_faults subject e else []
+  asked_at is_asked subject e =
+      if is_asked then told_at disable_introspection_faults subject e else []
 
   -- at an event it reports nothing, and keeps what it tells
   abbrev pub keeps_apart : Step Introspection S C
-  keeps_apart subject v e w told = (told ≡ []) × (w.is_asked ≡ v.is_asked) × (places w.errors ≡ places v.errors ++ asked_at v.is_asked subject e)
+  keeps_apart subject v e w told = (told ≡ [])
+      × (w.is_asked ≡ v.is_asked)
+      × (places w.errors ≡ places v.errors ++ asked_at v.is_asked subject e)
 
   -- what it tells of a document
   abbrev pub asked_places : Bool → Subject S C → Places

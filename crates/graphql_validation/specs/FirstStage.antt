@@ -1,4 +1,5 @@
--- The errors of the rules of the first stage: all rules for documents but the one that fields merge (GraphQL October 2021, 5 Validation).
+-- The errors of the rules of the first stage: all rules for documents but the one that fields merge
+-- (GraphQL October 2021, 5 Validation).
 use Rattle.std.specs.Prelude.{List, [], ◌∷◌, ◌++◌, IsPermutation}
 use Rattle.std.specs.List.{flat_map}
 use Rattle.graphql_values.specs.declared.input_value.InputValue.{InputValue}
@@ -29,7 +30,10 @@ use Rattle.graphql_rules_document.specs.AllRules.{document_places}
 -- the rules that look at one part at a time, and ask no check
 abbrev pub local_rules : {S C : Type 0} → List (Rule S C)
 local_rules =
-    fields_on_correct_type_faults ∷ scalar_leafs_faults ∷ fragments_on_composite_types_faults ∷ known_type_names_faults ∷ variables_are_input_types_faults ∷ known_fragment_names_faults ∷ possible_fragment_spreads_faults ∷ known_directives_faults ∷ known_argument_names_faults ∷ provided_non_null_arguments_faults
+    fields_on_correct_type_faults ∷ scalar_leafs_faults ∷ fragments_on_composite_types_faults
+    ∷ known_type_names_faults ∷ variables_are_input_types_faults ∷ known_fragment_names_faults
+    ∷ possible_fragment_spreads_faults ∷ known_directives_faults ∷ known_argument_names_faults
+    ∷ provided_non_null_arguments_faults
     ∷ unique_argument_names_faults ∷ unique_input_field_names_faults ∷ []
 
 module _ {S C : Type 0} (subject : Subject S C) where
@@ -49,7 +53,8 @@ module _ {S C : Type 0} (subject : Subject S C) where
   abbrev pub introspection_places : Places
   introspection_places = places_of disable_introspection_faults
 
-module _ {S C : Type 0} (answer : S → ScalarAnswer) (accepts : C → InputValue S → Type 0) (subject : Subject S C) where
+module _ {S C : Type 0} (answer : S → ScalarAnswer) (accepts : C → InputValue S → Type 0)
+    (subject : Subject S C) where
   abbrev pub ArgumentsTold : Places → Type 0
   ArgumentsTold = Tell (arguments_of_correct_type_faults answer accepts subject) (parts subject)
 

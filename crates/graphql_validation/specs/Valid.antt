@@ -31,15 +31,20 @@ pub record HasNoFaultInScopes {S C : Type 0} (subject : Subject S C) : Type 0 wh
   pub unique_operation_names : unique_operation_names_faults (scopes subject).operations ≡ []
   pub lone_anonymous_operation : lone_anonymous_operation_faults (scopes subject).operations ≡ []
   pub unique_fragment_names : unique_fragment_names_faults (scopes subject).fragments ≡ []
-  pub no_unused_fragments : no_unused_fragments_faults (scopes subject).operations (scopes subject).fragments ≡ []
+  pub no_unused_fragments : no_unused_fragments_faults (scopes subject).operations
+      (scopes subject).fragments ≡ []
   pub no_fragment_cycles : no_fragment_cycles_faults (scopes subject).fragments ≡ []
   pub unique_variable_names : unique_variable_names_faults (scopes subject).operations ≡ []
-  pub no_undefined_variables : no_undefined_variables_faults (scopes subject).operations (scopes subject).fragments ≡ []
-  pub no_unused_variables : no_unused_variables_faults (scopes subject).operations (scopes subject).fragments ≡ []
-  pub variables_in_allowed_position : variables_in_allowed_position_faults subject.schema.types (scopes subject).operations (scopes subject).fragments ≡ []
+  pub no_undefined_variables : no_undefined_variables_faults (scopes subject).operations
+      (scopes subject).fragments ≡ []
+  pub no_unused_variables : no_unused_variables_faults (scopes subject).operations
+      (scopes subject).fragments ≡ []
+  pub variables_in_allowed_position : variables_in_allowed_position_faults subject.schema.types
+      (scopes subject).operations (scopes subject).fragments ≡ []
 
 -- nor at any one part of it: a member for each rule
-pub record HasNoFault {S C : Type 0} (answer : S → ScalarAnswer) (accepts : C → InputValue S → Type 0) (subject : Subject S C) : Type 0 where
+pub record HasNoFault {S C : Type 0} (answer : S → ScalarAnswer)
+    (accepts : C → InputValue S → Type 0) (subject : Subject S C) : Type 0 where
   pub arguments_of_correct_type : ArgumentsTold answer accepts subject []
   pub default_values_of_correct_type : DefaultsTold answer accepts subject []
   pub fields_on_correct_type : places_of subject fields_on_correct_type_faults ≡ []

@@ -19,36 +19,45 @@ use graphql_tree::Definition;
 use graphql_visitors::ValidatorContext;
 use std::alloc::{AllocError, Global};
 
-/// The errors of all rules for a document (GraphQL October 2021, 5 Validation), in order: by their places,
-/// then by their messages. They are those of the first stage; where it finds no fault, those of the rule
-/// that fields merge (5.3.2 Field Selection Merging). There are none exactly where the document is valid.
-/// An error of the call is want of memory.
+/// The errors of all rules for a document (GraphQL October 2021, 5 Validation), in order: by their
+/// places, then by their messages. They are those of the first stage; where it finds no fault,
+/// those of the rule that fields merge (5.3.2 Field Selection Merging). There are none exactly
+/// where the document is valid. An error of the call is want of memory.
 pub fn validation_errors<'t, S: SchemaScalar>(
     alloc: Global,
     schema: &SchemaType<S>,
     document: &[Definition<'t, S>],
 ) -> Result<Items<RuleError>, AllocError>
-    ensures told { IfOk result (λ errors. AllRules S.eq S.answer S.Check.accepts (record { schema = declarations_of schema.now; document = document.now }) (places errors)) }
-    ensures none { IfOk result (λ errors. (errors ≡ []) ↔ IsValid S.eq S.answer S.Check.accepts (record { schema = declarations_of schema.now; document = document.now })) }
+    ensures told { IfOk result (λ errors. AllRules S.eq S.answer S.Check.accepts
+        (record { schema = declarations_of schema.now; document = document.now }) (places errors)) }
+    ensures none { IfOk result (λ errors. (errors ≡ [])
+        ↔ IsValid S.eq S.answer S.Check.accepts
+        (record { schema = declarations_of schema.now; document = document.now })) }
     ensures sorted { IfOk result (IsSorted ⟦<RuleError as Ord>⟧.cmp) }
 {
     let stage = first_stage_errors(alloc, schema, document)?;
     or_merging(alloc, schema, document, stage)
 }
 
-/// These errors, which are those of the first stage; where there is none, those of the rule that fields
-/// merge. An error of the call is want of memory.
+/// These errors, which are those of the first stage; where there is none, those of the rule that
+/// fields merge. An error of the call is want of memory.
 fn or_merging<'t, S: SchemaScalar>(
     alloc: Global,
     schema: &SchemaType<S>,
     document: &[Definition<'t, S>],
     stage: Items<RuleError>,
 ) -> Result<Items<RuleError>, AllocError>
-    requires told { FirstStage S.answer S.Check.accepts (record { schema = declarations_of schema.now; document = document.now }) (places stage) }
-    requires none { (stage ≡ []) ↔ HasNoFault S.answer S.Check.accepts (record { schema = declarations_of schema.now; document = document.now }) }
+    requires told { FirstStage S.answer S.Check.accepts
+        (record { schema = declarations_of schema.now; document = document.now }) (places stage) }
+    requires none { (stage ≡ [])
+        ↔ HasNoFault S.answer S.Check.accepts
+        (record { schema = declarations_of schema.now; document = document.now }) }
     requires sorted { IsSorted ⟦<RuleError as Ord>⟧.cmp stage }
-    ensures told { IfOk result (λ errors. AllRules S.eq S.answer S.Check.accepts (record { schema = declarations_of schema.now; document = document.now }) (places errors)) }
-    ensures none { IfOk result (λ errors. (errors ≡ []) ↔ IsValid S.eq S.answer S.Check.accepts (record { schema = declarations_of schema.now; document = document.now })) }
+    ensures told { IfOk result (λ errors. AllRules S.eq S.answer S.Check.accepts
+        (record { schema = declarations_of schema.now; document = document.now }) (places errors)) }
+    ensures none { IfOk result (λ errors. (errors ≡ [])
+        ↔ IsValid S.eq S.answer S.Check.accepts
+        (record { schema = declarations_of schema.now; document = document.now })) }
     ensures sorted { IfOk result (IsSorted ⟦<RuleError as Ord>⟧.cmp) }
 {
     if stage.is_empty() {
@@ -71,11 +80,12 @@ fn in_order(
     Ok(Items::from_vec(all))
 }
 
-/// Asks all rules over the context's document, as `validation_errors` does. What they report comes behind
-/// the errors that are there, which do not count: the rule that fields merge is asked where those of the
-/// first stage find no fault. Where memory runs out the context has failed.
+/// Asks all rules over the context's document, as `validation_errors` does. What they report comes
+/// behind the errors that are there, which do not count: the rule that fields merge is asked where
+/// those of the first stage find no fault. Where memory runs out the context has failed.
 pub fn visit_all_rules<'a, 't, S: SchemaScalar>(context: &mut ValidatorContext<'a, 't, S>)
-    ensures { ReportsBy (AllRules S.eq S.answer S.Check.accepts (subject_of context.old)) context.old context.new }
+    ensures { ReportsBy (AllRules S.eq S.answer S.Check.accepts (subject_of context.old))
+        context.old context.new }
 {
     match validation_errors(context.alloc(), context.schema(), context.document()) {
         Ok(errors) => context.append_errors(errors),
@@ -83,19 +93,27 @@ pub fn visit_all_rules<'a, 't, S: SchemaScalar>(context: &mut ValidatorContext<'
     }
 }
 
-/// The errors of all rules for a document of a request, in order. Where introspection is disabled, the
-/// errors of the rule against it stand among them, whatever the others tell. There are none exactly where
-/// the document is valid and, where introspection is disabled, asks for no `__schema` and no `__type`
-/// (GraphQL October 2021, 4.2 Schema Introspection). Walks over the document once before fields are
-/// merged. An error of the call is want of memory.
+/// The errors of all rules for a document of a request, in order. Where introspection is disabled,
+/// the errors of the rule against it stand among them, whatever the others tell. There are none
+/// exactly where the document is valid and, where introspection is disabled, asks for no `__schema`
+/// and no `__type` (GraphQL October 2021, 4.2 Schema Introspection). Walks over the document once
+/// before fields are merged. An error of the call is want of memory.
 pub fn request_errors<'a, 't, S: SchemaScalar>(
     alloc: Global,
     schema: &'a SchemaType<S>,
     document: &'a [Definition<'t, S>],
     introspection_disabled: bool,
 ) -> Result<Items<RuleError>, AllocError>
-    ensures told { IfOk result (λ errors. RequestTold S.eq S.answer S.Check.accepts (record { schema = declarations_of schema.now; document = document.now }) introspection_disabled (places errors)) }
-    ensures none { IfOk result (λ errors. (errors ≡ []) ↔ IsValidAt S.eq S.answer S.Check.accepts (record { schema = declarations_of schema.now; document = document.now }) introspection_disabled) }
+    ensures told { IfOk result (λ errors.
+        RequestTold S.eq S.answer S.Check.accepts (record {
+          schema = declarations_of schema.now;
+          document = document.now;
+        }) introspection_disabled (places errors)) }
+    ensures none { IfOk result (λ errors. (errors ≡ [])
+        ↔ IsValidAt S.eq S.answer S.Check.accepts (record {
+          schema = declarations_of schema.now;
+          document = document.now;
+        }) introspection_disabled) }
     ensures sorted { IfOk result (IsSorted ⟦<RuleError as Ord>⟧.cmp) }
 {
     let found = stage_errors(alloc, schema, document, introspection_disabled)?;
@@ -109,8 +127,13 @@ pub fn root_node_errors<'a, 't, S: SchemaScalar>(
     root: &'a RootNode<S>,
     document: &'a [Definition<'t, S>],
 ) -> Result<Items<RuleError>, AllocError>
-    ensures told { IfOk result (λ errors. RequestTold S.eq S.answer S.Check.accepts (record { schema = declarations_of root.now.schema; document = document.now }) root.now.introspection_disabled (places errors)) }
-    ensures none { IfOk result (λ errors. (errors ≡ []) ↔ IsValidAt S.eq S.answer S.Check.accepts (record { schema = declarations_of root.now.schema; document = document.now }) root.now.introspection_disabled) }
+    ensures told { IfOk result (λ errors. RequestTold S.eq S.answer S.Check.accepts
+        (record { schema = declarations_of root.now.schema; document = document.now })
+        root.now.introspection_disabled (places errors)) }
+    ensures none { IfOk result (λ errors. (errors ≡ [])
+        ↔ IsValidAt S.eq S.answer S.Check.accepts
+        (record { schema = declarations_of root.now.schema; document = document.now })
+        root.now.introspection_disabled) }
     ensures sorted { IfOk result (IsSorted ⟦<RuleError as Ord>⟧.cmp) }
 {
     request_errors(alloc, root.schema(), document, root.introspection_disabled)

@@ -10,8 +10,8 @@ use graphql_text::Items;
 use graphql_visitors::{LocalRule, ValidatorContext, Visitor};
 use std::alloc::Global;
 
-/// The rule against introspection, where it is asked, as a visitor that keeps its errors itself: so the
-/// others' errors stand alone in the context.
+/// The rule against introspection, where it is asked, as a visitor that keeps its errors itself: so
+/// the others' errors stand alone in the context.
 #[derive(Drop)]
 pub(crate) struct Introspection {
     is_asked: bool,

@@ -1,5 +1,5 @@
-//! Laws of schemas, of visitors and of documents without a fault: each function's contract is a law, and
-//! its body does nothing.
+//! Laws of schemas, of visitors and of documents without a fault: each function's contract is a
+//! law, and its body does nothing.
 
 ghost use Rattle.std.specs.Prelude.{List};
 ghost use Rattle.graphql_tree.specs.Definitions.{fragments_listed};
@@ -53,17 +53,21 @@ pub use graphql_visitors::laws::{
     relational_rules_tell_of_occurrences,
 };
 
-/// A document in which no rule of the first stage finds a fault is what the steps after validation ask
-/// for: names stand once, each spread means a fragment, fragments end when they are written out, each
-/// variable's type is a known input type, and each field is declared and has a selection set exactly
-/// where its type has fields.
+/// A document in which no rule of the first stage finds a fault is what the steps after validation
+/// ask for: names stand once, each spread means a fragment, fragments end when they are written
+/// out, each variable's type is a known input type, and each field is declared and has a selection
+/// set exactly where its type has fields.
 pub fn documents_without_a_fault_are_well_formed<S: SchemaScalar>()
-    ensures { (subject : Subject S S.Check) → HasNoFault S.answer S.Check.accepts subject → IsWellFormed subject }
+    ensures { (subject : Subject S S.Check) → HasNoFault S.answer S.Check.accepts subject
+        → IsWellFormed subject }
 {}
 
-/// The fragments of a document in which no rule of the first stage finds a fault are written out by as
-/// many levels as there are of them, so that merging, execution and plain texts, which are defined over
-/// what is written out, speak of all of it.
+/// The fragments of a document in which no rule of the first stage finds a fault are written out by
+/// as many levels as there are of them, so that merging, execution and plain texts, which are
+/// defined over what is written out, speak of all of it.
 pub fn documents_without_a_fault_are_settled<S: SchemaScalar>(schema: &SchemaType<S>)
-    ensures { (document : List (Definition S)) → HasNoFault S.answer S.Check.accepts (record { schema = declarations_of schema.now; document = document }) → Settled (fragments_listed document) }
+    ensures { (document : List (Definition S))
+        → HasNoFault S.answer S.Check.accepts
+        (record { schema = declarations_of schema.now; document = document })
+        → Settled (fragments_listed document) }
 {}

@@ -7,21 +7,21 @@
 //!   are found by their names as [`NamedItems`];
 //! - the checks by which scalars, enums and input objects accept or refuse values, and in
 //!   [`scalar_checks`] those of the scalars that the standard has built in;
-//! - [`SchemaType`], the schema itself, refused with a [`SchemaError`] where its types are at fault;
-//!   the references to its types, each a [`TypeType`]; and [`RootNode`], what requests are executed
-//!   over;
-//! - [`validation_errors`], what all [`rules`] have against a document: none exactly where it is valid;
-//!   [`request_errors`], the same of a request, where introspection may be disabled, and
+//! - [`SchemaType`], the schema itself, refused with a [`SchemaError`] where its types are at
+//!   fault; the references to its types, each a [`TypeType`]; and [`RootNode`], what requests are
+//!   executed over;
+//! - [`validation_errors`], what all [`rules`] have against a document: none exactly where it is
+//!   valid; [`request_errors`], the same of a request, where introspection may be disabled, and
 //!   [`root_node_errors`], as a root node has it;
 //!   and [`visit_all_rules`], the same over a context;
-//! - [`first_stage_errors`] and [`visit_first_stage`], what all rules but the one that fields merge have
-//!   against a document;
+//! - [`first_stage_errors`] and [`visit_first_stage`], what all rules but the one that fields merge
+//!   have against a document;
 //! - [`Walk`], a walk over a document, which tells each [`Event`] with the types around it;
 //! - [`visit`], which takes a [`Visitor`], or a list of them, over a document, and the
 //!   [`ValidatorContext`], which keeps what they report;
 //! - [`validate_literal_value`], which tells why a literal does not conform to a type;
-//! - [`validate_input_values`], which tells which values of a request's variables an operation does not
-//!   accept, and [`FinalVariables`], the values that they have in the end;
+//! - [`validate_input_values`], which tells which values of a request's variables an operation does
+//!   not accept, and [`FinalVariables`], the values that they have in the end;
 //! - [`RuleError`], what a rule has against a document;
 //! - in [`laws`], what is proved of schemas, of visitors and of documents without a fault.
 #![tactic(auto)]

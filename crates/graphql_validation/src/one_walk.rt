@@ -14,16 +14,20 @@ use graphql_rules_document::{Gathering, Scopes};
 use graphql_schema::SchemaScalar;
 use graphql_visitors::{ValidatorContext, Visitor};
 
-/// The visitor steps over every event of the context's document, as `visit` says, and what operations
-/// and fragments hold is gathered on the way. Where memory runs out the context has failed, and nothing
-/// is promised of either.
+/// The visitor steps over every event of the context's document, as `visit` says, and what
+/// operations and fragments hold is gathered on the way. Where memory runs out the context has
+/// failed, and nothing is promised of either.
 pub(crate) fn visit_and_gather<'a, 't, S: SchemaScalar, V: Visitor<S>>(
     visitor: &mut V,
     context: &mut ValidatorContext<'a, 't, S>,
 ) -> Scopes<'a, 't, S>
-    ensures visited { Visited V.step (events (subject_of context.old).schema (subject_of context.old).document) visitor.old visitor.new context.old context.new }
+    ensures visited { Visited V.step
+        (events (subject_of context.old).schema (subject_of context.old).document) visitor.old
+        visitor.new context.old context.new }
     ensures around { context.new.around ≡ context.old.around }
-    ensures gathered { context.new.failed ≡ false → scopes_told result ≡ scopes_in (subject_of context.old).schema (subject_of context.old).document }
+    ensures gathered { context.new.failed ≡ false
+        → scopes_told result
+        ≡ scopes_in (subject_of context.old).schema (subject_of context.old).document }
 {
     let around = context.around();
     let mut gathering = Gathering::new(context.alloc());
@@ -42,8 +46,10 @@ fn follow<'a, 't, S: SchemaScalar, V: Visitor<S>>(
     context: &mut ValidatorContext<'a, 't, S>,
     mut walk: Walk<'a, 't, S>,
 )
-    ensures visited { Visited V.step (ahead walk.entry) visitor.old visitor.new context.old context.new }
-    ensures gathered { context.new.failed ≡ false → gathered gathering.new ≡ fold with_event (gathered gathering.old) (ahead walk.entry) }
+    ensures visited { Visited V.step (ahead walk.entry) visitor.old visitor.new context.old
+        context.new }
+    ensures gathered { context.new.failed ≡ false
+        → gathered gathering.new ≡ fold with_event (gathered gathering.old) (ahead walk.entry) }
 {
     let alloc = context.alloc();
     'events: loop {

@@ -1,11 +1,12 @@
 //! The rules for documents, by name, each with its section of the standard (GraphQL October 2021, 5
 //! Validation).
 //!
-//! Each is a type in a module of its own, whose `factory` makes it as a visitor: so one list of visitors
-//! can hold all of them. Those over all operations and fragments of a document are functions too, of
-//! their modules' names, which add to a list of errors; what they ask is gathered once for all by
-//! `document_errors`. In the module of the rule that fields merge, `overlapping_fields_can_be_merged`
-//! tells its errors, and `overlapping_fields_by_pairs` the same by comparing each two fields.
+//! Each is a type in a module of its own, whose `factory` makes it as a visitor: so one list of
+//! visitors can hold all of them. Those over all operations and fragments of a document are
+//! functions too, of their modules' names, which add to a list of errors; what they ask is gathered
+//! once for all by `document_errors`. In the module of the rule that fields merge,
+//! `overlapping_fields_can_be_merged` tells its errors, and `overlapping_fields_by_pairs` the same
+//! by comparing each two fields.
 //!
 //! | Rule | Section |
 //! |---|---|

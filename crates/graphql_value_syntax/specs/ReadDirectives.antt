@@ -1,4 +1,5 @@
--- How arguments, directives and variables are read (GraphQL October 2021, 2.6 Arguments, 2.12 Directives, 2.10 Variables).
+-- How arguments, directives and variables are read (GraphQL October 2021, 2.6 Arguments, 2.12
+-- Directives, 2.10 Variables).
 use Rattle.std.specs.Prelude.{ℕ, Bool, true, List, [], ◌∷◌, Option, Some, None, Result}
 use Rattle.graphql_text.specs.declared.token.ScalarToken.{ScalarToken}
 use Rattle.graphql_text.specs.declared.parse_error.ParseError.{ParseError}

@@ -1,4 +1,5 @@
--- How lists and input objects are read without going down: how a value begins, and what is left to read of those that are open (GraphQL October 2021, 2.9.7 List Value, 2.9.8 Input Object Values).
+-- How lists and input objects are read without going down: how a value begins, and what is left to
+-- read of those that are open (GraphQL October 2021, 2.9.7 List Value, 2.9.8 Input Object Values).
 use Rattle.std.specs.Prelude.{Bool, [], ◌∷◌, ◌++◌, Result, Ok}
 use Rattle.graphql_text.specs.declared.position.SourcePosition.{SourcePosition}
 use Rattle.graphql_text.specs.declared.token.ScalarToken.{ScalarToken}
@@ -50,7 +51,8 @@ module _ {S : Type 0} where
   held (p.List start xs) x = o.List start (xs ++ x ∷ [])
   held (p.Object start ps n) x = o.Object start (ps ++ (n, x) ∷ [])
 
-module _ {S : Type 0} (reads : ScalarToken → Result S ParseError) (of_bool : Bool → S) (is_const : Bool) where
+module _ {S : Type 0} (reads : ScalarToken → Result S ParseError) (of_bool : Bool → S)
+    (is_const : Bool) where
   -- the bracket that opens a list or an input object
   abbrev pub opening : Kind → Open S → Parser (Begun S)
   opening w x = do
@@ -65,7 +67,8 @@ module _ {S : Type 0} (reads : ScalarToken → Result S ParseError) (of_bool : B
 
   -- how a value begins that starts there
   unfoldable pub begun_at : SourcePosition → Parser (Begun S)
-  begun_at start = when (only k.BracketOpen) (opening k.BracketOpen (o.List start [])) (when (only k.CurlyOpen) (opening k.CurlyOpen (o.Object start [])) (whole start))
+  begun_at start = when (only k.BracketOpen) (opening k.BracketOpen (o.List start []))
+      (when (only k.CurlyOpen) (opening k.CurlyOpen (o.Object start [])) (whole start))
 
   unfoldable pub begun : Parser (Begun S)
   begun = λ i. begun_at (peek i).span.start i

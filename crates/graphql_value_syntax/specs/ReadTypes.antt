@@ -25,7 +25,9 @@ list_of t = wrapped (m.List None) t.item
 module _ (inner : Parser (At TypeRef)) where
   -- a name, or a list of a type
   abbrev pub nullable : Parser TypeRef
-  nullable = when (only k.BracketOpen) (do expect k.BracketOpen; t ← inner; expect k.BracketClose; pure (list_of t)) (do n ← name; pure (plain n))
+  nullable = when (only k.BracketOpen)
+      (do expect k.BracketOpen; t ← inner; expect k.BracketClose; pure (list_of t))
+      (do n ← name; pure (plain n))
 
   unfoldable pub bare_type : Parser TypeRef
   bare_type = do

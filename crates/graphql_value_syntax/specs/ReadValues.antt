@@ -9,7 +9,8 @@ use Rattle.graphql_grammar.specs.declared.kind.Kind.{Kind}
 use Rattle.graphql_grammar.specs.declared.kind.Kind.TheVariants as k
 use Rattle.graphql_grammar.specs.Kinds.{kind, only, names}
 use Rattle.graphql_grammar.specs.Input.{At, Parser, ◌>>=◌, ◌>>◌, pure, refuse, left}
-use Rattle.graphql_grammar.specs.Steps.{when, token, expect, name, name_of, scalar, located, between}
+use Rattle.graphql_grammar.specs.Steps.{when, token, expect, name, name_of, scalar, located}
+use Rattle.graphql_grammar.specs.Steps.{between}
 
 -- a name and what stands behind its colon
 abbrev pub named : {A : Type 0} → Parser A → Parser (At (List ℕ) × A)
@@ -63,7 +64,8 @@ module _ {S : Type 0} (reads : ScalarToken → Result S ParseError) (of_bool : B
 
   -- one level, with the parser of what stands inside it
   unfoldable pub bare : Bool → Parser Value → Parser (InputValue S)
-  bare is_const inner = when (only k.BracketOpen) (list inner) (when (only k.CurlyOpen) (object inner) (variable_or is_const))
+  bare is_const inner = when (only k.BracketOpen) (list inner)
+      (when (only k.CurlyOpen) (object inner) (variable_or is_const))
 
   unfoldable pub value_from : Bool → ℕ → Parser Value
   value_from is_const zero = refuse

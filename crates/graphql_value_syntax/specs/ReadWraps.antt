@@ -1,4 +1,5 @@
--- A type reference, as it is read without going down: opening brackets, a name, and what wraps it (GraphQL October 2021, 2.11 Type References).
+-- A type reference, as it is read without going down: opening brackets, a name, and what wraps it
+-- (GraphQL October 2021, 2.11 Type References).
 use Rattle.std.specs.Prelude.{ℕ, zero, suc, List, None}
 use Rattle.graphql_names.specs.declared.type_modifier.TypeModifier.{TypeModifier}
 use Rattle.graphql_names.specs.declared.type_modifier.TypeModifier.TheVariants as m
@@ -10,7 +11,8 @@ use Rattle.graphql_value_syntax.specs.ReadTypes.{TypeRef, plain, wrapped}
 
 -- a `!`, if it stands next
 abbrev pub marked : TypeRef → Parser TypeRef
-marked t = when (only k.ExclamationMark) (do expect k.ExclamationMark; pure (wrapped m.NonNull t)) (pure t)
+marked t =
+    when (only k.ExclamationMark) (do expect k.ExclamationMark; pure (wrapped m.NonNull t)) (pure t)
 
 -- as many closing brackets as were opened, and what marks each list
 unfoldable pub closed : ℕ → TypeRef → Parser TypeRef

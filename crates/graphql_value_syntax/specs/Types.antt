@@ -19,9 +19,12 @@ mutual
   -- NamedType, ListType
   pub data NullableOf : List Located → TypeRef → Type 0 where
     of_name : (a : Located) (n : List ℕ) → a.item ≡ t.Name n → NullableOf (a ∷ []) (plain n)
-    of_list : (a b : Located) (ts : List Located) (x : At TypeRef) → Is k.BracketOpen a → TypeOf ts x → Is k.BracketClose b → NullableOf (a ∷ (ts ++ b ∷ [])) (list_of x)
+    of_list : (a b : Located) (ts : List Located) (x : At TypeRef) → Is k.BracketOpen a
+        → TypeOf ts x → Is k.BracketClose b → NullableOf (a ∷ (ts ++ b ∷ [])) (list_of x)
 
   -- and NonNullType
   pub data TypeOf : List Located → At TypeRef → Type 0 where
-    of_nullable : (a : Located) (ts : List Located) (x : TypeRef) → NullableOf (a ∷ ts) x → TypeOf (a ∷ ts) (record { item = x; span = span_of a ts })
-    of_non_null : (a b : Located) (ts : List Located) (x : TypeRef) → NullableOf (a ∷ ts) x → Is k.ExclamationMark b → TypeOf (a ∷ (ts ++ b ∷ [])) (spanned a (wrapped m.NonNull x) b)
+    of_nullable : (a : Located) (ts : List Located) (x : TypeRef) → NullableOf (a ∷ ts) x
+        → TypeOf (a ∷ ts) (record { item = x; span = span_of a ts })
+    of_non_null : (a b : Located) (ts : List Located) (x : TypeRef) → NullableOf (a ∷ ts) x
+        → Is k.ExclamationMark b → TypeOf (a ∷ (ts ++ b ∷ [])) (spanned a (wrapped m.NonNull x) b)

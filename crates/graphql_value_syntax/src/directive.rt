@@ -36,7 +36,8 @@ fn argument_list<'a, S: ScalarValue>(
     cursor: &mut Cursor<'a>,
     is_const: bool,
 ) -> Result<Items<(Spanning<TextRef<'a>>, Spanning<InputValue<S>>)>, Fault>
-    ensures reads { Reads (some_between k.ParenOpen k.ParenClose (values.named (values.value S.reads S.of_bool is_const)) cursor.old) result cursor.new }
+    ensures reads { Reads (some_between k.ParenOpen k.ParenClose
+        (values.named (values.value S.reads S.of_bool is_const)) cursor.old) result cursor.new }
     ensures no_more { left cursor.new ≤ left cursor.old }
 {
     cursor.expect(alloc, Kind::ParenOpen)?;
@@ -51,7 +52,8 @@ fn argument_list<'a, S: ScalarValue>(
     Err(cursor.refuse(alloc))
 }
 
-/// Arguments, where a parenthesis opens; none where there are none. In constants no variable stands.
+/// Arguments, where a parenthesis opens; none where there are none. In constants no variable
+/// stands.
 ///
 /// An error is the first token that can't stand where it does, or `ParseError::Memory`, which tells
 /// nothing of the text.
@@ -61,7 +63,9 @@ pub fn arguments<'a, S: ScalarValue>(
     cursor: &mut Cursor<'a>,
     is_const: bool,
 ) -> Result<Option<Spanning<Arguments<'a, S>>>, Fault>
-    ensures reads { Reads (optional (only k.ParenOpen) (spec.arguments S.reads S.of_bool is_const) cursor.old) result cursor.new }
+    ensures reads { Reads
+        (optional (only k.ParenOpen) (spec.arguments S.reads S.of_bool is_const) cursor.old) result
+        cursor.new }
     ensures no_more { left cursor.new ≤ left cursor.old }
 {
     if cursor.kind() != Kind::ParenOpen {
@@ -100,7 +104,8 @@ pub fn directives<'a, S: ScalarValue>(
     cursor: &mut Cursor<'a>,
     is_const: bool,
 ) -> Result<Option<Items<Spanning<Directive<'a, S>>>>, Fault>
-    ensures reads { Reads (spec.directives S.reads S.of_bool is_const cursor.old) result cursor.new }
+    ensures reads { Reads (spec.directives S.reads S.of_bool is_const cursor.old) result
+        cursor.new }
     ensures no_more { left cursor.new ≤ left cursor.old }
 {
     let mut found = Items::new(alloc);

@@ -1,7 +1,7 @@
 //! Lists and input objects (GraphQL October 2021, 2.9.7 List Value, 2.9.8 Input Object Values).
 //!
-//! They nest as deep as a text has tokens, so a loop reads them: what is open is kept in a list, and
-//! not on the stack.
+//! They nest as deep as a text has tokens, so a loop reads them: what is open is kept in a list,
+//! and not on the stack.
 
 ghost use Rattle.std.specs.Prelude.{◌≡◌, ◌<◌, ◌≤◌, IfOk, OnOk};
 ghost use Rattle.graphql_grammar.specs.Input.{Reads, StandsAt, left};
@@ -77,7 +77,8 @@ pub(crate) fn rest<S: ScalarValue>(
     is_const: bool,
     outermost: Open<S>,
 ) -> Result<Spanning<InputValue<S>>, Fault>
-    ensures reads { Reads (spec.rest S.reads S.of_bool is_const outermost cursor.old) result cursor.new }
+    ensures reads { Reads (spec.rest S.reads S.of_bool is_const outermost cursor.old) result
+        cursor.new }
     ensures no_more { left cursor.new ≤ left cursor.old }
     ensures behind { Behind cursor.old cursor.new }
     ensures stands { StandsAt result cursor.new }

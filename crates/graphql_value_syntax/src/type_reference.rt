@@ -71,7 +71,9 @@ fn wrapped<'a>(
 
 /// Reads a `!`, if it stands next, and notes it. An error is want of memory.
 fn non_null(cursor: &mut Cursor<'_>, found: &mut TypeModifiers) -> Result<(), Fault>
-    ensures ok { OnOk result ((name : List ℕ) → wraps.marked (wraps.of name found.old) cursor.old ≡ Ok (wraps.of name found.new, cursor.new)) }
+    ensures ok { OnOk result ((name : List ℕ)
+        → wraps.marked (wraps.of name found.old) cursor.old
+        ≡ Ok (wraps.of name found.new, cursor.new)) }
     ensures memory { IfErr result (λ e. e.item ≡ Memory) }
     ensures behind { Behind cursor.old cursor.new }
     ensures no_more { left cursor.new ≤ left cursor.old }

@@ -41,7 +41,8 @@ pub(crate) fn named<'a, S: ScalarValue>(
     cursor: &mut Cursor<'a>,
     is_const: bool,
 ) -> Result<(Spanning<TextRef<'a>>, Spanning<InputValue<S>>), Fault>
-    ensures reads { Reads (spec.named (spec.value S.reads S.of_bool is_const) cursor.old) result cursor.new }
+    ensures reads { Reads (spec.named (spec.value S.reads S.of_bool is_const) cursor.old) result
+        cursor.new }
     ensures no_more { left cursor.new ≤ left cursor.old }
     ensures stands { StandsAt result cursor.new }
 {
@@ -85,7 +86,8 @@ pub(crate) fn single<S: ScalarValue>(
     cursor: &mut Cursor<'_>,
     is_const: bool,
 ) -> Result<InputValue<S>, Fault>
-    ensures reads { Reads (spec.variable_or S.reads S.of_bool is_const cursor.old) result cursor.new }
+    ensures reads { Reads (spec.variable_or S.reads S.of_bool is_const cursor.old) result
+        cursor.new }
     ensures no_more { left cursor.new ≤ left cursor.old }
     ensures behind { Behind cursor.old cursor.new }
     ensures stands { StandsAt result cursor.new }

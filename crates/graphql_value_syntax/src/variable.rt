@@ -32,7 +32,9 @@ fn default_value<S: ScalarValue>(
     alloc: Global,
     cursor: &mut Cursor<'_>,
 ) -> Result<Option<Spanning<InputValue<S>>>, Fault>
-    ensures reads { Reads (optional (only k.Equals) (spec.default_value S.reads S.of_bool) cursor.old) result cursor.new }
+    ensures reads { Reads
+        (optional (only k.Equals) (spec.default_value S.reads S.of_bool) cursor.old) result
+        cursor.new }
     ensures no_more { left cursor.new ≤ left cursor.old }
 {
     if cursor.kind() != Kind::Equals {
@@ -49,7 +51,8 @@ fn variable_definition<'a, S: ScalarValue>(
     alloc: Global,
     cursor: &mut Cursor<'a>,
 ) -> Result<(Spanning<TextRef<'a>>, VariableDefinition<'a, S>), Fault>
-    ensures reads { Reads (spec.variable_definition S.reads S.of_bool cursor.old) result cursor.new }
+    ensures reads { Reads (spec.variable_definition S.reads S.of_bool cursor.old) result
+        cursor.new }
     ensures no_more { left cursor.new ≤ left cursor.old }
 {
     let name = variable_name(alloc, cursor)?;
@@ -70,7 +73,8 @@ fn definition_list<'a, S: ScalarValue>(
     alloc: Global,
     cursor: &mut Cursor<'a>,
 ) -> Result<Items<(Spanning<TextRef<'a>>, VariableDefinition<'a, S>)>, Fault>
-    ensures reads { Reads (some_between k.ParenOpen k.ParenClose (spec.variable_definition S.reads S.of_bool) cursor.old) result cursor.new }
+    ensures reads { Reads (some_between k.ParenOpen k.ParenClose
+        (spec.variable_definition S.reads S.of_bool) cursor.old) result cursor.new }
     ensures no_more { left cursor.new ≤ left cursor.old }
 {
     cursor.expect(alloc, Kind::ParenOpen)?;
@@ -93,7 +97,9 @@ pub fn variable_definitions<'a, S: ScalarValue>(
     alloc: Global,
     cursor: &mut Cursor<'a>,
 ) -> Result<Option<Spanning<VariableDefinitions<'a, S>>>, Fault>
-    ensures reads { Reads (optional (only k.ParenOpen) (spec.variable_definitions S.reads S.of_bool) cursor.old) result cursor.new }
+    ensures reads { Reads
+        (optional (only k.ParenOpen) (spec.variable_definitions S.reads S.of_bool) cursor.old)
+        result cursor.new }
     ensures no_more { left cursor.new ≤ left cursor.old }
 {
     if cursor.kind() != Kind::ParenOpen {

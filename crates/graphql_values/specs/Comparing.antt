@@ -17,7 +17,10 @@ lent = map (λ part. part.now)
 
 -- the same fields in the order of their names, those of one name in the order that they had
 abbrev pub IsByName : {A : Type 0} → List (Pair A) → List (Pair A) → Type 0
-IsByName fields sorted = IsPermutation fields sorted × ((name : Text) → under name sorted ≡ under name fields) × IsSortedByKey (λ p. p.0.item) (slice_cmp nat_cmp) sorted
+IsByName fields sorted =
+    IsPermutation fields sorted
+    × ((name : Text) → under name sorted ≡ under name fields)
+    × IsSortedByKey (λ p. p.0.item) (slice_cmp nat_cmp) sorted
 
 -- two values that have to be the same
 abbrev pub Both : Type 0 → Type 0
@@ -33,6 +36,7 @@ module _ {S : Type 0} (eq : S → S → Bool) where
   abbrev pub AllSame : List (Both S) → Type 0
   AllSame waiting = All (λ both. SameValue S eq both.0.now both.1.now) waiting
 
-  -- once something was compared: it stands, and what is left is the same, exactly where what was left is the same and `P` holds
+  -- once something was compared: it stands, and what is left is the same, exactly where what was
+  -- left is the same and `P` holds
   abbrev pub Leaves : Type 0 → List (Both S) → List (Both S) → Bool → Type 0
   Leaves P old new stands = (IsTrue stands × AllSame new) ↔ (AllSame old × P)

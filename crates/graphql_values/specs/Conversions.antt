@@ -1,20 +1,24 @@
--- What input values mean at types of the program (GraphQL October 2021, 3.4.2 Input and Output Types).
+-- What input values mean at types of the program (GraphQL October 2021, 3.4.2 Input and Output
+-- Types).
 use Rattle.std.specs.Prelude.{◌≡◌, ◌≢◌, Option, Some, None, List, map}
 use Rattle.graphql_values.specs.declared.input_value.InputValue.{InputValue}
 use Rattle.graphql_values.specs.declared.input_value.InputValue.TheVariants as value
 use Rattle.graphql_values.specs.InputValues.{unplaced}
 
 -- null is none, and any other value is what it means where it may not be null (3.12 Non-Null)
-abbrev pub MeansNullable : {S T : Type 0} → (InputValue S → T → Type 0) → InputValue S → Option T → Type 0
+abbrev pub MeansNullable : {S T : Type 0} → (InputValue S → T → Type 0) → InputValue S → Option T
+    → Type 0
 MeansNullable means v None = v ≡ value.Null
 MeansNullable means v (Some x) = (v ≢ value.Null) × means v x
 
 -- a value that is not null may be refused
-abbrev pub RefusesNullable : {S E : Type 0} → (InputValue S → E → Type 0) → InputValue S → E → Type 0
+abbrev pub RefusesNullable : {S E : Type 0} → (InputValue S → E → Type 0) → InputValue S → E
+    → Type 0
 RefusesNullable refuses v e = (v ≢ value.Null) × refuses v e
 
 -- no value both means something and is refused
-abbrev pub Apart : {S T E : Type 0} → (InputValue S → T → Type 0) → (InputValue S → E → Type 0) → Type 0
+abbrev pub Apart : {S T E : Type 0} → (InputValue S → T → Type 0) → (InputValue S → E → Type 0)
+    → Type 0
 Apart {S} {T} {E} means refuses = (v : InputValue S) (x : T) (e : E) → means v x → refuses v e → ⊥
 
 pub nullable_apart :

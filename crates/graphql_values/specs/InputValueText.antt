@@ -1,4 +1,5 @@
--- The text of an input value, in the syntax of documents but for texts, whose quotes and line feeds stand as they are (GraphQL October 2021, 2.9 Input Values).
+-- The text of an input value, in the syntax of documents but for texts, whose quotes and line feeds
+-- stand as they are (GraphQL October 2021, 2.9 Input Values).
 use Rattle.std.specs.Prelude.{◌++◌, ℕ, List, codes}
 use Rattle.std.specs.List.{join_by}
 use Rattle.graphql_scalars.specs.ScalarAnswers.{ScalarAnswer}
@@ -6,7 +7,8 @@ use Rattle.graphql_scalars.specs.ScalarText.{scalar_text}
 use Rattle.graphql_values.specs.declared.input_value.InputValue.{InputValue, fold-InputValue}
 use Rattle.graphql_values.specs.declared.input_value.InputValue.TheOpen.{InputValue-F}
 use Rattle.graphql_values.specs.InputValues.{Placed, Pair}
-use Rattle.graphql_values.specs.Steps.{Step, Null, Scalar, Enum, Variable, ListOpens, ListCloses, ObjectOpens, ObjectCloses, Name, Gap}
+use Rattle.graphql_values.specs.Steps.{Step, Null, Scalar, Enum, Variable, ListOpens, ListCloses}
+use Rattle.graphql_values.specs.Steps.{ObjectOpens, ObjectCloses, Name, Gap}
 
 module _ {S : Type 0} (answer : S → ScalarAnswer) where
   -- the text of one layer of a value, by the texts of its parts
@@ -15,8 +17,10 @@ module _ {S : Type 0} (answer : S → ScalarAnswer) where
   layer_text (InputValue-F.Scalar scalar) = scalar_text (answer scalar)
   layer_text (InputValue-F.Enum name) = name
   layer_text (InputValue-F.Variable name) = codes "$" ++ name
-  layer_text (InputValue-F.List items) = codes "[" ++ join_by (λ x. x.item) (codes ", ") items ++ codes "]"
-  layer_text (InputValue-F.Object pairs) = codes "{" ++ join_by (λ p. p.0.item ++ codes ": " ++ p.1.item) (codes ", ") pairs ++ codes "}"
+  layer_text (InputValue-F.List items) =
+      codes "[" ++ join_by (λ x. x.item) (codes ", ") items ++ codes "]"
+  layer_text (InputValue-F.Object pairs) =
+      codes "{" ++ join_by (λ p. p.0.item ++ codes ": " ++ p.1.item) (codes ", ") pairs ++ codes "}"
 
   -- the text of a value, by what its scalars answer
   abbrev pub input_value_text : InputValue S → List ℕ
@@ -30,7 +34,8 @@ module _ {S : Type 0} (answer : S → ScalarAnswer) where
   abbrev pub field_text : Pair (InputValue S) → List ℕ
   field_text p = p.0.item ++ codes ": " ++ input_value_text p.1.item
 
-  -- the text of one step of a value: those of its steps, one after the other, are the text of the value
+  -- the text of one step of a value: those of its steps, one after the other, are the text of the
+  -- value
   abbrev pub step_text : Step S → List ℕ
   step_text Null = codes "null"
   step_text (Scalar scalar) = scalar_text (answer scalar)

@@ -31,7 +31,8 @@ module _ {S : Type 0} where
   unlocated_layer (InputValue-F.Enum name) = value.Enum name
   unlocated_layer (InputValue-F.Variable name) = value.Variable name
   unlocated_layer (InputValue-F.List items) = value.List (map (λ x. unplaced x.item) items)
-  unlocated_layer (InputValue-F.Object pairs) = value.Object (map (λ p. unplaced_pair (p.0.item, p.1.item)) pairs)
+  unlocated_layer (InputValue-F.Object pairs) =
+      value.Object (map (λ p. unplaced_pair (p.0.item, p.1.item)) pairs)
 
   -- the same value with every place at the origin
   abbrev pub unlocated : InputValue S → InputValue S

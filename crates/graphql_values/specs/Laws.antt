@@ -19,19 +19,23 @@ module _ {S : Type 0} (eq : S → S → Bool) where
 
   -- what is the same as a third value is the same
   abbrev pub SameByAThird : Type 0
-  SameByAThird = (a b c : InputValue S) → SameValue S eq a b → SameValue S eq b c → SameValue S eq a c
+  SameByAThird =
+      (a b c : InputValue S) → SameValue S eq a b → SameValue S eq b c → SameValue S eq a c
 
-  -- where no name stands twice, objects are the same exactly if they have equally many fields, and each of the one has one of the same name and value in the other
+  -- where no name stands twice, objects are the same exactly if they have equally many fields, and
+  -- each of the one has one of the same name and value in the other
   abbrev pub SameByUniqueNames : Type 0
   SameByUniqueNames =
       (ps qs : List (Pair (InputValue S))) → UniqueNames ps → UniqueNames qs
       → SameValue S eq (value.Object ps) (value.Object qs)
-      ↔ ((length ps ≡ length qs) × All (λ p. Any (λ q. (p.0.item ≡ q.0.item) × SameValue S eq p.1.item q.1.item) qs) ps)
+      ↔ ((length ps ≡ length qs)
+      × All (λ p. Any (λ q. (p.0.item ≡ q.0.item) × SameValue S eq p.1.item q.1.item) qs) ps)
 
 module _ (S : Type 0) where
   -- a value's variables are listed: each that stands in it, and no other
   abbrev pub VariablesAreListed : Type 0
-  VariablesAreListed = (v : InputValue S) (name : Text) → Contains (variables_in v) name ↔ Occurs S name v
+  VariablesAreListed =
+      (v : InputValue S) (name : Text) → Contains (variables_in v) name ↔ Occurs S name v
 
   -- none is listed exactly where none stands in it
   abbrev pub NoneIsListed : Type 0
@@ -39,15 +43,18 @@ module _ (S : Type 0) where
 
   -- a value without variables becomes itself, whatever values there are
   abbrev pub ConstantsStay : Type 0
-  ConstantsStay = (given : Text → Option (InputValue S)) (v : InputValue S) → IsConstant v → constant_of given v ≡ Some v
+  ConstantsStay = (given : Text → Option (InputValue S)) (v : InputValue S) → IsConstant v
+      → constant_of given v ≡ Some v
 
   -- with values without variables, what a value becomes has none
   abbrev pub NoVariableStays : Type 0
   NoVariableStays =
-      (given : Text → Option (InputValue S)) → ((name : Text) (w : InputValue S) → given name ≡ Some w → IsConstant w)
+      (given : Text → Option (InputValue S))
+      → ((name : Text) (w : InputValue S) → given name ≡ Some w → IsConstant w)
       → (v w : InputValue S) → constant_of given v ≡ Some w → IsConstant w
 
   -- a value becomes nothing only where one of its variables has no value
   abbrev pub OnlyMissingValuesFail : Type 0
   OnlyMissingValuesFail =
-      (given : Text → Option (InputValue S)) (v : InputValue S) → constant_of given v ≡ None → (name : Text) × Occurs S name v × (given name ≡ None)
+      (given : Text → Option (InputValue S)) (v : InputValue S) → constant_of given v ≡ None
+      → (name : Text) × Occurs S name v × (given name ≡ None)

@@ -1,8 +1,10 @@
--- What is ahead of a walk over an input value: the steps of what it has yet to do (GraphQL October 2021, 2.9 Input Values).
+-- What is ahead of a walk over an input value: the steps of what it has yet to do (GraphQL October
+-- 2021, 2.9 Input Values).
 use Rattle.std.specs.Prelude.{◌≡◌, List, [], ◌∷◌, ◌++◌}
 use Rattle.std.specs.List.{flat_map}
 use Rattle.graphql_values.specs.Steps as spec
-use Rattle.graphql_values.specs.Steps.{Gap, ListCloses, ObjectCloses, item_steps, field_steps, items_steps, fields_steps, steps}
+use Rattle.graphql_values.specs.Steps.{Gap, ListCloses, ObjectCloses, item_steps, field_steps}
+use Rattle.graphql_values.specs.Steps.{items_steps, fields_steps, steps}
 use Rattle.graphql_values.specs.declared.input_value.walk.Step.{Step}
 use Rattle.graphql_values.specs.declared.input_value.walk.Step.TheVariants as step
 use Rattle.graphql_values.specs.declared.input_value.walk.Task.{Task}
@@ -31,9 +33,11 @@ module _ {S : Type 0} where
   abbrev pub task_steps : Task S → List (spec.Step S)
   task_steps (task.Value value) = steps value.now
   task_steps (task.Items items) = items_steps items.now
-  task_steps (task.MoreItems items) = flat_map (λ x. Gap ∷ item_steps steps x) items.now ++ ListCloses ∷ []
+  task_steps (task.MoreItems items) =
+      flat_map (λ x. Gap ∷ item_steps steps x) items.now ++ ListCloses ∷ []
   task_steps (task.Fields pairs) = fields_steps pairs.now
-  task_steps (task.MoreFields pairs) = flat_map (λ p. Gap ∷ field_steps steps p) pairs.now ++ ObjectCloses ∷ []
+  task_steps (task.MoreFields pairs) =
+      flat_map (λ p. Gap ∷ field_steps steps p) pairs.now ++ ObjectCloses ∷ []
 
   -- the first of these steps is told, and the others are ahead
   abbrev pub Opens : List (spec.Step S) → Step S → List (Task S) → List (Task S) → Type 0

@@ -1,4 +1,5 @@
--- Input values that are the same wherever they stand (GraphQL October 2021, 2.9 Input Values; 2.9.8 Input Object Values: fields are unordered).
+-- Input values that are the same wherever they stand (GraphQL October 2021, 2.9 Input Values; 2.9.8
+-- Input Object Values: fields are unordered).
 use Rattle.std.specs.Prelude.{◌≡◌, ◌≢◌, List, [], ◌∷◌, map, Bool, true}
 use Rattle.std.specs.List.{AllPairs, filter}
 use Rattle.std.specs.Str.{bytes_eq}
@@ -26,15 +27,22 @@ mutual
     same_scalar : (a b : S) → eq a b ≡ true → SameValue S eq (value.Scalar a) (value.Scalar b)
     same_enum : (name : Text) → SameValue S eq (value.Enum name) (value.Enum name)
     same_variable : (name : Text) → SameValue S eq (value.Variable name) (value.Variable name)
-    same_list : (xs ys : List (Placed (InputValue S))) → SameItems S eq xs ys → SameValue S eq (value.List xs) (value.List ys)
+    same_list : (xs ys : List (Placed (InputValue S))) → SameItems S eq xs ys
+        → SameValue S eq (value.List xs) (value.List ys)
     -- under each name the same values stand, in order
-    same_object : (ps qs : List (Pair (InputValue S))) → ((name : Text) → SameItems S eq (under name ps) (under name qs)) → SameValue S eq (value.Object ps) (value.Object qs)
+    same_object : (ps qs : List (Pair (InputValue S)))
+        → ((name : Text) → SameItems S eq (under name ps) (under name qs))
+        → SameValue S eq (value.Object ps) (value.Object qs)
 
   -- item by item
-  pub data SameItems (S : Type 0) (eq : S → S → Bool) : List (Placed (InputValue S)) → List (Placed (InputValue S)) → Type 0 where
+  pub data SameItems (S : Type 0) (eq : S → S → Bool) : List (Placed (InputValue S))
+      → List
+      (Placed (InputValue S)) → Type 0 where
     no_items : SameItems S eq [] []
-    more_items : (x y : Placed (InputValue S)) (xs ys : List (Placed (InputValue S))) → SameValue S eq x.item y.item → SameItems S eq xs ys → SameItems S eq (x ∷ xs) (y ∷ ys)
+    more_items : (x y : Placed (InputValue S)) (xs ys : List (Placed (InputValue S)))
+        → SameValue S eq x.item y.item → SameItems S eq xs ys → SameItems S eq (x ∷ xs) (y ∷ ys)
 
 -- fields of which the same values stand under each name, in order
-abbrev pub SameFields : (S : Type 0) → (S → S → Bool) → List (Pair (InputValue S)) → List (Pair (InputValue S)) → Type 0
+abbrev pub SameFields : (S : Type 0) → (S → S → Bool) → List (Pair (InputValue S))
+    → List (Pair (InputValue S)) → Type 0
 SameFields S eq ps qs = (name : Text) → SameItems S eq (under name ps) (under name qs)

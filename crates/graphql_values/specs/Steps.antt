@@ -1,4 +1,5 @@
--- The steps of an input value: what a walk over it tells, from its start to its end (GraphQL October 2021, 2.9 Input Values).
+-- The steps of an input value: what a walk over it tells, from its start to its end (GraphQL
+-- October 2021, 2.9 Input Values).
 use Rattle.std.specs.Prelude.{List, [], ◌∷◌, ◌++◌}
 use Rattle.std.specs.List.{join_by}
 use Rattle.graphql_text.specs.declared.text.Text.{Text}
@@ -6,7 +7,8 @@ use Rattle.graphql_values.specs.declared.input_value.InputValue.{InputValue, fol
 use Rattle.graphql_values.specs.declared.input_value.InputValue.TheOpen.{InputValue-F}
 use Rattle.graphql_values.specs.InputValues.{Placed, Pair}
 
--- one step: a value without parts, where a list or an input object opens and closes, the name of the field whose value comes next, or what stands between two parts
+-- one step: a value without parts, where a list or an input object opens and closes, the name of
+-- the field whose value comes next, or what stands between two parts
 pub data Step (S : Type 0) : Type 0 where
   Null : Step S
   Scalar : S → Step S
@@ -20,7 +22,8 @@ pub data Step (S : Type 0) : Type 0 where
   Gap : Step S
 
 module _ {S : Type 0} where
-  -- the steps of an item are those of its value; a field's are its name, and then those of its value
+  -- the steps of an item are those of its value; a field's are its name, and then those of its
+  -- value
   abbrev pub item_steps : {A : Type 0} → (A → List (Step S)) → Placed A → List (Step S)
   item_steps steps_of x = steps_of x.item
 
@@ -33,8 +36,10 @@ module _ {S : Type 0} where
   steps_layer (InputValue-F.Scalar scalar) = Scalar scalar ∷ []
   steps_layer (InputValue-F.Enum name) = Enum name ∷ []
   steps_layer (InputValue-F.Variable name) = Variable name ∷ []
-  steps_layer (InputValue-F.List items) = ListOpens ∷ (join_by (item_steps (λ part. part)) (Gap ∷ []) items ++ ListCloses ∷ [])
-  steps_layer (InputValue-F.Object pairs) = ObjectOpens ∷ (join_by (field_steps (λ part. part)) (Gap ∷ []) pairs ++ ObjectCloses ∷ [])
+  steps_layer (InputValue-F.List items) =
+      ListOpens ∷ (join_by (item_steps (λ part. part)) (Gap ∷ []) items ++ ListCloses ∷ [])
+  steps_layer (InputValue-F.Object pairs) =
+      ObjectOpens ∷ (join_by (field_steps (λ part. part)) (Gap ∷ []) pairs ++ ObjectCloses ∷ [])
 
   abbrev pub steps : InputValue S → List (Step S)
   steps = fold-InputValue S (List (Step S)) steps_layer

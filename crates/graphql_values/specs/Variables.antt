@@ -1,4 +1,5 @@
--- The variables in an input value, and what it is once they have their values (GraphQL October 2021, 2.10 Variables, 6.4.1 Coercing Field Arguments).
+-- The variables in an input value, and what it is once they have their values (GraphQL October
+-- 2021, 2.10 Variables, 6.4.1 Coercing Field Arguments).
 use Rattle.std.specs.Prelude.{List, [], ◌∷◌, Option, Some}
 use Rattle.std.specs.List.{flat_map, Contains}
 use Rattle.std.specs.Option.{option_map, option_and_then}
@@ -11,8 +12,10 @@ use Rattle.graphql_values.specs.InputValues.{Placed, Pair}
 -- the variable of this name stands in the value
 pub data Occurs (S : Type 0) (name : Text) : InputValue S → Type 0 where
   itself : Occurs S name (value.Variable name)
-  in_list : (items : List (Placed (InputValue S))) (x : Placed (InputValue S)) → Contains items x → Occurs S name x.item → Occurs S name (value.List items)
-  in_object : (pairs : List (Pair (InputValue S))) (p : Pair (InputValue S)) → Contains pairs p → Occurs S name p.1.item → Occurs S name (value.Object pairs)
+  in_list : (items : List (Placed (InputValue S))) (x : Placed (InputValue S)) → Contains items x
+      → Occurs S name x.item → Occurs S name (value.List items)
+  in_object : (pairs : List (Pair (InputValue S))) (p : Pair (InputValue S)) → Contains pairs p
+      → Occurs S name p.1.item → Occurs S name (value.Object pairs)
 
 -- what each item gives, in order, or nothing where one gives nothing
 abbrev pub each_given : {A B : Type 0} → (A → Option B) → List A → Option (List B)

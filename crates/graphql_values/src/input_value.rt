@@ -24,10 +24,10 @@ pub use variables::Variables;
 /// A value that a document gives to an argument, a variable or an input field, before any type is
 /// known for it (GraphQL October 2021, 2.9 Input Values).
 ///
-/// A value nests as deep as its text is long. It is read, shown, compared and let go by loops; a call
-/// that goes down by calling itself says that it takes stack for each level. Such a call is for a value
-/// that the type asked for has been found to fit, which bounds its depth, but where input types hold
-/// themselves.
+/// A value nests as deep as its text is long. It is read, shown, compared and let go by loops; a
+/// call that goes down by calling itself says that it takes stack for each level. Such a call is
+/// for a value that the type asked for has been found to fit, which bounds its depth, but where
+/// input types hold themselves.
 #[derive(Debug)]
 pub enum InputValue<S = DefaultScalarValue> {
     /// `null`
@@ -49,8 +49,8 @@ pub enum InputValue<S = DefaultScalarValue> {
     Object(Items<(Spanning<Text>, Spanning<InputValue<S>>)>),
 }
 
-/// A loop, which takes no memory, and no more stack however deep the value is. It ends since each turn
-/// lets one go of the values that stand in this one, itself among them.
+/// A loop, which takes no memory, and no more stack however deep the value is. It ends since each
+/// turn lets one go of the values that stand in this one, itself among them.
 impl<S: Drop> Drop for InputValue<S> {
     fn drop(mut self) {
         'values: while let Some(others) = self.let_one_go() {
@@ -104,8 +104,8 @@ impl<S> InputValue<S> {
         InputValue::List(items)
     }
 
-    /// The input object of these fields, in order, whose names and values stand in no text. An error
-    /// is want of memory.
+    /// The input object of these fields, in order, whose names and values stand in no text. An
+    /// error is want of memory.
     pub fn object(
         alloc: Global,
         fields: Vec<(Text, InputValue<S>)>,

@@ -1,6 +1,8 @@
 //! Laws of the definitions: each function's contract is a law, and its body does nothing.
 
-ghost use Rattle.graphql_values.specs.Laws.{SameAsItself, SameEitherWay, SameByAThird, SameByUniqueNames, VariablesAreListed, NoneIsListed, ConstantsStay, NoVariableStays, OnlyMissingValuesFail};
+ghost use Rattle.graphql_values.specs.Laws.{SameAsItself, SameEitherWay, SameByAThird};
+ghost use Rattle.graphql_values.specs.Laws.{SameByUniqueNames, VariablesAreListed, NoneIsListed};
+ghost use Rattle.graphql_values.specs.Laws.{ConstantsStay, NoVariableStays, OnlyMissingValuesFail};
 
 /// Being the same value wherever they stand is an equivalence, since the scalars' equality is one.
 pub fn same_value_is_an_equivalence<S: Eq>()

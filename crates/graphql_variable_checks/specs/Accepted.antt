@@ -1,5 +1,7 @@
--- Which values of a request's variables an operation accepts (GraphQL October 2021, 6.1.2 Coercing Variable Values).
-use Rattle.std.specs.Prelude.{◌≡◌, ◌⊎◌, ◌||◌, not, true, Bool, List, [], ◌∷◌, Option, Some, None, IsPermutation}
+-- Which values of a request's variables an operation accepts (GraphQL October 2021, 6.1.2 Coercing
+-- Variable Values).
+use Rattle.std.specs.Prelude.{◌≡◌, ◌⊎◌, ◌||◌, not, true, Bool, List, [], ◌∷◌, Option, Some, None}
+use Rattle.std.specs.Prelude.{IsPermutation}
 use Rattle.std.specs.List.{Contains}
 use Rattle.std.specs.Option.{IsSome, is_some}
 use Rattle.graphql_written_out.specs.FinalValues.{variable_name}
@@ -34,13 +36,15 @@ abbrev pub IsKnown : {S C : Type 0} → List (MetaType S C) → Variable S → T
 IsKnown types v = IsSome (type_named types (variable_type v).name)
 
 -- by what a scalar answers, what the check of a type accepts, and the types of a schema
-module _ {S C : Type 0} (answer : S → ScalarAnswer) (accepts : C → InputValue S → Type 0) (types : List (MetaType S C)) where
+module _ {S C : Type 0} (answer : S → ScalarAnswer) (accepts : C → InputValue S → Type 0)
+    (types : List (MetaType S C)) where
   -- a value that is given conforms, a null among them; an absent one may be absent
   abbrev pub FitsVariable : Variable S → Option (InputValue S) → Type 0
   FitsVariable v (Some value) = Conforms answer accepts types Sent (variable_type v) value
   FitsVariable v None = may_be_absent v ≡ true
 
-  -- by the value that the request gives for each name; nothing is asked at a type that the schema has not
+  -- by the value that the request gives for each name; nothing is asked at a type that the schema
+  -- has not
   module _ (given : Bytes → Option (InputValue S)) where
     abbrev pub IsAccepted : Variable S → Type 0
     IsAccepted v = IsKnown types v → FitsVariable v (given (variable_name v))
@@ -49,11 +53,14 @@ module _ {S C : Type 0} (answer : S → ScalarAnswer) (accepts : C → InputValu
     abbrev pub AreAccepted : List (Variable S) → Type 0
     AreAccepted definitions = (v : Variable S) → Contains definitions v → IsAccepted v
 
-    -- an error at the start of each definition that does not accept what is given for its name, in order, and no other
+    -- an error at the start of each definition that does not accept what is given for its name, in
+    -- order, and no other
     abbrev pub Refusals : List (Variable S) → Places → Type 0
     Refusals [] told = told ≡ []
-    Refusals (v ∷ vs) told = (IsAccepted v × Refusals vs told) ⊎ ((IsAccepted v → ⊥) × ((rest : Places) × (told ≡ (variable_place v ∷ []) ∷ rest) × Refusals vs rest))
+    Refusals (v ∷ vs) told = (IsAccepted v × Refusals vs told) ⊎ ((IsAccepted v → ⊥)
+        × ((rest : Places) × (told ≡ (variable_place v ∷ []) ∷ rest) × Refusals vs rest))
 
     -- the same errors, in whatever order
     abbrev pub ValuesTold : List (Variable S) → Places → Type 0
-    ValuesTold definitions told = (in_text : Places) × Refusals definitions in_text × IsPermutation in_text told
+    ValuesTold definitions told =
+        (in_text : Places) × Refusals definitions in_text × IsPermutation in_text told

@@ -1,11 +1,18 @@
 //! Laws of the values of variables: each function's contract is a law, and its body does nothing.
 
-ghost use Rattle.graphql_variable_checks.specs.Laws.{DistinctNamesAreFound, GivenValuesConform, NonNullHaveValues, NoneToldWhereAccepted, ToldIsDetermined, ValuesAreGivenOrDefaults};
+ghost use Rattle.graphql_variable_checks.specs.Laws.{
+  DistinctNamesAreFound,
+  GivenValuesConform,
+  NonNullHaveValues,
+  NoneToldWhereAccepted,
+  ToldIsDetermined,
+  ValuesAreGivenOrDefaults,
+};
 
 use graphql_schema::SchemaScalar;
 
-/// What is told of the values of variables is determined by the types of the schema, the definitions of
-/// the operation and the values that are given, whatever the checks of types answer.
+/// What is told of the values of variables is determined by the types of the schema, the
+/// definitions of the operation and the values that are given, whatever the checks of types answer.
 pub fn told_of_variables_is_determined<S: SchemaScalar>()
     ensures { ToldIsDetermined S.answer S.Check.accepts }
 {}
@@ -15,8 +22,8 @@ pub fn accepted_variables_are_not_told<S: SchemaScalar>()
     ensures { NoneToldWhereAccepted S.answer S.Check.accepts }
 {}
 
-/// Where nothing is told, each value that is given for a variable of a known type is its final value,
-/// and conforms to the type.
+/// Where nothing is told, each value that is given for a variable of a known type is its final
+/// value, and conforms to the type.
 pub fn given_values_conform<S: SchemaScalar>()
     ensures { GivenValuesConform S.answer S.Check.accepts }
 {}
@@ -26,9 +33,9 @@ pub fn non_null_variables_have_values<S: SchemaScalar>()
     ensures { NonNullHaveValues S.answer S.Check.accepts }
 {}
 
-/// The final value of a variable is what is given for it, also where that is `null`. Where nothing is
-/// given it is the default of the definition of the variable's name, and where there is none, there is
-/// no value.
+/// The final value of a variable is what is given for it, also where that is `null`. Where nothing
+/// is given it is the default of the definition of the variable's name, and where there is none,
+/// there is no value.
 pub fn final_values_are_given_or_defaults<S>()
     ensures { ValuesAreGivenOrDefaults S }
 {}

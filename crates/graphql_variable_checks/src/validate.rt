@@ -19,32 +19,39 @@ use graphql_written_out::{Variable, definitions_of};
 use std::alloc::{AllocError, Global};
 
 /// The errors of the values that a request gives for the variables of an operation (GraphQL October
-/// 2021, 6.1.2 Coercing Variable Values): one for each definition that does not accept what is given for
-/// its name, at the start of the definition. There is none exactly where each definition accepts what is
-/// given. They stand in order: by their places, then by their messages.
+/// 2021, 6.1.2 Coercing Variable Values): one for each definition that does not accept what is
+/// given for its name, at the start of the definition. There is none exactly where each definition
+/// accepts what is given. They stand in order: by their places, then by their messages.
 ///
-/// A value that is given is accepted where it conforms to the variable's type; a text names an enum's
-/// value there. A `null` is a value that is given, so a type without `null` refuses it, also where a
-/// default stands. An absent value is accepted where the type is nullable or a default stands. Values of
-/// names that the operation does not define are passed over. A variable in a value conforms to each
-/// type; the values of a request have none.
+/// A value that is given is accepted where it conforms to the variable's type; a text names an
+/// enum's value there. A `null` is a value that is given, so a type without `null` refuses it, also
+/// where a default stands. An absent value is accepted where the type is nullable or a default
+/// stands. Values of names that the operation does not define are passed over. A variable in a
+/// value conforms to each type; the values of a request have none.
 ///
-/// A definition of a type that the schema has not is passed over too, whatever is given: it is left to
-/// `KnownTypeNames`. `validate_value` would refuse each scalar, enum value and object at such a type.
+/// A definition of a type that the schema has not is passed over too, whatever is given: it is left
+/// to `KnownTypeNames`. `validate_value` would refuse each scalar, enum value and object at such a
+/// type.
 ///
-/// The texts are `Variable "$v" of type "T" was not provided` and `Variable "$v" got an invalid value,
-/// reason: r`, with the type as it is written, and the reason that `validate_value` gives.
+/// The texts are `Variable "$v" of type "T" was not provided` and `Variable "$v" got an invalid
+/// value, reason: r`, with the type as it is written, and the reason that `validate_value` gives.
 ///
 /// Takes time in proportion to the definitions, to the look-ups of their types by name and to what
-/// `validate_value` takes for the values, and sorts the errors. An error of the call is want of memory.
+/// `validate_value` takes for the values, and sorts the errors. An error of the call is want of
+/// memory.
 pub fn validate_input_values<'t, S: SchemaScalar>(
     alloc: Global,
     variables: &Variables<S>,
     operation: &Spanning<Operation<'t, S>>,
     schema: &SchemaType<S>,
 ) -> Result<Items<RuleError>, AllocError>
-    ensures told { IfOk result (λ errors. spec.ValuesTold S.answer S.Check.accepts schema.now.types (get_by_text variables.now) (variables_in operation.now.item.variable_definitions) (places errors)) }
-    ensures none { IfOk result (λ errors. (errors ≡ []) ↔ spec.AreAccepted S.answer S.Check.accepts schema.now.types (get_by_text variables.now) (variables_in operation.now.item.variable_definitions)) }
+    ensures told { IfOk result
+        (λ errors. spec.ValuesTold S.answer S.Check.accepts schema.now.types (get_by_text
+        variables.now) (variables_in operation.now.item.variable_definitions) (places errors)) }
+    ensures none { IfOk result
+        (λ errors. (errors ≡ [])
+        ↔ spec.AreAccepted S.answer S.Check.accepts schema.now.types
+        (get_by_text variables.now) (variables_in operation.now.item.variable_definitions)) }
     ensures sorted { IfOk result (IsSorted ⟦<RuleError as Ord>⟧.cmp) }
 {
     let found = errors_of_definitions(alloc, variables, operation, schema)?;
@@ -60,8 +67,13 @@ fn errors_of_definitions<'t, S: SchemaScalar>(
     operation: &Spanning<Operation<'t, S>>,
     schema: &SchemaType<S>,
 ) -> Result<Items<RuleError>, AllocError>
-    ensures told { IfOk result (λ errors. spec.Refusals S.answer S.Check.accepts schema.now.types (get_by_text variables.now) (variables_in operation.now.item.variable_definitions) (places errors)) }
-    ensures none { IfOk result (λ errors. (errors ≡ []) ↔ spec.AreAccepted S.answer S.Check.accepts schema.now.types (get_by_text variables.now) (variables_in operation.now.item.variable_definitions)) }
+    ensures told { IfOk result
+        (λ errors. spec.Refusals S.answer S.Check.accepts schema.now.types (get_by_text
+        variables.now) (variables_in operation.now.item.variable_definitions) (places errors)) }
+    ensures none { IfOk result
+        (λ errors. (errors ≡ [])
+        ↔ spec.AreAccepted S.answer S.Check.accepts schema.now.types
+        (get_by_text variables.now) (variables_in operation.now.item.variable_definitions)) }
 {
     let mut errors = Items::new(alloc);
     let definitions = definitions_of(&operation.item);
@@ -73,15 +85,17 @@ fn errors_of_definitions<'t, S: SchemaScalar>(
     Ok(errors)
 }
 
-/// Why a definition does not accept what is given for its name; `None` where it does. An error is want
-/// of memory.
+/// Why a definition does not accept what is given for its name; `None` where it does. An error is
+/// want of memory.
 fn refusal<'t, S: SchemaScalar>(
     alloc: Global,
     variables: &Variables<S>,
     schema: &SchemaType<S>,
     variable: &Variable<'t, S>,
 ) -> Result<Option<String>, AllocError>
-    ensures { IfOk result (λ reason. MatchOption reason (spec.IsAccepted S.answer S.Check.accepts schema.now.types (get_by_text variables.now) variable.now) (λ _. spec.IsAccepted S.answer S.Check.accepts schema.now.types (get_by_text variables.now) variable.now → ⊥)) }
+    ensures { IfOk result (λ reason. MatchOption reason (spec.IsAccepted S.answer S.Check.accepts
+        schema.now.types (get_by_text variables.now) variable.now) (λ _. spec.IsAccepted S.answer
+        S.Check.accepts schema.now.types (get_by_text variables.now) variable.now → ⊥)) }
 {
     let name = variable.0.item.as_str();
     let asked = &variable.1.var_type.item;
@@ -103,7 +117,9 @@ fn refusal_of_value<S: SchemaScalar>(
     asked: &Type<TextRef<'_>>,
     value: &InputValue<S>,
 ) -> Result<Option<String>, AllocError>
-    ensures { IfOk result (λ reason. MatchOption reason (Conforms S.answer S.Check.accepts schema.now.types Sent asked.now value.now) (λ _. Conforms S.answer S.Check.accepts schema.now.types Sent asked.now value.now → ⊥)) }
+    ensures { IfOk result (λ reason. MatchOption reason
+        (Conforms S.answer S.Check.accepts schema.now.types Sent asked.now value.now)
+        (λ _. Conforms S.answer S.Check.accepts schema.now.types Sent asked.now value.now → ⊥)) }
 {
     match validate_value(alloc, schema, Source::Sent, asked, value)? {
         Some(reason) => {
@@ -121,7 +137,8 @@ fn refusal_of_absence<'t, S>(
     alloc: Global,
     variable: &Variable<'t, S>,
 ) -> Result<Option<String>, AllocError>
-    ensures { IfOk result (λ reason. MatchOption reason (spec.may_be_absent variable.now ≡ true) (λ _. spec.may_be_absent variable.now ≡ true → ⊥)) }
+    ensures { IfOk result (λ reason. MatchOption reason (spec.may_be_absent variable.now ≡ true)
+        (λ _. spec.may_be_absent variable.now ≡ true → ⊥)) }
 {
     let (name, definition) = variable;
     let asked = &definition.var_type.item;

@@ -22,7 +22,8 @@ module _ {X : Type 0} (Says : X → Places → Type 0) where
   -- each of these may be told of so, one after the other
   abbrev pub Tell : List X → Places → Type 0
   Tell [] told = told ≡ []
-  Tell (x ∷ xs) told = (first : Places) × (rest : Places) × (told ≡ first ++ rest) × Says x first × Tell xs rest
+  Tell (x ∷ xs) told =
+      (first : Places) × (rest : Places) × (told ≡ first ++ rest) × Says x first × Tell xs rest
 
 module _ {S C : Type 0} where
   -- what a rule says of an event
@@ -45,4 +46,9 @@ module _ {S C : Type 0} where
 
   -- two visitors: at each event what the first tells comes before what the second does
   abbrev pub both : {A B : Type 0} → Step A S C → Step B S C → Step (MultiVisitorCons A B) S C
-  both one other subject v e w told = (first : Places) × (second : Places) × (told ≡ first ++ second) × one subject v.first e w.first first × other subject v.second e w.second second
+  both one other subject v e w told =
+      (first : Places)
+      × (second : Places)
+      × (told ≡ first ++ second)
+      × one subject v.first e w.first first
+      × other subject v.second e w.second second

@@ -25,7 +25,8 @@ module _ {V S C : Type 0} (step : Step V S C) (subject : Subject S C) where
   Runs v (e ∷ es) w (t ∷ ts) = (u : V) × step subject v e u t × Runs u es w ts
 
 module _ {V S C : Type 0} (step : Step V S C) where
-  -- an event: the visitor v became w, and what it reports came behind the other errors, unless memory ran out
+  -- an event: the visitor v became w, and what it reports came behind the other errors, unless
+  -- memory ran out
   abbrev pub Did : Event S → V → V → ValidatorContext S C → ValidatorContext S C → Type 0
   Did e v w c d = ReportsBy (step (subject_of c) v (seen_in c e) w) c d
 

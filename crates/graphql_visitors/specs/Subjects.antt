@@ -15,7 +15,8 @@ pub record Subject (S C : Type 0) : Type 0 where
 
 module _ {S C : Type 0} where
   abbrev pub subject_of : ValidatorContext S C → Subject S C
-  subject_of c = record { schema = declarations_of c.schema.now; document = c.fragments.document.now }
+  subject_of c =
+      record { schema = declarations_of c.schema.now; document = c.fragments.document.now }
 
   -- an event, where the context stands
   abbrev pub seen_in : ValidatorContext S C → Event S → Seen S C

@@ -1,6 +1,7 @@
 //! What a visitor sees of a document, and the errors that it reports.
 
-ghost use Rattle.std.specs.Prelude.{◌≡◌, ◌∷◌, ◌++◌, [], false, true, Ok, None, IfOk, OnOk, OnErr, IsPermutation};
+ghost use Rattle.std.specs.Prelude.{◌≡◌, ◌∷◌, ◌++◌, [], false, true, Ok, None, IfOk, OnOk, OnErr};
+ghost use Rattle.std.specs.Prelude.{IsPermutation};
 ghost use Rattle.std.specs.List.Sorted.{IsSorted};
 ghost use Rattle.std.specs.Option.{is_some, option_copied, option_map};
 ghost use Rattle.graphql_occurrences.specs.Lookups.{declarations_of};
@@ -33,8 +34,8 @@ pub struct ValidatorContext<'a, 't, S, C = <S as SchemaScalar>::Check> {
 }
 
 impl<'a, 't, S, C> ValidatorContext<'a, 't, S, C> {
-    /// A context for a document by a schema, without errors, where no type is known yet. Errors will
-    /// stand in memory of `alloc`. An error is want of memory for the names of the fragments.
+    /// A context for a document by a schema, without errors, where no type is known yet. Errors
+    /// will stand in memory of `alloc`. An error is want of memory for the names of the fragments.
     pub fn new(
         alloc: Global,
         schema: &'a SchemaType<S, C>,
@@ -78,7 +79,9 @@ impl<'a, 't, S, C> ValidatorContext<'a, 't, S, C> {
 
     /// The type of what is selected where the visitor stands, if the schema has it.
     pub fn current_type(&self) -> Option<&'a MetaType<S, C>>
-        ensures { option_copied result ≡ referred (declarations_of self.now.schema.now) (option_map literal_of self.now.around.current) }
+        ensures { option_copied result
+            ≡ referred (declarations_of self.now.schema.now)
+            (option_map literal_of self.now.around.current) }
     {
         match self.around.current {
             Some(literal) => self.schema.concrete_type_by_name(literal.name),
@@ -102,7 +105,8 @@ impl<'a, 't, S, C> ValidatorContext<'a, 't, S, C> {
 
     /// The type of the values that are asked for where the visitor stands, if it is known.
     pub fn current_input_type_literal(&self) -> Option<TypeLiteral<'a>>
-        ensures { option_map literal_of result ≡ option_map (λ place. literal_of place.asked) self.now.around.input }
+        ensures { option_map literal_of result
+            ≡ option_map (λ place. literal_of place.asked) self.now.around.input }
     {
         match self.around.input {
             Some(place) => Some(place.asked),
@@ -117,12 +121,18 @@ impl<'a, 't, S, C> ValidatorContext<'a, 't, S, C> {
         self.around.input
     }
 
-    /// Reports an error: what is said, and the places that it names. Where there was no memory to say
-    /// it, or there is none to keep it, the context has failed.
+    /// Reports an error: what is said, and the places that it names. Where there was no memory to
+    /// say it, or there is none to keep it, the context has failed.
     #[tactic(auto, using(crate::proofs::ReportLemmas::reports_added))]
     pub fn report_error(&mut self, message: Result<Text, AllocError>, locations: &[SourcePosition])
         ensures places { Reports (locations.now ∷ []) self.old self.new }
-        ensures error { self.new.failed ≡ false → (text : _) × (message ≡ Ok text) × (self.new.errors ≡ self.old.errors ++ record { locations = locations.now; message = text } ∷ []) }
+        ensures error { self.new.failed ≡ false
+            → (text : _)
+            × (message ≡ Ok text)
+            × (self.new.errors ≡ self.old.errors ++ record {
+              locations = locations.now;
+              message = text;
+            } ∷ []) }
     {
         match error_of(self.alloc, message, locations) {
             Ok(error) => self.keep(error),
@@ -139,8 +149,8 @@ impl<'a, 't, S, C> ValidatorContext<'a, 't, S, C> {
         }
     }
 
-    /// Takes more errors, behind those that have been reported. Where there is no memory to keep them,
-    /// the context has failed.
+    /// Takes more errors, behind those that have been reported. Where there is no memory to keep
+    /// them, the context has failed.
     pub fn append_errors(&mut self, mut errors: Items<RuleError>)
         ensures { Adds errors self.old self.new }
     {
@@ -164,9 +174,9 @@ impl<'a, 't, S, C> ValidatorContext<'a, 't, S, C> {
         self.failed = true;
     }
 
-    /// The errors that were reported, in order: by their places, and those of the same places by their
-    /// messages. An error comes exactly where the context has failed, since memory ran out. Takes no
-    /// memory.
+    /// The errors that were reported, in order: by their places, and those of the same places by
+    /// their messages. An error comes exactly where the context has failed, since memory ran out.
+    /// Takes no memory.
     pub fn into_errors(self) -> Result<Items<RuleError>, AllocError>
         ensures ok { OnOk result (self.entry.failed ≡ false) }
         ensures err { OnErr result (self.entry.failed ≡ true) }
@@ -181,10 +191,12 @@ impl<'a, 't, S, C> ValidatorContext<'a, 't, S, C> {
         Ok(Items::from_vec(errors))
     }
 
-    /// The type condition of the fragment that a spread of this name means: the first fragment of the
-    /// document that has the name. `None` where no fragment has it. Finds it by binary search.
+    /// The type condition of the fragment that a spread of this name means: the first fragment of
+    /// the document that has the name. `None` where no fragment has it. Finds it by binary search.
     pub fn fragment_condition(&self, name: &str) -> Option<&'a Spanning<TextRef<'t>>>
-        ensures { option_copied result ≡ option_map (λ f. f.item.type_condition) (fragment_named self.now.fragments.document.now name.now) }
+        ensures { option_copied result
+            ≡ option_map (λ f. f.item.type_condition)
+            (fragment_named self.now.fragments.document.now name.now) }
     {
         self.fragments.condition(name)
     }
@@ -203,7 +215,8 @@ fn error_of(
     message: Result<Text, AllocError>,
     locations: &[SourcePosition],
 ) -> Result<RuleError, AllocError>
-    ensures { IfOk result (λ error. (error.locations ≡ locations.now) × (message ≡ Ok error.message)) }
+    ensures { IfOk result
+        (λ error. (error.locations ≡ locations.now) × (message ≡ Ok error.message)) }
 {
     RuleError::at(alloc, message?, locations)
 }

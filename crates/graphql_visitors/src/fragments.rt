@@ -29,12 +29,15 @@ impl<'a, 't, S> Named for LentFragment<'a, 't, S> {
 pub(crate) struct Fragments<'a, 't, S> {
     pub(crate) document: &'a [Definition<'t, S>],
     by_name: NamedItems<LentFragment<'a, 't, S>>,
-    ghost conditions: { (name : List ℕ) → option_map (λ lent. lent.fragment.now.item.type_condition) (named (λ lent. lent.fragment.now.item.name.item) by_name name) ≡ option_map (λ f. f.item.type_condition) (fragment_named document.now name) },
+    ghost conditions: { (name : List ℕ)
+        → option_map (λ lent. lent.fragment.now.item.type_condition)
+        (named (λ lent. lent.fragment.now.item.name.item) by_name name)
+        ≡ option_map (λ f. f.item.type_condition) (fragment_named document.now name) },
 }
 
 impl<'a, 't, S> Fragments<'a, 't, S> {
-    /// The fragments of a document. Takes the time in which their names are sorted. An error is want
-    /// of memory.
+    /// The fragments of a document. Takes the time in which their names are sorted. An error is
+    /// want of memory.
     pub(crate) fn new(
         alloc: Global,
         document: &'a [Definition<'t, S>],
@@ -49,7 +52,9 @@ impl<'a, 't, S> Fragments<'a, 't, S> {
     /// The type condition of the fragment that a spread of this name means: the first that has the
     /// name. `None` where there is none.
     pub(crate) fn condition(&self, name: &str) -> Option<&'a Spanning<TextRef<'t>>>
-        ensures { option_copied result ≡ option_map (λ f. f.item.type_condition) (fragment_named self.now.document.now name.now) }
+        ensures { option_copied result
+            ≡ option_map (λ f. f.item.type_condition)
+            (fragment_named self.now.document.now name.now) }
     {
         match self.by_name.get(name) {
             Some(lent) => Some(&lent.fragment.item.type_condition),

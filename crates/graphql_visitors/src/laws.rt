@@ -21,20 +21,32 @@ use graphql_schema::SchemaScalar;
 /// What a rule that looks at one part at a time tells over a document: what it says of each of the
 /// document's occurrences, in order.
 pub fn local_rules_tell_of_occurrences<S: SchemaScalar, R: LocalRule<S>>()
-    ensures { (subject : Subject S S.Check) → (v w : Local R) → (told : List Places) → Runs (local R.says) subject v (events subject.schema subject.document) w told → joined told ≡ flat_map (R.says subject) (occurrences subject.schema subject.document) }
+    ensures { (subject : Subject S S.Check) → (v w : Local R) → (told : List Places)
+        → Runs (local R.says) subject v (events subject.schema subject.document) w told
+        → joined told ≡ flat_map (R.says subject) (occurrences subject.schema subject.document) }
 {}
 
 /// The same of a rule that asks what may answer so or so: it tells what it may say of each.
 pub fn relational_rules_tell_of_occurrences<S: SchemaScalar, R: RelationalRule<S>>()
-    ensures { (subject : Subject S S.Check) → (v w : Relational R) → (told : List Places) → Runs (locally R.says) subject v (events subject.schema subject.document) w told → Tell (R.says subject) (occurrences subject.schema subject.document) (joined told) }
+    ensures { (subject : Subject S S.Check) → (v w : Relational R) → (told : List Places)
+        → Runs (locally R.says) subject v (events subject.schema subject.document) w told
+        → Tell (R.says subject) (occurrences subject.schema subject.document) (joined told) }
 {}
 
 /// One pass of a list of visitors tells what separate passes of its visitors tell, in some order.
 pub fn one_pass_is_separate_passes<S: SchemaScalar, A: Visitor<S>, B: Visitor<S>>()
-    ensures { (subject : Subject S S.Check) → (v w : MultiVisitorCons A B) → (es : List (Seen S S.Check)) → (told : List Places) → Runs (both A.step B.step) subject v es w told → (first : List Places) × (second : List Places) × Runs A.step subject v.first es w.first first × Runs B.step subject v.second es w.second second × IsPermutation (joined first ++ joined second) (joined told) }
+    ensures { (subject : Subject S S.Check)
+        → (v w : MultiVisitorCons A B) → (es : List (Seen S S.Check)) → (told : List Places)
+        → Runs (both A.step B.step) subject v es w told
+        → (first : List Places)
+        × (second : List Places)
+        × Runs A.step subject v.first es w.first first
+        × Runs B.step subject v.second es w.second second
+        × IsPermutation (joined first ++ joined second) (joined told) }
 {}
 
 /// An empty list of visitors tells nothing.
 pub fn no_visitor_tells_nothing<S: SchemaScalar>()
-    ensures { (subject : Subject S S.Check) → (v w : MultiVisitorNil) → (es : List (Seen S S.Check)) → (told : List Places) → Runs silent subject v es w told → joined told ≡ [] }
+    ensures { (subject : Subject S S.Check) → (v w : MultiVisitorNil) → (es : List (Seen S S.Check))
+        → (told : List Places) → Runs silent subject v es w told → joined told ≡ [] }
 {}

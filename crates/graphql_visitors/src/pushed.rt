@@ -33,7 +33,11 @@ impl<'a, 't, S, C> ValidatorContext<'a, 't, S, C> {
         inside: F,
     ) -> R
         requires { F.IsAlwaysCallable inside }
-        ensures { (after : _) × FnOnceReturnsAtMut F.FnOnce inside (record self.old { around = record self.old.around { current = current.entry } }) result after × (self.new ≡ record after { around = self.old.around }) }
+        ensures { (after : _)
+            × FnOnceReturnsAtMut F.FnOnce inside
+            (record self.old { around = record self.old.around { current = current.entry } }) result
+            after
+            × (self.new ≡ record after { around = self.old.around }) }
     {
         let outside = self.around;
         self.around.current = current;
@@ -42,14 +46,21 @@ impl<'a, 't, S, C> ValidatorContext<'a, 't, S, C> {
         answer
     }
 
-    /// What a function answers where what is selected is selected of this type: of the type that the
-    /// schema has for what is selected here. The context stands afterwards where it stood.
+    /// What a function answers where what is selected is selected of this type: of the type that
+    /// the schema has for what is selected here. The context stands afterwards where it stood.
     pub fn with_pushed_parent_type<R, F: FnOnce(&mut ValidatorContext<'_, '_, S, C>) -> R>(
         &mut self,
         inside: F,
     ) -> R
         requires { F.IsAlwaysCallable inside }
-        ensures { (parent : _) × (after : _) × (option_copied parent ≡ referred (declarations_of self.old.schema.now) (option_map literal_of self.old.around.current)) × FnOnceReturnsAtMut F.FnOnce inside (record self.old { around = record self.old.around { parent = parent } }) result after × (self.new ≡ record after { around = self.old.around }) }
+        ensures { (parent : _)
+            × (after : _)
+            × (option_copied parent
+            ≡ referred
+            (declarations_of self.old.schema.now) (option_map literal_of self.old.around.current))
+            × FnOnceReturnsAtMut F.FnOnce inside
+            (record self.old { around = record self.old.around { parent = parent } }) result after
+            × (self.new ≡ record after { around = self.old.around }) }
     {
         let outside = self.around;
         self.around.parent = self.current_type();
@@ -66,7 +77,11 @@ impl<'a, 't, S, C> ValidatorContext<'a, 't, S, C> {
         inside: F,
     ) -> R
         requires { F.IsAlwaysCallable inside }
-        ensures { (after : _) × FnOnceReturnsAtMut F.FnOnce inside (record self.old { around = record self.old.around { input = input.entry } }) result after × (self.new ≡ record after { around = self.old.around }) }
+        ensures { (after : _)
+            × FnOnceReturnsAtMut F.FnOnce inside
+            (record self.old { around = record self.old.around { input = input.entry } }) result
+            after
+            × (self.new ≡ record after { around = self.old.around }) }
     {
         let outside = self.around;
         self.around.input = input;

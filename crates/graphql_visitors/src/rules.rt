@@ -16,7 +16,8 @@ pub trait LocalRule<S: SchemaScalar> {
 
     /// Reports the errors at the parts that an event tells.
     fn tell<'a, 't>(&self, context: &mut ValidatorContext<'a, 't, S>, event: &Event<'a, 't, S>)
-        ensures { Reports (told_at says (subject_of context.old) (seen_in context.old event.now)) context.old context.new };
+        ensures { Reports (told_at says (subject_of context.old) (seen_in context.old event.now))
+            context.old context.new };
 }
 
 /// The visitor of a rule that looks at one part at a time.
@@ -50,7 +51,8 @@ pub trait RelationalRule<S: SchemaScalar> {
 
     /// Reports the errors at the parts that an event tells.
     fn tell<'a, 't>(&self, context: &mut ValidatorContext<'a, 't, S>, event: &Event<'a, 't, S>)
-        ensures { ReportsBy (TellAt says (subject_of context.old) (seen_in context.old event.now)) context.old context.new };
+        ensures { ReportsBy (TellAt says (subject_of context.old) (seen_in context.old event.now))
+            context.old context.new };
 }
 
 /// The visitor of a rule that looks at one part at a time and asks what may answer so or so.

@@ -6,8 +6,8 @@ use graphql_schema::SchemaScalar;
 
 /// What steps over the events of a document, one after the other, and reports errors.
 ///
-/// A visitor has one method for all events: `Event` tells which of `juniper`'s methods is which of its
-/// cases. The types around an event's node stand in the context. A visitor owns what it keeps.
+/// A visitor has one method for all events: `Event` tells which of `juniper`'s methods is which of
+/// its cases. The types around an event's node stand in the context. A visitor owns what it keeps.
 pub trait Visitor<S: SchemaScalar> {
     ghost use Rattle.graphql_occurrences.specs.Nodes.{Seen};
     ghost use Rattle.graphql_rule_errors.specs.Places.{Places};

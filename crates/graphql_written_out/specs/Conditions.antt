@@ -39,9 +39,11 @@ module _ {S : Type 0} (answer : S → ScalarAnswer) (given : Text → Option (In
 
   -- the truth value of a directive's argument `if`
   abbrev pub condition : Directive S → Option Bool
-  condition d = option_and_then (λ literal. truth literal.item) (value_of (codes "if") (arguments_in d.arguments))
+  condition d = option_and_then (λ literal. truth literal.item)
+      (value_of (codes "if") (arguments_in d.arguments))
 
-  -- `skip` where its condition is not false, `include` where it is not true: what is no truth value leaves out in either case
+  -- `skip` where its condition is not false, `include` where it is not true: what is no truth value
+  -- leaves out in either case
   unfoldable pub leaves_out : Directive S → Bool
   leaves_out d =
       if bytes_eq d.name.item (codes "skip") then not (is_false (condition d))

@@ -1,4 +1,5 @@
--- What a literal is once variables have their values (GraphQL October 2021, 6.4.1 Coercing Field Arguments).
+-- What a literal is once variables have their values (GraphQL October 2021, 6.4.1 Coercing Field
+-- Arguments).
 use Rattle.std.specs.Prelude.{map, Option, Some, None}
 use Rattle.std.specs.List.{filter_map}
 use Rattle.graphql_text.specs.declared.text.Text.{Text}
@@ -17,7 +18,8 @@ abbrev pub item_or_null : {S : Type 0} → Placed (Option (InputValue S)) → Pl
 item_or_null x = record { item = value_or_null x.item; span = x.span }
 
 module _ {S : Type 0} (given : Text → Option (InputValue S)) where
-  -- one layer of a literal, of whose parts it is known what they become: a field of an object that becomes nothing is absent
+  -- one layer of a literal, of whose parts it is known what they become: a field of an object that
+  -- becomes nothing is absent
   abbrev pub filled_layer : InputValue-F S (Option (InputValue S)) → Option (InputValue S)
   filled_layer InputValue-F.Null = Some value.Null
   filled_layer (InputValue-F.Scalar scalar) = Some (value.Scalar scalar)
@@ -26,7 +28,8 @@ module _ {S : Type 0} (given : Text → Option (InputValue S)) where
   filled_layer (InputValue-F.List items) = Some (value.List (map item_or_null items))
   filled_layer (InputValue-F.Object pairs) = Some (value.Object (filter_map given_pair pairs))
 
-  -- the literal with each variable's value in its stead; nothing where it is a variable without a value
+  -- the literal with each variable's value in its stead; nothing where it is a variable without a
+  -- value
   abbrev pub filled : InputValue S → Option (InputValue S)
   filled = fold-InputValue S (Option (InputValue S)) filled_layer
 

@@ -22,5 +22,6 @@ module _ {S : Type 0} where
   default_named definitions name = option_and_then default_of (definition_named definitions name)
 
   -- what the request gives for a name, a null too, else the default of its definition
-  abbrev pub final_value : (Bytes → Option (InputValue S)) → List (Variable S) → Bytes → Option (InputValue S)
+  abbrev pub final_value : (Bytes → Option (InputValue S)) → List (Variable S) → Bytes
+      → Option (InputValue S)
   final_value given definitions name = option_or (given name) (default_named definitions name)

@@ -1,4 +1,5 @@
--- The final values that are held of an operation's variables (GraphQL October 2021, 6.1.2 Coercing Variable Values).
+-- The final values that are held of an operation's variables (GraphQL October 2021, 6.1.2 Coercing
+-- Variable Values).
 use Rattle.std.specs.Prelude.{Option}
 use Rattle.std.specs.HashMap.{get_by_text}
 use Rattle.graphql_names.specs.Names.{Bytes}

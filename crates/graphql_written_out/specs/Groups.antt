@@ -1,4 +1,5 @@
--- Fields by their response keys, in order of first appearance (GraphQL October 2021, 6.3.2 Field Collection).
+-- Fields by their response keys, in order of first appearance (GraphQL October 2021, 6.3.2 Field
+-- Collection).
 use Rattle.std.specs.Prelude.{Bool, List, [], ◌∷◌, ◌++◌, map, if◌then◌else◌}
 use Rattle.std.specs.List.{filter, list_any}
 use Rattle.std.specs.Str.{bytes_eq}
@@ -10,7 +11,8 @@ module _ {S : Type 0} where
   abbrev pub keys_after : List Bytes → List (Found S) → List Bytes
   keys_after done [] = []
   keys_after done (x ∷ xs) =
-      if list_any (bytes_eq x.head.key) done then keys_after done xs else x.head.key ∷ keys_after (done ++ x.head.key ∷ []) xs
+      if list_any (bytes_eq x.head.key) done then keys_after done xs
+      else x.head.key ∷ keys_after (done ++ x.head.key ∷ []) xs
 
   abbrev pub keys : List (Found S) → List Bytes
   keys = keys_after []

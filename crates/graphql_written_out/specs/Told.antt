@@ -16,14 +16,17 @@ use Rattle.graphql_written_out.specs.declared.argument_value.ArgumentValue.TheVa
 
 module _ {S : Type 0} where
   -- what a part is: of a literal by the values of variables, else itself
-  abbrev pub part_told : Option (Text → Option (InputValue S)) → InputValue S → Option (InputValue S)
+  abbrev pub part_told : Option (Text → Option (InputValue S)) → InputValue S
+      → Option (InputValue S)
   part_told (Some given) v = filled given v
   part_told None v = Some v
 
-  abbrev pub item_told : Option (Text → Option (InputValue S)) → Placed (InputValue S) → Placed (InputValue S)
+  abbrev pub item_told : Option (Text → Option (InputValue S)) → Placed (InputValue S)
+      → Placed (InputValue S)
   item_told given x = item_or_null (record { item = part_told given x.item; span = x.span })
 
-  abbrev pub field_told : Option (Text → Option (InputValue S)) → Pair (InputValue S) → Option (Pair (InputValue S))
+  abbrev pub field_told : Option (Text → Option (InputValue S)) → Pair (InputValue S)
+      → Option (Pair (InputValue S))
   field_told given p = given_pair (p.0, record { item = part_told given p.1.item; span = p.1.span })
 
   -- what is yet to be read
@@ -31,7 +34,8 @@ module _ {S : Type 0} where
   items_told list = map (item_told (option_map (λ v. value_in v.now) list.variables)) list.items.now
 
   abbrev pub fields_told : ArgumentFields S → List (Pair (InputValue S))
-  fields_told object = filter_map (field_told (option_map (λ v. value_in v.now) object.variables)) object.fields.now
+  fields_told object =
+      filter_map (field_told (option_map (λ v. value_in v.now) object.variables)) object.fields.now
 
   abbrev pub told : ArgumentValue S → InputValue S
   told argument.Null = value.Null

@@ -1,4 +1,5 @@
--- Selection sets in which each spread has become an inline fragment (GraphQL October 2021, 2.4 Selection Sets, 2.8 Fragments).
+-- Selection sets in which each spread has become an inline fragment (GraphQL October 2021, 2.4
+-- Selection Sets, 2.8 Fragments).
 use Rattle.std.specs.Prelude.{◌≡◌, ℕ, Bool, true, false, not, List, Option, max, ◌+◌}
 use Rattle.graphql_names.specs.Names.{Bytes}
 use Rattle.graphql_text.specs.declared.position.SourcePosition.{SourcePosition}
@@ -20,7 +21,8 @@ pub record Head (S : Type 0) : Type 0 where
   pub has_set : Bool
   pub place : SourcePosition
 
--- a selection set: each selection before those that follow it; an inline fragment with its condition, if it has one
+-- a selection set: each selection before those that follow it; an inline fragment with its
+-- condition, if it has one
 pub data Tree (S : Type 0) : Type 0 where
   none : Tree S
   field : Head S → Directives S → Tree S → Tree S → Tree S
@@ -37,8 +39,11 @@ is_empty none = true
 is_empty (field head directives below rest) = false
 is_empty (inline on directives below rest) = false
 
--- sets stand where there are some: no inline fragment has an empty one, and a field has one exactly where its head says so
+-- sets stand where there are some: no inline fragment has an empty one, and a field has one exactly
+-- where its head says so
 abbrev pub IsFilled : {S : Type 0} → Tree S → Type 0
 IsFilled none = Unit {0}
-IsFilled (field head directives below rest) = (head.has_set ≡ not (is_empty below)) × IsFilled below × IsFilled rest
-IsFilled (inline on directives below rest) = (is_empty below ≡ false) × IsFilled below × IsFilled rest
+IsFilled (field head directives below rest) =
+    (head.has_set ≡ not (is_empty below)) × IsFilled below × IsFilled rest
+IsFilled (inline on directives below rest) =
+    (is_empty below ≡ false) × IsFilled below × IsFilled rest

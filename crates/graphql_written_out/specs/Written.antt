@@ -1,4 +1,5 @@
--- Selection sets with their spreads written out (GraphQL October 2021, 2.7 Field Alias, 2.8 Fragments).
+-- Selection sets with their spreads written out (GraphQL October 2021, 2.7 Field Alias, 2.8
+-- Fragments).
 use Rattle.std.specs.Prelude.{◌≡◌, ℕ, zero, suc, List, [], ◌∷◌, map, length, Option, Some, None}
 use Rattle.std.specs.Option.{option_map, is_some}
 use Rattle.graphql_names.specs.Names.{Bytes, named}
@@ -10,7 +11,8 @@ use Rattle.graphql_tree.specs.declared.selection.Field.{Field}
 use Rattle.graphql_tree.specs.declared.selection.FragmentSpread.{FragmentSpread}
 use Rattle.graphql_tree.specs.declared.selection.InlineFragment.{InlineFragment}
 use Rattle.graphql_tree.specs.declared.selection.Selection.{Selection, fold-Selection}
-use Rattle.graphql_tree.specs.declared.selection.Selection.TheOpen.{Selection-F, Field-F, InlineFragment-F}
+use Rattle.graphql_tree.specs.declared.selection.Selection.TheOpen.{Selection-F, Field-F}
+use Rattle.graphql_tree.specs.declared.selection.Selection.TheOpen.{InlineFragment-F}
 use Rattle.graphql_written_out.specs.Trees.{Directives, Head, Tree, none, field, inline}
 
 -- what is listed, which is nothing where there is no list
@@ -51,18 +53,23 @@ module _ {S : Type 0} where
   chain [] rest = rest
   chain (f ∷ fs) rest = f (chain fs rest)
 
-  -- what a spread becomes, given how the set of the fragment that it means is written; one that means none is nothing
-  abbrev pub spread_as : (List (Selection S) → Tree S) → Directives S → Tree S → Option (Fragment S) → Tree S
+  -- what a spread becomes, given how the set of the fragment that it means is written; one that
+  -- means none is nothing
+  abbrev pub spread_as : (List (Selection S) → Tree S) → Directives S → Tree S → Option (Fragment S)
+      → Tree S
   spread_as write directives rest None = rest
-  spread_as write directives rest (Some f) = inline (Some f.type_condition.item) directives (write f.selection_set) rest
+  spread_as write directives rest (Some f) =
+      inline (Some f.type_condition.item) directives (write f.selection_set) rest
 
   module _ (spread : FragmentSpread S → Before S) where
-    abbrev pub selection_layer : Selection-F S (Before S) (SourcePosition → Before S) (Before S) → Before S
+    abbrev pub selection_layer : Selection-F S (Before S) (SourcePosition → Before S) (Before S)
+        → Before S
     selection_layer (Selection-F.Field x) = x.item x.span.start
     selection_layer (Selection-F.FragmentSpread x) = spread x.item
     selection_layer (Selection-F.InlineFragment x) = x.item
 
-    abbrev pub field_layer : Field-F S (Before S) (SourcePosition → Before S) (Before S) → SourcePosition → Before S
+    abbrev pub field_layer : Field-F S (Before S) (SourcePosition → Before S) (Before S)
+        → SourcePosition → Before S
     field_layer f place =
         let head : Head S = record {
           key = response_key f.alias f.name;
@@ -74,17 +81,21 @@ module _ {S : Type 0} where
         } in
         field head (listed f.directives) (chain (listed f.selection_set) none)
 
-    abbrev pub inline_layer : InlineFragment-F S (Before S) (SourcePosition → Before S) (Before S) → Before S
-    inline_layer i = inline (option_map (λ on. on.item) i.type_condition) (listed i.directives) (chain i.selection_set none)
+    abbrev pub inline_layer : InlineFragment-F S (Before S) (SourcePosition → Before S) (Before S)
+        → Before S
+    inline_layer i = inline (option_map (λ on. on.item) i.type_condition) (listed i.directives)
+        (chain i.selection_set none)
 
     abbrev pub write_with : Selection S → Before S
-    write_with = fold-Selection S (Before S) (SourcePosition → Before S) (Before S) selection_layer field_layer inline_layer
+    write_with = fold-Selection S (Before S) (SourcePosition → Before S) (Before S) selection_layer
+        field_layer inline_layer
 
   -- one selection, its spreads written out to a depth; below the depth a spread is nothing
   abbrev pub write_one : ℕ → List (Fragment S) → Selection S → Before S
   write_one zero fragments = write_with (λ x rest. rest)
   write_one (suc depth) fragments =
-      write_with (λ x rest. spread_as (λ set. chain (map (write_one depth fragments) set) none) (listed x.directives) rest (fragment_meant fragments x.name.item))
+      write_with (λ x rest. spread_as (λ set. chain (map (write_one depth fragments) set) none)
+      (listed x.directives) rest (fragment_meant fragments x.name.item))
 
   abbrev pub write : ℕ → List (Fragment S) → List (Selection S) → Tree S
   write depth fragments set = chain (map (write_one depth fragments) set) none
@@ -96,7 +107,8 @@ module _ {S : Type 0} where
   unfoldable pub one : List (Fragment S) → Selection S → Tree S
   one fragments x = write_one (suc (length fragments)) fragments x none
 
-  -- fragments without a cycle: once written out to that depth, nothing is left to write (5.5.2.2 Fragment Spreads Must Not Form Cycles)
+  -- fragments without a cycle: once written out to that depth, nothing is left to write (5.5.2.2
+  -- Fragment Spreads Must Not Form Cycles)
   abbrev pub Settled : List (Fragment S) → Type 0
   Settled fragments = (f : Fragment S) (name : Bytes) → fragment_meant fragments name ≡ Some f
       → write (length fragments) fragments f.selection_set ≡ written fragments f.selection_set

@@ -11,9 +11,9 @@ use graphql_text::{Spanning, Text};
 use graphql_values::InputValue;
 
 /// The value of an argument (GraphQL October 2021, 6.4.1 Coercing Field Arguments): a literal of a
-/// document with the values of variables in their stead. It is read layer by layer, and lends what the
-/// literal and the variables hold, so no variable's value is copied, however often the variable stands
-/// in a literal.
+/// document with the values of variables in their stead. It is read layer by layer, and lends what
+/// the literal and the variables hold, so no variable's value is copied, however often the variable
+/// stands in a literal.
 ///
 /// A variable without a value is `null` as an item of a list; as a field of an object it is absent.
 #[derive(Clone, Copy)]
@@ -27,8 +27,8 @@ pub enum ArgumentValue<'a, S> {
     /// An enum value, by its name.
     Enum(&'a str),
 
-    /// A variable that stands in the value of a variable, by its name without the `$`. The values of a
-    /// request's variables hold none.
+    /// A variable that stands in the value of a variable, by its name without the `$`. The values
+    /// of a request's variables hold none.
     Variable(&'a str),
 
     /// A list of values, in order.
@@ -55,8 +55,9 @@ pub struct ArgumentFields<'a, S> {
 }
 
 impl<'a, S> ArgumentValue<'a, S> {
-    /// The literal, with the values of variables in their stead; `None` where it is a variable without
-    /// a value. Takes no memory, and no more time than it takes to find one variable by its name.
+    /// The literal, with the values of variables in their stead; `None` where it is a variable
+    /// without a value. Takes no memory, and no more time than it takes to find one variable by its
+    /// name.
     pub fn new(
         literal: &'a InputValue<S>,
         variables: &'a FinalVariables<'a, S>,
@@ -109,7 +110,8 @@ fn part<'a, S>(
     value: &'a InputValue<S>,
     variables: Option<&'a FinalVariables<'a, S>>,
 ) -> Option<ArgumentValue<'a, S>>
-    ensures { option_map told result ≡ part_told (option_map (λ v. value_in v.now) variables.entry) value.now }
+    ensures { option_map told result
+        ≡ part_told (option_map (λ v. value_in v.now) variables.entry) value.now }
 {
     match variables {
         Some(given) => ArgumentValue::new(value, given),
@@ -128,7 +130,8 @@ impl<'a, S> ArgumentItems<'a, S> {
     /// The next item, at its place, or `None` at the end of the list. A variable without a value is
     /// `null`.
     pub fn next(&mut self) -> Option<Spanning<ArgumentValue<'a, S>>>
-        ensures { MatchOption result (items_told self.old ≡ []) (λ item. items_told self.old ≡ placed item ∷ items_told self.new) }
+        ensures { MatchOption result (items_told self.old ≡ [])
+            (λ item. items_told self.old ≡ placed item ∷ items_told self.new) }
     {
         match self.items.split_first() {
             Some((first, others)) => {
@@ -146,10 +149,11 @@ impl<'a, S> ArgumentItems<'a, S> {
 }
 
 impl<'a, S> ArgumentFields<'a, S> {
-    /// The next field, its name and its value at their places, or `None` at the end of the object. A
-    /// field whose value is a variable without a value is passed over.
+    /// The next field, its name and its value at their places, or `None` at the end of the object.
+    /// A field whose value is a variable without a value is passed over.
     pub fn next(&mut self) -> Option<(&'a Spanning<Text>, Spanning<ArgumentValue<'a, S>>)>
-        ensures { MatchOption result (fields_told self.old ≡ []) (λ field. fields_told self.old ≡ (field.0.now, placed field.1) ∷ fields_told self.new) }
+        ensures { MatchOption result (fields_told self.old ≡ [])
+            (λ field. fields_told self.old ≡ (field.0.now, placed field.1) ∷ fields_told self.new) }
     {
         'fields: while let Some((first, others)) = self.fields.split_first() {
             self.fields = others;

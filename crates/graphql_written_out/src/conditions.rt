@@ -52,8 +52,9 @@ fn leaves_out<S: ScalarValue>(
 }
 
 /// Whether one of the directives leaves out what they stand at, over the final values of variables:
-/// a `skip` whose condition is not false, or an `include` whose condition is not true (GraphQL October
-/// 2021, 3.13.1 @skip, 3.13.2 @include). A condition that is no truth value leaves out in either case.
+/// a `skip` whose condition is not false, or an `include` whose condition is not true (GraphQL
+/// October 2021, 3.13.1 @skip, 3.13.2 @include). A condition that is no truth value leaves out in
+/// either case.
 pub fn left_out<S: ScalarValue>(
     directives: &Option<Items<Spanning<Directive<'_, S>>>>,
     variables: &FinalVariables<'_, S>,

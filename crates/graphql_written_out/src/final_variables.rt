@@ -10,11 +10,11 @@ use crate::definitions::Variable;
 use graphql_values::Variables;
 use std::collections::HashMap;
 
-/// The values that variables have while an operation is executed (GraphQL October 2021, 6.1.2 Coercing
-/// Variable Values): what the request gives, and the defaults of the operation's definitions for what is
-/// absent. A `null` that is given stays `null`. Values of names that the operation does not define are
-/// kept. Of several definitions of one name, which no valid document has, the first counts. Values are
-/// lent, and none is copied.
+/// The values that variables have while an operation is executed (GraphQL October 2021, 6.1.2
+/// Coercing Variable Values): what the request gives, and the defaults of the operation's
+/// definitions for what is absent. A `null` that is given stays `null`. Values of names that the
+/// operation does not define are kept. Of several definitions of one name, which no valid document
+/// has, the first counts. Values are lent, and none is copied.
 #[derive(Drop)]
 pub struct FinalVariables<'a, S> {
     /// The values that the request gives.

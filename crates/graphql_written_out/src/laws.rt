@@ -7,7 +7,8 @@ pub fn constants_stay<S>()
     ensures { ConstantsStay S }
 {}
 
-/// Where each variable in a literal has a value, it is the value that `InputValue::into_const` gives.
+/// Where each variable in a literal has a value, it is the value that `InputValue::into_const`
+/// gives.
 pub fn agrees_with_constants<S>()
     ensures { AgreesWithConstants S }
 {}

@@ -1,5 +1,7 @@
 -- What the library answers.
-use Rattle.std.specs.Prelude.{ℕ, ℤ, pos, Bool, true, List, [], ◌∷◌, Option, Some, None, codes, map, option_map, int_le, position, slice_get, unwrap_or, if◌then◌else◌, ◌&&◌, ◌==◌}
+use Rattle.std.specs.Prelude.{ℕ, ℤ, pos, Bool, true, List, [], ◌∷◌, Option, Some, None, codes, map}
+use Rattle.std.specs.Prelude.{option_map, int_le, position, slice_get, unwrap_or, if◌then◌else◌}
+use Rattle.std.specs.Prelude.{◌&&◌, ◌==◌}
 use Rattle.std.specs.Borrow.{Bor}
 use Rattle.std.specs.Option.{option_map_or, option_or}
 use Rattle.std.specs.Result.{result_ok}
@@ -8,7 +10,8 @@ use Rattle.std.specs.declared.alloc.Global.{Global}
 use Rattle.std.specs.declared.vec.Vec.{Vec}
 use Rattle.graphql_resolvers.specs.Answers as answers
 use Rattle.graphql_resolvers.specs.Answers.{Answer, Bytes, ◌>>=◌}
-use Rattle.graphql_resolvers.specs.Given.{Inputs, count_or_null, id, id_or_null, ids, int_or_null, is_among, part, part_or_null, word, words_or_null}
+use Rattle.graphql_resolvers.specs.Given.{Inputs, count_or_null, id, id_or_null, ids, int_or_null}
+use Rattle.graphql_resolvers.specs.Given.{is_among, part, part_or_null, word, words_or_null}
 use Rattle.library.specs.declared.data.Author.{Author}
 use Rattle.library.specs.declared.data.Book.{Book}
 use Rattle.library.specs.declared.data.Library.{Library}
@@ -40,10 +43,12 @@ abbrev pub book_of : Library → Bytes → Option Node
 book_of library id = option_map (λ place. node.Book place) (book_place library.books.now id)
 
 abbrev pub book_titled : Library → Bytes → Option Node
-book_titled library title = option_map (λ place. node.Book place) (title_place library.books.now title)
+book_titled library title =
+    option_map (λ place. node.Book place) (title_place library.books.now title)
 
 abbrev pub magazine_of : Library → Bytes → Option Node
-magazine_of library id = option_map (λ place. node.Magazine place) (magazine_place library.magazines.now id)
+magazine_of library id =
+    option_map (λ place. node.Magazine place) (magazine_place library.magazines.now id)
 
 abbrev pub work_of : Library → Bytes → Option Node
 work_of library id = option_or (book_of library id) (magazine_of library id)
@@ -54,7 +59,8 @@ work library id = answers.node_or_null (work_of library id)
 -- the book of this id, or where none is given, of the title that is given
 abbrev pub of_id_or_title : Library → Option Bytes → Inputs → Answer Node
 of_id_or_title library (Some id) by = answers.node_or_null (book_of library id)
-of_id_or_title library None by = word by (codes "title") >>= (λ title. answers.node_or_null (book_titled library title))
+of_id_or_title library None by =
+    word by (codes "title") >>= (λ title. answers.node_or_null (book_titled library title))
 
 -- by an id or a title, of which exactly one is given
 abbrev pub book : Library → Inputs → Answer Node
@@ -78,7 +84,8 @@ abbrev pub books_of : Library → Option (List Bytes) → ℤ → ℤ → Answer
 books_of library genres from to = answers.nodes_where (book_in genres from to) library.books.now
 
 abbrev pub from_to : Library → Option (List Bytes) → Option ℤ → Option ℤ → Answer Node
-from_to library genres from to = books_of library genres (unwrap_or from (pos 0)) (unwrap_or to (pos 9999))
+from_to library genres from to =
+    books_of library genres (unwrap_or from (pos 0)) (unwrap_or to (pos 9999))
 
 abbrev pub in_years : Library → Option (List Bytes) → Option Inputs → Answer Node
 in_years library genres None = from_to library genres None None
@@ -94,7 +101,8 @@ filtered library (Some filter) =
 
 abbrev pub page : Answer Node → Inputs → Answer Node
 page found given =
-    answers.first (count_or_null given (codes "first")) (answers.skip (count_or_null given (codes "skip")) found)
+    answers.first (count_or_null given (codes "first"))
+    (answers.skip (count_or_null given (codes "skip")) found)
 
 abbrev pub books : Library → Option Inputs → Inputs → Answer Node
 books library filter given = page (filtered library filter) given
@@ -164,13 +172,15 @@ answer library (node.Book place) field given =
 answer library (node.Magazine place) field given =
     option_map_or (λ m. of_magazine m field) (slice_get library.magazines.now place) answers.null
 answer library (node.Author place) field given =
-    option_map_or (λ a. of_author library place a field given) (slice_get library.authors.now place) answers.null
+    option_map_or (λ a. of_author library place a field given) (slice_get library.authors.now place)
+    answers.null
 
 -- ---- mutations
 
 abbrev pub answer_of : Option ℕ → Answer Node
 answer_of (Some place) = answers.node (node.Book place)
-answer_of None = answers.fails_with (codes "no book has this id") ((codes "code", codes "NOT_FOUND") ∷ [])
+answer_of None =
+    answers.fails_with (codes "no book has this id") ((codes "code", codes "NOT_FOUND") ∷ [])
 
 abbrev pub after_of : Library → Option ℕ → Library
 after_of library (Some place) = record library { picked = Some place }
@@ -179,10 +189,12 @@ after_of library None = library
 abbrev pub change_answer : Library → Bytes → Inputs → Answer Node
 change_answer library field given =
     if bytes_eq field (codes "pick")
-    then (id given (codes "id") >>= (λ found. answer_of (book_place library.books.now found))) else answers.null
+    then (id given (codes "id") >>= (λ found. answer_of (book_place library.books.now found)))
+    else answers.null
 
 abbrev pub change_after : Library → Bytes → Inputs → Library
 change_after library field given =
     if bytes_eq field (codes "pick")
-    then option_map_or (λ found. after_of library (book_place library.books.now found)) (result_ok (id given (codes "id"))) library
+    then option_map_or (λ found. after_of library (book_place library.books.now found))
+    (result_ok (id given (codes "id"))) library
     else library

@@ -128,14 +128,16 @@ struct Filter<'a> {
 
 /// The books that a filter asks for.
 fn books_of(alloc: Global, library: &Library, filter: &Filter<'_>) -> Answer<Node>
-    ensures { Answers (spec.books_of library.now (spec.genres_told filter.now.genres) filter.now.from filter.now.to)
+    ensures { Answers (spec.books_of library.now (spec.genres_told filter.now.genres)
+        filter.now.from filter.now.to)
         result }
 {
     nodes_where(
         alloc,
         library.books,
         |place: usize, book: &Book|
-            ensures { result ≡ spec.book_in (spec.genres_told filter.entry.now.genres) filter.entry.now.from
+            ensures { result
+                ≡ spec.book_in (spec.genres_told filter.entry.now.genres) filter.entry.now.from
                 filter.entry.now.to place book.now }
         {
             if has_genre(&filter.genres, book.genre)
@@ -175,7 +177,8 @@ fn in_years(
     genres: Option<Vec<&str>>,
     years: Option<Given<'_>>,
 ) -> Answer<Node>
-    ensures { Answers (spec.in_years library.now (spec.genres_told genres.entry) (option_map given_to years.entry))
+    ensures { Answers (spec.in_years library.now (spec.genres_told genres.entry)
+        (option_map given_to years.entry))
         result }
 {
     match years {
@@ -212,7 +215,8 @@ fn books(
     filter: Option<Given<'_>>,
     given: &Given<'_>,
 ) -> Answer<Node>
-    ensures { Answers (spec.books library.now (option_map given_to filter.entry) (given_to given.now)) result }
+    ensures { Answers
+        (spec.books library.now (option_map given_to filter.entry) (given_to given.now)) result }
 {
     first(
         skip(
@@ -353,7 +357,8 @@ fn of_author(
     field: &str,
     given: &Given<'_>,
 ) -> Answer<Node>
-    ensures { Answers (spec.of_author library.now place author.now field.now (given_to given.now)) result }
+    ensures { Answers (spec.of_author library.now place author.now field.now (given_to given.now))
+        result }
 {
     match field {
         "id" => text(alloc, author.id),

@@ -1,5 +1,6 @@
 -- What Star Wars answers.
-use Rattle.std.specs.Prelude.{ℕ, List, Option, Some, None, codes, map, option_map, position, slice_get, if◌then◌else◌}
+use Rattle.std.specs.Prelude.{ℕ, List, Option, Some, None, codes, map, option_map, position}
+use Rattle.std.specs.Prelude.{slice_get, if◌then◌else◌}
 use Rattle.std.specs.Borrow.{Bor}
 use Rattle.std.specs.Option.{option_map_or, option_or}
 use Rattle.std.specs.Result.{result_ok}
@@ -35,7 +36,8 @@ abbrev pub character_of : Galaxy → Bytes → Option Node
 character_of galaxy id = option_or (human_of galaxy id) (droid_of galaxy id)
 
 abbrev pub hero_of : Galaxy → Option Bytes → Node
-hero_of galaxy (Some episode) = if bytes_eq episode (codes "EMPIRE") then node.Human 0 else galaxy.hero
+hero_of galaxy (Some episode) =
+    if bytes_eq episode (codes "EMPIRE") then node.Human 0 else galaxy.hero
 hero_of galaxy None = galaxy.hero
 
 abbrev pub friend : Galaxy → Bor Bytes → Answer Node
@@ -44,24 +46,29 @@ friend galaxy id = answers.node_or_null (character_of galaxy id.now)
 abbrev pub of_query : Galaxy → Bytes → Inputs → Answer Node
 of_query galaxy field given =
     if bytes_eq field (codes "hero")
-    then (word_or_null given (codes "episode") >>= (λ episode. answers.node (hero_of galaxy episode))) else
+    then (word_or_null given (codes "episode")
+    >>= (λ episode. answers.node (hero_of galaxy episode))) else
     if bytes_eq field (codes "human")
     then (word given (codes "id") >>= (λ id. answers.node_or_null (human_of galaxy id))) else
     if bytes_eq field (codes "droid")
-    then (word given (codes "id") >>= (λ id. answers.node_or_null (droid_of galaxy id))) else answers.null
+    then (word given (codes "id") >>= (λ id. answers.node_or_null (droid_of galaxy id)))
+    else answers.null
 
 abbrev pub of_character : Galaxy → Character → Bytes → Answer Node
 of_character galaxy c field =
     if bytes_eq field (codes "id") then answers.text c.id.now else
     if bytes_eq field (codes "name") then answers.text c.name.now else
     if bytes_eq field (codes "friends") then answers.each (friend galaxy) c.friends.now else
-    if bytes_eq field (codes "appearsIn") then answers.texts (map (λ e. e.now) c.appears_in.now) else
-    if bytes_eq field (codes "secretBackstory") then answers.fails (codes "secretBackstory is secret.") else answers.null
+    if bytes_eq field (codes "appearsIn") then answers.texts (map (λ e. e.now) c.appears_in.now)
+    else
+    if bytes_eq field (codes "secretBackstory")
+    then answers.fails (codes "secretBackstory is secret.") else answers.null
 
 abbrev pub of_human : Galaxy → Human → Bytes → Answer Node
 of_human galaxy h field =
     if bytes_eq field (codes "homePlanet")
-    then answers.text_or_null (option_map (λ p. p.now) h.home_planet) else of_character galaxy h.character field
+    then answers.text_or_null (option_map (λ p. p.now) h.home_planet)
+    else of_character galaxy h.character field
 
 abbrev pub of_droid : Galaxy → Droid → Bytes → Answer Node
 of_droid galaxy d field =
@@ -93,5 +100,6 @@ change_answer galaxy field given =
 abbrev pub change_after : Galaxy → Bytes → Inputs → Galaxy
 change_after galaxy field given =
     if bytes_eq field (codes "chooseHero")
-    then option_map_or (λ id. after_of galaxy (character_of galaxy id)) (result_ok (word given (codes "id"))) galaxy
+    then option_map_or (λ id. after_of galaxy (character_of galaxy id))
+    (result_ok (word given (codes "id"))) galaxy
     else galaxy

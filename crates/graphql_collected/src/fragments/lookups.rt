@@ -13,8 +13,8 @@ use std::alloc::{AllocError, Global};
 use std::collections::HashMap;
 
 impl<'d, 'a, S> Fragments<'d, 'a, S> {
-    /// The fragments of this document. Takes time and memory in proportion to its definitions. An error
-    /// is want of memory.
+    /// The fragments of this document. Takes time and memory in proportion to its definitions. An
+    /// error is want of memory.
     pub fn new(
         alloc: Global,
         document: &'d [Definition<'a, S>],
@@ -30,18 +30,22 @@ impl<'d, 'a, S> Fragments<'d, 'a, S> {
 
     /// The fragment that a spread of this name means.
     pub fn get(&self, name: &str) -> Option<&'d Fragment<'a, S>>
-        ensures { option_copied result ≡ fragment_meant (fragments_listed self.now.document.now) name.now }
+        ensures { option_copied result
+            ≡ fragment_meant (fragments_listed self.now.document.now) name.now }
     {
         self.first.get(name).copied()
     }
 }
 
-/// Adds a definition, unless it is no fragment or there is one of its name. An error is want of memory.
+/// Adds a definition, unless it is no fragment or there is one of its name. An error is want of
+/// memory.
 fn add<'d, 'a, S>(
     first: &mut HashMap<&'d str, &'d Fragment<'a, S>>,
     definition: &'d Definition<'a, S>,
 ) -> Result<(), AllocError>
-    ensures { OnOk result ((name : List ℕ) → found first.new name ≡ option_or (found first.old name) (fragment_defined definition.now name)) }
+    ensures { OnOk result ((name : List ℕ)
+        → found first.new name
+        ≡ option_or (found first.old name) (fragment_defined definition.now name)) }
 {
     let Definition::Fragment(fragment) = definition else {
         return Ok(());

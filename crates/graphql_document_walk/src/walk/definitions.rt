@@ -7,7 +7,15 @@ ghost use Rattle.graphql_schema.specs.Declarations.{declarations_of};
 ghost use Rattle.graphql_schema.specs.Lookups.{own_name};
 ghost use Rattle.graphql_occurrences.specs.Lookups.{location_of};
 ghost use Rattle.graphql_tree.specs.Documents.{variables_in as variables_given};
-ghost use Rattle.graphql_occurrences.specs.Events.{default_events, definition_events, each, events, fragment_events, operation_events, variable_events};
+ghost use Rattle.graphql_occurrences.specs.Events.{
+  default_events,
+  definition_events,
+  each,
+  events,
+  fragment_events,
+  operation_events,
+  variable_events,
+};
 ghost use Rattle.graphql_occurrences.specs.Lent.{around_of};
 ghost use Rattle.graphql_document_walk.specs.Pending.{Adds, Opens, OpensAny};
 
@@ -72,7 +80,8 @@ fn add_default<'a, 't, S, C>(
     around: Around<'a, S, C>,
     value: &'a Option<Spanning<InputValue<S>>>,
 ) -> Result<(), AllocError>
-    ensures { OnOk result (Adds (declarations_of schema.now) (default_events (declarations_of schema.now) value.now (around_of around.entry)) tasks.old tasks.new) }
+    ensures { OnOk result (Adds (declarations_of schema.now) (default_events
+        (declarations_of schema.now) value.now (around_of around.entry)) tasks.old tasks.new) }
 {
     match value {
         Some(value) => add(schema, tasks, around, Part::Value(value)),
@@ -87,7 +96,8 @@ fn open_variable<'a, 't, S, C>(
     around: Around<'a, S, C>,
     variable: &'a (Spanning<TextRef<'t>>, VariableDefinition<'t, S>),
 ) -> Result<(), AllocError>
-    ensures { OnOk result (Opens (declarations_of schema.now) (variable_events (declarations_of schema.now) variable.now (around_of around.entry)) tasks.old tasks.new) }
+    ensures { OnOk result (Opens (declarations_of schema.now) (variable_events
+        (declarations_of schema.now) variable.now (around_of around.entry)) tasks.old tasks.new) }
 {
     let place = InputPlace::bare(TypeLiteral::of_document(&variable.1.var_type.item));
     let inside = around.asking(Some(place));
@@ -124,7 +134,8 @@ pub(crate) fn open_variables<'a, 't, S, C>(
     around: Around<'a, S, C>,
     variables: &'a [(Spanning<TextRef<'t>>, VariableDefinition<'t, S>)],
 ) -> Result<(), AllocError>
-    ensures { OnOk result (OpensAny (declarations_of schema.now) (each (variable_events (declarations_of schema.now)) variables.now (around_of around.entry)) tasks.old tasks.new) }
+    ensures { OnOk result (OpensAny (declarations_of schema.now) (each (variable_events
+        (declarations_of schema.now)) variables.now (around_of around.entry)) tasks.old tasks.new) }
 {
     match variables.split_first() {
         None => Ok(()),
@@ -141,7 +152,8 @@ fn open_operation<'a, 't, S, C>(
     tasks: &mut Items<Task<'a, 't, S, C>>,
     operation: &'a Spanning<Operation<'t, S>>,
 ) -> Result<(), AllocError>
-    ensures { OnOk result (Opens (declarations_of schema.now) (operation_events (declarations_of schema.now) operation.now) tasks.old tasks.new) }
+    ensures { OnOk result (Opens (declarations_of schema.now)
+        (operation_events (declarations_of schema.now) operation.now) tasks.old tasks.new) }
 {
     let inside = Around::top(name_of_root(root_of(schema, operation.item.operation_type)));
     tell(
@@ -187,7 +199,8 @@ fn open_fragment<'a, 't, S, C>(
     tasks: &mut Items<Task<'a, 't, S, C>>,
     fragment: &'a Spanning<Fragment<'t, S>>,
 ) -> Result<(), AllocError>
-    ensures { OnOk result (Opens (declarations_of schema.now) (fragment_events (declarations_of schema.now) fragment.now) tasks.old tasks.new) }
+    ensures { OnOk result (Opens (declarations_of schema.now)
+        (fragment_events (declarations_of schema.now) fragment.now) tasks.old tasks.new) }
 {
     let inside = Around::top(Some(fragment.item.type_condition.item.as_str()));
     tell(schema, tasks, inside, Side::Leave, Node::Fragment(fragment))?;
@@ -215,7 +228,8 @@ fn open_definition<'a, 't, S, C>(
     tasks: &mut Items<Task<'a, 't, S, C>>,
     definition: &'a Definition<'t, S>,
 ) -> Result<(), AllocError>
-    ensures { OnOk result (Opens (declarations_of schema.now) (definition_events (declarations_of schema.now) definition.now) tasks.old tasks.new) }
+    ensures { OnOk result (Opens (declarations_of schema.now)
+        (definition_events (declarations_of schema.now) definition.now) tasks.old tasks.new) }
 {
     match definition {
         Definition::Operation(operation) => open_operation(schema, tasks, operation),
@@ -229,7 +243,8 @@ pub(crate) fn open_definitions<'a, 't, S, C>(
     tasks: &mut Items<Task<'a, 't, S, C>>,
     definitions: &'a [Definition<'t, S>],
 ) -> Result<(), AllocError>
-    ensures { OnOk result (OpensAny (declarations_of schema.now) (flat_map (definition_events (declarations_of schema.now)) definitions.now) tasks.old tasks.new) }
+    ensures { OnOk result (OpensAny (declarations_of schema.now) (flat_map
+        (definition_events (declarations_of schema.now)) definitions.now) tasks.old tasks.new) }
 {
     match definitions.split_first() {
         None => Ok(()),
@@ -246,7 +261,8 @@ pub(crate) fn open_document<'a, 't, S, C>(
     tasks: &mut Items<Task<'a, 't, S, C>>,
     document: &'a [Definition<'t, S>],
 ) -> Result<(), AllocError>
-    ensures { OnOk result (Opens (declarations_of schema.now) (events (declarations_of schema.now) document.now) tasks.old tasks.new) }
+    ensures { OnOk result (Opens (declarations_of schema.now)
+        (events (declarations_of schema.now) document.now) tasks.old tasks.new) }
 {
     let outside = Around::nowhere();
     tell(

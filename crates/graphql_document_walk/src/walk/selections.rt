@@ -3,7 +3,9 @@
 ghost use Rattle.std.specs.Prelude.{◌≡◌, [], OnOk};
 ghost use Rattle.std.specs.Option.{unwrap_or};
 ghost use Rattle.graphql_schema.specs.Declarations.{declarations_of};
-ghost use Rattle.graphql_occurrences.specs.Events.{directive_events, directives_events, each, field_events, inline_events, optional_set, selection_events, set_events, spread_events};
+ghost use Rattle.graphql_occurrences.specs.Events.{directive_events, directives_events, each};
+ghost use Rattle.graphql_occurrences.specs.Events.{field_events, inline_events, optional_set};
+ghost use Rattle.graphql_occurrences.specs.Events.{selection_events, set_events, spread_events};
 ghost use Rattle.graphql_occurrences.specs.Lent.{around_of};
 ghost use Rattle.graphql_document_walk.specs.Pending.{Adds, Opens, OpensAny};
 
@@ -36,7 +38,8 @@ fn open_directive<'a, 't, S, C>(
     place: DirectiveLocation,
     directive: &'a Spanning<Directive<'t, S>>,
 ) -> Result<(), AllocError>
-    ensures { OnOk result (Opens (declarations_of schema.now) (directive_events (declarations_of schema.now) place directive.now (around_of around.entry)) tasks.old tasks.new) }
+    ensures { OnOk result (Opens (declarations_of schema.now) (directive_events (declarations_of
+        schema.now) place directive.now (around_of around.entry)) tasks.old tasks.new) }
 {
     let name = directive.item.name.item.as_str();
     let declared = schema.directive_by_name(name);
@@ -74,7 +77,8 @@ pub(crate) fn open_directives<'a, 't, S, C>(
     place: DirectiveLocation,
     directives: &'a [Spanning<Directive<'t, S>>],
 ) -> Result<(), AllocError>
-    ensures { OnOk result (OpensAny (declarations_of schema.now) (directives_events (declarations_of schema.now) place directives.now (around_of around.entry)) tasks.old tasks.new) }
+    ensures { OnOk result (OpensAny (declarations_of schema.now) (directives_events (declarations_of
+        schema.now) place directives.now (around_of around.entry)) tasks.old tasks.new) }
 {
     match directives.split_first() {
         None => Ok(()),
@@ -92,7 +96,8 @@ pub(crate) fn open_set<'a, 't, S, C>(
     around: Around<'a, S, C>,
     selections: &'a [Selection<'t, S>],
 ) -> Result<(), AllocError>
-    ensures { OnOk result (OpensAny (declarations_of schema.now) (set_events (declarations_of schema.now) selections.now (around_of around.entry)) tasks.old tasks.new) }
+    ensures { OnOk result (OpensAny (declarations_of schema.now) (set_events
+        (declarations_of schema.now) selections.now (around_of around.entry)) tasks.old tasks.new) }
 {
     let inside = around.inside_set(schema);
     match inside.parent {
@@ -124,7 +129,8 @@ fn add_optional_set<'a, 't, S, C>(
     around: Around<'a, S, C>,
     set: &'a Option<Items<Selection<'t, S>>>,
 ) -> Result<(), AllocError>
-    ensures { OnOk result (Adds (declarations_of schema.now) (optional_set (declarations_of schema.now) set.now (around_of around.entry)) tasks.old tasks.new) }
+    ensures { OnOk result (Adds (declarations_of schema.now) (optional_set
+        (declarations_of schema.now) set.now (around_of around.entry)) tasks.old tasks.new) }
 {
     match set {
         Some(selections) => add(schema, tasks, around, Part::Set(selections.as_slice())),
@@ -139,7 +145,8 @@ fn open_field<'a, 't, S, C>(
     outer: Around<'a, S, C>,
     field: &'a Spanning<Field<'t, S>>,
 ) -> Result<(), AllocError>
-    ensures { OnOk result (Opens (declarations_of schema.now) (field_events (declarations_of schema.now) field.now (around_of outer.entry)) tasks.old tasks.new) }
+    ensures { OnOk result (Opens (declarations_of schema.now) (field_events
+        (declarations_of schema.now) field.now (around_of outer.entry)) tasks.old tasks.new) }
 {
     let name = field.item.name.item.as_str();
     let definition = field_of(outer.parent, name);
@@ -187,7 +194,8 @@ fn open_spread<'a, 't, S, C>(
     around: Around<'a, S, C>,
     spread: &'a Spanning<FragmentSpread<'t, S>>,
 ) -> Result<(), AllocError>
-    ensures { OnOk result (Opens (declarations_of schema.now) (spread_events (declarations_of schema.now) spread.now (around_of around.entry)) tasks.old tasks.new) }
+    ensures { OnOk result (Opens (declarations_of schema.now) (spread_events
+        (declarations_of schema.now) spread.now (around_of around.entry)) tasks.old tasks.new) }
 {
     tell(
         schema,
@@ -221,7 +229,8 @@ fn open_inline<'a, 't, S, C>(
     outer: Around<'a, S, C>,
     inline: &'a Spanning<InlineFragment<'t, S>>,
 ) -> Result<(), AllocError>
-    ensures { OnOk result (Opens (declarations_of schema.now) (inline_events (declarations_of schema.now) inline.now (around_of outer.entry)) tasks.old tasks.new) }
+    ensures { OnOk result (Opens (declarations_of schema.now) (inline_events
+        (declarations_of schema.now) inline.now (around_of outer.entry)) tasks.old tasks.new) }
 {
     let inside = outer.inside_condition(&inline.item.type_condition);
     tell(
@@ -262,7 +271,8 @@ fn open_selection<'a, 't, S, C>(
     around: Around<'a, S, C>,
     selection: &'a Selection<'t, S>,
 ) -> Result<(), AllocError>
-    ensures { OnOk result (Opens (declarations_of schema.now) (selection_events (declarations_of schema.now) selection.now (around_of around.entry)) tasks.old tasks.new) }
+    ensures { OnOk result (Opens (declarations_of schema.now) (selection_events
+        (declarations_of schema.now) selection.now (around_of around.entry)) tasks.old tasks.new) }
 {
     match selection {
         Selection::Field(field) => open_field(schema, tasks, around, field),
@@ -278,7 +288,9 @@ pub(crate) fn open_selections<'a, 't, S, C>(
     around: Around<'a, S, C>,
     selections: &'a [Selection<'t, S>],
 ) -> Result<(), AllocError>
-    ensures { OnOk result (OpensAny (declarations_of schema.now) (each (selection_events (declarations_of schema.now)) selections.now (around_of around.entry)) tasks.old tasks.new) }
+    ensures { OnOk result
+        (OpensAny (declarations_of schema.now) (each (selection_events (declarations_of schema.now))
+        selections.now (around_of around.entry)) tasks.old tasks.new) }
 {
     match selections.split_first() {
         None => Ok(()),

@@ -113,7 +113,8 @@ pub(crate) fn add<'a, 't, S, C>(
     around: Around<'a, S, C>,
     part: Part<'a, 't, S>,
 ) -> Result<(), AllocError>
-    ensures { OnOk result (Adds (declarations_of schema.now) (part_events (declarations_of schema.now) part.entry (around_of around.entry)) tasks.old tasks.new) }
+    ensures { OnOk result (Adds (declarations_of schema.now) (part_events
+        (declarations_of schema.now) part.entry (around_of around.entry)) tasks.old tasks.new) }
 {
     if siblings_in(&part) == 0 {
         return Ok(());
@@ -135,7 +136,8 @@ pub(crate) fn tell<'a, 't, S, C>(
     side: Side,
     node: Node<'a, 't, S>,
 ) -> Result<(), AllocError>
-    ensures { OnOk result (Opens (declarations_of schema.now) (seen (around_of around.entry) (told side (node_of node.entry)) ∷ []) tasks.old tasks.new) }
+    ensures { OnOk result (Opens (declarations_of schema.now)
+        (seen (around_of around.entry) (told side (node_of node.entry)) ∷ []) tasks.old tasks.new) }
 {
     put(
         tasks,

@@ -3,7 +3,15 @@
 ghost use Rattle.std.specs.Prelude.{◌≡◌, OnOk};
 ghost use Rattle.std.specs.Option.{option_map};
 ghost use Rattle.graphql_schema.specs.Declarations.{declarations_of};
-ghost use Rattle.graphql_occurrences.specs.Events.{argument_events, arguments_events, content_events, each, item_events, pair_events, value_events};
+ghost use Rattle.graphql_occurrences.specs.Events.{
+  argument_events,
+  arguments_events,
+  content_events,
+  each,
+  item_events,
+  pair_events,
+  value_events,
+};
 ghost use Rattle.graphql_occurrences.specs.Lent.{arguments_lent, around_of, owner_of};
 ghost use Rattle.graphql_document_walk.specs.Pending.{Adds, Opens, OpensAny};
 
@@ -24,7 +32,8 @@ fn add_content<'a, 't, S, C>(
     around: Around<'a, S, C>,
     value: &'a InputValue<S>,
 ) -> Result<(), AllocError>
-    ensures { OnOk result (Adds (declarations_of schema.now) (content_events (declarations_of schema.now) value.now (around_of around.entry)) tasks.old tasks.new) }
+    ensures { OnOk result (Adds (declarations_of schema.now) (content_events
+        (declarations_of schema.now) value.now (around_of around.entry)) tasks.old tasks.new) }
 {
     match value {
         InputValue::List(items) => add(schema, tasks, around, Part::Items(items.as_slice())),
@@ -43,7 +52,8 @@ pub(crate) fn open_value<'a, 't, S, C>(
     around: Around<'a, S, C>,
     value: &'a Spanning<InputValue<S>>,
 ) -> Result<(), AllocError>
-    ensures { OnOk result (Opens (declarations_of schema.now) (value_events (declarations_of schema.now) value.now (around_of around.entry)) tasks.old tasks.new) }
+    ensures { OnOk result (Opens (declarations_of schema.now) (value_events
+        (declarations_of schema.now) value.now (around_of around.entry)) tasks.old tasks.new) }
 {
     tell(schema, tasks, around, Side::Leave, Node::Value(value))?;
     add_content(schema, tasks, around, &value.item)?;
@@ -57,7 +67,8 @@ pub(crate) fn open_items<'a, 't, S, C>(
     around: Around<'a, S, C>,
     items: &'a [Spanning<InputValue<S>>],
 ) -> Result<(), AllocError>
-    ensures { OnOk result (OpensAny (declarations_of schema.now) (each (item_events (declarations_of schema.now)) items.now (around_of around.entry)) tasks.old tasks.new) }
+    ensures { OnOk result (OpensAny (declarations_of schema.now) (each (item_events
+        (declarations_of schema.now)) items.now (around_of around.entry)) tasks.old tasks.new) }
 {
     match items.split_first() {
         None => Ok(()),
@@ -80,7 +91,8 @@ fn open_pair<'a, 't, S, C>(
     around: Around<'a, S, C>,
     pair: &'a (Spanning<Text>, Spanning<InputValue<S>>),
 ) -> Result<(), AllocError>
-    ensures { OnOk result (Opens (declarations_of schema.now) (pair_events (declarations_of schema.now) pair.now (around_of around.entry)) tasks.old tasks.new) }
+    ensures { OnOk result (Opens (declarations_of schema.now) (pair_events
+        (declarations_of schema.now) pair.now (around_of around.entry)) tasks.old tasks.new) }
 {
     let inside = around.asking(place_of_field(schema, around.input, pair.0.item.as_str()));
     tell(
@@ -107,7 +119,8 @@ pub(crate) fn open_pairs<'a, 't, S, C>(
     around: Around<'a, S, C>,
     pairs: &'a [(Spanning<Text>, Spanning<InputValue<S>>)],
 ) -> Result<(), AllocError>
-    ensures { OnOk result (OpensAny (declarations_of schema.now) (each (pair_events (declarations_of schema.now)) pairs.now (around_of around.entry)) tasks.old tasks.new) }
+    ensures { OnOk result (OpensAny (declarations_of schema.now) (each (pair_events
+        (declarations_of schema.now)) pairs.now (around_of around.entry)) tasks.old tasks.new) }
 {
     match pairs.split_first() {
         None => Ok(()),
@@ -127,7 +140,9 @@ fn open_argument<'a, 't, S, C>(
     declared: Option<DeclaredArguments<'a, S>>,
     argument: &'a (Spanning<TextRef<'t>>, Spanning<InputValue<S>>),
 ) -> Result<(), AllocError>
-    ensures { OnOk result (Opens (declarations_of schema.now) (argument_events (declarations_of schema.now) (owner_of owner.entry) (option_map arguments_lent declared.entry) argument.now (around_of around.entry)) tasks.old tasks.new) }
+    ensures { OnOk result (Opens (declarations_of schema.now)
+        (argument_events (declarations_of schema.now) (owner_of owner.entry) (option_map
+        arguments_lent declared.entry) argument.now (around_of around.entry)) tasks.old tasks.new) }
 {
     let inside = around.asking(place_of_argument(declared, argument.0.item.as_str()));
     tell(
@@ -156,7 +171,9 @@ pub(crate) fn open_arguments<'a, 't, S, C>(
     declared: Option<DeclaredArguments<'a, S>>,
     arguments: &'a [(Spanning<TextRef<'t>>, Spanning<InputValue<S>>)],
 ) -> Result<(), AllocError>
-    ensures { OnOk result (OpensAny (declarations_of schema.now) (arguments_events (declarations_of schema.now) (owner_of owner.entry) (option_map arguments_lent declared.entry) arguments.now (around_of around.entry)) tasks.old tasks.new) }
+    ensures { OnOk result (OpensAny (declarations_of schema.now) (arguments_events (declarations_of
+        schema.now) (owner_of owner.entry) (option_map arguments_lent declared.entry) arguments.now
+        (around_of around.entry)) tasks.old tasks.new) }
 {
     match arguments.split_first() {
         None => Ok(()),

@@ -1,7 +1,7 @@
 //! Selections (GraphQL October 2021, 2.4 Selection Sets, 2.5 Fields, 2.8 Fragments).
 //!
-//! Selection sets nest as deep as a text has tokens, so a loop reads them: what is open is kept in a
-//! list, and not on the stack.
+//! Selection sets nest as deep as a text has tokens, so a loop reads them: what is open is kept in
+//! a list, and not on the stack.
 
 ghost use Rattle.std.specs.Prelude.{◌≡◌, ◌≤◌, ◌<◌, IfOk, IfErr, OnOk, OnErr, ◌++◌, ◌∷◌, []};
 ghost use Rattle.graphql_grammar.specs.declared.kind.Kind.TheVariants as k;
@@ -58,8 +58,8 @@ enum Begun<'a, S> {
     Opens(Head<'a, S>),
 }
 
-/// A selection set that is open: what stands before it, and the selections that were read of the set
-/// around it.
+/// A selection set that is open: what stands before it, and the selections that were read of the
+/// set around it.
 #[derive(Drop)]
 struct Open<'a, S> {
     head: Head<'a, S>,
@@ -74,7 +74,9 @@ pub(crate) fn selection_set<'a, S: ScalarValue>(
     alloc: Global,
     cursor: &mut Cursor<'a>,
 ) -> Result<Items<Selection<'a, S>>, Fault>
-    ensures reads { Reads (spec.selection_set S.reads S.of_bool (spec.selection S.reads S.of_bool) cursor.old) result cursor.new }
+    ensures reads { Reads
+        (spec.selection_set S.reads S.of_bool (spec.selection S.reads S.of_bool) cursor.old) result
+        cursor.new }
     ensures no_more { left cursor.new ≤ left cursor.old }
     ensures fewer { OnOk result (left cursor.new < left cursor.old) }
 {
@@ -110,7 +112,8 @@ fn open_set<'a, S: ScalarValue>(
     ensures reads { Reads (steps.expect k.CurlyOpen cursor.old) result cursor.new }
     ensures no_more { left cursor.new ≤ left cursor.old }
     ensures fewer { OnOk result (left cursor.new < left cursor.old) }
-    ensures opened { OnOk result (outer.new ≡ outer.old ++ record { head = head.entry; around = found.old } ∷ []) }
+    ensures opened { OnOk result
+        (outer.new ≡ outer.old ++ record { head = head.entry; around = found.old } ∷ []) }
     ensures empty { OnOk result (found.new ≡ []) }
 {
     let around = mem::replace(found, Items::with_capacity(alloc, ROOM)?);
@@ -125,7 +128,8 @@ fn close_set<'a, S: ScalarValue>(
     found: &mut Items<Selection<'a, S>>,
     end: SourcePosition,
 ) -> Result<(), AllocError>
-    ensures { OnOk result (found.new ≡ last.entry.around ++ completed last.entry.head found.old end ∷ []) }
+    ensures { OnOk result
+        (found.new ≡ last.entry.around ++ completed last.entry.head found.old end ∷ []) }
 {
     let Open { head, around } = last;
     let set = mem::replace(found, around);
@@ -202,7 +206,9 @@ fn begin_spread<'a, S: ScalarValue>(
     alloc: Global,
     cursor: &mut Cursor<'a>,
 ) -> Result<Begun<'a, S>, Fault>
-    ensures reads { Reads (heads.spread_begun S.reads S.of_bool (input.peek cursor.old).span.start cursor.old) result cursor.new }
+    ensures reads { Reads
+        (heads.spread_begun S.reads S.of_bool (input.peek cursor.old).span.start cursor.old) result
+        cursor.new }
     ensures no_more { left cursor.new ≤ left cursor.old }
     ensures fewer { OnOk result (left cursor.new < left cursor.old) }
 {
@@ -275,7 +281,8 @@ fn optional_type_condition<'a>(
     alloc: Global,
     cursor: &mut Cursor<'a>,
 ) -> Result<Option<Spanning<TextRef<'a>>>, Fault>
-    ensures reads { Reads (steps.optional (only k.On) spec.type_condition cursor.old) result cursor.new }
+    ensures reads { Reads (steps.optional (only k.On) spec.type_condition cursor.old) result
+        cursor.new }
     ensures no_more { left cursor.new ≤ left cursor.old }
 {
     if cursor.kind() == Kind::On {
@@ -321,7 +328,8 @@ pub(crate) fn fragment_name<'a>(
     alloc: Global,
     cursor: &mut Cursor<'a>,
 ) -> Result<Spanning<TextRef<'a>>, Fault>
-    ensures reads { Reads (steps.located (steps.name_in fragment_names) cursor.old) result cursor.new }
+    ensures reads { Reads (steps.located (steps.name_in fragment_names) cursor.old) result
+        cursor.new }
     ensures no_more { left cursor.new ≤ left cursor.old }
 {
     let start = cursor.start();

@@ -9,8 +9,8 @@ use graphql_grammar::{Fault, keep};
 use graphql_text::{Items, ParseResult, Spanning, Token, UnlocatedParseResult};
 
 impl<'a> Parser<'a> {
-    /// Any number of items between two tokens, in the part of the text from the opening token to the
-    /// closing one. The end of the text opens no list and closes none.
+    /// Any number of items between two tokens, in the part of the text from the opening token to
+    /// the closing one. The end of the text opens no list and closes none.
     ///
     /// `parse` reads an item. It may be called at every parser with fewer tokens left, and leaves
     /// fewer than it found. By its refusal the parser has failed.
@@ -21,8 +21,10 @@ impl<'a> Parser<'a> {
         closing: &Token<'_>,
     ) -> ParseResult<Items<Spanning<T>>>
         requires callable { (p : _) → left p.now.input < left self.old.input → F.pre parse p }
-        requires fewer { (p q : _) (r : _) → left p.now.input < left self.old.input → F.post parse p r q → OnOk r (left q.now.input < left p.now.input) }
-        ensures list { Delimited opening.now (AnyItems closing.now (Item F.Fn parse)) self.old result self.new }
+        requires fewer { (p q : _) (r : _) → left p.now.input < left self.old.input
+            → F.post parse p r q → OnOk r (left q.now.input < left p.now.input) }
+        ensures list { Delimited opening.now (AnyItems closing.now (Item F.Fn parse)) self.old
+            result self.new }
         ensures fewer { OnOk result (left self.new.input < left self.old.input) }
     {
         let first = match self.expect(opening) {
@@ -44,8 +46,10 @@ impl<'a> Parser<'a> {
         closing: &Token<'_>,
     ) -> ParseResult<Items<Spanning<T>>>
         requires callable { (p : _) → left p.now.input < left self.old.input → F.pre parse p }
-        requires fewer { (p q : _) (r : _) → left p.now.input < left self.old.input → F.post parse p r q → OnOk r (left q.now.input < left p.now.input) }
-        ensures list { Delimited opening.now (SomeItems closing.now (Item F.Fn parse)) self.old result self.new }
+        requires fewer { (p q : _) (r : _) → left p.now.input < left self.old.input
+            → F.post parse p r q → OnOk r (left q.now.input < left p.now.input) }
+        ensures list { Delimited opening.now (SomeItems closing.now (Item F.Fn parse)) self.old
+            result self.new }
         ensures fewer { OnOk result (left self.new.input < left self.old.input) }
     {
         self.unlocated_delimited_nonempty_list(opening, parse, closing)
@@ -57,8 +61,10 @@ impl<'a> Parser<'a> {
         F: Fn(&mut Parser<'a>) -> UnlocatedParseResult<T>,
     >(&mut self, opening: &Token<'_>, parse: F, closing: &Token<'_>) -> ParseResult<Items<T>>
         requires callable { (p : _) → left p.now.input < left self.old.input → F.pre parse p }
-        requires fewer { (p q : _) (r : _) → left p.now.input < left self.old.input → F.post parse p r q → OnOk r (left q.now.input < left p.now.input) }
-        ensures list { Delimited opening.now (SomeItems closing.now (Item F.Fn parse)) self.old result self.new }
+        requires fewer { (p q : _) (r : _) → left p.now.input < left self.old.input
+            → F.post parse p r q → OnOk r (left q.now.input < left p.now.input) }
+        ensures list { Delimited opening.now (SomeItems closing.now (Item F.Fn parse)) self.old
+            result self.new }
         ensures fewer { OnOk result (left self.new.input < left self.old.input) }
     {
         let first = match self.expect(opening) {
@@ -78,7 +84,8 @@ impl<'a> Parser<'a> {
         closing: &Token<'_>,
     ) -> Result<(Items<T>, Spanning<Token<'a>>), Fault>
         requires callable { (p : _) → left p.now.input ≤ left self.old.input → F.pre parse.now p }
-        requires fewer { (p q : _) (r : _) → left p.now.input ≤ left self.old.input → F.post parse.now p r q → OnOk r (left q.now.input < left p.now.input) }
+        requires fewer { (p q : _) (r : _) → left p.now.input ≤ left self.old.input
+            → F.post parse.now p r q → OnOk r (left q.now.input < left p.now.input) }
         ensures items { SomeItems closing.now (Item F.Fn parse.now) self.old result self.new }
         ensures fewer { OnOk result (left self.new.input < left self.old.input) }
     {
@@ -101,7 +108,8 @@ impl<'a> Parser<'a> {
         closing: &Token<'_>,
     ) -> Result<(Items<T>, Spanning<Token<'a>>), Fault>
         requires callable { (p : _) → left p.now.input ≤ left self.old.input → F.pre parse.now p }
-        requires fewer { (p q : _) (r : _) → left p.now.input ≤ left self.old.input → F.post parse.now p r q → OnOk r (left q.now.input < left p.now.input) }
+        requires fewer { (p q : _) (r : _) → left p.now.input ≤ left self.old.input
+            → F.post parse.now p r q → OnOk r (left q.now.input < left p.now.input) }
         ensures items { Until closing.now (Item F.Fn parse.now) found self.old result self.new }
         ensures no_more { OnOk result (left self.new.input ≤ left self.old.input) }
     {
@@ -125,7 +133,8 @@ impl<'a> Parser<'a> {
     /// An item, by the function. By its refusal the parser has failed.
     fn item<T, F: Fn(&mut Parser<'a>) -> Result<T, Fault>>(&mut self, parse: &F) -> Result<T, Fault>
         requires callable { (p : _) → left p.now.input ≤ left self.old.input → F.pre parse.now p }
-        requires fewer { (p q : _) (r : _) → left p.now.input ≤ left self.old.input → F.post parse.now p r q → OnOk r (left q.now.input < left p.now.input) }
+        requires fewer { (p q : _) (r : _) → left p.now.input ≤ left self.old.input
+            → F.post parse.now p r q → OnOk r (left q.now.input < left p.now.input) }
         ensures item { Item F.Fn parse.now self.old result self.new }
         ensures fewer { OnOk result (left self.new.input < left self.old.input) }
     {

@@ -15,10 +15,10 @@ use graphql_values::{InputValue, ScalarValue, Type};
 /// Values). A constant holds no variable.
 ///
 /// It refuses only where no tokens in front spell a value, whatever follows one. A refusal is about
-/// the first token that no value could have there: `UnexpectedEndOfFile` at the end of the text; what
-/// the scalar type says of a literal that it refuses; `UnexpectedToken` with the token's source text.
-/// By a refusal the parser has failed, and stands at that token, behind those before it. `Memory`
-/// comes only where memory ran out.
+/// the first token that no value could have there: `UnexpectedEndOfFile` at the end of the text;
+/// what the scalar type says of a literal that it refuses; `UnexpectedToken` with the token's
+/// source text. By a refusal the parser has failed, and stands at that token, behind those before
+/// it. `Memory` comes only where memory ran out.
 pub fn parse_value_literal<S: ScalarValue>(
     parser: &mut Parser<'_>,
     is_const: bool,

@@ -2,7 +2,8 @@
 
 ghost use Rattle.std.specs.Prelude.{◌≡◌, ◌↔◌, ◌<◌, ◌≤◌, IsTrue, OnOk, OnErr};
 ghost use Rattle.graphql_grammar.specs.Input.{left};
-ghost use Rattle.graphql_language.specs.Parser.{ReadsBy, NextToken, ThisToken, MaybeToken, NextName};
+ghost use Rattle.graphql_language.specs.Parser.{ReadsBy, NextToken, ThisToken, MaybeToken};
+ghost use Rattle.graphql_language.specs.Parser.{NextName};
 
 use graphql_grammar::Cursor;
 use graphql_text::{OptionParseResult, ParseResult, Spanning, TextRef, Token};

@@ -16,7 +16,11 @@ impl<'d, 'a, S, C> IntoIterator for LookAheadChildren<'d, 'a, S, C> {
 
     type IntoIter = IntoIter<LookAheadSelection<'d, 'a, S, C>, Global>;
 
-    ghost into_iter_gives = { λ children r. (into_iter_items r ≡ children.children) × (into_iter_len r ≡ length children.children) × (into_iter_len r < 2 ^ 64) × EveryRun (into_iter_steps {X = LookAheadSelection S C} {Z = Global}) (λ p. ItemsAre p (into_iter_items p.from)) };
+    ghost into_iter_gives = { λ children r. (into_iter_items r ≡ children.children)
+        × (into_iter_len r ≡ length children.children)
+        × (into_iter_len r < 2 ^ 64)
+        × EveryRun (into_iter_steps {X = LookAheadSelection S C} {Z = Global})
+        (λ p. ItemsAre p (into_iter_items p.from)) };
 
     fn into_iter(self) -> IntoIter<LookAheadSelection<'d, 'a, S, C>, Global> {
         self.children.into_iter()

@@ -14,7 +14,8 @@ fn meet<'d, 'a, S: SchemaScalar>(
     request: &Request<'d, 'a, S>,
     first: &'d Selection<'a, S>,
 ) -> Option<Met<'d, 'a, S>>
-    ensures { MatchOption result (IsUnknown (fragments_in request.now) first.now) (IsMet (fragments_in request.now) first.now) }
+    ensures { MatchOption result (IsUnknown (fragments_in request.now) first.now)
+        (IsMet (fragments_in request.now) first.now) }
 {
     match first {
         Selection::Field(field) => Some(Met::Field(field)),
@@ -29,10 +30,11 @@ fn meet<'d, 'a, S: SchemaScalar>(
 }
 
 impl<'d, 'a, S: SchemaScalar> Open<'d, 'a, S> {
-    /// Goes behind the first selection that is left, and behind the spreads before it that mean no fragment; `None` at
-    /// the end.
+    /// Goes behind the first selection that is left, and behind the spreads before it that mean no
+    /// fragment; `None` at the end.
     pub(crate) fn next(&mut self, request: &Request<'d, 'a, S>) -> Option<Met<'d, 'a, S>>
-        ensures next { IsNext (drops_in S.answer request.now) (fragments_in request.now) (rest_of self.old) result (rest_of self.new) }
+        ensures next { IsNext (drops_in S.answer request.now) (fragments_in request.now)
+            (rest_of self.old) result (rest_of self.new) }
         ensures applies { self.new.applies ≡ self.old.applies }
     {
         'rest: while let Some(first) = self.among.get(self.next) {

@@ -32,7 +32,8 @@ fn search<'d, 'a, S: SchemaScalar + Drop>(
     requires settled { Settled (fragments_in request.now) }
     requires search { IsSearch (drops_in S.answer request.now) (fragments_in request.now) key.now
         (a_task.Search top ∷ reverse tasks.old) searched.now.keys }
-    ensures { IfOk result (Turns S.answer request.now key.now (a_task.Search top.entry ∷ reverse tasks.old)
+    ensures { IfOk result
+        (Turns S.answer request.now key.now (a_task.Search top.entry ∷ reverse tasks.old)
         (reverse tasks.new) searched.now.keys) }
 {
     let applies = top.applies;
@@ -99,8 +100,8 @@ fn turn<'d, 'a, S: SchemaScalar + Drop>(
     }
 }
 
-/// The first child of this response key of a list that is bound to nothing, where these fragments were searched. An
-/// error is want of memory.
+/// The first child of this response key of a list that is bound to nothing, where these fragments
+/// were searched. An error is want of memory.
 fn find_in_list<'d, 'a, S: SchemaScalar + Drop>(
     alloc: Global,
     request: &'d Request<'d, 'a, S>,
@@ -109,10 +110,13 @@ fn find_in_list<'d, 'a, S: SchemaScalar + Drop>(
     searched: &mut IndexSet<TextRef<'a>>,
 ) -> Result<Option<LookAheadSelection<'d, 'a, S>>, AllocError>
     requires settled { Settled (fragments_in request.now) }
-    requires lack { AllLack (drops_in S.answer request.now) (fragments_in request.now) key.now searched.old.keys }
+    requires lack { AllLack (drops_in S.answer request.now) (fragments_in request.now) key.now
+        searched.old.keys }
     ensures first { IfOk result (IsFirst S.answer request.now key.now list.now) }
     ensures request { IfOk result (λ found. IfSome found (IsOf request.now)) }
-    ensures lack { IfOk result (λ found. found ≡ None → AllLack (drops_in S.answer request.now) (fragments_in request.now) key.now searched.new.keys) }
+    ensures lack { IfOk result (λ found. found ≡ None
+        → AllLack (drops_in S.answer request.now)
+        (fragments_in request.now) key.now searched.new.keys) }
 {
     let mut tasks = Items::new(alloc);
     tasks.push(Task::Search(Open {
@@ -128,8 +132,8 @@ fn find_in_list<'d, 'a, S: SchemaScalar + Drop>(
     Ok(None)
 }
 
-/// The first child of this response key of what is selected. Each fragment is searched once. An error is want of
-/// memory.
+/// The first child of this response key of what is selected. Each fragment is searched once. An
+/// error is want of memory.
 pub(crate) fn find_first<'d, 'a, S: SchemaScalar + Drop>(
     alloc: Global,
     request: &'d Request<'d, 'a, S>,
@@ -137,7 +141,8 @@ pub(crate) fn find_first<'d, 'a, S: SchemaScalar + Drop>(
     selected: Selected<'d, 'd, 'a, S>,
 ) -> Result<Option<LookAheadSelection<'d, 'a, S>>, AllocError>
     requires { Settled (fragments_in request.now) }
-    ensures first { IfOk result (IsFirst S.answer request.now key.now (selections_of selected.entry)) }
+    ensures first { IfOk result
+        (IsFirst S.answer request.now key.now (selections_of selected.entry)) }
     ensures request { IfOk result (λ found. IfSome found (IsOf request.now)) }
 {
     let mut searched: IndexSet<TextRef<'a>> = IndexSet::new(alloc);

@@ -20,7 +20,11 @@ impl<S: Drop> IntoIterator for Object<S> {
 
     type IntoIter = IntoIter<(Text, Value<S>), Global>;
 
-    ghost into_iter_gives = { λ object r. (into_iter_items r ≡ object.fields) × (into_iter_len r ≡ length object.fields) × (into_iter_len r < 2 ^ 64) × EveryRun (into_iter_steps {X = Text × Value S} {Z = Global}) (λ p. ItemsAre p (into_iter_items p.from)) };
+    ghost into_iter_gives = { λ object r. (into_iter_items r ≡ object.fields)
+        × (into_iter_len r ≡ length object.fields)
+        × (into_iter_len r < 2 ^ 64)
+        × EveryRun (into_iter_steps {X = Text × Value S} {Z = Global})
+        (λ p. ItemsAre p (into_iter_items p.from)) };
 
     fn into_iter(self) -> IntoIter<(Text, Value<S>), Global> {
         self.fields.into_iter()
@@ -32,16 +36,19 @@ impl<'a, S> IntoIterator for &'a Object<S> {
 
     type IntoIter = Iter<'a, (Text, Value<S>)>;
 
-    ghost into_iter_gives = { λ object r. (iter_rest r ≡ object.now.fields) × (length (iter_rest r) < 2 ^ 64) × EveryRun (iter_steps {A = Text × Value S}) (λ p. ItemsMapTo p (λ y. y.now) (iter_rest p.from)) };
+    ghost into_iter_gives = { λ object r. (iter_rest r ≡ object.now.fields)
+        × (length (iter_rest r) < 2 ^ 64)
+        × EveryRun (iter_steps {A = Text × Value S})
+        (λ p. ItemsMapTo p (λ y. y.now) (iter_rest p.from)) };
 
     fn into_iter(self) -> Iter<'a, (Text, Value<S>)> {
         self.iter()
     }
 }
 
-// Each pair is put in turn: of pairs of one key the last is the value, at the place of the first. So it
-// takes the square of their number, where `from_distinct` looks for no key. The laws `made_distinct` and
-// `made_distinct_throughout` speak of the keys.
+// Each pair is put in turn: of pairs of one key the last is the value, at the place of the first.
+// So it takes the square of their number, where `from_distinct` looks for no key. The laws
+// `made_distinct` and `made_distinct_throughout` speak of the keys.
 impl<S: Drop> FromIterator<(Text, Value<S>)> for Object<S> {
     type Alloc = Global;
 

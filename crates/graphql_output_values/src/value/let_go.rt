@@ -1,10 +1,10 @@
 //! Letting the values within a value go, one by one.
 //!
 //! What is left is always one value, so that neither a stack nor a list is needed for what is still
-//! to go. The last part of it is taken out, and the others are put into that part, in the place of a
-//! value that has no parts, which goes. The values gone through on the way there stand first in one
-//! another from then on, and only a part behind the first is gone through. So each value is gone
-//! through once.
+//! to go. The last part of it is taken out, and the others are put into that part, in the place of
+//! a value that has no parts, which goes. The values gone through on the way there stand first in
+//! one another from then on, and only a part behind the first is gone through. So each value is
+//! gone through once.
 
 ghost use Rattle.std.specs.Prelude.{◌≡◌, ◌+◌, MatchOption};
 ghost use Rattle.graphql_output_values.specs.Counts.{value_count};
@@ -14,10 +14,11 @@ use crate::object::Object;
 use std::mem;
 
 impl<S: Drop> Value<S> {
-    /// Lets one of the values go that stand in this one, itself among them, and gives the others as one
-    /// value; `None` where there is no other. Takes no memory.
+    /// Lets one of the values go that stand in this one, itself among them, and gives the others as
+    /// one value; `None` where there is no other. Takes no memory.
     pub(super) fn let_one_go(self) -> Option<Value<S>>
-        ensures { MatchOption result (value_count self ≡ 1) (λ others. value_count self ≡ value_count others + 1) }
+        ensures { MatchOption result (value_count self ≡ 1)
+            (λ others. value_count self ≡ value_count others + 1) }
     {
         match self {
             Value::Null => None,
@@ -50,10 +51,10 @@ impl<S: Drop> Value<S> {
         }
     }
 
-    /// Lets the value go that is met first without parts, from this one down by first parts, and gives
-    /// the others and `rest` as one value: the list or object that held it comes outermost, and each
-    /// one on the way there holds in its first place what was around it; this value holds `rest`.
-    /// Takes no memory.
+    /// Lets the value go that is met first without parts, from this one down by first parts, and
+    /// gives the others and `rest` as one value: the list or object that held it comes outermost,
+    /// and each one on the way there holds in its first place what was around it; this value holds
+    /// `rest`. Takes no memory.
     fn inside_out(mut self, rest: Value<S>) -> Value<S>
         ensures { value_count self + value_count rest ≡ value_count result + 1 }
     {

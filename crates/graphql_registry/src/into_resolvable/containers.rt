@@ -2,7 +2,8 @@
 
 ghost use Rattle.std.proofs.Common.{rules};
 ghost use Rattle.graphql_registry.specs.ClonesAnswer.{list_of_clones};
-ghost use Rattle.graphql_registry.specs.Resolvables.{answer_of_list, answer_of_nullable, answer_of_option, answer_of_result};
+ghost use Rattle.graphql_registry.specs.Resolvables.{answer_of_list, answer_of_nullable};
+ghost use Rattle.graphql_registry.specs.Resolvables.{answer_of_option, answer_of_result};
 
 use super::{AnswersByClones, IntoResolvable};
 use graphql_field_results::{FieldFault, FieldResult, IntoFieldError, Resolved};

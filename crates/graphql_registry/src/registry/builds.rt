@@ -42,7 +42,8 @@ impl<S, C> Registry<S, C> {
         alloc: Global,
         expected_size: Option<usize>,
     ) -> Result<ListMeta, AllocError>
-        ensures { Gives result (record { of_type = T.type_reference; expected_size = expected_size }) }
+        ensures { Gives result
+            (record { of_type = T.type_reference; expected_size = expected_size }) }
     {
         Ok(ListMeta::new(self.get_type::<T>(alloc)?, expected_size))
     }

@@ -30,8 +30,8 @@ pub(super) enum Demand {
     Scalar,
 }
 
-/// Whether the type that a name has, if there is one, is not what is asked for. `Output` and `Input`
-/// ask nothing of a name that no type has.
+/// Whether the type that a name has, if there is one, is not what is asked for. `Output` and
+/// `Input` ask nothing of a name that no type has.
 pub(super) fn is_unmet<S, C>(wanted: Demand, found: Option<&MetaType<S, C>>) -> bool
     ensures { result ≡ is_unmet wanted (option_copied found.entry) }
 {

@@ -12,7 +12,8 @@ use std::alloc::{AllocError, Global};
 
 /// A name that two arguments of one field have. An error is want of memory.
 fn repeated_argument<S>(alloc: Global, fields: &[Field<S>]) -> Result<Option<&str>, AllocError>
-    ensures { IfOk result (Finds (λ name. list_any (λ field. stands_twice (map (λ argument. argument.name) (arguments_of field)) name) fields.now)) }
+    ensures { IfOk result (Finds (λ name. list_any (λ field.
+        stands_twice (map (λ argument. argument.name) (arguments_of field)) name) fields.now)) }
 {
     'fields: for field in fields {
         if let Some(name) = repeated_name(alloc, field.arguments())? {
@@ -24,7 +25,8 @@ fn repeated_argument<S>(alloc: Global, fields: &[Field<S>]) -> Result<Option<&st
 
 /// A name that stands twice in one of the scopes of a type. An error is want of memory.
 fn repeated_within<S, C>(alloc: Global, meta: &MetaType<S, C>) -> Result<Option<&str>, AllocError>
-    ensures { IfOk result (Finds (λ name. list_any (λ names. stands_twice names name) (scopes_of meta.now))) }
+    ensures { IfOk result
+        (Finds (λ name. list_any (λ names. stands_twice names name) (scopes_of meta.now))) }
 {
     if let Some(name) = repeated_name(alloc, meta.fields())? {
         return Ok(Some(name));
@@ -43,7 +45,8 @@ pub(super) fn repeated_part<S, C>(
     alloc: Global,
     types: &[MetaType<S, C>],
 ) -> Result<Option<&str>, AllocError>
-    ensures { IfOk result (Finds (λ name. list_any (λ m. list_any (λ names. stands_twice names name) (scopes_of m)) types.now)) }
+    ensures { IfOk result (Finds (λ name.
+        list_any (λ m. list_any (λ names. stands_twice names name) (scopes_of m)) types.now)) }
 {
     'types: for meta in types {
         if let Some(name) = repeated_within(alloc, meta)? {

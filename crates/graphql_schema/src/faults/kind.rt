@@ -6,8 +6,8 @@ ghost use Rattle.graphql_schema.specs.Faults.{error_of};
 use crate::error::SchemaError;
 use graphql_text::Text;
 
-/// What a fault of types is, the name at which it stands aside: each is a variant of [`SchemaError`],
-/// which says more of it.
+/// What a fault of types is, the name at which it stands aside: each is a variant of
+/// [`SchemaError`], which says more of it.
 #[derive(Clone, Copy, Debug)]
 pub enum FaultKind {
     /// A name stands twice.
@@ -31,7 +31,8 @@ pub enum FaultKind {
     /// A member of a union is no object, or a listed interface is none.
     BadMember,
 
-    /// An input object of which exactly one field is given has a field that is non-null or has a default.
+    /// An input object of which exactly one field is given has a field that is non-null or has a
+    /// default.
     BadOneOf,
 }
 

@@ -15,7 +15,8 @@ use graphql_text::Text;
 /// One of the objects `__Schema` and `__Type` or of the scalars `String` and `Boolean` that is
 /// missing.
 pub(super) fn missing_builtin<S, C>(types: &NameMap<MetaType<S, C>>) -> Option<&'static str>
-    ensures { Finds (λ name. misses demand.Object types.now (codes "__Schema" ∷ codes "__Type" ∷ []) name
+    ensures { Finds
+        (λ name. misses demand.Object types.now (codes "__Schema" ∷ codes "__Type" ∷ []) name
         || misses demand.Scalar types.now (codes "String" ∷ codes "Boolean" ∷ []) name) result }
 {
     if is_unmet(Demand::Object, types.get("__Schema")) {
@@ -53,7 +54,8 @@ pub(super) fn bad_root<'a, S, C>(
     mutation: &'a Option<Text>,
     subscription: &'a Option<Text>,
 ) -> Option<&'a str>
-    ensures { let roots : Roots = record { query = query.now; mutation = mutation.now; subscription = subscription.now } in
+    ensures { let roots : Roots =
+        record { query = query.now; mutation = mutation.now; subscription = subscription.now } in
         Finds (misses demand.Object types.now (root_names roots)) result }
 {
     if is_unmet(Demand::Object, types.get(query.as_str())) {

@@ -24,10 +24,11 @@ fn are_nullable_without_default<S>(fields: &[Argument<S>]) -> bool
         .all(|field| is_nullable_without_default(field))
 }
 
-/// The name of an input object of which exactly one field is given, if one of its fields is non-null or
-/// has a default.
+/// The name of an input object of which exactly one field is given, if one of its fields is
+/// non-null or has a default.
 fn bad_name<S, C>(meta: &MetaType<S, C>) -> Option<&str>
-    ensures { Finds (λ name. is_named own_name name meta.now && spec.is_bad_one_of meta.now) result }
+    ensures { Finds (λ name. is_named own_name name meta.now && spec.is_bad_one_of meta.now)
+        result }
 {
     match meta {
         MetaType::InputObject(object) if object.is_one_of() => {
@@ -43,7 +44,8 @@ fn bad_name<S, C>(meta: &MetaType<S, C>) -> Option<&str>
 
 /// The name of such an input object among the types.
 pub(super) fn bad_one_of<S, C>(types: &[MetaType<S, C>]) -> Option<&str>
-    ensures { Finds (λ name. list_any (λ m. is_named own_name name m && spec.is_bad_one_of m) types.now) result }
+    ensures { Finds (λ name.
+        list_any (λ m. is_named own_name name m && spec.is_bad_one_of m) types.now) result }
 {
     'types: for meta in types {
         if let Some(name) = bad_name(meta) {

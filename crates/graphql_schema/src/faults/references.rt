@@ -36,7 +36,8 @@ fn unmet_argument<'a, S, C>(
     types: &NameMap<MetaType<S, C>>,
     fields: &'a [Field<S>],
 ) -> Option<&'a str>
-    ensures { Finds (misses wanted types.now (flat_map (λ field. map argument_type_name (arguments_of field)) fields.now)) result }
+    ensures { Finds (misses wanted types.now
+        (flat_map (λ field. map argument_type_name (arguments_of field)) fields.now)) result }
 {
     'fields: for field in fields {
         if let Some(name) = unmet_among(wanted, types, field.arguments()) {
@@ -98,8 +99,8 @@ fn unmet_within<'a, S, C>(
     }
 }
 
-/// The name of a type that is not what is asked for, among the references of all types of which that
-/// is asked.
+/// The name of a type that is not what is asked for, among the references of all types of which
+/// that is asked.
 pub(super) fn unmet_reference<S, C>(wanted: Demand, types: &NameMap<MetaType<S, C>>) -> Option<&str>
     ensures { Finds (is_referred wanted types.now) result }
 {
@@ -113,7 +114,8 @@ pub(super) fn unmet_reference<S, C>(wanted: Demand, types: &NameMap<MetaType<S, 
 
 /// The name of a member of a union that is no object, or of a listed interface that is none.
 pub(super) fn bad_member<S, C>(types: &NameMap<MetaType<S, C>>) -> Option<&str>
-    ensures { Finds (λ name. is_referred demand.Object types.now name || is_referred demand.Interface types.now name) result }
+    ensures { Finds (λ name. is_referred demand.Object types.now name
+        || is_referred demand.Interface types.now name) result }
 {
     if let Some(name) = unmet_reference(Demand::Object, types) {
         return Some(name);

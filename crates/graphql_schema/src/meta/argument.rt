@@ -29,7 +29,12 @@ pub struct Argument<S> {
 impl<S> Argument<S> {
     /// The argument of this name and this type.
     pub fn new(name: Text, arg_type: Type<Text>) -> Argument<S>
-        ensures { result ≡ record { name = name; description = None; arg_type = arg_type; default_value = None } }
+        ensures { result ≡ record {
+          name = name;
+          description = None;
+          arg_type = arg_type;
+          default_value = None;
+        } }
     {
         Argument {
             name,
@@ -69,8 +74,8 @@ impl<S> Argument<S> {
 impl<S: ScalarValue + Drop> Clone for Argument<S> {
     ghost is_clone = { λ argument copy. copy ≡ argument };
 
-    /// The same argument once more. Takes stack for each level that its default value nests. An error
-    /// is want of memory.
+    /// The same argument once more. Takes stack for each level that its default value nests. An
+    /// error is want of memory.
     fn clone(&self) -> Result<Argument<S>, AllocError> {
         let name = self.name.clone()?;
         let description = self.description.clone()?;

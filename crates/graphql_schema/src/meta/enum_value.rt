@@ -23,7 +23,8 @@ pub struct EnumValue {
 impl EnumValue {
     /// The value of this name.
     pub fn new(name: Text) -> EnumValue
-        ensures { result ≡ record { name = name; description = None; deprecation_status = status.Current } }
+        ensures { result
+            ≡ record { name = name; description = None; deprecation_status = status.Current } }
     {
         EnumValue {
             name,

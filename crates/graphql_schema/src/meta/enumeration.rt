@@ -26,7 +26,8 @@ pub struct EnumMeta<C> {
 impl<C> EnumMeta<C> {
     /// The enum of this name and these values that accepts what `check` accepts.
     pub fn new(name: Text, values: NamedItems<EnumValue>, check: C) -> EnumMeta<C>
-        ensures { result ≡ record { name = name; description = None; values = values; check = check } }
+        ensures { result
+            ≡ record { name = name; description = None; values = values; check = check } }
     {
         EnumMeta {
             name,

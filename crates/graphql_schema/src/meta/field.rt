@@ -22,7 +22,8 @@ pub struct Field<S> {
     /// What it is for, in words.
     pub description: Option<Text>,
 
-    /// The arguments, as they were declared, each found by its name. `None` is the same as no argument.
+    /// The arguments, as they were declared, each found by its name. `None` is the same as no
+    /// argument.
     pub arguments: Option<NamedItems<Argument<S>>>,
 
     /// The type of its values.
@@ -45,7 +46,8 @@ impl<S> Field<S> {
     pub fn argument(self, alloc: Global, argument: Argument<S>) -> Result<Field<S>, AllocError>
     where
         S: Drop,
-        ensures { Gives result (record self { arguments = Some (arguments_of self ++ argument ∷ []) }) }
+        ensures { Gives result
+            (record self { arguments = Some (arguments_of self ++ argument ∷ []) }) }
     {
         let Field {
             name,

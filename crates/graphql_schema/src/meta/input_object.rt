@@ -30,7 +30,13 @@ pub struct InputObjectMeta<S, C = <S as SchemaScalar>::Check> {
 impl<S, C> InputObjectMeta<S, C> {
     /// The input object of this name and these fields that accepts what `check` accepts.
     pub fn new(name: Text, input_fields: NamedItems<Argument<S>>, check: C) -> InputObjectMeta<S, C>
-        ensures { result ≡ record { name = name; description = None; input_fields = input_fields; check = check; exactly_one = false } }
+        ensures { result ≡ record {
+          name = name;
+          description = None;
+          input_fields = input_fields;
+          check = check;
+          exactly_one = false;
+        } }
     {
         InputObjectMeta {
             name,

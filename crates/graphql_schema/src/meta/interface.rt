@@ -28,7 +28,8 @@ pub struct InterfaceMeta<S> {
 impl<S> InterfaceMeta<S> {
     /// The interface of this name and these fields, which implements no interface. Takes no memory.
     pub fn new(alloc: Global, name: Text, fields: NamedItems<Field<S>>) -> InterfaceMeta<S>
-        ensures { result ≡ record { name = name; description = None; fields = fields; interface_names = [] } }
+        ensures { result
+            ≡ record { name = name; description = None; fields = fields; interface_names = [] } }
     {
         InterfaceMeta {
             name,

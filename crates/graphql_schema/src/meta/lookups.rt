@@ -3,7 +3,8 @@
 ghost use Rattle.std.specs.Prelude.{◌≡◌, find};
 ghost use Rattle.std.specs.Option.{option_map, option_copied};
 ghost use Rattle.std.specs.Str.{bytes_eq};
-ghost use Rattle.graphql_schema.specs.Types.{name_of, description_of, url_of, fields_of, input_fields_of, check_of};
+ghost use Rattle.graphql_schema.specs.Types.{name_of, description_of, url_of, fields_of};
+ghost use Rattle.graphql_schema.specs.Types.{input_fields_of, check_of};
 
 use super::{Argument, Field, MetaType};
 use graphql_text::Text;
@@ -56,7 +57,8 @@ impl<S, C> MetaType<S, C> {
     /// Interfaces), the first where there are several. `None` where there is none; other types have
     /// no fields. Among many it is found by binary search.
     pub fn field_by_name(&self, name: &str) -> Option<&Field<S>>
-        ensures { option_copied result ≡ find (λ field. bytes_eq field.name name.now) (fields_of self.now) }
+        ensures { option_copied result
+            ≡ find (λ field. bytes_eq field.name name.now) (fields_of self.now) }
     {
         match self {
             MetaType::Object(meta) => meta.fields.get(name),
@@ -68,7 +70,8 @@ impl<S, C> MetaType<S, C> {
     /// The field of this name of an input object (GraphQL October 2021, 3.10 Input Objects), the
     /// first where there are several. `None` where there is none; other types have no input fields.
     pub fn input_field_by_name(&self, name: &str) -> Option<&Argument<S>>
-        ensures { option_copied result ≡ find (λ field. bytes_eq field.name name.now) (input_fields_of self.now) }
+        ensures { option_copied result
+            ≡ find (λ field. bytes_eq field.name name.now) (input_fields_of self.now) }
     {
         match self {
             MetaType::InputObject(meta) => meta.input_fields.get(name),

@@ -8,7 +8,8 @@ use graphql_names::Type;
 use graphql_text::Text;
 use std::alloc::AllocError;
 
-/// A type with `null` among its values (GraphQL October 2021, 3.12 Non-Null, Nullable vs. Optional).
+/// A type with `null` among its values (GraphQL October 2021, 3.12 Non-Null, Nullable vs.
+/// Optional).
 #[derive(Drop)]
 pub struct NullableMeta {
     /// The type whose values there are beside `null`.

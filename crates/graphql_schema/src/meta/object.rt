@@ -28,7 +28,8 @@ pub struct ObjectMeta<S> {
 impl<S> ObjectMeta<S> {
     /// The object of this name and these fields, which implements no interface. Takes no memory.
     pub fn new(alloc: Global, name: Text, fields: NamedItems<Field<S>>) -> ObjectMeta<S>
-        ensures { result ≡ record { name = name; description = None; fields = fields; interface_names = [] } }
+        ensures { result
+            ≡ record { name = name; description = None; fields = fields; interface_names = [] } }
     {
         ObjectMeta {
             name,

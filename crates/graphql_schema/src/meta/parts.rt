@@ -1,7 +1,8 @@
 //! The parts of a type and of a field, in order, whatever kind of type it is.
 
 ghost use Rattle.std.specs.Prelude.{◌≡◌};
-ghost use Rattle.graphql_schema.specs.Types.{arguments_of, fields_of, input_fields_of, interfaces_of, members_of, values_of};
+ghost use Rattle.graphql_schema.specs.Types.{arguments_of, fields_of, input_fields_of};
+ghost use Rattle.graphql_schema.specs.Types.{interfaces_of, members_of, values_of};
 
 use super::{Argument, EnumValue, Field, MetaType};
 use graphql_text::Text;
@@ -31,7 +32,8 @@ impl<S, C> MetaType<S, C> {
         }
     }
 
-    /// The names of the members of a union (GraphQL October 2021, 3.8 Unions). Other types have none.
+    /// The names of the members of a union (GraphQL October 2021, 3.8 Unions). Other types have
+    /// none.
     pub fn member_names(&self) -> &[Text]
         ensures { result.now ≡ members_of self.now }
     {
@@ -51,7 +53,8 @@ impl<S, C> MetaType<S, C> {
         }
     }
 
-    /// The fields of an input object (GraphQL October 2021, 3.10 Input Objects). Other types have none.
+    /// The fields of an input object (GraphQL October 2021, 3.10 Input Objects). Other types have
+    /// none.
     pub fn input_fields(&self) -> &[Argument<S>]
         ensures { result.now ≡ input_fields_of self.now }
     {
@@ -63,8 +66,8 @@ impl<S, C> MetaType<S, C> {
 }
 
 impl<S> Field<S> {
-    /// The arguments (GraphQL October 2021, 3.6.1 Field Arguments). A field that holds no list of them
-    /// has none.
+    /// The arguments (GraphQL October 2021, 3.6.1 Field Arguments). A field that holds no list of
+    /// them has none.
     pub fn arguments(&self) -> &[Argument<S>]
         ensures { result.now ≡ arguments_of self.now }
     {

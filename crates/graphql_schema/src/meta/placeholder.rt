@@ -6,8 +6,8 @@ use graphql_names::Type;
 use graphql_text::Text;
 use std::alloc::AllocError;
 
-/// A type of which only the reference is known, until the type itself is told (GraphQL October 2021,
-/// 2.11 Type References).
+/// A type of which only the reference is known, until the type itself is told (GraphQL October
+/// 2021, 2.11 Type References).
 #[derive(Drop)]
 pub struct PlaceholderMeta {
     /// The reference.

@@ -25,7 +25,8 @@ pub struct ScalarMeta<C> {
 impl<C> ScalarMeta<C> {
     /// The scalar of this name that accepts what `check` accepts.
     pub fn new(name: Text, check: C) -> ScalarMeta<C>
-        ensures { result ≡ record { name = name; description = None; specified_by_url = None; check = check } }
+        ensures { result
+            ≡ record { name = name; description = None; specified_by_url = None; check = check } }
     {
         ScalarMeta {
             name,

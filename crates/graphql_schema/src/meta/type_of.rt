@@ -11,9 +11,9 @@ use graphql_text::Text;
 use std::alloc::{AllocError, Global};
 
 impl<S, C> MetaType<S, C> {
-    /// The reference to this type (GraphQL October 2021, 2.11 Type References), without `null` among
-    /// its values but where the metadata adds it: a named type is `name!`, a list of `T` is `[T]!`. A
-    /// placeholder is the reference that it holds. An error is want of memory.
+    /// The reference to this type (GraphQL October 2021, 2.11 Type References), without `null`
+    /// among its values but where the metadata adds it: a named type is `name!`, a list of `T` is
+    /// `[T]!`. A placeholder is the reference that it holds. An error is want of memory.
     pub fn as_type(&self, alloc: Global) -> Result<Type<Text>, AllocError>
         ensures { Gives result (type_of self.now) }
     {

@@ -23,7 +23,8 @@ pub struct UnionMeta {
 impl UnionMeta {
     /// The union of this name and of the member types of these names.
     pub fn new(name: Text, of_type_names: Items<Text>) -> UnionMeta
-        ensures { result ≡ record { name = name; description = None; of_type_names = of_type_names } }
+        ensures { result
+            ≡ record { name = name; description = None; of_type_names = of_type_names } }
     {
         UnionMeta {
             name,

@@ -25,7 +25,11 @@ impl<S, C> SchemaType<S, C> {
     /// Gives the schema this description, in place of what it had.
     pub fn set_description(&mut self, description: Text)
         ensures described { self.new.description ≡ Some description }
-        ensures others { (self.new.types ≡ self.old.types) × (self.new.query ≡ self.old.query) × (self.new.mutation ≡ self.old.mutation) × (self.new.subscription ≡ self.old.subscription) × (self.new.directives ≡ self.old.directives) }
+        ensures others { (self.new.types ≡ self.old.types)
+            × (self.new.query ≡ self.old.query)
+            × (self.new.mutation ≡ self.old.mutation)
+            × (self.new.subscription ≡ self.old.subscription)
+            × (self.new.directives ≡ self.old.directives) }
     {
         self.description = Some(description);
     }
@@ -38,7 +42,8 @@ impl<S, C> SchemaType<S, C> {
         self.types.get(name)
     }
 
-    /// The metadata of the query root, an object (GraphQL October 2021, 3.3.1 Root Operation Types).
+    /// The metadata of the query root, an object (GraphQL October 2021, 3.3.1 Root Operation
+    /// Types).
     pub fn concrete_query_type(&self) -> &MetaType<S, C>
         ensures query { type_named self.now.types self.now.query ≡ Some result.now }
         ensures object { is_object result.now ≡ true }
@@ -56,8 +61,8 @@ impl<S, C> SchemaType<S, C> {
         self.query.as_str()
     }
 
-    /// The name of the mutation root, if the schema has one (GraphQL October 2021, 3.3.1 Root Operation
-    /// Types).
+    /// The name of the mutation root, if the schema has one (GraphQL October 2021, 3.3.1 Root
+    /// Operation Types).
     pub fn mutation_name(&self) -> Option<&str>
         ensures { option_map (λ name. name.now) result ≡ self.now.mutation }
     {
@@ -69,7 +74,8 @@ impl<S, C> SchemaType<S, C> {
 
     /// The metadata of the mutation root, an object, if the schema has one.
     pub fn concrete_mutation_type(&self) -> Option<&MetaType<S, C>>
-        ensures root { option_copied result ≡ option_and_then (type_named self.now.types) self.now.mutation }
+        ensures root { option_copied result
+            ≡ option_and_then (type_named self.now.types) self.now.mutation }
         ensures object { passes is_object (option_copied result) ≡ is_some self.now.mutation }
     {
         self.root(&self.mutation)
@@ -77,7 +83,8 @@ impl<S, C> SchemaType<S, C> {
 
     /// The metadata of the subscription root, an object, if the schema has one.
     pub fn concrete_subscription_type(&self) -> Option<&MetaType<S, C>>
-        ensures root { option_copied result ≡ option_and_then (type_named self.now.types) self.now.subscription }
+        ensures root { option_copied result
+            ≡ option_and_then (type_named self.now.types) self.now.subscription }
         ensures object { passes is_object (option_copied result) ≡ is_some self.now.subscription }
     {
         self.root(&self.subscription)
@@ -93,11 +100,13 @@ impl<S, C> SchemaType<S, C> {
         }
     }
 
-    /// The directive of this name, without its `@` (GraphQL October 2021, 3.13 Directives). The types
-    /// of its arguments are input types of the schema.
+    /// The directive of this name, without its `@` (GraphQL October 2021, 3.13 Directives). The
+    /// types of its arguments are input types of the schema.
     pub fn directive_by_name(&self, name: &str) -> Option<&DirectiveType<S>>
-        ensures found { option_copied result ≡ named (λ directive. directive.name) self.now.directives name.now }
-        ensures input_types { IfSome result (λ directive. HaveInputTypes self.now.types directive.now) }
+        ensures found { option_copied result
+            ≡ named (λ directive. directive.name) self.now.directives name.now }
+        ensures input_types { IfSome result
+            (λ directive. HaveInputTypes self.now.types directive.now) }
     {
         self.directives.get(name)
     }

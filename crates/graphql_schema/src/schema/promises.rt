@@ -33,8 +33,8 @@ pub struct BrokenPromise<'s> {
 impl<S, C> SchemaType<S, C> {
     /// Because of which type, interface and field requests can't be executed against the schema
     /// (see `schema_is_executable`), or `None` where they can. It is the first one: of the first
-    /// type, in the order of the names by bytes, that does not keep what it promises, the first name
-    /// that it lists and does not keep, and the first field that it lacks.
+    /// type, in the order of the names by bytes, that does not keep what it promises, the first
+    /// name that it lists and does not keep, and the first field that it lacks.
     pub fn broken_promise(&self) -> Option<BrokenPromise<'_>>
         ensures executable { IsNone result ↔ IsExecutable self.now.types (roots_of self.now) }
         ensures first { IfSome result (IsFirstBroken self.now.types) }
@@ -84,7 +84,8 @@ impl<S, C> SchemaType<S, C> {
     /// The name of the first field of the interface of this name that a type lacks, where it lists
     /// what that one lists.
     fn lacking(&self, meta: &MetaType<S, C>, name: &str) -> Option<TextRef<'_>>
-        ensures { result ≡ spec.lacking self.now.types meta.now (type_named self.now.types name.now) }
+        ensures { result
+            ≡ spec.lacking self.now.types meta.now (type_named self.now.types name.now) }
     {
         match self.types.get(name)? {
             MetaType::Interface(promised)

@@ -98,8 +98,8 @@ fn kind_or_absent(value: Option<&InputValue<DefaultScalarValue>>) -> &'static st
     }
 }
 
-/// The errors that an executor makes of the field at which it stands, each behind the end of a line.
-/// An error is want of memory.
+/// The errors that an executor makes of the field at which it stands, each behind the end of a
+/// line. An error is want of memory.
 fn places_told(
     executor: &Executor<'_, '_, '_, (), DefaultScalarValue>,
 ) -> Result<String, AllocError> {

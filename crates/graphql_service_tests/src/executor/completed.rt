@@ -37,8 +37,8 @@ const COMPLETED: &str = "\
 \n(2,0,2) completed: Answer does not fit type Pet\
 \n(0,0,0) completed mine: Null at a non-null place";
 
-/// Tells a value, that there is none, or the error of the place, behind the end of a line. An error is want of
-/// memory.
+/// Tells a value, that there is none, or the error of the place, behind the end of a line. An error
+/// is want of memory.
 fn tell(
     alloc: Global,
     given: FieldResult<Option<Value<DefaultScalarValue>>, DefaultScalarValue>,
@@ -97,7 +97,8 @@ fn tell_here(
     tell(executor.alloc(), given, told)
 }
 
-/// Tells what answers come to at other types, and with other selections. An error is want of memory.
+/// Tells what answers come to at other types, and with other selections. An error is want of
+/// memory.
 fn tell_at_types(
     executor: &Place<'_, '_, '_>,
     errors: &mut Errors,
@@ -115,8 +116,8 @@ fn tell_at_types(
     tell_resolved(&bare, Resolved::Node(Being::Tom), errors, told)
 }
 
-/// Tells what `null` comes to as the answer of a field `owner`, if the current type has one. An error is want
-/// of memory.
+/// Tells what `null` comes to as the answer of a field `owner`, if the current type has one. An
+/// error is want of memory.
 fn tell_at_field(
     executor: &Place<'_, '_, '_>,
     errors: &mut Errors,
@@ -137,8 +138,8 @@ fn tell_at_field(
     tell_value(&owner, Resolved::Null, errors, told)
 }
 
-/// What answers come to, and then the errors that are told, each behind the end of a line. An error is want
-/// of memory.
+/// What answers come to, and then the errors that are told, each behind the end of a line. An error
+/// is want of memory.
 fn completions_told(executor: &Place<'_, '_, '_>) -> Result<String, AllocError>
     requires { Settled (fragments_in executor.now.request.now) }
 {

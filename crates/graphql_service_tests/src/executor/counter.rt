@@ -11,8 +11,8 @@ use std::alloc::Global;
 
 type Answer = Resolved<DefaultScalarValue, ()>;
 
-/// Counts the fields of mutations that it answers, and tells the count: all but `lose`, which it answers by
-/// null, and `starve`, for which it is ever in want of memory.
+/// Counts the fields of mutations that it answers, and tells the count: all but `lose`, which it
+/// answers by null, and `starve`, for which it is ever in want of memory.
 #[derive(Clone, Copy)]
 pub struct Counter;
 

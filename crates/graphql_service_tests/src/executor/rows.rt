@@ -53,8 +53,8 @@ const ANSWERED: &[Row<'_>] = &[
     ),
 ];
 
-/// What the schema tells of itself: an interface, a union, an input object, an object; of an object of the query
-/// root's type wherever it stands.
+/// What the schema tells of itself: an interface, a union, an input object, an object; of an object
+/// of the query root's type wherever it stands.
 const TOLD: &[Row<'_>] = &[
     (
         "{ __type(name: \"Pet\") { kind fields { name } interfaces { name } possibleTypes { name } } }",
@@ -123,8 +123,8 @@ const REFUSED: &[Row<'_>] = &[
     ),
 ];
 
-/// Mutations: their fields in order, a key asked once, none asked behind a null at the root, and none for the
-/// root's type name; for want of memory the fields before are counted.
+/// Mutations: their fields in order, a key asked once, none asked behind a null at the root, and
+/// none for the root's type name; for want of memory the fields before are counted.
 const COUNTED: &[CountedRow<'_>] = &[
     ("mutation { a: add b: add }", "{\"a\": 1, \"b\": 2}", 2),
     (

@@ -134,7 +134,8 @@ fn pet(rt: &impl Abort, alloc: Global, name: &str, rows: &[FieldRow]) -> Meta {
         .into_meta()
 }
 
-/// The fields of the root that have an argument `value`: a scalar with a default, a list, an object, a flag.
+/// The fields of the root that have an argument `value`: a scalar with a default, a list, an
+/// object, a flag.
 fn with_given(
     rt: &impl Abort,
     alloc: Global,
@@ -211,7 +212,8 @@ fn with_introspection(
     types
 }
 
-/// The mutation root of the schema over which this is asked: only mutations of the counter have one.
+/// The mutation root of the schema over which this is asked: only mutations of the counter have
+/// one.
 fn mutation_root(asked: Asked<'_>) -> Option<&'static str> {
     match asked {
         Asked::Mutations(_) => Some("Mutation"),

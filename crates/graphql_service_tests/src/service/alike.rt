@@ -84,8 +84,8 @@ const ROWS: &[Row<'_>] = &[
     ),
 ];
 
-/// Two lines of one request, whose texts have the same tokens: blanks, commas, comments and a byte order
-/// mark stand otherwise.
+/// Two lines of one request, whose texts have the same tokens: blanks, commas, comments and a byte
+/// order mark stand otherwise.
 type Spellings<'a> = (&'a str, &'a str);
 
 const SPELLED: &[Spellings<'_>] = &[
@@ -152,8 +152,8 @@ fn is_alike(rt: &impl Abort, alloc: Global, root: &Root, row: &Row<'_>) {
     assert_eq!(rt; answer.as_str(), again.expect(rt, "memory").as_str());
 }
 
-/// Asserts that a request is answered both ways, has one plain text each time, and that this text is its
-/// own: what both are answered, and that the texts are the same, the calls promise.
+/// Asserts that a request is answered both ways, has one plain text each time, and that this text
+/// is its own: what both are answered, and that the texts are the same, the calls promise.
 fn is_asked_again(rt: &impl Abort, alloc: Global, root: &Root, row: &Row<'_>) {
     let request = request_from_line(alloc, row.0.as_bytes()).expect(rt, "a request");
     let mut records = nameless(alloc, row.1).expect(rt, "memory");

@@ -15,9 +15,9 @@ use graphql_service::{PlainError, operation_name_of, plain_request};
 use graphql_values::Variables;
 use std::alloc::Global;
 
-/// What a request is answered on one context, and its plain text on another, with the same operation
-/// name and the same values for variables: on contexts that are the same the data are the same, there
-/// are errors in both answers or in neither, and the contexts are the same afterwards.
+/// What a request is answered on one context, and its plain text on another, with the same
+/// operation name and the same values for variables: on contexts that are the same the data are the
+/// same, there are errors in both answers or in neither, and the contexts are the same afterwards.
 ///
 /// `None` where the request or its plain text is refused, where the plain text has more fields and
 /// inline fragments than `limit`, or where memory ran out.
@@ -60,7 +60,8 @@ pub fn plain_twice<S: SchemaScalar + Drop>(
     root_node: &RootNode<S>,
     limit: usize,
 ) -> Result<(String, Result<String, PlainError>), PlainError>
-    ensures { IfOk result (λ texts. IsTheSameText (λ text. string_bytes text) (string_bytes texts.0) texts.1) }
+    ensures { IfOk result
+        (λ texts. IsTheSameText (λ text. string_bytes text) (string_bytes texts.0) texts.1) }
 {
     plain_texts_are_one::<S>();
     plain_requests_are_not_refused::<S>();
@@ -69,9 +70,9 @@ pub fn plain_twice<S: SchemaScalar + Drop>(
     Ok((text, again))
 }
 
-/// The plain text of a text, asked with an operation name and values for variables, and what that text gets
-/// when it is asked in its place: where the schema takes the stand-in `@skip(if: true)` it is its own plain
-/// text, or memory ran out.
+/// The plain text of a text, asked with an operation name and values for variables, and what that
+/// text gets when it is asked in its place: where the schema takes the stand-in `@skip(if: true)`
+/// it is its own plain text, or memory ran out.
 ///
 /// An error is that of the first time, as [`plain_request`] tells it.
 pub fn plain_again<S: SchemaScalar + Drop>(
@@ -83,7 +84,8 @@ pub fn plain_again<S: SchemaScalar + Drop>(
     limit: usize,
 ) -> Result<(String, Result<String, PlainError>), PlainError>
     ensures { TakesStandIn ⟦<S as Meaning>⟧.meaning root_node.now.schema
-        → IfOk result (λ texts. IsTheSameText (λ text. string_bytes text) (string_bytes texts.0) texts.1) }
+        → IfOk result
+        (λ texts. IsTheSameText (λ text. string_bytes text) (string_bytes texts.0) texts.1) }
 {
     plain_again_is_the_same(root_node);
     let query = String::from_str(alloc, source)?;

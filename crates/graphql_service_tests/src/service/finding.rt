@@ -2,8 +2,8 @@
 
 use crate::service::served::{Asked, Row, over};
 
-/// One field, in the text and by a variable; no field, two, `null`; two that are sent, and no field of a
-/// default.
+/// One field, in the text and by a variable; no field, two, `null`; two that are sent, and no field
+/// of a default.
 const VALUES: &[Row<'_>] = &[
     (
         r#"{"query":"{ find(by: {id: \"h2\"}) { name } }"}"#,

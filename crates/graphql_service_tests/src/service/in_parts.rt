@@ -1,5 +1,5 @@
-//! Queries in two parts: what is answered of their first selection alone, of the others, and of all in
-//! one set.
+//! Queries in two parts: what is answered of their first selection alone, of the others, and of all
+//! in one set.
 
 ghost use Rattle.std.specs.Prelude.{◌≡◌, IfOk, IfSome, OnOk, drop, take};
 ghost use Rattle.std.specs.HashMap.{get_by_text};
@@ -55,8 +55,8 @@ fn of_others<'a, S: SchemaScalar + Drop>(query: &Query<'a, S>) -> Result<Query<'
     Ok(Spanning { item, span })
 }
 
-/// The data of a query over the fragments of a document. The context stays as it was. Errors are those of
-/// `execute_validated_query`.
+/// The data of a query over the fragments of a document. The context stays as it was. Errors are
+/// those of `execute_validated_query`.
 fn data_of_query<'a, S: SchemaScalar + Drop, R: GraphQLMutationValue<S>>(
     alloc: Global,
     document: &[Definition<'a, S>],
@@ -82,9 +82,10 @@ fn data_of_query<'a, S: SchemaScalar + Drop, R: GraphQLMutationValue<S>>(
     Ok(data)
 }
 
-/// The data of the first selection of a text's query alone, of its other selections, and of all of them:
-/// where scalars that are the same answer the same, these are the join of the parts' data. `None` where
-/// the text's operation is no query. Errors are those of `read_request`, `get_operation` and
+/// The data of the first selection of a text's query alone, of its other selections, and of all of
+/// them:
+/// where scalars that are the same answer the same, these are the join of the parts' data. `None`
+/// where the text's operation is no query. Errors are those of `read_request`, `get_operation` and
 /// `execute_validated_query`.
 pub fn parts_of_query<S: SchemaScalar + Drop, R: GraphQLMutationValue<S>>(
     alloc: Global,
@@ -113,8 +114,8 @@ pub fn parts_of_query<S: SchemaScalar + Drop, R: GraphQLMutationValue<S>>(
     Ok(Some((first, others, all)))
 }
 
-/// The same over the sample, whose scalars are the default ones: the data of all selections are the join
-/// of the data of the first and of the data of the others.
+/// The same over the sample, whose scalars are the default ones: the data of all selections are the
+/// join of the data of the first and of the data of the others.
 pub fn parts_over_the_sample(
     alloc: Global,
     text: &str,

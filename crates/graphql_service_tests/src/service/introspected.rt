@@ -21,7 +21,8 @@ fn told(
     format!(in alloc; "{value}")
 }
 
-/// Asserts that the schema is told, beginning with this, with descriptions where they are asked for.
+/// Asserts that the schema is told, beginning with this, with descriptions where they are asked
+/// for.
 pub fn tells_of_itself(rt: &impl Abort, alloc: Global, schema: SchemaType<DefaultScalarValue>) {
     let root = RootNode::new(schema);
     let all = told(rt, alloc, &root, IntrospectionFormat::All).expect(rt, "memory");

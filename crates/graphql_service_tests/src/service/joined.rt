@@ -16,8 +16,8 @@ pub type Row<'a> = (&'a str, &'a str, &'a str, &'a str);
 /// The data of a query's parts, or why there are none.
 pub type Answered = Result<Option<Parts<DefaultScalarValue>>, GraphQLError>;
 
-/// Over the sample, of which Bob has no name: objects, a non-null field that fails, what an object and the
-/// schema tell of themselves.
+/// Over the sample, of which Bob has no name: objects, a non-null field that fails, what an object
+/// and the schema tell of themselves.
 const SAMPLE: &[Row<'_>] = &[
     (
         "{ hero { id } hero { name friend { id } } }",
@@ -51,8 +51,8 @@ const SAMPLE: &[Row<'_>] = &[
     ),
 ];
 
-/// Over a schema with an interface and a union: a node behind the interface, lists of such nodes, and a
-/// non-null field of one of them that fails.
+/// Over a schema with an interface and a union: a node behind the interface, lists of such nodes,
+/// and a non-null field of one of them that fails.
 const BEINGS: &[Row<'_>] = &[
     (
         "{ pet { name } pet { __typename ... on Cat { owner { name } } } }",

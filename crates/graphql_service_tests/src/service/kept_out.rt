@@ -13,8 +13,9 @@ use graphql_service::{Meaning, Resolving, Service};
 use graphql_values::DefaultScalarValue;
 use std::alloc::{AllocError, Global};
 
-/// Answers a line over the sample, as `Service::answer` does. The answer line is that of a refusal; or its
-/// data are null and there is an error, or they have no null at the root where the schema keeps it out.
+/// Answers a line over the sample, as `Service::answer` does. The answer line is that of a refusal;
+/// or its data are null and there is an error, or they have no null at the root where the schema
+/// keeps it out.
 pub fn answered_without_null(
     alloc: Global,
     service: &mut Service<DefaultScalarValue, SampleResolver, SampleRecords>,
@@ -22,7 +23,8 @@ pub fn answered_without_null(
     out: &mut Vec<u8>,
 ) -> Result<(), AllocError>
     ensures { let a = answerer_of ⟦<DefaultScalarValue as Meaning>⟧.meaning ⟦<RuleError as Ord>⟧.cmp
-        ⟦<ExecutionError<DefaultScalarValue> as Ord>⟧.cmp ⟦<SampleResolver as Resolving<DefaultScalarValue>>⟧.resolving service.old in
+        ⟦<ExecutionError<DefaultScalarValue> as Ord>⟧.cmp
+        ⟦<SampleResolver as Resolving<DefaultScalarValue>>⟧.resolving service.old in
         OnOk result (IsRefusalLine a line.now service.old.context out.new.items
         ⊎ ((is : IsFittingLine a line.now service.old.context out.new.items)
         × KeepsNullOutAtRoot a line.now service.old.context is)) }

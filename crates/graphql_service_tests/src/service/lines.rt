@@ -120,7 +120,8 @@ fn deep_values_are_written(rt: HostRuntime) -> Result<(), Fail> {
 /// What is written of `{"c":[null,true,-7]}` is read as that, and the list stands under `c`.
 fn list_is_read_back()
     ensures read { read (json answer (value.Object spec.sample)) ≡ Some spec.sample_data }
-    ensures under { get (codes "c") (data_of_value answer (value.Object spec.sample)) ≡ Some spec.list_data }
+    ensures under { get (codes "c") (data_of_value answer (value.Object spec.sample))
+        ≡ Some spec.list_data }
 {
     json_laws::json_reads_back::<DefaultScalarValue>();
     json_laws::keys_keep_values::<DefaultScalarValue>();
@@ -129,7 +130,8 @@ fn list_is_read_back()
 /// No input value stands for `["$x",2147483648]`, and in the one for `["$x"]` stands no variable.
 fn lists_are_judged()
     ensures wide { input_of scalar.Boolean scalar.Int scalar.String spec.too_wide ≡ None }
-    ensures constant { IfSome (input_of scalar.Boolean scalar.Int scalar.String spec.text_data) (λ v. variables_in v ≡ []) }
+    ensures constant { IfSome (input_of scalar.Boolean scalar.Int scalar.String spec.text_data)
+        (λ v. variables_in v ≡ []) }
 {
     laws::bad_numbers_are_refused::<DefaultScalarValue>();
     laws::json_holds_no_variable::<DefaultScalarValue>();

@@ -9,8 +9,8 @@ use graphql_values::DefaultScalarValue;
 use std::alloc::{AllocError, Global};
 use std::process::Abort;
 
-/// A line, the greatest size of its plain text in fields and inline fragments, and its answer without the
-/// line feed.
+/// A line, the greatest size of its plain text in fields and inline fragments, and its answer
+/// without the line feed.
 pub type Row<'a> = (&'a str, usize, &'a str);
 
 /// A fragment is an inline fragment, and counts as one selection; one less is too many.
@@ -52,7 +52,8 @@ const SPREAD: &[Row<'_>] = &[
     ),
 ];
 
-/// Conditions are decided by the final values of variables. Where all of a set are left out the first stays.
+/// Conditions are decided by the final values of variables. Where all of a set are left out the
+/// first stays.
 const LEFT_OUT: &[Row<'_>] = &[
     (
         r#"{"query":"query Q($x: Boolean!) { hero { name @include(if: $x) } }","variables":{"x":false}}"#,
@@ -120,8 +121,8 @@ const REFUSED: &[Row<'_>] = &[
     ),
 ];
 
-/// A chain of fragments: how many of them spread the next one twice, the greatest size of a plain text in fields
-/// and inline fragments, and whether the plain text of the chain is within it.
+/// A chain of fragments: how many of them spread the next one twice, the greatest size of a plain
+/// text in fields and inline fragments, and whether the plain text of the chain is within it.
 pub type Chain = (u8, usize, bool);
 
 /// A plain text has three selections for two to the power of the number of spreading fragments.
@@ -132,7 +133,8 @@ const CHAINS: &[Chain] = &[
     (40, 10_000, false),
 ];
 
-/// A line of a request that spreads a chain of fragments, of which so many spread the next one twice.
+/// A line of a request that spreads a chain of fragments, of which so many spread the next one
+/// twice.
 fn chain(alloc: Global, length: u8) -> Result<String, AllocError> {
     let mut text = String::from_str(alloc, r#"{"query":"{ hero { ...F0 } }"#)?;
     for place in 0..length {

@@ -30,8 +30,8 @@ const LONG: &[Row<'_>] = &[
     ),
 ];
 
-/// The name of the root's type, of which no resolver is asked; a field that is left out; a key that stands twice; a
-/// request that is refused; and what the next line sees.
+/// The name of the root's type, of which no resolver is asked; a field that is left out; a key that
+/// stands twice; a request that is refused; and what the next line sees.
 const CHANGED: &[Row<'_>] = &[
     (
         r#"{"query":"mutation { __typename }"}"#,

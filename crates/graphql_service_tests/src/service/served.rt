@@ -28,8 +28,8 @@ type Value = InputValue<DefaultScalarValue>;
 /// A service over the sample's schema and resolver.
 pub type SampleService = Service<DefaultScalarValue, SampleResolver, SampleRecords>;
 
-/// A line, its answer without the line feed, and how often the resolver has been asked for a field of a mutation
-/// by then.
+/// A line, its answer without the line feed, and how often the resolver has been asked for a field
+/// of a mutation by then.
 pub type Row<'a> = (&'a str, &'a str, u32);
 
 /// What is asserted of services.
@@ -68,7 +68,8 @@ pub enum Asked<'a> {
     /// That requests and their plain texts are answered alike, and leave the same records.
     Alike(&'a [alike::Row<'a>]),
 
-    /// What is answered of queries' parts, and of the whole, where the human of this `id` has no name.
+    /// What is answered of queries' parts, and of the whole, where the human of this `id` has no
+    /// name.
     InParts(&'a str, &'a [joined::Row<'a>]),
 
     /// That a schema whose types do not keep what they promise makes no service.

@@ -69,7 +69,8 @@ impl Write for Full {
     }
 }
 
-/// An empty line, one of a lone carriage return, two that are no requests, and one that no line feed ends.
+/// An empty line, one of a lone carriage return, two that are no requests, and one that no line
+/// feed ends.
 const INPUT: &[u8] = b"\n\r\n{\"query\":5}\n\
 {\"query\":\"{ hero { name } }\",\"variables\":{\"x\":1.0}}\n{\"query\":\"{ hero { name } }\"}";
 

@@ -95,7 +95,8 @@ fn schema(rt: &impl Abort, alloc: Global) -> SchemaType<WideScalar> {
     SchemaType::new(alloc, types, "Query", None, None).expect(rt, "a schema")
 }
 
-/// Lines, and their answers: a number of 64 bits is read, is one of its type, and is answered as a text.
+/// Lines, and their answers: a number of 64 bits is read, is one of its type, and is answered as a
+/// text.
 const ROWS: &[(&str, &str)] = &[
     (
         r#"{"query":"{ number(above: -9223372036854775808) }"}"#,

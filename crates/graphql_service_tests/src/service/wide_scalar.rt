@@ -16,8 +16,8 @@ use graphql_text::{ParseError, ScalarToken, Text};
 use graphql_values::{InputValue, no_scalar};
 use std::alloc::{AllocError, Global};
 
-/// A boolean, a text or an integer, which may be wider than 32 bits: then it is kept by its digits, and
-/// answers as a text.
+/// A boolean, a text or an integer, which may be wider than 32 bits: then it is kept by its digits,
+/// and answers as a text.
 #[derive(Debug, Drop, PartialEq, Eq)]
 pub enum WideScalar {
     /// An integer of 32 bits.
@@ -60,7 +60,8 @@ fn widened(scalar: DefaultScalarValue) -> WideScalar
 
 /// The same scalar, or the same refusal.
 fn as_read(narrow: ParseScalarResult<DefaultScalarValue>) -> ParseScalarResult<WideScalar>
-    ensures { (wanted : Result DefaultScalarValue ParseError) → Meets IsMemory narrow wanted → Meets IsMemory result (spec.as_read wanted) }
+    ensures { (wanted : Result DefaultScalarValue ParseError) → Meets IsMemory narrow wanted
+        → Meets IsMemory result (spec.as_read wanted) }
 {
     match narrow {
         Ok(scalar) => Ok(widened(scalar)),
@@ -74,7 +75,8 @@ fn or_long(
     digits: &str,
     narrow: ParseScalarResult<DefaultScalarValue>,
 ) -> ParseScalarResult<WideScalar>
-    ensures { (wanted : Result DefaultScalarValue ParseError) → Meets IsMemory narrow wanted → Meets IsMemory result (spec.or_long digits.now wanted) }
+    ensures { (wanted : Result DefaultScalarValue ParseError) → Meets IsMemory narrow wanted
+        → Meets IsMemory result (spec.or_long digits.now wanted) }
 {
     match narrow {
         Ok(scalar) => Ok(widened(scalar)),

@@ -32,7 +32,8 @@ fn written(alloc: Global, given: Nullable<i32>) -> Result<String, AllocError> {
     format!(in alloc; "{lent:?} {before:?} {other:?}")
 }
 
-/// A value that may be null, and what is told of it, of what becomes of it and of what is written to it.
+/// A value that may be null, and what is told of it, of what becomes of it and of what is written
+/// to it.
 type Row = (Nullable<i32>, &'static str, &'static str, &'static str);
 
 const ROWS: &[Row] = &[

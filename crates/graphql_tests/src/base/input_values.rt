@@ -74,7 +74,8 @@ fn values_are_displayed(rt: HostRuntime) {
     check(&rt, debugged(alloc, object), DEBUGGED);
 }
 
-/// Whether null, the enum value `RED` and the scalar 5 are told as what they are, and not as another.
+/// Whether null, the enum value `RED` and the scalar 5 are told as what they are, and not as
+/// another.
 fn kinds(alloc: Global) -> Result<[bool; 5], AllocError> {
     let red: InputValue = InputValue::enum_value(alloc, "RED")?;
     let null: InputValue = InputValue::null();

@@ -1,4 +1,5 @@
-ghost use Rattle.std.specs.Prelude.{◌≡◌, ◌+◌, ◌<◌, ◌%◌, ◌==◌, IfOk, length, EachIndex, filter, slice_index, slice_set};
+ghost use Rattle.std.specs.Prelude.{◌≡◌, ◌+◌, ◌<◌, ◌%◌, ◌==◌, IfOk, length, EachIndex, filter};
+ghost use Rattle.std.specs.Prelude.{slice_index, slice_set};
 
 use crate::told::check;
 use graphql_text::Items;

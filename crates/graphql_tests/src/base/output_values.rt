@@ -223,8 +223,8 @@ fn lettered(alloc: Global, letters: &str) -> Result<Fields, AllocError> {
     Ok(fields)
 }
 
-/// Whether objects of more fields than are gone through for each key are equal: a clone, another order,
-/// and another key.
+/// Whether objects of more fields than are gone through for each key are equal: a clone, another
+/// order, and another key.
 fn many_equalities(alloc: Global) -> Result<(bool, bool, bool), AllocError> {
     let fields = lettered(alloc, "abcdefghijkl")?;
     Ok((

@@ -46,8 +46,8 @@ impl<'a> Production<Spanning<TextRef<'a>>> for Names {
     ghost spells = { NameAt };
 }
 
-/// Names between brackets: what the tokens from the one bracket to the other spell, behind which the
-/// parser stands then, or before the token that is wrong.
+/// Names between brackets: what the tokens from the one bracket to the other spell, behind which
+/// the parser stands then, or before the token that is wrong.
 fn names_read<'a, F: Fn(&mut Parser<'a>) -> ParseResult<TextRef<'a>>>(
     parser: &mut Parser<'a>,
     name: F,
@@ -55,8 +55,10 @@ fn names_read<'a, F: Fn(&mut Parser<'a>) -> ParseResult<TextRef<'a>>>(
     requires fresh { parser.old.refused ≡ None }
     requires callable { (p : _) → F.pre name p }
     requires reads { (p q : _) (r : _) → F.post name p r q → Calls NextName p.now r q.now }
-    requires fewer { (p q : _) (r : _) → F.post name p r q → OnOk r (left q.now.input < left p.now.input) }
-    ensures spelled { IfOk result (λ names. InFront (ListOf token.BracketOpen token.BracketClose NameAt) parser.old.input names parser.new.input) }
+    requires fewer { (p q : _) (r : _) → F.post name p r q
+        → OnOk r (left q.now.input < left p.now.input) }
+    ensures spelled { IfOk result (λ names. InFront (ListOf token.BracketOpen token.BracketClose
+        NameAt) parser.old.input names parser.new.input) }
     ensures leaves { Leaves parser.old.input result parser.new }
 {
     lists_are_spelled::<Spanning<TextRef<'a>>, F, Names>();

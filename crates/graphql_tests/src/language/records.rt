@@ -87,7 +87,8 @@ fn texts_within_a_part(rt: HostRuntime) -> Result<(), Fail> {
     check(&rt, texts_between(alloc, text, 11, 12), "")
 }
 
-/// Whether records give the tree that their text gives, and a parser that begins with its first token.
+/// Whether records give the tree that their text gives, and a parser that begins with its first
+/// token.
 fn is_parsed_alike(alloc: Global, text: &str) -> Result<bool, Fail> {
     let records = TokenRecords::new(alloc, text)?;
     let lent = parse_document_records::<DefaultScalarValue>(alloc, &records)?;

@@ -44,7 +44,8 @@ fn says_of(
     type_name: &str,
     value: &InputValue<DefaultScalarValue>,
 ) -> Option<Result<(), CheckError>>
-    ensures { SaysOf ⟦<TypeCheck as Check<DefaultScalarValue>>⟧.accepts (check_named schema.now.types type_name.now) value.now result }
+    ensures { SaysOf ⟦<TypeCheck as Check<DefaultScalarValue>>⟧.accepts
+        (check_named schema.now.types type_name.now) value.now result }
 {
     schema.check_value(type_name, value)
 }

@@ -3,8 +3,8 @@ use graphql_scalars::CheckError;
 use graphql_validation::{Check, RootNode};
 use graphql_values::InputValue;
 
-/// Whether the check of the type of this name accepts `null`. `None` where there is no check, and at
-/// want of memory.
+/// Whether the check of the type of this name accepts `null`. `None` where there is no check, and
+/// at want of memory.
 fn accepts(schema: &Schema, name: &str) -> Option<bool> {
     let check = schema.concrete_type_by_name(name)?.input_value_parse_fn()?;
     match check.check(&InputValue::Null) {
@@ -14,8 +14,8 @@ fn accepts(schema: &Schema, name: &str) -> Option<bool> {
     }
 }
 
-/// Whether the checks answer of a scalar that refuses every value, one that accepts every value, and
-/// an object, which has none.
+/// Whether the checks answer of a scalar that refuses every value, one that accepts every value,
+/// and an object, which has none.
 fn answer(schema: &Schema) -> bool {
     matches!(accepts(schema, "Never"), Some(false))
         && matches!(accepts(schema, "String"), Some(true))

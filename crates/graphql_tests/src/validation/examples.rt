@@ -270,8 +270,8 @@ fn with_all(
     types
 }
 
-/// The schema of these types and of what every schema has, with the query root `Query`, a mutation root
-/// where one is given, and the name of no subscription root.
+/// The schema of these types and of what every schema has, with the query root `Query`, a mutation
+/// root where one is given, and the name of no subscription root.
 pub fn schema(rt: &impl Abort, alloc: Global, rows: &[Row<'_>], mutation: Option<&str>) -> Schema {
     let types = with_all(rt, alloc, Items::new(alloc), &every_schema());
     let types = with_all(rt, alloc, types, rows);

@@ -10,7 +10,8 @@ use std::test::Fail;
 
 /// Takes a check that accepts `true` and `false`, and nothing else.
 fn decides_conditions(check: &TypeCheck)
-    requires exactly { (v : _) → ⟦<TypeCheck as Check<DefaultScalarValue>>⟧.accepts check.now v ↔ IsBoolean v }
+    requires exactly { (v : _)
+        → ⟦<TypeCheck as Check<DefaultScalarValue>>⟧.accepts check.now v ↔ IsBoolean v }
 {}
 
 #[test]

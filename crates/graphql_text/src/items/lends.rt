@@ -1,4 +1,5 @@
-ghost use Rattle.std.specs.Prelude.{◌≡◌, ◌^◌, ◌<◌, length, slice_index_or, slice_get, OnSome, ◌↔◌, IsSome};
+ghost use Rattle.std.specs.Prelude.{◌≡◌, ◌^◌, ◌<◌, length, slice_index_or, slice_get, OnSome, ◌↔◌};
+ghost use Rattle.std.specs.Prelude.{IsSome};
 ghost use Rattle.std.specs.Option.{option_copied_mut};
 ghost use Rattle.std.specs.Borrow.{sem};
 ghost use Rattle.std.specs.Slice.Iter.{iter_mut_rest, iter_mut_steps};
@@ -23,7 +24,8 @@ impl<T> Items<T> {
         ensures* writes_back { sem 𝓛 (LendsIter T.row self.entry result) }
         ensures rest { iter_mut_rest result ≡ self.old }
         ensures bound { length (iter_mut_rest result) < 2 ^ 64 }
-        ensures runs { EveryRun (iter_mut_steps {A = T}) (λ p. ItemsMapTo p (λ y. y.now) (iter_mut_rest p.from)) }
+        ensures runs { EveryRun (iter_mut_steps {A = T})
+            (λ p. ItemsMapTo p (λ y. y.now) (iter_mut_rest p.from)) }
     {
         self.as_mut_slice().iter_mut()
     }
@@ -61,11 +63,17 @@ impl<'a, T> IntoIterator for &'a mut Items<T> {
 
     type IntoIter = IterMut<'a, T>;
 
-    ghost into_iter_gives = { λ items r. (iter_mut_rest r ≡ items.now) × (length (iter_mut_rest r) < 2 ^ 64) × EveryRun (iter_mut_steps {A = T}) (λ p. ItemsMapTo p (λ y. y.now) (iter_mut_rest p.from)) };
+    ghost into_iter_gives = { λ items r. (iter_mut_rest r ≡ items.now)
+        × (length (iter_mut_rest r) < 2 ^ 64)
+        × EveryRun (iter_mut_steps {A = T})
+        (λ p. ItemsMapTo p (λ y. y.now) (iter_mut_rest p.from)) };
 
     fn into_iter(self) -> IterMut<'a, T>
         ensures* writes_back { sem 𝓛 (LendsIter T.row self.entry result) }
-        ensures into_iter_gives { (iter_mut_rest result ≡ self.old) × (length (iter_mut_rest result) < 2 ^ 64) × EveryRun (iter_mut_steps {A = T}) (λ p. ItemsMapTo p (λ y. y.now) (iter_mut_rest p.from)) }
+        ensures into_iter_gives { (iter_mut_rest result ≡ self.old)
+            × (length (iter_mut_rest result) < 2 ^ 64)
+            × EveryRun (iter_mut_steps {A = T})
+            (λ p. ItemsMapTo p (λ y. y.now) (iter_mut_rest p.from)) }
     {
         self.iter_mut()
     }

@@ -65,7 +65,11 @@ impl<T: Drop> IntoIterator for Items<T> {
 
     type IntoIter = IntoIter<T, Global>;
 
-    ghost into_iter_gives = { λ items r. (into_iter_items r ≡ items) × (into_iter_len r ≡ length items) × (into_iter_len r < 2 ^ 64) × EveryRun (into_iter_steps {X = T} {Z = Global}) (λ p. ItemsAre p (into_iter_items p.from)) };
+    ghost into_iter_gives = { λ items r. (into_iter_items r ≡ items)
+        × (into_iter_len r ≡ length items)
+        × (into_iter_len r < 2 ^ 64)
+        × EveryRun
+        (into_iter_steps {X = T} {Z = Global}) (λ p. ItemsAre p (into_iter_items p.from)) };
 
     fn into_iter(self) -> IntoIter<T, Global> {
         self.into_vec().into_iter()
@@ -77,7 +81,9 @@ impl<'a, T> IntoIterator for &'a Items<T> {
 
     type IntoIter = Iter<'a, T>;
 
-    ghost into_iter_gives = { λ items r. (iter_rest r ≡ items.now) × (length (iter_rest r) < 2 ^ 64) × EveryRun (iter_steps {A = T}) (λ p. ItemsMapTo p (λ y. y.now) (iter_rest p.from)) };
+    ghost into_iter_gives = { λ items r. (iter_rest r ≡ items.now)
+        × (length (iter_rest r) < 2 ^ 64)
+        × EveryRun (iter_steps {A = T}) (λ p. ItemsMapTo p (λ y. y.now) (iter_rest p.from)) };
 
     fn into_iter(self) -> Iter<'a, T> {
         self.iter()
@@ -109,11 +115,13 @@ impl<T: Drop> FromIterator<T> for Items<T> {
 impl<T: Clone> Clone for Items<T> {
     ghost is_clone = { AllZip T.is_clone };
 
-    /// A second list, of a clone of each item in turn. Where a clone of an item is the same item, the
-    /// second list is the same list. An error is want of memory, of the list or of an item's clone.
+    /// A second list, of a clone of each item in turn. Where a clone of an item is the same item,
+    /// the second list is the same list. An error is want of memory, of the list or of an item's
+    /// clone.
     fn clone(&self) -> Result<Items<T>, AllocError>
         ensures clones { IfOk result (AllZip T.is_clone self.now) }
-        ensures same { IfOk result (λ copy. ((x y : T) → T.is_clone x y → y ≡ x) → copy ≡ self.now) }
+        ensures same { IfOk result
+            (λ copy. ((x y : T) → T.is_clone x y → y ≡ x) → copy ≡ self.now) }
     {
         let held = self.held.clone()?;
         Ok(Items { held })

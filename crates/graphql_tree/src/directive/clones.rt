@@ -11,8 +11,8 @@ use std::alloc::AllocError;
 impl<'a, S: ScalarValue + Drop> Clone for Arguments<'a, S> {
     ghost is_clone = { λ arguments copy. copy ≡ arguments };
 
-    /// The same arguments once more. Takes stack for each level that a value nests. An error is want
-    /// of memory.
+    /// The same arguments once more. Takes stack for each level that a value nests. An error is
+    /// want of memory.
     fn clone(&self) -> Result<Arguments<'a, S>, AllocError> {
         let items = self.items.clone()?;
         Ok(Arguments { items })
@@ -22,8 +22,8 @@ impl<'a, S: ScalarValue + Drop> Clone for Arguments<'a, S> {
 impl<'a, S: ScalarValue + Drop> Clone for Directive<'a, S> {
     ghost is_clone = { λ directive copy. copy ≡ directive };
 
-    /// The same directive once more. Takes stack for each level that a value nests. An error is want
-    /// of memory.
+    /// The same directive once more. Takes stack for each level that a value nests. An error is
+    /// want of memory.
     fn clone(&self) -> Result<Directive<'a, S>, AllocError> {
         let name = self.name.clone()?;
         let arguments = self.arguments.clone()?;

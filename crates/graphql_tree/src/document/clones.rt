@@ -10,8 +10,8 @@ use std::alloc::AllocError;
 impl<'a, S: ScalarValue + Drop> Clone for Operation<'a, S> {
     ghost is_clone = { λ operation copy. copy ≡ operation };
 
-    /// The same operation once more. Takes stack for each level that selection sets and values nest.
-    /// An error is want of memory.
+    /// The same operation once more. Takes stack for each level that selection sets and values
+    /// nest. An error is want of memory.
     fn clone(&self) -> Result<Operation<'a, S>, AllocError> {
         let operation_type = self.operation_type;
         let name = self.name.clone()?;
@@ -50,8 +50,8 @@ impl<'a, S: ScalarValue + Drop> Clone for Fragment<'a, S> {
 impl<'a, S: ScalarValue + Drop> Clone for Definition<'a, S> {
     ghost is_clone = { λ definition copy. copy ≡ definition };
 
-    /// The same definition once more. Takes stack for each level that selection sets and values nest.
-    /// An error is want of memory.
+    /// The same definition once more. Takes stack for each level that selection sets and values
+    /// nest. An error is want of memory.
     fn clone(&self) -> Result<Definition<'a, S>, AllocError> {
         match self {
             Definition::Operation(operation) => Ok(Definition::Operation(operation.clone()?)),

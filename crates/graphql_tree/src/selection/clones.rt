@@ -12,8 +12,8 @@ use std::alloc::AllocError;
 impl<'a, S: ScalarValue + Drop> Clone for Selection<'a, S> {
     ghost is_clone = { λ selection copy. copy ≡ selection };
 
-    /// The same selection once more. Takes stack for each level that selection sets and values nest.
-    /// An error is want of memory.
+    /// The same selection once more. Takes stack for each level that selection sets and values
+    /// nest. An error is want of memory.
     fn clone(&self) -> Result<Selection<'a, S>, AllocError> {
         copy_of(self)
     }
@@ -42,8 +42,8 @@ impl<'a, S: ScalarValue + Drop> Clone for InlineFragment<'a, S> {
 impl<'a, S: ScalarValue + Drop> Clone for FragmentSpread<'a, S> {
     ghost is_clone = { λ spread copy. copy ≡ spread };
 
-    /// The same spread once more. Takes stack for each level that a value nests. An error is want of
-    /// memory.
+    /// The same spread once more. Takes stack for each level that a value nests. An error is want
+    /// of memory.
     fn clone(&self) -> Result<FragmentSpread<'a, S>, AllocError> {
         let name = self.name.clone()?;
         let directives = copy_of_directives(&self.directives)?;

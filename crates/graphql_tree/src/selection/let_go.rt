@@ -1,10 +1,10 @@
 //! Letting the selections within a selection go, one by one.
 //!
 //! What is left is always one selection, so that neither a stack nor a list is needed for what is
-//! still to go. The last of its selection set is taken out, and the others are put into that one, in
-//! the place of a selection that has none within it, which goes. Those gone through on the way there
-//! stand first in one another from then on, and only one behind the first is gone through. So each
-//! selection is gone through once.
+//! still to go. The last of its selection set is taken out, and the others are put into that one,
+//! in the place of a selection that has none within it, which goes. Those gone through on the way
+//! there stand first in one another from then on, and only one behind the first is gone through. So
+//! each selection is gone through once.
 
 ghost use Rattle.std.specs.Prelude.{◌≡◌, ◌+◌, MatchOption};
 ghost use Rattle.graphql_tree.specs.Counts.{selection_count, set_count};
@@ -14,10 +14,11 @@ use graphql_text::{Items, Spanning};
 use std::mem;
 
 impl<'a, S: Drop> Selection<'a, S> {
-    /// Lets one of the selections go that stand in this one, itself among them, and gives the others
-    /// as one selection; `None` where there is no other. Takes no memory.
+    /// Lets one of the selections go that stand in this one, itself among them, and gives the
+    /// others as one selection; `None` where there is no other. Takes no memory.
     pub(super) fn let_one_go(self) -> Option<Selection<'a, S>>
-        ensures { MatchOption result (selection_count self.entry ≡ 1) (λ others. selection_count self.entry ≡ selection_count others + 1) }
+        ensures { MatchOption result (selection_count self.entry ≡ 1)
+            (λ others. selection_count self.entry ≡ selection_count others + 1) }
     {
         let Some(mut set) = self.into_set() else {
             return None;
@@ -33,7 +34,8 @@ impl<'a, S: Drop> Selection<'a, S> {
 
     /// The selections of the selection's set, if it has one. The rest of it is let go.
     fn into_set(self) -> Option<Items<Selection<'a, S>>>
-        ensures { MatchOption result (selection_count self.entry ≡ 1) (λ set. selection_count self.entry ≡ 1 + set_count set) }
+        ensures { MatchOption result (selection_count self.entry ≡ 1)
+            (λ set. selection_count self.entry ≡ 1 + set_count set) }
     {
         match self {
             Selection::Field(field) => {
@@ -49,10 +51,10 @@ impl<'a, S: Drop> Selection<'a, S> {
     }
 
     /// Lets the selection go that is met first without others within it, from this one down by the
-    /// first of each set, and gives the others and `rest` as one selection: those of the set that held
-    /// it come outermost, and each set on the way there holds in its first place what was around it;
-    /// that of this selection holds `rest`. Where there is no `rest`, the selection as it is. Takes no
-    /// memory.
+    /// first of each set, and gives the others and `rest` as one selection: those of the set that
+    /// held it come outermost, and each set on the way there holds in its first place what was
+    /// around it; that of this selection holds `rest`. Where there is no `rest`, the selection as
+    /// it is. Takes no memory.
     fn inside_out(mut self, rest: Items<Selection<'a, S>>) -> Selection<'a, S>
         ensures { selection_count result ≡ selection_count self.entry + set_count rest.entry }
     {

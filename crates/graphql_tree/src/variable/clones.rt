@@ -10,7 +10,8 @@ use std::alloc::AllocError;
 impl<'a, S: ScalarValue + Drop> Clone for VariableDefinition<'a, S> {
     ghost is_clone = { λ definition copy. copy ≡ definition };
 
-    /// The same once more. Takes stack for each level that a value nests. An error is want of memory.
+    /// The same once more. Takes stack for each level that a value nests. An error is want of
+    /// memory.
     fn clone(&self) -> Result<VariableDefinition<'a, S>, AllocError> {
         let var_type = self.var_type.clone()?;
         let default_value = self.default_value.clone()?;
@@ -26,8 +27,8 @@ impl<'a, S: ScalarValue + Drop> Clone for VariableDefinition<'a, S> {
 impl<'a, S: ScalarValue + Drop> Clone for VariableDefinitions<'a, S> {
     ghost is_clone = { λ definitions copy. copy ≡ definitions };
 
-    /// The same variables once more. Takes stack for each level that a value nests. An error is want of
-    /// memory.
+    /// The same variables once more. Takes stack for each level that a value nests. An error is
+    /// want of memory.
     fn clone(&self) -> Result<VariableDefinitions<'a, S>, AllocError> {
         let items = self.items.clone()?;
         Ok(VariableDefinitions { items })

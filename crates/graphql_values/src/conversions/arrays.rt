@@ -68,7 +68,8 @@ impl<S, T: FromInputValue<S>> From<FromInputValueVecError<T, S>>
 
 /// How many items a list has, if it is another number than the wanted one.
 fn other_count<S>(value: &InputValue<S>, expected: usize) -> Option<usize>
-    ensures { MatchOption result (spec.ListHas expected value.now) (spec.ListHasOther expected value.now) }
+    ensures { MatchOption result (spec.ListHas expected value.now)
+        (spec.ListHasOther expected value.now) }
 {
     match value {
         InputValue::List(items) => {
@@ -83,7 +84,8 @@ fn other_count<S>(value: &InputValue<S>, expected: usize) -> Option<usize>
 fn exactly<S, T: FromInputValue<S> + Drop, const N: usize>(
     values: Vec<T>,
 ) -> Result<[T; N], FromInputValueArrayError<T, S>>
-    ensures { MatchResult result (λ array. (array ≡ values.items) × (length values.items ≡ N)) (λ e. (e ≡ array_error.WrongCount (length values.items) N) × (length values.items ≢ N)) }
+    ensures { MatchResult result (λ array. (array ≡ values.items) × (length values.items ≡ N))
+        (λ e. (e ≡ array_error.WrongCount (length values.items) N) × (length values.items ≢ N)) }
 {
     let actual = values.len();
     match <[T; N]>::try_from(values) {

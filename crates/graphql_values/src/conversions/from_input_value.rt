@@ -49,9 +49,9 @@ pub trait FromInputValue<S>: Sized {
 }
 
 impl<S> InputValue<S> {
-    /// What the value means at the type `T`. Of the types of this crate each takes stack for its own
-    /// levels, and no more where the value nests deeper. An error says why it means nothing, or is want
-    /// of memory.
+    /// What the value means at the type `T`. Of the types of this crate each takes stack for its
+    /// own levels, and no more where the value nests deeper. An error says why it means nothing, or
+    /// is want of memory.
     pub fn convert<T: FromInputValue<S>>(&self, alloc: Global) -> Result<T, T::Error>
         ensures { Answers (T.means self.now) (T.refuses self.now) T.is_memory result }
     {

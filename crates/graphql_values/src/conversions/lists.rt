@@ -51,7 +51,9 @@ fn read_items<S, T: FromInputValue<S> + Drop>(
     alloc: Global,
     items: &[Spanning<InputValue<S>>],
 ) -> Result<Vec<T>, FromInputValueVecError<T, S>>
-    ensures { Answers (λ meant. spec.MeansItems T.means (value.List items.now) meant.items) (spec.RefusesItems T.means T.refuses (value.List items.now)) (spec.IsItemMemory T.is_memory) result }
+    ensures { Answers (λ meant. spec.MeansItems T.means (value.List items.now) meant.items)
+        (spec.RefusesItems T.means T.refuses (value.List items.now)) (spec.IsItemMemory T.is_memory)
+        result }
 {
     let mut meant = Vec::with_capacity(alloc, items.len())?;
     'items: for item in items {
@@ -70,7 +72,8 @@ fn read_single<S, T: FromInputValue<S> + Drop>(
 ) -> Result<Vec<T>, FromInputValueVecError<T, S>>
     requires not_null { single.now ≢ value.Null }
     requires not_list { (items : _) → single.now ≢ value.List items }
-    ensures { Answers (λ meant. spec.MeansItems T.means single.now meant.items) (spec.RefusesItems T.means T.refuses single.now) (spec.IsItemMemory T.is_memory) result }
+    ensures { Answers (λ meant. spec.MeansItems T.means single.now meant.items)
+        (spec.RefusesItems T.means T.refuses single.now) (spec.IsItemMemory T.is_memory) result }
 {
     match single.convert(alloc) {
         Ok(only) => {

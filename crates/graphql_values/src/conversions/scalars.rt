@@ -3,7 +3,8 @@
 ghost use Rattle.std.specs.Prelude.{◌≡◌, ◌≢◌, codes, string_bytes, IfSome};
 ghost use Rattle.std.proofs.Common.{rules};
 ghost use Rattle.graphql_scalars.specs.ScalarAnswers.{as_int, as_bool, as_text};
-ghost use Rattle.graphql_scalars.specs.declared.check_error.CheckError.TheVariants.{Message, Memory};
+ghost use Rattle.graphql_scalars.specs.declared.check_error.CheckError.TheVariants.{Message};
+ghost use Rattle.graphql_scalars.specs.declared.check_error.CheckError.TheVariants.{Memory};
 ghost use Rattle.graphql_values.specs.ConversionLaws.{answers_apart};
 ghost use Rattle.graphql_values.specs.ConversionsOfScalars as spec;
 ghost use Rattle.graphql_values.specs.declared.input_value.InputValue.TheVariants as value;
@@ -17,7 +18,8 @@ use std::fmt::Display;
 
 /// The refusal of a value that is no scalar, by its text, or want of memory.
 pub fn no_scalar<D: Display>(alloc: Global, found: &D) -> CheckError
-    ensures { IfSome (D.output found.now) (λ text. result ≢ Memory → result ≡ Message (spec.no_scalar text)) }
+    ensures { IfSome (D.output found.now)
+        (λ text. result ≢ Memory → result ≡ Message (spec.no_scalar text)) }
 {
     match format!(in alloc; "Expected GraphQL scalar, found: {found}") {
         Ok(text) => CheckError::Message(Text::from_string(text)),
@@ -103,7 +105,8 @@ impl<S: ScalarValue> FromInputValue<S> for String {
 
     ghost refuses_absent = { λ e. e ≡ Message (spec.no_scalar (codes "null")) };
 
-    ghost apart = { λ v text. answers_apart (codes "String") S.answer as_text v (string_bytes text) };
+    ghost apart = { λ v text.
+        answers_apart (codes "String") S.answer as_text v (string_bytes text) };
 
     ghost absent_apart = { λ text e impossible is. impossible };
 

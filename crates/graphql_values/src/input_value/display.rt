@@ -10,10 +10,11 @@ use graphql_scalars::{Scalar, ScalarValue};
 use std::alloc::Global;
 use std::fmt::{Display, Error, Formatter, Result, Write};
 
-/// Writes the value as a document does (GraphQL October 2021, 2.9 Input Values): `null`, a number, a
-/// boolean, an enum value's name, `$` and a variable's name, `[a, b]`, `{k: v, l: w}`. A text stands
-/// between quotes, with nothing escaped. What is yet to be written of a list or an input object
-/// stands on the heap, so a deep value takes no more stack; want of memory for it is an error.
+/// Writes the value as a document does (GraphQL October 2021, 2.9 Input Values): `null`, a number,
+/// a boolean, an enum value's name, `$` and a variable's name, `[a, b]`, `{k: v, l: w}`. A text
+/// stands between quotes, with nothing escaped. What is yet to be written of a list or an input
+/// object stands on the heap, so a deep value takes no more stack; want of memory for it is an
+/// error.
 impl<S: ScalarValue> Display for InputValue<S> {
     ghost output = { λ value. Some (input_value_text S.answer value) };
 
@@ -35,7 +36,8 @@ fn write_walked<S: ScalarValue, W: Write>(
     alloc: Global,
     value: &InputValue<S>,
 ) -> Result
-    ensures { WritesOnOk W.write_str_gives f.old result (input_value_text S.answer value.now) f.new }
+    ensures { WritesOnOk W.write_str_gives f.old result (input_value_text S.answer value.now)
+        f.new }
 {
     match Walk::new(alloc, value) {
         Ok(walk) => write_steps(f, walk),
@@ -45,7 +47,8 @@ fn write_walked<S: ScalarValue, W: Write>(
 
 /// Writes what a walk has yet to tell. Want of memory is an error too.
 fn write_steps<S: ScalarValue, W: Write>(f: &mut Formatter<W>, walk: Walk<'_, S>) -> Result
-    ensures { WritesOnOk W.write_str_gives f.old result (flat_map (step_text S.answer) (ahead walk.entry)) f.new }
+    ensures { WritesOnOk W.write_str_gives f.old result
+        (flat_map (step_text S.answer) (ahead walk.entry)) f.new }
 {
     let mut walk = walk;
     'steps: loop {
@@ -59,7 +62,8 @@ fn write_steps<S: ScalarValue, W: Write>(f: &mut Formatter<W>, walk: Walk<'_, S>
 
 /// Writes what a walk tells next. A string stands between quotes, with nothing escaped.
 fn write_step<S: ScalarValue, W: Write>(f: &mut Formatter<W>, step: Step<'_, S>) -> Result
-    ensures { WritesOnOk W.write_str_gives f.old result (step_text S.answer (told step.entry)) f.new }
+    ensures { WritesOnOk W.write_str_gives f.old result (step_text S.answer (told step.entry))
+        f.new }
 {
     match step {
         Step::Null => f.write_str("null"),

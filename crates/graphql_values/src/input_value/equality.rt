@@ -19,10 +19,10 @@ type Field<'a, S> = &'a (Spanning<Text>, Spanning<InputValue<S>>);
 impl<S: PartialEq> InputValue<S> {
     /// Whether the two are the same value, wherever they stand in a text: scalars by their own
     /// equality, enums and variables by name, lists item by item, input objects by their fields,
-    /// whose order does not count (GraphQL October 2021, 2.9 Input Values): under each name the same
-    /// values, in order. Takes time for each value once, and for each name once where the names of
-    /// two objects come in the same order; else both are sorted. What is left to compare stands on
-    /// the heap, so deep values take no more stack. An error is want of memory.
+    /// whose order does not count (GraphQL October 2021, 2.9 Input Values): under each name the
+    /// same values, in order. Takes time for each value once, and for each name once where the
+    /// names of two objects come in the same order; else both are sorted. What is left to compare
+    /// stands on the heap, so deep values take no more stack. An error is want of memory.
     pub fn unlocated_eq(&self, alloc: Global, other: &InputValue<S>) -> Result<bool, AllocError>
         ensures { IfOk result (λ same. IsTrue same ↔ SameValue S S.eq self.now other.now) }
     {
@@ -44,8 +44,10 @@ fn same_form<'a, S: PartialEq>(
     right: &'a InputValue<S>,
     waiting: &mut Items<Both<'a, S>>,
 ) -> Result<bool, AllocError>
-    ensures leaves { IfOk result (λ stands. Leaves S.eq (SameValue S S.eq left.now right.now) waiting.old waiting.new stands) }
-    ensures fewer { IfOk result (λ _. left_count waiting.new < left_count waiting.old + value_count left.now) }
+    ensures leaves { IfOk result (λ stands.
+        Leaves S.eq (SameValue S S.eq left.now right.now) waiting.old waiting.new stands) }
+    ensures fewer { IfOk result
+        (λ _. left_count waiting.new < left_count waiting.old + value_count left.now) }
 {
     match left {
         InputValue::Null => Ok(right.is_null()),
@@ -78,8 +80,10 @@ fn leave_items<'a, S: PartialEq>(
     right: &'a Items<Spanning<InputValue<S>>>,
     waiting: &mut Items<Both<'a, S>>,
 ) -> Result<bool, AllocError>
-    ensures leaves { IfOk result (λ stands. Leaves S.eq (SameItems S S.eq left.now right.now) waiting.old waiting.new stands) }
-    ensures count { IfOk result (λ _. left_count waiting.new ≤ left_count waiting.old + sum_by (λ x. value_count x.item) left.now) }
+    ensures leaves { IfOk result (λ stands.
+        Leaves S.eq (SameItems S S.eq left.now right.now) waiting.old waiting.new stands) }
+    ensures count { IfOk result (λ _. left_count waiting.new ≤ left_count waiting.old
+        + sum_by (λ x. value_count x.item) left.now) }
 {
     if left.len() != right.len() {
         return Ok(false);
@@ -99,8 +103,10 @@ fn leave_fields<'a, S: PartialEq>(
     right: &'a Items<(Spanning<Text>, Spanning<InputValue<S>>)>,
     waiting: &mut Items<Both<'a, S>>,
 ) -> Result<bool, AllocError>
-    ensures leaves { IfOk result (λ stands. Leaves S.eq (SameFields S S.eq left.now right.now) waiting.old waiting.new stands) }
-    ensures count { IfOk result (λ _. left_count waiting.new ≤ left_count waiting.old + sum_by (λ p. value_count p.1.item) left.now) }
+    ensures leaves { IfOk result (λ stands.
+        Leaves S.eq (SameFields S S.eq left.now right.now) waiting.old waiting.new stands) }
+    ensures count { IfOk result (λ _. left_count waiting.new ≤ left_count waiting.old
+        + sum_by (λ p. value_count p.1.item) left.now) }
 {
     let left = lent_fields(left)?;
     let right = lent_fields(right)?;
@@ -147,8 +153,10 @@ fn leave_in_order<'a, S: PartialEq>(
     waiting: &mut Items<Both<'a, S>>,
 ) -> Result<bool, AllocError>
     requires { names (lent left.now) ≡ names (lent right.now) }
-    ensures leaves { IfOk result (λ stands. Leaves S.eq (SameFields S S.eq (lent left.now) (lent right.now)) waiting.old waiting.new stands) }
-    ensures count { IfOk result (λ _. left_count waiting.new ≤ left_count waiting.old + sum_by (λ p. value_count p.1.item) (lent left.now)) }
+    ensures leaves { IfOk result (λ stands. Leaves S.eq
+        (SameFields S S.eq (lent left.now) (lent right.now)) waiting.old waiting.new stands) }
+    ensures count { IfOk result (λ _. left_count waiting.new ≤ left_count waiting.old
+        + sum_by (λ p. value_count p.1.item) (lent left.now)) }
 {
     let others = right.as_slice();
     for (index, pair) in left.as_slice().iter().enumerate() {
@@ -164,8 +172,10 @@ fn leave_by_name<'a, S: PartialEq>(
     right: Items<Field<'a, S>>,
     waiting: &mut Items<Both<'a, S>>,
 ) -> Result<bool, AllocError>
-    ensures leaves { IfOk result (λ stands. Leaves S.eq (SameFields S S.eq (lent left.entry) (lent right.entry)) waiting.old waiting.new stands) }
-    ensures count { IfOk result (λ _. left_count waiting.new ≤ left_count waiting.old + sum_by (λ p. value_count p.1.item) (lent left.entry)) }
+    ensures leaves { IfOk result (λ stands. Leaves S.eq
+        (SameFields S S.eq (lent left.entry) (lent right.entry)) waiting.old waiting.new stands) }
+    ensures count { IfOk result (λ _. left_count waiting.new ≤ left_count waiting.old
+        + sum_by (λ p. value_count p.1.item) (lent left.entry)) }
 {
     let left = by_name(left)?;
     let right = by_name(right)?;

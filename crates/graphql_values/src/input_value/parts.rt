@@ -23,9 +23,11 @@ impl<S> InputValue<S> {
         }
     }
 
-    /// The name of an enum value (GraphQL October 2021, 2.9.6 Enum Value); `None` where this is none.
+    /// The name of an enum value (GraphQL October 2021, 2.9.6 Enum Value); `None` where this is
+    /// none.
     pub fn as_enum_value(&self) -> Option<&str>
-        ensures { MatchOption result ((name : List ℕ) → self.now ≢ value.Enum name) (λ name. self.now ≡ value.Enum name.now) }
+        ensures { MatchOption result ((name : List ℕ) → self.now ≢ value.Enum name)
+            (λ name. self.now ≡ value.Enum name.now) }
     {
         match self {
             InputValue::Enum(name) => Some(name.as_str()),
@@ -36,7 +38,8 @@ impl<S> InputValue<S> {
     /// The scalar of a scalar value (GraphQL October 2021, 2.9 Input Values); `None` where this is
     /// none.
     pub fn as_scalar(&self) -> Option<&S>
-        ensures { MatchOption result ((scalar : S) → self.now ≢ value.Scalar scalar) (λ scalar. self.now ≡ value.Scalar scalar.now) }
+        ensures { MatchOption result ((scalar : S) → self.now ≢ value.Scalar scalar)
+            (λ scalar. self.now ≡ value.Scalar scalar.now) }
     {
         match self {
             InputValue::Scalar(scalar) => Some(scalar),
@@ -44,12 +47,14 @@ impl<S> InputValue<S> {
         }
     }
 
-    /// The values of a list, in order (GraphQL October 2021, 2.9.7 List Value); `None` where this is
-    /// no list. An error is want of memory.
+    /// The values of a list, in order (GraphQL October 2021, 2.9.7 List Value); `None` where this
+    /// is no list. An error is want of memory.
     pub fn to_list_value(&self, alloc: Global) -> Result<Option<Vec<&InputValue<S>>>, AllocError>
         ensures { IfOk result (λ found. MatchOption found
             ((items : List (Placed (InputValue S))) → self.now ≢ value.List items)
-            (λ parts. (items : List (Placed (InputValue S))) × (self.now ≡ value.List items) × (map (λ part. part.now) parts.items ≡ map (λ x. x.item) items))) }
+            (λ parts. (items : List (Placed (InputValue S)))
+            × (self.now ≡ value.List items)
+            × (map (λ part. part.now) parts.items ≡ map (λ x. x.item) items))) }
     {
         match self {
             InputValue::List(items) => Ok(Some(values_of(items, alloc)?)),
@@ -66,7 +71,9 @@ impl<S> InputValue<S> {
     ) -> Result<Option<IndexMap<TextRef<'_>, &InputValue<S>>>, AllocError>
         ensures { IfOk result (λ found. MatchOption found
             ((pairs : List (Pair (InputValue S))) → self.now ≢ value.Object pairs)
-            (λ fields. (pairs : List (Pair (InputValue S))) × (self.now ≡ value.Object pairs) × (map (λ field. (field.0, field.1.now)) fields.entries ≡ by_name pairs))) }
+            (λ fields. (pairs : List (Pair (InputValue S)))
+            × (self.now ≡ value.Object pairs)
+            × (map (λ field. (field.0, field.1.now)) fields.entries ≡ by_name pairs))) }
     {
         match self {
             InputValue::Object(pairs) => Ok(Some(fields_of(pairs, alloc)?)),
@@ -80,7 +87,8 @@ fn values_of<S>(
     items: &Items<Spanning<InputValue<S>>>,
     alloc: Global,
 ) -> Result<Vec<&InputValue<S>>, AllocError>
-    ensures { GivesBy (λ parts. map (λ part. part.now) parts.items) result (map (λ x. x.item) items.now) }
+    ensures { GivesBy (λ parts. map (λ part. part.now) parts.items) result
+        (map (λ x. x.item) items.now) }
 {
     let mut parts = Vec::new(alloc);
     for part in items.as_slice() {
@@ -94,7 +102,8 @@ fn fields_of<S>(
     pairs: &Items<(Spanning<Text>, Spanning<InputValue<S>>)>,
     alloc: Global,
 ) -> Result<IndexMap<TextRef<'_>, &InputValue<S>>, AllocError>
-    ensures { GivesBy (λ fields. map (λ field. (field.0, field.1.now)) fields.entries) result (by_name pairs.now) }
+    ensures { GivesBy (λ fields. map (λ field. (field.0, field.1.now)) fields.entries) result
+        (by_name pairs.now) }
 {
     let mut fields = IndexMap::new(alloc);
     for pair in pairs.as_slice() {

@@ -33,7 +33,9 @@ pub(super) fn push_field<T: Drop>(
     like: &(Spanning<Text>, Spanning<T>),
     item: T,
 ) -> Result<(), AllocError>
-    ensures { OnOk result (fields.new ≡ fields.old ++ (like.now.0, record { item = item; span = like.now.1.span }) ∷ []) }
+    ensures { OnOk result (fields.new
+        ≡ fields.old
+        ++ (like.now.0, record { item = item; span = like.now.1.span }) ∷ []) }
 {
     let name = Spanning {
         item: like.0.item.clone()?,

@@ -2,7 +2,8 @@
 
 ghost use Rattle.std.specs.HashMap.{get_by_text};
 ghost use Rattle.graphql_text.specs.Memory.{Gives};
-ghost use Rattle.graphql_values.specs.Variables.{variables_in, constant_of, each_given, constant_item, constant_pair};
+ghost use Rattle.graphql_values.specs.Variables.{variables_in, constant_of, each_given};
+ghost use Rattle.graphql_values.specs.Variables.{constant_item, constant_pair};
 
 use super::InputValue;
 use super::pushed::{push_at, push_field};
@@ -18,8 +19,8 @@ pub type Variables<S> = HashMap<String, InputValue<S>>;
 
 impl<S> InputValue<S> {
     /// The names of the variables that stand in the value (GraphQL October 2021, 2.10 Variables),
-    /// from left to right, each as often as it stands there. It takes no more stack however deep the
-    /// value is. An error is want of memory.
+    /// from left to right, each as often as it stands there. It takes no more stack however deep
+    /// the value is. An error is want of memory.
     pub fn referenced_variables(&self, alloc: Global) -> Result<Items<TextRef<'_>>, AllocError>
         ensures { Gives result (variables_in self.now) }
     {
@@ -35,9 +36,9 @@ impl<S> InputValue<S> {
 }
 
 impl<S: ScalarValue + Drop> InputValue<S> {
-    /// The value with each variable's value in its stead (GraphQL October 2021, 6.4.1 Coercing Field
-    /// Arguments), everything else at its place; `None` where a variable has no value in `variables`.
-    /// A variable's value is copied wherever the variable stands; `ArgumentValue` of
+    /// The value with each variable's value in its stead (GraphQL October 2021, 6.4.1 Coercing
+    /// Field Arguments), everything else at its place; `None` where a variable has no value in
+    /// `variables`. A variable's value is copied wherever the variable stands; `ArgumentValue` of
     /// `graphql_written_out` reads a literal and copies none. Takes stack for each level that the
     /// value nests. An error is want of memory.
     pub fn into_const(

@@ -80,7 +80,8 @@ impl<'a, S> Walk<'a, S> {
 
     /// The next step, or `None` at the end of the value. An error is want of memory.
     pub(super) fn next(&mut self) -> Result<Option<Step<'a, S>>, AllocError>
-        ensures { IfOk result (λ next. MatchOption next (ahead self.old ≡ []) (λ step. ahead self.old ≡ told step ∷ ahead self.new)) }
+        ensures { IfOk result (λ next. MatchOption next (ahead self.old ≡ [])
+            (λ step. ahead self.old ≡ told step ∷ ahead self.new)) }
     {
         match self.tasks.pop() {
             None => Ok(None),

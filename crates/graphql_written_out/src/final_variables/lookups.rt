@@ -16,14 +16,16 @@ use std::alloc::{AllocError, Global};
 use std::collections::HashMap;
 
 impl<'a, S> FinalVariables<'a, S> {
-    /// The final values of the variables of this operation in a request that gives these values. Takes
-    /// time and memory in proportion to the definitions. An error is want of memory.
+    /// The final values of the variables of this operation in a request that gives these values.
+    /// Takes time and memory in proportion to the definitions. An error is want of memory.
     pub fn new<'t>(
         alloc: Global,
         variables: &'a Variables<S>,
         operation: &'a Operation<'t, S>,
     ) -> Result<FinalVariables<'a, S>, AllocError>
-        ensures { IfOk result (λ values. value_in values ≡ final_value (get_by_text variables.now) (variables_in operation.now.variable_definitions)) }
+        ensures { IfOk result (λ values. value_in values
+            ≡ final_value (get_by_text variables.now)
+            (variables_in operation.now.variable_definitions)) }
     {
         let definitions = definitions_of(operation);
         let mut first: HashMap<&'a str, &'a Variable<'a, S>> = HashMap::new(alloc);
@@ -37,9 +39,9 @@ impl<'a, S> FinalVariables<'a, S> {
         })
     }
 
-    /// The final value of the variable of this name, which is given without the `$`: what the request
-    /// gives, else the default; `None` where there is neither. Takes no memory, and no more time than it
-    /// takes to find a name in two maps.
+    /// The final value of the variable of this name, which is given without the `$`: what the
+    /// request gives, else the default; `None` where there is neither. Takes no memory, and no more
+    /// time than it takes to find a name in two maps.
     pub fn get(&self, name: &str) -> Option<&'a InputValue<S>>
         ensures { option_copied result ≡ value_in self.now name.now }
     {
