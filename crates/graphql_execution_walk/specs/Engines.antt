@@ -30,8 +30,7 @@ module _ {S C : Type 0} where
 
 module _ {S C N : Type 0} where
   -- `of_text`, `of_bool`, `answer`: of the scalars; `given`: the final values of variables;
-  -- `type_of`, `resolves`:
-  -- of the resolver, over its context
+  -- `type_of`, `resolves`: of the resolver, over its context
   unfoldable pub engine_over : (Bytes → S) → (Bool → S) → (S → ScalarAnswer) → SchemaType S C
       → (Bytes → Option (InputValue S)) → (N → Bytes) → Resolves S N → Engine S (Asked S N C)
   engine_over of_text of_bool answer schema given type_of resolves = record {

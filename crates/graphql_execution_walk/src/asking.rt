@@ -76,9 +76,8 @@ pub fn told_of_itself<'d, S: SchemaScalar>(
 }
 
 /// What is answered for the field of an object type at which an executor stands, of which something
-/// may be known:
-/// what each object tells of itself the resolver is not asked, nor what the schema answers (GraphQL
-/// October 2021, 4 Introspection). `FieldFault::Memory` is want of memory.
+/// may be known: what each object tells of itself the resolver is not asked, nor what the schema
+/// answers (GraphQL October 2021, 4 Introspection). `FieldFault::Memory` is want of memory.
 #[tactic(auto, unfolding(crate::specs::Engines::engine_over))]
 pub(crate) fn ask<'p, 'd, 'a, S: SchemaScalar + Drop, R: GraphQLValue<S>>(
     resolver: &R,

@@ -21,8 +21,9 @@ pub record Changes (S N X : Type 0) : Type 0 where
   pub answer : X → Bytes → Given S → Result (Resolved S N) (FieldError S)
   pub after : X → Bytes → Given S → X
 
--- of what the root's object tells of itself no resolver is asked, and nothing changes (4
--- Introspection) `of_text`, `answer`: of the scalars
+-- of what the root's object tells of itself no resolver is asked, and nothing changes
+-- (4 Introspection)
+-- `of_text`, `answer`: of the scalars
 module _ {S C N X : Type 0} (of_text : Bytes → S) (answer : S → ScalarAnswer)
     (schema : SchemaType S C)
     (changes : Changes S N X) where

@@ -101,8 +101,7 @@ impl ComponentWalk {
     }
 
     /// Follows what is to be followed. The bound of the loop is out of reach, and stands for a
-    /// measure:
-    /// no more steps come than twice the fragments and the spreads.
+    /// measure: no more steps come than twice the fragments and the spreads.
     fn follow_all(&mut self, index: &FragmentIndex<'_, '_, '_>) -> Result<(), AllocError>
         ensures { OnOk result
             (IsWalk index.now.fragments.now self.old → IsWalk index.now.fragments.now self.new) }

@@ -147,8 +147,7 @@ pub fn input_object<S: ScalarValue + Drop, C: Drop>(
 }
 
 /// The same, of which exactly one field is given, and not `null`, as `input By @oneOf { .. }` says
-/// it:
-/// so each row has to be a field with `null` and without a default, which a schema asks
+/// it: so each row has to be a field with `null` and without a default, which a schema asks
 /// (`SchemaError::BadOneOf`). Errors are those of [`input_object`].
 pub fn one_of<S: ScalarValue + Drop, C: Drop>(
     alloc: Global,

@@ -42,8 +42,8 @@ pub fn visit_first_stage<'a, 't, S: SchemaScalar>(context: &mut ValidatorContext
 }
 
 /// The same. In that walk the rule against introspection is asked too, where
-/// `introspection_disabled`:
-/// its errors stand apart from those of the context, in the order of the text.
+/// `introspection_disabled`: its errors stand apart from those of the context, in the order of the
+/// text.
 fn visit_stage<'a, 't, S: SchemaScalar>(
     context: &mut ValidatorContext<'a, 't, S>,
     introspection_disabled: bool,

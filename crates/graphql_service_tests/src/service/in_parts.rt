@@ -83,10 +83,9 @@ fn data_of_query<'a, S: SchemaScalar + Drop, R: GraphQLMutationValue<S>>(
 }
 
 /// The data of the first selection of a text's query alone, of its other selections, and of all of
-/// them:
-/// where scalars that are the same answer the same, these are the join of the parts' data. `None`
-/// where the text's operation is no query. Errors are those of `read_request`, `get_operation` and
-/// `execute_validated_query`.
+/// them: where scalars that are the same answer the same, these are the join of the parts' data.
+/// `None` where the text's operation is no query. Errors are those of `read_request`,
+/// `get_operation` and `execute_validated_query`.
 pub fn parts_of_query<S: SchemaScalar + Drop, R: GraphQLMutationValue<S>>(
     alloc: Global,
     text: &str,
