@@ -2,9 +2,9 @@
 
 ghost use Rattle.std.specs.Prelude.{◌≡◌};
 ghost use Rattle.allowed_queries.specs.Placed.{TellsPlaced};
-ghost use Rattle.allowed_queries.specs.Status.{status_of, status_of_fault};
+ghost use Rattle.allowed_queries.specs.Status.{status_of};
 
-use graphql_file_service::{DataFileError, PlacedFault, RunFault, SchemaFileError, ServeError};
+use graphql_file_service::{PlacedFault, RunFault};
 use graphql_stores::AllowedFault;
 use std::alloc::{AllocError, Global};
 use std::error::Error;
@@ -42,23 +42,6 @@ pub(crate) fn failure_of(alloc: Global, schema: &[u8], records: &[u8], fault: Ru
     Failure::Run(PlacedFault::of(alloc, schema, records, fault))
 }
 
-/// The exit status of a run that ended so.
-fn fault_status(fault: &RunFault) -> u8
-    ensures { result ≡ status_of_fault fault.now }
-{
-    match fault {
-        RunFault::Schema(SchemaFileError::Memory)
-        | RunFault::Data(DataFileError::Memory)
-        | RunFault::Serve(ServeError::Memory)
-        | RunFault::Memory => 4,
-        RunFault::Schema(_)
-        | RunFault::NotExecutable
-        | RunFault::Data(_)
-        | RunFault::OtherBoolean => 1,
-        RunFault::Serve(_) => 3,
-    }
-}
-
 impl Failure {
     /// The exit status.
     pub fn status(&self) -> u8
@@ -69,7 +52,7 @@ impl Failure {
             Failure::Usage => 2,
             Failure::Allowed(AllowedFault::Line(_)) => 1,
             Failure::Allowed(AllowedFault::Memory) => 4,
-            Failure::Run(placed) => fault_status(&placed.fault),
+            Failure::Run(placed) => placed.fault.status(),
             Failure::Memory => 4,
         }
     }

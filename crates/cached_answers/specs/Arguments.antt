@@ -1,12 +1,9 @@
 -- What the words behind the program's name are.
-use Rattle.std.specs.Prelude.{Option, Some, None, Result, Ok, Err, String}
-use Rattle.std.specs.declared.alloc.Global.{Global}
+use Rattle.std.specs.Prelude.{Option, Some, None, Result, Ok, Err}
+use Rattle.graphql_file_service.specs.Programs.{Word}
 use Rattle.cached_answers.specs.declared.arguments.Arguments.{Arguments}
 use Rattle.cached_answers.specs.declared.failure.Failure.{Failure}
 use Rattle.cached_answers.specs.declared.failure.Failure.TheVariants.{Usage}
-
-abbrev pub Word : Type 0
-Word = String Global
 
 -- two files and a number of bytes, and no more
 abbrev pub arguments_of : Option Word → Option Word → Option Word → Option Word

@@ -2,9 +2,9 @@
 
 ghost use Rattle.std.specs.Prelude.{◌≡◌};
 ghost use Rattle.cached_answers.specs.Placed.{TellsPlaced};
-ghost use Rattle.cached_answers.specs.Status.{status_of, status_of_fault};
+ghost use Rattle.cached_answers.specs.Status.{status_of};
 
-use graphql_file_service::{DataFileError, PlacedFault, RunFault, SchemaFileError, ServeError};
+use graphql_file_service::{PlacedFault, RunFault};
 use std::alloc::{AllocError, Global};
 use std::error::Error;
 use std::{fmt, io};
@@ -39,23 +39,6 @@ pub(crate) fn failure_of(alloc: Global, schema: &[u8], records: &[u8], fault: Ru
     Failure::Run(PlacedFault::of(alloc, schema, records, fault))
 }
 
-/// The exit status of a run that ended so.
-fn fault_status(fault: &RunFault) -> u8
-    ensures { result ≡ status_of_fault fault.now }
-{
-    match fault {
-        RunFault::Schema(SchemaFileError::Memory)
-        | RunFault::Data(DataFileError::Memory)
-        | RunFault::Serve(ServeError::Memory)
-        | RunFault::Memory => 4,
-        RunFault::Schema(_)
-        | RunFault::NotExecutable
-        | RunFault::Data(_)
-        | RunFault::OtherBoolean => 1,
-        RunFault::Serve(_) => 3,
-    }
-}
-
 impl Failure {
     /// The exit status.
     pub fn status(&self) -> u8
@@ -64,7 +47,7 @@ impl Failure {
         match self {
             Failure::CannotRead(_) => 1,
             Failure::Usage => 2,
-            Failure::Run(placed) => fault_status(&placed.fault),
+            Failure::Run(placed) => placed.fault.status(),
             Failure::Memory => 4,
         }
     }

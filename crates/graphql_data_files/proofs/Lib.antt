@@ -5,4 +5,5 @@ pub mod Judging
 pub mod ReadSteps
 pub mod Placing
 pub mod FaultySteps
+pub mod ShapeFaults
 pub mod ToldPlaces

@@ -1,11 +1,12 @@
 -- Where faults stand among records, as it is found.
-use Rattle.std.proofs.Common.{◌≡◌, Bool, true, false, cond, List, [], ◌∷◌, map, Option, Some, None, Result, Ok, Err, option_map, is_some, ok_or, is_ok, true≢false, refl, sym, ap, subst, ◌∙◌}
+use Rattle.std.proofs.Common.{◌≡◌, Bool, true, false, cond, List, [], ◌∷◌, map, Option, Some, None, Result, Ok, Err, IfOk, option_map, is_some, ok_or, is_ok, true≢false, refl, sym, ap, subst, ◌∙◌}
 use Rattle.std.specs.List.{find}
 use Rattle.std.specs.Map.{keys_of}
 use Rattle.std.specs.Option.{unwrap_or}
 use Rattle.std.specs.declared.alloc.AllocError.{AllocError}
 use Rattle.serde_json.specs.Data.{Data}
 use Rattle.graphql_json.specs.Parts.{◌>>=◌}
+use Rattle.graphql_lines.specs.Request.{data_of}
 use Rattle.graphql_text.specs.Memory.{Gives}
 use Rattle.graphql_names.specs.Names.{Bytes}
 use Rattle.graphql_records.specs.Tables.{Entries, IsTableOf, Table}
@@ -13,11 +14,13 @@ use Rattle.graphql_records.specs.declared.table_type.TableType.{TableType}
 use Rattle.graphql_data_files.specs.DataFiles.{ids_repeat}
 use Rattle.graphql_data_files.specs.Drafts.{Drafts, file_of}
 use Rattle.graphql_data_files.specs.LentDrafts.{draft_told}
-use Rattle.graphql_data_files.specs.RecordPlaces.{IsPlaceIn, IsPlaceOf, bad_link, dead_link, field_of, place_of_drafts}
+use Rattle.graphql_data_files.specs.RecordPlaces.{IsPlace, IsPlaceIn, IsPlaceOf, bad_link, dead_link, field_of, place_of_drafts}
 use Rattle.graphql_data_files.specs.declared.data_file_error.DataFileError.{DataFileError}
 use Rattle.graphql_data_files.specs.declared.data_file_error.DataFileError.TheVariants as fault
 use Rattle.graphql_data_files.specs.declared.drafts.Draft.{Draft as LentDraft}
+use Rattle.graphql_data_files.specs.RecordShapes.{fault_in}
 use Rattle.graphql_data_files.specs.declared.record_place.RecordPlace.{RecordPlace}
+use Rattle.graphql_data_files.specs.declared.record_place.RecordPlace.TheVariants as place
 use Rattle.graphql_data_files.proofs.Judging.{ids_differ, ids_repeat_at}
 
 -- the first of what items are made to
@@ -91,3 +94,26 @@ parsed (Some d) json told = ap (λ r. some_of r) told
 pub not_parsed : (types : List TableType) (e : DataFileError) (o : Option Data) (read : DataFileError) → ok_or o fault.NotJson ≡ Err read → IsPlaceOf types e (o >>= file_of) None
 not_parsed types e None read told = refl
 not_parsed types e (Some d) read told = absurd (true≢false (ap is_ok told))
+
+-- the member that has not its shape
+pub shape_placed : (types : List TableType) (e : DataFileError) (bytes : Bytes) (result : Result (Option RecordPlace) AllocError) → e ≡ fault.BadShape → Gives result (option_map place.Shape (fault_in bytes))
+    → IfOk result (IsPlace types e bytes)
+shape_placed types e bytes result is given = subst (λ f. IfOk result (IsPlace types f bytes)) (sym is) given
+
+-- the place of another fault
+placed_otherwise : (types : List TableType) (e : DataFileError) (bytes : Bytes) (found : Option RecordPlace) → (e ≡ fault.BadShape → ⊥) → IsPlaceOf types e (data_of bytes >>= file_of) found
+    → IsPlace types e bytes found
+placed_otherwise types fault.BadShape bytes found other is = absurd (other refl)
+placed_otherwise types fault.NotJson bytes found other is = is
+placed_otherwise types fault.BadNumber bytes found other is = is
+placed_otherwise types fault.DuplicateId bytes found other is = is
+placed_otherwise types fault.UnknownType bytes found other is = is
+placed_otherwise types fault.UnknownField bytes found other is = is
+placed_otherwise types fault.BadLink bytes found other is = is
+placed_otherwise types fault.BadRoot bytes found other is = is
+placed_otherwise types fault.Memory bytes found other is = is
+
+pub other_place : (types : List TableType) (e : DataFileError) (bytes : Bytes) (result : Result (Option RecordPlace) AllocError) → (e ≡ fault.BadShape → ⊥)
+    → IfOk result (IsPlaceOf types e (data_of bytes >>= file_of)) → IfOk result (IsPlace types e bytes)
+other_place types e bytes (Ok found) other is = placed_otherwise types e bytes found other is
+other_place types e bytes (Err f) other is = is

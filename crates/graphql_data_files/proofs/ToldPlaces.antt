@@ -1,4 +1,4 @@
--- Where a file's first fault stands at a record or at the root's id, a place is found.
+-- Where a file's first fault stands at a member, at a record or at the root's id, a place is found.
 use Rattle.std.proofs.Common.{◌≡◌, ℕ, Bool, true, false, not, if◌then◌else◌, List, map, Option, Some, None, option_map, option_and_then, is_some, Result, Ok, Err, ok_or, is_ok, find, true≢false, refl, sym, ap, subst, ◌∙◌}
 use Rattle.std.specs.List.{list_all, list_any}
 use Rattle.std.specs.Map.{keys_of}
@@ -11,15 +11,25 @@ use Rattle.graphql_records.specs.declared.record.Record.{Record}
 use Rattle.graphql_records.specs.declared.table_type.TableType.{TableType}
 use Rattle.graphql_data_files.specs.DataFiles.{described, drafted, has_field, has_fields, ids_repeat, is_of_object_type, judged, linked, rooted}
 use Rattle.graphql_data_files.specs.Drafts.{Drafts, file_of, records_of}
-use Rattle.graphql_data_files.specs.Laws.{StandsAtRecord, ToldFaultsHavePlaces}
+use Rattle.graphql_data_files.specs.Laws.{ToldFaultsHavePlaces}
 use Rattle.graphql_data_files.specs.Links.{all_lead, field_leads, root_of}
 use Rattle.graphql_data_files.specs.RecordPlaces.{IsPlaceIn, IsPlaceOf, IsRepeat, dead_link, place_among}
+use Rattle.graphql_data_files.specs.RecordShapes.{fault_in, file_fault}
 use Rattle.graphql_data_files.specs.declared.data_file_error.DataFileError.{DataFileError}
 use Rattle.graphql_data_files.specs.declared.data_file_error.DataFileError.TheVariants as fault
 use Rattle.graphql_data_files.specs.declared.record_place.RecordPlace.{RecordPlace}
 use Rattle.graphql_data_files.specs.declared.record_place.RecordPlace.TheVariants as place
 use Rattle.graphql_data_files.proofs.FaultySteps.{FirstFails, are_shaped, field_found, file_shaped, first_fails, ids_kept, number_found, some_mapped}
+use Rattle.graphql_data_files.specs.declared.shape_place.ShapePlace.{ShapePlace}
 use Rattle.graphql_data_files.proofs.Judging.{ids_differ}
+use Rattle.graphql_data_files.proofs.ShapeFaults.{shapeless}
+
+-- a fault of a record, or of the root's id
+abbrev StandsAtRecord : DataFileError → Type 0
+StandsAtRecord fault.NotJson = ⊥
+StandsAtRecord fault.BadShape = ⊥
+StandsAtRecord fault.Memory = ⊥
+StandsAtRecord _ = Unit {0}
 
 abbrev refused : DataFileError → Result Table DataFileError
 refused e = Err e
@@ -125,5 +135,33 @@ module _ (types : List TableType) (query : Bytes) where
   in_bytes None e stands given found is = absurd (subst StandsAtRecord (sym (same_error fault.NotJson e given)) stands)
   in_bytes (Some d) e stands given found is = in_json (file_of d) (file_shaped d) e stands given found is
 
+  -- nothing that has been drafted is told to have no shape
+  never_shape : (o : Option Entries) → is_some (option_and_then (place_among types fault.BadShape) o) ≡ true → ⊥
+  never_shape None some = true≢false (sym some)
+  never_shape (Some records) some = true≢false (sym some)
+
+  not_drafted : (o : Option Drafts) → ((file : Drafts) → o ≡ Some file → are_shaped file.records ≡ true) → (ok_or o fault.BadShape >>= drafted types query) ≡ Err fault.BadShape → o ≡ None
+  not_drafted None shaped given = refl
+  not_drafted (Some file) shaped given =
+      let found = option_and_then (place_among types fault.BadShape) (records_of file.records) in
+      absurd (never_shape (records_of file.records) (in_file file (shaped file refl) (records_of file.records) refl fault.BadShape given found refl))
+
+  shape_in_bytes : (o : Option Data) → (ok_or o fault.NotJson >>= described types query) ≡ Err fault.BadShape → is_some (option_and_then file_fault o) ≡ true
+  shape_in_bytes None given = absurd (let e = same_error fault.NotJson fault.BadShape given in cc)
+  shape_in_bytes (Some d) given = shapeless d (not_drafted (file_of d) (file_shaped d) given)
+
+-- a member that is found is a place
+found_placed : (at : Option ShapePlace) → is_some at ≡ true → (found : Option RecordPlace) → found ≡ option_map place.Shape at → is_some found ≡ true
+found_placed (Some p) some found is = ap is_some is
+found_placed None some found is = absurd (true≢false (sym some))
+
 pub told_faults_have_places : ToldFaultsHavePlaces
-told_faults_have_places types query bytes e found stands given is = in_bytes types query (data_of bytes) e stands given found is
+told_faults_have_places types query bytes fault.BadShape found has given is = found_placed (fault_in bytes) (shape_in_bytes types query (data_of bytes) given) found is
+told_faults_have_places types query bytes fault.BadNumber found has given is = in_bytes types query (data_of bytes) fault.BadNumber has given found is
+told_faults_have_places types query bytes fault.DuplicateId found has given is = in_bytes types query (data_of bytes) fault.DuplicateId has given found is
+told_faults_have_places types query bytes fault.UnknownType found has given is = in_bytes types query (data_of bytes) fault.UnknownType has given found is
+told_faults_have_places types query bytes fault.UnknownField found has given is = in_bytes types query (data_of bytes) fault.UnknownField has given found is
+told_faults_have_places types query bytes fault.BadLink found has given is = in_bytes types query (data_of bytes) fault.BadLink has given found is
+told_faults_have_places types query bytes fault.BadRoot found has given is = in_bytes types query (data_of bytes) fault.BadRoot has given found is
+told_faults_have_places types query bytes fault.NotJson found has given is = absurd has
+told_faults_have_places types query bytes fault.Memory found has given is = absurd has

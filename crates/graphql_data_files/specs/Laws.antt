@@ -8,16 +8,15 @@ use Rattle.graphql_data_files.specs.declared.data_file_error.DataFileError.{Data
 use Rattle.graphql_data_files.specs.declared.data_file_error.DataFileError.TheVariants as fault
 use Rattle.graphql_data_files.specs.declared.record_place.RecordPlace.{RecordPlace}
 
--- a fault of a record, or of the root's id
-abbrev pub StandsAtRecord : DataFileError → Type 0
-StandsAtRecord fault.NotJson = ⊥
-StandsAtRecord fault.BadShape = ⊥
-StandsAtRecord fault.Memory = ⊥
-StandsAtRecord _ = Unit {0}
+-- a fault that stands at a member, at a record, or at the root's id
+abbrev pub HasPlace : DataFileError → Type 0
+HasPlace fault.NotJson = ⊥
+HasPlace fault.Memory = ⊥
+HasPlace _ = Unit {0}
 
 -- where it is the first fault of a file, its place is found
 abbrev pub ToldFaultsHavePlaces : Type 0
 ToldFaultsHavePlaces =
     (types : List TableType) (query bytes : Bytes) (e : DataFileError) (found : Option RecordPlace)
-    → StandsAtRecord e → read_of types query bytes ≡ Err e → IsPlace types e bytes found
+    → HasPlace e → read_of types query bytes ≡ Err e → IsPlace types e bytes found
     → IsSome found

@@ -4,6 +4,7 @@ pub mod LentDrafts
 pub mod Refusals
 pub mod Links
 pub mod DataFiles
+pub mod RecordShapes
 pub mod RecordPlaces
 pub mod Laws
 pub mod PlaceTexts

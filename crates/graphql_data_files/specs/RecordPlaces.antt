@@ -15,6 +15,7 @@ use Rattle.graphql_records.specs.declared.table_type.TableType.{TableType}
 use Rattle.graphql_data_files.specs.DataFiles.{has_field, has_fields, ids_repeat, is_of_object_type}
 use Rattle.graphql_data_files.specs.Drafts.{Draft, Drafts, file_of, records_of}
 use Rattle.graphql_data_files.specs.Links.{field_leads, record_leads}
+use Rattle.graphql_data_files.specs.RecordShapes.{fault_in}
 use Rattle.graphql_data_files.specs.declared.data_file_error.DataFileError.{DataFileError}
 use Rattle.graphql_data_files.specs.declared.data_file_error.DataFileError.TheVariants as fault
 use Rattle.graphql_data_files.specs.declared.record_place.RecordPlace.{RecordPlace}
@@ -109,6 +110,11 @@ module _ (types : List TableType) where
   IsPlaceOf fault None found = found ≡ None
   IsPlaceOf fault (Some file) found = IsPlaceIn fault file found
 
-  -- where a fault stands of the file of these bytes
+  -- and of the file of these bytes
+  abbrev pub IsPlaceInBytes : DataFileError → Bytes → Option RecordPlace → Type 0
+  IsPlaceInBytes fault bytes found = IsPlaceOf fault (data_of bytes >>= file_of) found
+
+  -- where a fault stands of the file of these bytes, that of its shape too
   abbrev pub IsPlace : DataFileError → Bytes → Option RecordPlace → Type 0
-  IsPlace fault bytes found = IsPlaceOf fault (data_of bytes >>= file_of) found
+  IsPlace fault.BadShape bytes found = found ≡ option_map place.Shape (fault_in bytes)
+  IsPlace fault bytes found = IsPlaceInBytes fault bytes found

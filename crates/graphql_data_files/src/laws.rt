@@ -2,9 +2,9 @@
 
 ghost use Rattle.graphql_data_files.specs.Laws.{ToldFaultsHavePlaces};
 
-/// Where the first fault of a file stands at a record or at the root's id, so that it is
-/// `BadNumber`, `DuplicateId`, `UnknownType`, `UnknownField`, `BadLink` or `BadRoot`, what
-/// [`place_of_fault`](crate::place_of_fault) tells of it is a place.
+/// Where the first fault of a file stands at a member, at a record or at the root's id, so that it
+/// is any but `NotJson` and want of memory, what [`place_of_fault`](crate::place_of_fault) tells of
+/// it is a place.
 pub fn told_faults_have_places()
     ensures { ToldFaultsHavePlaces }
 {}

@@ -10,10 +10,13 @@ ghost use Rattle.graphql_data_files.specs.Drafts.{file_of, records_of};
 ghost use Rattle.graphql_data_files.specs.Links.{record_leads};
 ghost use Rattle.graphql_data_files.specs.LentDrafts.{draft_told, file_told};
 ghost use Rattle.graphql_data_files.specs.RecordPlaces as spec;
+ghost use Rattle.graphql_data_files.specs.RecordShapes.{fault_in};
+ghost use Rattle.graphql_data_files.specs.declared.record_place.RecordPlace.TheVariants as place;
 
 use crate::data_file_error::DataFileError;
 use crate::drafts::{Draft, Drafts, file_of, records_of};
 use crate::links::{field_leads, record_leads};
+use crate::misshapen::shape_fault;
 use crate::reading::json_of;
 use crate::record_place::RecordPlace;
 use crate::records::{has_field, has_fields, is_of_object_type};
@@ -333,25 +336,55 @@ fn place_in_json(
     }
 }
 
+/// Where a fault stands of a file, its shape aside. An error is want of memory.
+#[tactic(auto, using(crate::proofs::Placing::not_parsed))]
+fn place_in_bytes(
+    alloc: Global,
+    bytes: &[u8],
+    types: &NamedItems<TableType>,
+    fault: DataFileError,
+) -> Result<Option<RecordPlace>, AllocError>
+    ensures { IfOk result (spec.IsPlaceInBytes types.now fault bytes.now) }
+{
+    match json_of(alloc, bytes) {
+        Ok(json) => place_in_json(alloc, types, fault, &json),
+        Err(DataFileError::Memory) => Err(AllocError),
+        Err(_) => Ok(None),
+    }
+}
+
+/// The member at which a file has not its shape, if it has not. An error is want of memory.
+fn shape_place(alloc: Global, bytes: &[u8]) -> Result<Option<RecordPlace>, AllocError>
+    ensures { Gives result (option_map place.Shape (fault_in bytes.now)) }
+{
+    match shape_fault(alloc, bytes)? {
+        Some(place) => Ok(Some(RecordPlace::Shape(place))),
+        None => Ok(None),
+    }
+}
+
 /// At which record and field of a file the fault stands that [`read_records`](crate::read_records)
 /// tells of it, by what a table knows of a schema's types. It is
 ///
+/// - of `BadShape` the first member that is missing or of another kind than is wanted: the members
+///   of an object are looked at in the order in which `read_records` names them, the fields of a
+///   record and the items of a list in theirs;
 /// - of `BadNumber`, `UnknownField` and `BadLink` the first field that has the fault, of the first
 ///   record that has such a field;
 /// - of `UnknownType` the first record that has the fault;
 /// - of `DuplicateId` a record whose id another one has;
 /// - of `BadRoot` the root's id.
 ///
-/// `None` of `NotJson`, `BadShape` and `Memory`, which stand at no record; and where there is no
-/// such field or record. Each fault may be asked of any file, whatever is told of it: the root's id
-/// is given of each file that has the shape, and none is given of one that has not. Of
-/// `UnknownType`, `UnknownField` and `BadLink` there is none either where a number is no whole one
-/// of 32 bits, nor of `BadLink` where two records have one id. The only error is want of memory,
-/// which tells nothing of the file.
+/// `None` of `NotJson` and `Memory`, which stand at no record; and where there is no such member,
+/// field or record. Each fault may be asked of any file, whatever is told of it: the root's id is
+/// given of each file that has the shape, and of one that has not a place is given of `BadShape`
+/// alone. Of `UnknownType`, `UnknownField` and `BadLink` there is none either where a number is no
+/// whole one of 32 bits, nor of `BadLink` where two records have one id. The only error is want of
+/// memory, which tells nothing of the file.
 ///
-/// Of the fault that is told of a file, if it stands at a record or at the root's id, there is a
-/// place: the law [`told_faults_have_places`](crate::laws::told_faults_have_places).
-#[tactic(auto, using(crate::proofs::Placing::not_parsed))]
+/// Of the fault that is told of a file, but `NotJson` and want of memory, there is a place: the law
+/// [`told_faults_have_places`](crate::laws::told_faults_have_places).
+#[tactic(auto, using(crate::proofs::Placing::other_place))]
 pub fn place_of_fault(
     alloc: Global,
     bytes: &[u8],
@@ -360,9 +393,8 @@ pub fn place_of_fault(
 ) -> Result<Option<RecordPlace>, AllocError>
     ensures { IfOk result (spec.IsPlace types.now fault bytes.now) }
 {
-    match json_of(alloc, bytes) {
-        Ok(json) => place_in_json(alloc, types, fault, &json),
-        Err(DataFileError::Memory) => Err(AllocError),
-        Err(_) => Ok(None),
+    match fault {
+        DataFileError::BadShape => shape_place(alloc, bytes),
+        _ => place_in_bytes(alloc, bytes, types, fault),
     }
 }

@@ -1,5 +1,6 @@
 //! Where in a file of records a fault stands.
 
+use crate::shape_place::ShapePlace;
 use graphql_text::Text;
 use std::fmt;
 
@@ -14,10 +15,13 @@ pub enum RecordPlace {
 
     /// At the record of the first, its id, the field of the second, its name.
     Field(Text, Text),
+
+    /// At a member that has not its shape.
+    Shape(ShapePlace),
 }
 
-/// Writes the place as `root "q"`, `record "h1"` or `record "h1", field "name"`: the id and the
-/// name as they stand.
+/// Writes the place as `root "q"`, `record "h1"` or `record "h1", field "name"`, the id and the
+/// name as they stand; a member that has not its shape as a path, with what is wanted there.
 impl fmt::Display for RecordPlace {
     ghost use Rattle.std.specs.Prelude.{Some};
     ghost use Rattle.graphql_data_files.specs.PlaceTexts.{record_place_text};
@@ -29,6 +33,7 @@ impl fmt::Display for RecordPlace {
             RecordPlace::Root(id) => write!(f, "root \"{id}\""),
             RecordPlace::Record(id) => write!(f, "record \"{id}\""),
             RecordPlace::Field(id, name) => write!(f, "record \"{id}\", field \"{name}\""),
+            RecordPlace::Shape(place) => write!(f, "{place}"),
         }
     }
 }

@@ -16,7 +16,7 @@ use std::alloc::{AllocError, Global};
 /// Whether JSON is null, a truth value, a number, a text, or a list of these, which may nest. Takes
 /// stack for each level that lists nest, of which `serde_json` reads 127 at most.
 #[cycle(shapes)]
-fn has_shape(json: &Value) -> bool
+pub(crate) fn has_shape(json: &Value) -> bool
     ensures { result ≡ spec.has_shape (view json.now) }
 {
     match json {

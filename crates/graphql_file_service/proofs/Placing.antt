@@ -22,6 +22,7 @@ schema_rest file schema_fault.BadName found other shaped is = is
 schema_rest file schema_fault.BadTypeText found other shaped is = is
 schema_rest file schema_fault.BadDefault found other shaped is = is
 schema_rest file (schema_fault.Schema e) found other shaped is = is
+schema_rest file (schema_fault.UnfitDefault place) found other shaped is = is
 schema_rest file schema_fault.Memory found other shaped is = is
 
 pub data_rest : (schema file : Bytes) (e : DataFileError) (found : Option FaultPlace) → (e ≡ data_fault.NotJson → ⊥) → IsByOutline schema (IsRecordPlace file e) found → IsDataPlace schema file e found

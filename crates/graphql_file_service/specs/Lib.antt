@@ -2,3 +2,4 @@ pub mod TableServices
 pub mod Runs
 pub mod PlaceTexts
 pub mod FaultPlaces
+pub mod Programs

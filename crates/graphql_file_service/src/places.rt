@@ -175,8 +175,9 @@ fn data_place(
 /// - of `NotExecutable` the first promise that a type does not keep, as
 ///   [`SchemaType::broken_promise`](graphql_schema::SchemaType::broken_promise) tells of the file's
 ///   outline;
-/// - of another fault of the file of records the record and the field, as `place_of_fault` of
-///   `graphql_data_files` tells by the types of the schema's outline.
+/// - of another fault of the file of records the record and the field, or the member that has not
+///   its shape, as `place_of_fault` of `graphql_data_files` tells by the types of the schema's
+///   outline.
 ///
 /// `None` where these know no place, and of the other faults. The only error is want of memory,
 /// which tells nothing of the files.

@@ -1,6 +1,7 @@
 //! Why files are not served, or not to the end of the input.
 
 ghost use Rattle.std.specs.Prelude.{◌≡◌};
+ghost use Rattle.graphql_file_service.specs.Programs.{status_of_fault};
 
 use graphql_data_files::DataFileError;
 use graphql_schema_files::SchemaFileError;
@@ -84,6 +85,26 @@ impl<T: Drop> From<AllocFailed<T>> for RunFault {
     }
 }
 
+impl RunFault {
+    /// The exit status of a program whose run ended so: 1 where a file is bad, 3 where a read or a
+    /// write failed, 4 where memory ran out.
+    pub fn status(&self) -> u8
+        ensures { result ≡ status_of_fault self.now }
+    {
+        match self {
+            RunFault::Schema(SchemaFileError::Memory)
+            | RunFault::Data(DataFileError::Memory)
+            | RunFault::Serve(ServeError::Memory)
+            | RunFault::Memory => 4,
+            RunFault::Schema(_)
+            | RunFault::NotExecutable
+            | RunFault::Data(_)
+            | RunFault::OtherBoolean => 1,
+            RunFault::Serve(_) => 3,
+        }
+    }
+}
+
 /// Writes why, in one line: the file and the name of its fault, or what failed.
 impl fmt::Display for RunFault {
     fn fmt<W: fmt::Write>(&self, f: &mut fmt::Formatter<W>) -> fmt::Result {
@@ -91,7 +112,7 @@ impl fmt::Display for RunFault {
             RunFault::Schema(SchemaFileError::Memory)
             | RunFault::Data(DataFileError::Memory)
             | RunFault::Memory => f.write_str("out of memory"),
-            RunFault::Schema(error) => write!(f, "schema: {error:?}"),
+            RunFault::Schema(error) => write!(f, "schema: {error}"),
             RunFault::NotExecutable => f.write_str("schema: NotExecutable"),
             RunFault::Data(error) => write!(f, "data: {error:?}"),
             RunFault::OtherBoolean => f.write_str("schema: OtherBoolean"),

@@ -9,5 +9,6 @@ pub mod FirstPlaces
 pub mod Outlining
 pub mod Placing
 pub mod ToldPlaces
+pub mod Unfitting
 pub mod ShapeTurns
 pub mod ShapeFaults

@@ -14,7 +14,7 @@ use Rattle.graphql_schema_files.specs.declared.drafts.SchemaDraft.{SchemaDraft}
 use Rattle.graphql_schema_files.specs.DraftedTypes.{S}
 use Rattle.graphql_schema_files.specs.SpelledTexts.{Value}
 use Rattle.graphql_schema_files.specs.Refusals.{refusal_of}
-use Rattle.graphql_schema_files.specs.SchemaFiles.{DefaultsConform, IsMemory, Judges, MakesRoot, MakingDue, roots_of}
+use Rattle.graphql_schema_files.specs.SchemaFiles.{DefaultsConform, IsFirstUnfit, IsMemory, Judges, MakesRoot, MakingDue, roots_of}
 use Rattle.graphql_schema_files.specs.declared.schema_file_error.SchemaFileError.{SchemaFileError}
 use Rattle.graphql_schema_files.specs.declared.schema_file_error.SchemaFileError.TheVariants as fault
 
@@ -52,6 +52,16 @@ module _ {C : Type 0} (accepts : C → Value → Type 0) (types : List (MetaType
   pub faulty : (named : Roots) (e : SchemaError) (told : SchemaFileError) → named ≡ roots_of file → told ≡ refusal_of e → Makes scalar.String types named (Err e) → Due told
   faulty named e told same is made = subst Due (sym is) (fault_due e (subst (λ roots. Makes scalar.String types roots (Err e)) same made))
 
+  unfit_due : (schema : SchemaType S C) → Makes scalar.String types (roots_of file) (Ok schema) → (e : SchemaFileError) → IsFirstUnfit accepts file schema e → MakingDue accepts types file e
+  unfit_due schema made (fault.UnfitDefault place) unfit = (schema, made, unfit)
+  unfit_due schema made fault.NotJson unfit = absurd unfit
+  unfit_due schema made fault.BadShape unfit = absurd unfit
+  unfit_due schema made fault.BadName unfit = absurd unfit
+  unfit_due schema made fault.BadTypeText unfit = absurd unfit
+  unfit_due schema made fault.BadDefault unfit = absurd unfit
+  unfit_due schema made (fault.Schema e) unfit = absurd unfit
+  unfit_due schema made fault.Memory unfit = absurd unfit
+
   -- where they make a schema, which is judged
   judged_made : (schema : SchemaType S C) (result : Result (RootNode S C) SchemaFileError) → Makes scalar.String types (roots_of file) (Ok schema)
       → Judges accepts file schema result → MakesRoot accepts types file result
@@ -60,7 +70,7 @@ module _ {C : Type 0} (accepts : C → Value → Type 0) (types : List (MetaType
     told = ap (λ (r : RootNode S C). r.introspection_disabled) judged.0;
     conform = subst (DefaultsConform accepts file) (sym (ap (λ (r : RootNode S C). r.schema) judged.0)) judged.1;
   }
-  judged_made schema (Err e) made judged = λ other. let due = judged other in subst (MakingDue accepts types file) (sym due.0) (schema, made, due.1)
+  judged_made schema (Err e) made judged = λ other. unfit_due schema made e (judged other)
 
   pub sound : (named : Roots) (schema : SchemaType S C) (result : Result (RootNode S C) SchemaFileError) → named ≡ roots_of file → Makes scalar.String types named (Ok schema)
       → Judges accepts file schema result → MakesRoot accepts types file result

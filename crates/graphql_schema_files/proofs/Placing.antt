@@ -1,5 +1,5 @@
 -- Where declarations break a rule, as it is found.
-use Rattle.std.proofs.Common.{◌≡◌, ◌↔◌, IsTrue, true, false, Bool, Option, Some, None, MatchOption, is_some, Err, refl, sym, subst}
+use Rattle.std.proofs.Common.{◌≡◌, ◌↔◌, IsTrue, true, false, Bool, Option, Some, None, MatchOption, is_some, Err, ap, refl, sym, subst}
 use Rattle.serde_json.specs.Data.{Data}
 use Rattle.graphql_json.specs.Parts.{◌>>=◌}
 use Rattle.graphql_names.specs.Names.{Bytes}
@@ -80,14 +80,22 @@ pub ruleset field_steps = (field_breaks_it, field_keeps_it, argument_in_it)
 pub ruleset type_steps = (type_breaks_it, type_keeps_it, field_in_it)
 
 -- faults that stand at no declaration
-pub rest_placed : (e : SchemaFileError) (file : SchemaDraft) → (e ≡ fault.BadName → ⊥) → (e ≡ fault.BadTypeText → ⊥) → (e ≡ fault.BadDefault → ⊥) → IsPlaceIn e file None
-rest_placed fault.BadName file a b c = absurd (a refl)
-rest_placed fault.BadTypeText file a b c = absurd (b refl)
-rest_placed fault.BadDefault file a b c = absurd (c refl)
-rest_placed fault.NotJson file a b c = refl
-rest_placed fault.BadShape file a b c = refl
-rest_placed (fault.Schema e) file a b c = refl
-rest_placed fault.Memory file a b c = refl
+pub rest_placed : (e : SchemaFileError) (file : SchemaDraft) → (e ≡ fault.BadName → ⊥) → (e ≡ fault.BadTypeText → ⊥) → (e ≡ fault.BadDefault → ⊥) → ((place : DeclarationPlace) → e ≡ fault.UnfitDefault place → ⊥)
+    → IsPlaceIn e file None
+rest_placed fault.BadName file a b c d = absurd (a refl)
+rest_placed fault.BadTypeText file a b c d = absurd (b refl)
+rest_placed fault.BadDefault file a b c d = absurd (c refl)
+rest_placed (fault.UnfitDefault place) file a b c d = absurd (d place refl)
+rest_placed fault.NotJson file a b c d = refl
+rest_placed fault.BadShape file a b c d = refl
+rest_placed (fault.Schema e) file a b c d = refl
+rest_placed fault.Memory file a b c d = refl
+
+-- the place that is told with the fault
+pub told_place : (e : SchemaFileError) (file : SchemaDraft) (place copy : DeclarationPlace) → e ≡ fault.UnfitDefault place → copy ≡ place → IsPlaceIn e file (Some copy)
+told_place e file place copy is same = subst (λ f. IsPlaceIn f file (Some copy)) (sym is) (ap Some same)
+
+pub ruleset fault_steps = (rest_placed, told_place)
 
 -- bytes that are no JSON have no declaration, and no outline
 pub not_parsed : (e : SchemaFileError) (o : Option Data) → o ≡ None → IsPlaceOf e (o >>= schema_of) None

@@ -1,5 +1,5 @@
 -- Steps of reading a file, of which each may find a fault.
-use Rattle.std.proofs.Common.{◌≡◌, ◌↔◌, ◌++◌, IsTrue, inl, inr, Bool, true, false, List, Option, Some, None, Result, Ok, Err, is_some, sym, subst, ap, refl, ◌∙◌, true≢false}
+use Rattle.std.proofs.Common.{◌≡◌, ◌↔◌, ◌++◌, IsTrue, Bool, true, false, List, Option, Some, None, Result, Ok, Err, is_some, sym, subst, ap, refl, ◌∙◌, true≢false}
 use Rattle.std.specs.List.{All, AllZip}
 use Rattle.serde_json.specs.Data.{Data}
 use Rattle.graphql_lines.specs.declared.refusal.LineRefusal.{LineRefusal}
@@ -13,7 +13,9 @@ use Rattle.graphql_schema_files.specs.declared.drafts.SchemaDraft.{SchemaDraft}
 use Rattle.graphql_schema_files.specs.DraftedTypes.{AddsTypes, S, TypeIsSound, TypeMeans}
 use Rattle.graphql_schema_files.specs.SpelledTexts.{Value}
 use Rattle.graphql_schema_files.specs.declared.drafts.TypeDraft.{TypeDraft}
-use Rattle.graphql_schema_files.specs.Conforming.{DraftConforms}
+use Rattle.graphql_schema_files.specs.FirstItems.{IsFirst}
+use Rattle.graphql_schema_files.specs.UnfitDefaults.{IsUnfitType}
+use Rattle.graphql_schema_files.specs.declared.declaration_place.DeclarationPlace.{DeclarationPlace}
 use Rattle.graphql_schema_files.specs.Refusals.{fault_of}
 use Rattle.graphql_schema_files.specs.SchemaFiles.{HasDefaults, HasTypes, IsDue, IsNamed, IsRoot, IsSchemaOf, Judges, MakesRoot, MakingDue, ReadsData, ReadsDraft, ReadsShape}
 use Rattle.graphql_schema_files.specs.declared.schema_file_error.SchemaFileError.{SchemaFileError}
@@ -33,17 +35,24 @@ pub refused_json : (r : LineRefusal) (json : Option Data) (e : SchemaFileError) 
 refused_json r json e is told other = subst (λ f. (f ≡ fault.NotJson) × (json ≡ None)) (sym is) (no_json r json told (λ memory. other (is ∙ memory)))
 
 -- whether the defaults conform
-module _ {C : Type 0} (accepts : C → Value → Type 0) (file : SchemaDraft) (schema : SchemaType S C) where
-  pub conforming : (root : RootNode S C) → root ≡ record { schema = schema; introspection_disabled = false } → (drafts : List TypeDraft) → drafts ≡ file.types
-      → All (DraftConforms answer accepts schema.types) drafts → Judges accepts file schema (Ok root)
-  conforming root is drafts same conform = (is, subst (All (DraftConforms answer accepts schema.types)) same conform)
+module _ {C : Type 0} (accepts : C → Value → Type 0) (file : SchemaDraft) (schema : SchemaType S C) (drafts : List TypeDraft) (same : drafts ≡ file.types) (found : Option DeclarationPlace)
+    (told : IsFirst (IsUnfitType answer accepts schema.types) drafts found) where
+  pub conforming : (root : RootNode S C) → root ≡ record { schema = schema; introspection_disabled = false } → found ≡ None → Judges accepts file schema (Ok root)
+  conforming root is none = (is, subst (λ ds. IsFirst (IsUnfitType answer accepts schema.types) ds None) same (subst (IsFirst (IsUnfitType answer accepts schema.types) drafts) none told))
 
-  pub not_conforming : (drafts : List TypeDraft) → drafts ≡ file.types → (All (DraftConforms answer accepts schema.types) drafts → ⊥) → Judges accepts file schema (Err fault.BadDefault)
-  not_conforming drafts same refused = λ other. (refl, λ conform. refused (subst (All (DraftConforms answer accepts schema.types)) (sym same) conform))
+  pub not_conforming : (place : DeclarationPlace) → found ≡ Some place → Judges accepts file schema (Err (fault.UnfitDefault place))
+  not_conforming place some = λ other. subst (λ ds. IsFirst (IsUnfitType answer accepts schema.types) ds (Some place)) same (subst (IsFirst (IsUnfitType answer accepts schema.types) drafts) some told)
 
 -- a file whose types are read, but not all of it: some default is no literal
 pub unsound : (file : SchemaDraft) → HasTypes file → (All TypeIsSound file.types → ⊥) → HasDefaults file → ⊥
 unsound file types none defaults = none (λ k d inside. (types k d inside, defaults k d inside))
+
+-- the types were not added
+pub none_added : {C : Type 0} (builtin all : List (MetaType S C)) (file : SchemaDraft) → IsNamed file → HasTypes file → (told : Bool) → told ≡ false → AddsTypes file.types builtin all told
+    → IsNamed file × HasTypes file × (HasDefaults file → ⊥)
+none_added builtin all file named types told is added =
+    let none = subst (AddsTypes file.types builtin all) is added in
+    (named, types, unsound file types none.0)
 
 -- a test that is another
 pub same_test : (one other : Bool) → one ≡ other → IsTrue one ↔ (other ≡ true)
@@ -53,8 +62,9 @@ module _ {C : Type 0} (accepts : C → Value → Type 0) (builtin : List (MetaTy
   module _ (file : SchemaDraft) where
     module _ (named : IsNamed file) (declared all : List (MetaType S C)) (described : AllZip TypeMeans file.types declared) (same : all ≡ builtin ++ declared) where
       due : (e : SchemaFileError) → MakingDue accepts all file e → IsDue accepts builtin file e
-      due fault.BadDefault told =
-          inr (record { named = named; declared = declared; described = described; holds = subst (λ types. MakingDue accepts types file fault.BadDefault) same told })
+      due (fault.UnfitDefault place) told =
+          record { named = named; declared = declared; described = described; holds = subst (λ types. MakingDue accepts types file (fault.UnfitDefault place)) same told }
+      due fault.BadDefault told = absurd told
       due (fault.Schema e) told =
           record { named = named; declared = declared; described = described; holds = subst (λ types. MakingDue accepts types file (fault.Schema e)) same told }
       due fault.NotJson told = absurd told
@@ -74,12 +84,6 @@ module _ {C : Type 0} (accepts : C → Value → Type 0) (builtin : List (MetaTy
     added_made all told is added result made =
         let these = subst (AddsTypes file.types builtin all) is added in
         declared_made file named these.0 all these.1 these.2 result made
-
-    -- they were not
-    pub none_added : HasTypes file → (all : List (MetaType S C)) (told : Bool) → told ≡ false → AddsTypes file.types builtin all told → IsDue accepts builtin file fault.BadDefault
-    none_added types all told is added =
-        let none = subst (AddsTypes file.types builtin all) is added in
-        inl (named, types, unsound file types none.0)
 
   pub drafted : (o : Option SchemaDraft) (file : SchemaDraft) (result : Result (RootNode S C) SchemaFileError) → o ≡ Some file → ReadsDraft accepts builtin file result → ReadsShape accepts builtin o result
   drafted o file result is read = subst (λ found. ReadsShape accepts builtin found result) (sym is) read

@@ -1,5 +1,5 @@
 -- Of which faults a place is told.
-use Rattle.std.proofs.Common.{◌≡◌, ◌↔◌, true, List, Option, Some, None, Err, IfSome, IsSome, get_or, sym, subst, refl, true≢false}
+use Rattle.std.proofs.Common.{◌≡◌, ◌↔◌, true, List, Option, Some, None, Err, IsSome, is_some, get_or, ap, sym, refl, true≢false}
 use Rattle.std.specs.List.{All, list_all}
 use Rattle.std.proofs.lemmas.Bool.{and_from, and_parts}
 use Rattle.std.proofs.lemmas.List.Sums.{AllPass-from_list_all, list_all-from_AllPass}
@@ -9,7 +9,9 @@ use Rattle.graphql_lines.specs.Request.{data_of}
 use Rattle.graphql_schema.specs.declared.meta.MetaType.{MetaType}
 use Rattle.graphql_schema_files.specs.DeclarationPlaces.{IsPlaceAmong, IsPlaceIn, IsPlaceOf, IsTypePlace}
 use Rattle.graphql_schema_files.specs.DraftedTypes.{S, TypeHasDefaults, TypeHasTypes}
-use Rattle.graphql_schema_files.specs.Laws.{FaultsHavePlaces, ToldFaultsHavePlaces}
+use Rattle.graphql_scalars.specs.DefaultScalar.{answer}
+use Rattle.graphql_schema_files.specs.Laws.{FaultsHavePlaces, ToldFaultsHavePlaces, UnfitDefaultsDoNotConform}
+use Rattle.graphql_schema_files.specs.UnfitDefaults.{IsUnfitType}
 use Rattle.graphql_schema_files.specs.NamedDrafts.{argument_is_named, field_is_named, is_name, type_is_named}
 use Rattle.graphql_schema_files.specs.SchemaFiles.{HasDefaults, HasTypes, IsDue, IsNamed, ReadsData, ReadsShape}
 use Rattle.graphql_schema_files.specs.Shapes.{schema_of}
@@ -68,6 +70,7 @@ pub faults_have_places : FaultsHavePlaces
 faults_have_places fault.BadName file found is = found_where rule.Names file.types (IsNamed file) (names_kept file.types) (names_told file.types) found is
 faults_have_places fault.BadTypeText file found is = found_where rule.Types file.types (HasTypes file) (types_kept file.types) (types_told file.types) found is
 faults_have_places fault.BadDefault file found is = found_where rule.Defaults file.types (HasDefaults file) (defaults_kept file.types) (defaults_told file.types) found is
+faults_have_places (fault.UnfitDefault place) file found is = (λ some. tt, λ told. ap is_some is)
 faults_have_places fault.NotJson file found is = none_where found is
 faults_have_places fault.BadShape file found is = none_where found is
 faults_have_places (fault.Schema e) file found is = none_where found is
@@ -97,8 +100,23 @@ told_faults_have_places accepts builtin bytes fault.BadTypeText found read is pl
     (faults_have_places fault.BadTypeText told.0 found told.3).1 told.2.1
 told_faults_have_places accepts builtin bytes fault.BadDefault found read is place =
     let told = of_data accepts builtin fault.BadDefault found (λ is. cc, λ is. cc, λ is. cc) (data_of bytes) read place in
-    (faults_have_places fault.BadDefault told.0 found told.3).1 (subst (λ o. IfSome o (λ file. HasDefaults file → ⊥)) told.1 is)
+    (faults_have_places fault.BadDefault told.0 found told.3).1 told.2.2
+told_faults_have_places accepts builtin bytes (fault.UnfitDefault at) found read is place =
+    let told = of_data accepts builtin (fault.UnfitDefault at) found (λ is. cc, λ is. cc, λ is. cc) (data_of bytes) read place in
+    ap is_some told.3
 told_faults_have_places accepts builtin bytes fault.NotJson found read is place = absurd is
 told_faults_have_places accepts builtin bytes fault.BadShape found read is place = absurd is
 told_faults_have_places accepts builtin bytes (fault.Schema e) found read is place = absurd is
 told_faults_have_places accepts builtin bytes fault.Memory found read is place = absurd is
+
+-- ---- a default of which it is told that it does not conform
+
+pub unfit_defaults_do_not_conform : {C : Type 0} (accepts : C → Value → Type 0) → UnfitDefaultsDoNotConform accepts
+unfit_defaults_do_not_conform accepts file schema (fault.UnfitDefault place) unfit conform = first_or_none (IsUnfitType answer accepts schema.types) file.types place unfit conform
+unfit_defaults_do_not_conform accepts file schema fault.NotJson unfit conform = unfit
+unfit_defaults_do_not_conform accepts file schema fault.BadShape unfit conform = unfit
+unfit_defaults_do_not_conform accepts file schema fault.BadName unfit conform = unfit
+unfit_defaults_do_not_conform accepts file schema fault.BadTypeText unfit conform = unfit
+unfit_defaults_do_not_conform accepts file schema fault.BadDefault unfit conform = unfit
+unfit_defaults_do_not_conform accepts file schema (fault.Schema e) unfit conform = unfit
+unfit_defaults_do_not_conform accepts file schema fault.Memory unfit conform = unfit

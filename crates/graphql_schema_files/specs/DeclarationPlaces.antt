@@ -1,10 +1,9 @@
 -- Where in a file of a schema its declarations break a rule.
 use Rattle.std.specs.Prelude.{◌≡◌, true, List, Option, Some, None, MatchOption}
-use Rattle.std.specs.List.{All}
 use Rattle.graphql_json.specs.Parts.{◌>>=◌}
 use Rattle.graphql_lines.specs.Request.{data_of}
 use Rattle.graphql_names.specs.Names.{Bytes}
-use Rattle.graphql_schema.specs.Promises.{IsFirstWithout}
+pub use Rattle.graphql_schema_files.specs.FirstItems.{IsFirst}
 use Rattle.graphql_schema_files.specs.NamedDrafts.{is_name}
 use Rattle.graphql_schema_files.specs.DraftedTypes.{ArgumentHasDefault, ArgumentHasType}
 use Rattle.graphql_schema_files.specs.SpelledTexts.{HasType}
@@ -20,12 +19,6 @@ use Rattle.graphql_schema_files.specs.declared.declaration_place.DeclarationPlac
 use Rattle.graphql_schema_files.specs.declared.declaration_place.FieldPlace.{FieldPlace}
 use Rattle.graphql_schema_files.specs.declared.rule.Rule.{Rule}
 use Rattle.graphql_schema_files.specs.declared.rule.Rule.TheVariants as rule
-
--- what the first of the items gives that gives something, or nothing where each gives nothing
-abbrev pub IsFirst : {A B : Type 0} → (A → Option B → Type 0) → List A → Option B → Type 0
-IsFirst At items None = All (λ x. At x None) items
-IsFirst {A} At items (Some found) =
-    (x : A) × IsFirstWithout (λ x. At x None) items x × At x (Some found)
 
 abbrev pub ArgumentKeeps : Rule → ArgumentDraft → Type 0
 ArgumentKeeps rule.Names draft = is_name draft.name ≡ true
@@ -70,11 +63,13 @@ module _ (r : Rule) where
   abbrev pub IsPlaceAmong : List TypeDraft → Option DeclarationPlace → Type 0
   IsPlaceAmong = IsFirst IsTypePlace
 
--- where a fault stands of a file that has the shape of one; some stand at no declaration
+-- where a fault stands of a file that has the shape of one; some have a place of their own, or stand
+-- at no declaration
 abbrev pub IsPlaceIn : SchemaFileError → SchemaDraft → Option DeclarationPlace → Type 0
 IsPlaceIn fault.BadName file found = IsPlaceAmong rule.Names file.types found
 IsPlaceIn fault.BadTypeText file found = IsPlaceAmong rule.Types file.types found
 IsPlaceIn fault.BadDefault file found = IsPlaceAmong rule.Defaults file.types found
+IsPlaceIn (fault.UnfitDefault place) file found = found ≡ Some place
 IsPlaceIn _ file found = found ≡ None
 
 -- and of one that may have none: its faults stand at no declaration

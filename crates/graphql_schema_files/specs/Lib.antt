@@ -1,6 +1,8 @@
 pub mod Builtin
 pub mod Refusals
+pub mod FirstItems
 pub mod Conforming
+pub mod UnfitDefaults
 pub mod SchemaFiles
 pub mod Shapes
 pub mod NamedDrafts

@@ -1,5 +1,5 @@
 -- The schema that a file describes, or why there is none (GraphQL October 2021, 3.3 Schema).
-use Rattle.std.specs.Prelude.{◌≡◌, ◌⊎◌, ◌++◌, true, false, List, Option, Some, None, Result, Ok}
+use Rattle.std.specs.Prelude.{◌≡◌, ◌++◌, true, false, List, Option, Some, None, Result, Ok}
 use Rattle.std.specs.Prelude.{option_map}
 use Rattle.std.specs.Borrow.{Bor}
 use Rattle.std.specs.List.{All, AllZip, list_all}
@@ -21,6 +21,8 @@ use Rattle.graphql_schema_files.specs.Shapes.{schema_of}
 use Rattle.graphql_schema_files.specs.DraftedTypes.{S, TypeHasDefaults, TypeHasTypes, TypeMeans}
 use Rattle.graphql_schema_files.specs.SpelledTexts.{Value}
 use Rattle.graphql_schema_files.specs.Conforming.{DraftConforms}
+use Rattle.graphql_schema_files.specs.FirstItems.{IsFirst}
+use Rattle.graphql_schema_files.specs.UnfitDefaults.{IsUnfitType}
 use Rattle.graphql_schema_files.specs.declared.schema_file_error.SchemaFileError.{SchemaFileError}
 use Rattle.graphql_schema_files.specs.declared.schema_file_error.SchemaFileError.TheVariants as
     fault
@@ -54,12 +56,18 @@ module _ {C : Type 0} (accepts : C → Value → Type 0) where
   abbrev pub DefaultsConform : SchemaDraft → SchemaType S C → Type 0
   DefaultsConform file schema = All (DraftConforms answer accepts schema.types) file.types
 
-  -- a root node over the schema, or a default that does not conform in it
+  -- the first default of the file that does not conform in the schema
+  abbrev pub IsFirstUnfit : SchemaDraft → SchemaType S C → SchemaFileError → Type 0
+  IsFirstUnfit file schema (fault.UnfitDefault place) =
+      IsFirst (IsUnfitType answer accepts schema.types) file.types (Some place)
+  IsFirstUnfit file schema _ = ⊥
+
+  -- a root node over the schema, or the first default that does not conform in it
   abbrev pub Judges : SchemaDraft → SchemaType S C → Result (RootNode S C) SchemaFileError → Type 0
   Judges file schema result =
       Answers (λ root. (root ≡ record { schema = schema; introspection_disabled = false })
       × DefaultsConform file schema)
-      (λ e. (e ≡ fault.BadDefault) × (DefaultsConform file schema → ⊥)) IsMemory result
+      (λ e. IsFirstUnfit file schema e) IsMemory result
 
   -- by all the types of the schema
   module _ (types : List (MetaType S C)) where
@@ -70,17 +78,18 @@ module _ {C : Type 0} (accepts : C → Value → Type 0) where
       pub told : root.introspection_disabled ≡ false
       pub conform : DefaultsConform file root.schema
 
-    -- the first fault of the types; or, where they have none, a default does not conform in their
-    -- schema
+    -- the first fault of the types; or, where they have none, the first default that does not
+    -- conform in their schema
     abbrev pub MakingDue : SchemaDraft → SchemaFileError → Type 0
     MakingDue file (fault.Schema e) = TellsFirst (completed types file.query) (roots_of file) e
-    MakingDue file fault.BadDefault = (schema : SchemaType S C)
+    MakingDue file (fault.UnfitDefault place) = (schema : SchemaType S C)
         × Makes scalar.String types (roots_of file) (Ok schema)
-        × (DefaultsConform file schema → ⊥)
+        × IsFirstUnfit file schema (fault.UnfitDefault place)
     MakingDue file fault.NotJson = ⊥
     MakingDue file fault.BadShape = ⊥
     MakingDue file fault.BadName = ⊥
     MakingDue file fault.BadTypeText = ⊥
+    MakingDue file fault.BadDefault = ⊥
     MakingDue file fault.Memory = ⊥
 
     abbrev pub MakesRoot : SchemaDraft → Result (RootNode S C) SchemaFileError → Type 0
@@ -105,9 +114,10 @@ module _ {C : Type 0} (accepts : C → Value → Type 0) where
     IsDue file fault.BadShape = ⊥
     IsDue file fault.BadName = IsNamed file → ⊥
     IsDue file fault.BadTypeText = IsNamed file × (HasTypes file → ⊥)
-    IsDue file fault.BadDefault = (IsNamed file × HasTypes file × (HasDefaults file → ⊥))
-        ⊎ Declares file (λ types. MakingDue types file fault.BadDefault)
+    IsDue file fault.BadDefault = IsNamed file × HasTypes file × (HasDefaults file → ⊥)
     IsDue file (fault.Schema e) = Declares file (λ types. MakingDue types file (fault.Schema e))
+    IsDue file (fault.UnfitDefault place) =
+        Declares file (λ types. MakingDue types file (fault.UnfitDefault place))
     IsDue file fault.Memory = ⊥
 
     abbrev pub ReadsDraft : SchemaDraft → Result (RootNode S C) SchemaFileError → Type 0

@@ -2,6 +2,7 @@
 
 ghost use Rattle.graphql_schema_files.specs.Laws.{FaultsHavePlaces, ToldFaultsHavePlaces};
 ghost use Rattle.graphql_schema_files.specs.Laws.{ShapeFaultsStand, ToldShapesHaveFaults};
+ghost use Rattle.graphql_schema_files.specs.Laws.{UnfitDefaultsDoNotConform};
 
 use graphql_schema::Check;
 use graphql_values::DefaultScalarValue;
@@ -14,7 +15,7 @@ pub fn faults_have_places()
 {}
 
 /// Where [`SchemaFile::read`](crate::SchemaFile::read) tells that a file has a name that is none, a
-/// type that is no type reference or a default that is no constant literal,
+/// type that is no type reference, or a default that is no constant literal or does not conform,
 /// [`place_of_fault`](crate::place_of_fault) tells where.
 pub fn told_faults_have_places<C: Check<DefaultScalarValue>>()
     ensures { ToldFaultsHavePlaces C.accepts }
@@ -30,4 +31,10 @@ pub fn shape_faults_stand()
 /// [`shape_fault`](crate::shape_fault) tells a member.
 pub fn told_shapes_have_faults<C: Check<DefaultScalarValue>>()
     ensures { ToldShapesHaveFaults C.accepts }
+{}
+
+/// Where [`SchemaFile::read`](crate::SchemaFile::read) tells of a default that it is the first that
+/// does not conform in the schema, not each default conforms in it.
+pub fn unfit_defaults_do_not_conform<C: Check<DefaultScalarValue>>()
+    ensures { UnfitDefaultsDoNotConform C.accepts }
 {}

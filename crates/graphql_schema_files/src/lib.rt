@@ -5,7 +5,6 @@
 #![tactic(auto)]
 
 mod builtin;
-mod conforming;
 mod declaration_place;
 mod drafts;
 pub mod laws;
@@ -21,6 +20,7 @@ mod shape_text;
 mod shapes;
 mod texts;
 mod typed;
+mod unfit;
 mod wanted;
 
 pub use declaration_place::{DeclarationPlace, FieldPlace};

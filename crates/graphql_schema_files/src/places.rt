@@ -1,6 +1,7 @@
 //! Where in a file of a schema its declarations break a rule.
 
 ghost use Rattle.std.specs.Prelude.{◌↔◌, IfOk, IsTrue};
+ghost use Rattle.graphql_text.specs.Memory.{Gives};
 ghost use Rattle.serde_json.specs.View.{view};
 ghost use Rattle.graphql_schema_files.specs.DraftedTypes.{IsDefault};
 ghost use Rattle.graphql_schema_files.specs.Shapes.{schema_of};
@@ -189,8 +190,41 @@ fn place_among(
     Ok(None)
 }
 
+/// A text, if there is one. An error is want of memory.
+fn text_copied(alloc: Global, text: &Option<Text>) -> Result<Option<Text>, AllocError>
+    ensures { Gives result text.now }
+{
+    match text {
+        Some(text) => Ok(Some(Text::from_str(alloc, text.as_str())?)),
+        None => Ok(None),
+    }
+}
+
+/// A field, or an argument of it, if there is one. An error is want of memory.
+fn field_copied(alloc: Global, field: &Option<FieldPlace>) -> Result<Option<FieldPlace>, AllocError>
+    ensures { Gives result field.now }
+{
+    match field {
+        Some(field) => {
+            let name = Text::from_str(alloc, field.name.as_str())?;
+            let argument = text_copied(alloc, &field.argument)?;
+            Ok(Some(FieldPlace { name, argument }))
+        }
+        None => Ok(None),
+    }
+}
+
+/// A place. An error is want of memory.
+fn copied(alloc: Global, place: &DeclarationPlace) -> Result<DeclarationPlace, AllocError>
+    ensures { Gives result place.now }
+{
+    let type_name = Text::from_str(alloc, place.type_name.as_str())?;
+    let field = field_copied(alloc, &place.field)?;
+    Ok(DeclarationPlace { type_name, field })
+}
+
 /// Where a fault stands of a file that has been drafted. An error is want of memory.
-#[tactic(auto, using(crate::proofs::Placing::rest_placed))]
+#[tactic(auto, using(crate::proofs::Placing::fault_steps))]
 fn place_in(
     alloc: Global,
     fault: &SchemaFileError,
@@ -202,6 +236,7 @@ fn place_in(
         SchemaFileError::BadName => place_among(alloc, Rule::Names, file.types.as_slice()),
         SchemaFileError::BadTypeText => place_among(alloc, Rule::Types, file.types.as_slice()),
         SchemaFileError::BadDefault => place_among(alloc, Rule::Defaults, file.types.as_slice()),
+        SchemaFileError::UnfitDefault(place) => Ok(Some(copied(alloc, place)?)),
         _ => Ok(None),
     }
 }
@@ -225,11 +260,12 @@ fn place_in_json(
 ///
 /// - of `BadName`, that has a name that is none;
 /// - of `BadTypeText`, whose type is no type reference;
-/// - of `BadDefault`, whose default is no constant literal.
+/// - of `BadDefault`, whose default is no constant literal;
+/// - of `UnfitDefault`, whose default does not conform to the type of its argument: the place that
+///   is told with the fault.
 ///
-/// `None` where the file has not that fault, which may be asked of any; where a default does not
-/// conform to its argument's type; and of the other faults. The only error is want of memory, which
-/// tells nothing of the file.
+/// `None` where the file has not that fault, which may be asked of any, and of the other faults.
+/// The only error is want of memory, which tells nothing of the file.
 #[tactic(auto, using(crate::proofs::Placing::not_parsed))]
 pub fn place_of_fault(
     alloc: Global,

@@ -14,8 +14,8 @@ ghost use Rattle.graphql_schema_files.specs.declared.schema_file_error.SchemaFil
 ghost use Rattle.graphql_schema_files.specs.declared.schema_file_error.SchemaFileError.TheVariants.{NotJson};
 
 use crate::builtin::builtin_types;
-use crate::conforming::defaults_conform;
 use crate::schema_file_error::SchemaFileError;
+use crate::unfit::unfit_default;
 use crate::{SchemaDraft, add_types, are_named, have_types, schema_of};
 use graphql_lines::{LineRefusal, json_of_line};
 use graphql_schema::scalar_checks::StandardChecks;
@@ -60,8 +60,8 @@ pub(crate) fn lent<'a>(text: &Option<TextRef<'a>>) -> Option<&'a str>
     }
 }
 
-/// The root node over a schema, if the defaults of the file conform in it. `Memory` is want of
-/// memory.
+/// The root node over a schema, or the first default of the file that does not conform in it.
+/// `Memory` is want of memory.
 fn rooted(
     alloc: Global,
     file: &SchemaDraft<'_>,
@@ -70,10 +70,9 @@ fn rooted(
     ensures { spec.Judges ⟦<TypeCheck as Check<DefaultScalarValue>>⟧.accepts file.now schema
         result }
 {
-    if defaults_conform(alloc, &schema, file.types.as_slice())? {
-        Ok(RootNode::new(schema))
-    } else {
-        Err(SchemaFileError::BadDefault)
+    match unfit_default(alloc, &schema, file.types.as_slice())? {
+        Some(place) => Err(SchemaFileError::UnfitDefault(place)),
+        None => Ok(RootNode::new(schema)),
     }
 }
 

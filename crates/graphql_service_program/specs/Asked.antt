@@ -1,15 +1,12 @@
 -- What the words behind the program's name ask for.
-use Rattle.std.specs.Prelude.{Bool, true, false, Option, Some, None, Result, Ok, Err, String, codes}
+use Rattle.std.specs.Prelude.{Bool, true, false, Option, Some, None, Result, Ok, Err, codes}
 use Rattle.std.specs.Prelude.{if◌then◌else◌}
 use Rattle.std.specs.Str.{bytes_eq}
 use Rattle.std.specs.String.{string_bytes}
-use Rattle.std.specs.declared.alloc.Global.{Global}
+use Rattle.graphql_file_service.specs.Programs.{Word}
 use Rattle.graphql_service_program.specs.declared.arguments.Arguments.{Arguments}
 use Rattle.graphql_service_program.specs.declared.failure.Failure.{Failure}
 use Rattle.graphql_service_program.specs.declared.failure.Failure.TheVariants.{Usage}
-
-abbrev pub Word : Type 0
-Word = String Global
 
 -- answers, or plain texts by the word `--plain`
 abbrev pub asks_for_plain : Option Word → Result Bool Failure

@@ -1,9 +1,9 @@
 //! Why the program ended before the end of its input.
 
 ghost use Rattle.std.specs.Prelude.{◌≡◌};
-ghost use Rattle.graphql_service_program.specs.Status.{status_of, status_of_fault};
+ghost use Rattle.graphql_service_program.specs.Status.{status_of};
 
-use graphql_file_service::{DataFileError, PlacedFault, RunFault, SchemaFileError, ServeError};
+use graphql_file_service::PlacedFault;
 use std::alloc::AllocError;
 use std::error::Error;
 use std::{fmt, io};
@@ -30,23 +30,6 @@ pub(crate) fn unless_memory(error: io::Error, otherwise: Failure) -> Failure {
     }
 }
 
-/// The exit status of a run that ended so.
-fn fault_status(fault: &RunFault) -> u8
-    ensures { result ≡ status_of_fault fault.now }
-{
-    match fault {
-        RunFault::Schema(SchemaFileError::Memory)
-        | RunFault::Data(DataFileError::Memory)
-        | RunFault::Serve(ServeError::Memory)
-        | RunFault::Memory => 4,
-        RunFault::Schema(_)
-        | RunFault::NotExecutable
-        | RunFault::Data(_)
-        | RunFault::OtherBoolean => 1,
-        RunFault::Serve(_) => 3,
-    }
-}
-
 impl Failure {
     /// The exit status.
     pub fn status(&self) -> u8
@@ -55,7 +38,7 @@ impl Failure {
         match self {
             Failure::CannotRead(_) => 1,
             Failure::Usage => 2,
-            Failure::Run(placed) => fault_status(&placed.fault),
+            Failure::Run(placed) => placed.fault.status(),
             Failure::Memory => 4,
         }
     }

@@ -36,7 +36,7 @@ const SCHEMAS: &[(&str, &str)] = &[
     ),
     (
         r#"{"query":"Query","types":[{"kind":"object","name":"Query","fields":[{"name":"a","type":"Int","args":[{"name":"b","type":"Int","default":"true"}]}]}]}"#,
-        "schema: BadDefault",
+        "schema: BadDefault\ntype \"Query\", field \"a\", argument \"b\"",
     ),
     (
         r#"{"query":"Query","types":[{"kind":"interface","name":"Counted","fields":[{"name":"a","type":"Int!"}]},{"kind":"object","name":"Query","interfaces":["Counted"],"fields":[{"name":"a","type":"Int"}]}]}"#,
@@ -52,15 +52,21 @@ const SCHEMAS: &[(&str, &str)] = &[
 /// it is known.
 const RECORDS: &[(&str, &str)] = &[
     ("[", "data: NotJson\nline 1, column 1"),
-    (r#"{"roots":{"query":"q"}}"#, "data: BadShape"),
-    (r#"{"roots":{},"records":[]}"#, "data: BadShape"),
+    (
+        r#"{"roots":{"query":"q"}}"#,
+        "data: BadShape\n$.records: a list is wanted",
+    ),
+    (
+        r#"{"roots":{},"records":[]}"#,
+        "data: BadShape\n$.roots.query: a text is wanted",
+    ),
     (
         r#"{"roots":{"query":"q"},"records":[{"id":"q","type":"Query"}]}"#,
-        "data: BadShape",
+        "data: BadShape\n$.records[0].fields: an object is wanted",
     ),
     (
         r#"{"roots":{"query":"q"},"records":[{"id":"q","type":"Query","fields":{"hero":1.5}},{"id":"q","type":"Query","fields":{"hero":[{}]}}]}"#,
-        "data: BadShape",
+        "data: BadShape\n$.records[1].fields[\"hero\"]: a value or a list of values is wanted",
     ),
     (
         r#"{"roots":{"query":"q"},"records":[{"id":"q","type":"Query","fields":{"hero":[[1.0]]}},{"id":"q","type":"Query","fields":{}}]}"#,

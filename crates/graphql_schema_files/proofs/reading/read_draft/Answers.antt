@@ -13,8 +13,8 @@ returns-then-not-branch g c = λ other. (
 
 pub returns-then-not-branch-2 : goal.returns-then-not-branch-2
 returns-then-not-branch-2 g c = λ other.
-    none_added _ c.args.types c.args.file.now (c.is_named.ensures.0 c.if-not-is_named.false) (c.in_ok-has_types.ensures.0 c.if-not-branch.false)
-    c.add_declared.new.types c.in_ok-add_declared.field-0 c.if-not-branch-2.true c.in_ok-add_declared.ensures
+    none_added c.args.types c.add_declared.new.types c.args.file.now (c.is_named.ensures.0 c.if-not-is_named.false) (c.in_ok-has_types.ensures.0 c.if-not-branch.false)
+    c.in_ok-add_declared.field-0 c.if-not-branch-2.true c.in_ok-add_declared.ensures
 
 pub returns : goal.returns
 returns g c =
