@@ -1,1 +1,6 @@
+mod AllowedAlike
+mod AnsweredAround
+mod DifferUnder
+mod JoinOfThree
 mod SameTexts
+mod StoredAsked

@@ -4,10 +4,15 @@ ghost use Rattle.std.specs.Prelude.{◌≡◌, ◌↔◌, IfOk, IsTrue};
 ghost use Rattle.std.specs.Str.{chars};
 ghost use Rattle.graphql_grammar.specs.Alike.{SameTokens};
 ghost use Rattle.graphql_language.specs.Alike.{AreAlike};
+ghost use Rattle.graphql_stores_tests.specs.Stored.{AreAllowedAlike};
 
+use graphql_executor::Meaning;
 use graphql_lexer::laws::one_list;
 use graphql_lexer::lex_all;
+use graphql_schema::RootNode;
+use graphql_stores::laws::same_tokens_are_allowed_alike;
 use graphql_text::{LexerError, Spanning, Token};
+use graphql_values::DefaultScalarValue;
 use std::alloc::Global;
 
 /// Whether two tokens are the same, wherever they stand.
@@ -41,4 +46,21 @@ pub fn have_same_tokens(alloc: Global, one: &str, other: &str) -> Result<bool, S
     let tokens = lex_all(alloc, one)?;
     let others = lex_all(alloc, other)?;
     Ok(have_same_items(tokens.as_slice(), others.as_slice()))
+}
+
+/// Whether two texts have the same tokens. Where they have, a store allows requests of them alike,
+/// whatever it holds: with one operation name and the same values for variables, both or neither.
+/// An error is as [`have_same_tokens`] has it.
+pub fn are_allowed_alike(
+    alloc: Global,
+    root_node: &RootNode<DefaultScalarValue>,
+    one: &str,
+    other: &str,
+) -> Result<bool, Spanning<LexerError>>
+    ensures { IfOk result (λ same. IsTrue same
+        → AreAllowedAlike ⟦<DefaultScalarValue as Meaning>⟧.meaning root_node.now one.now
+        other.now) }
+{
+    same_tokens_are_allowed_alike(root_node);
+    have_same_tokens(alloc, one, other)
 }
