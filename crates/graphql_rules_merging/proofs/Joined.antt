@@ -1,5 +1,5 @@
 -- The table of a document's sets: what is found of it is as the rule promises.
-use Rattle.std.proofs.Common.{subst, arith, ℕ, ◌<◌, Bool, List, length, get_or, None, inl, inr}
+use Rattle.std.proofs.Common.{subst, sym, arith, ℕ, ◌<◌, Bool, List, length, get_or, None, inl, inr, []}
 use Rattle.std.specs.List.{Contains}
 use Rattle.std.proofs.lemmas.List.{length-map}
 use Rattle.std.proofs.lemmas.List.Elements.{Contains-get_or}
@@ -20,8 +20,10 @@ use Rattle.graphql_set_table.proofs.Meaning.{owns, root-piece, root-number, each
 use Rattle.graphql_bundles.specs.Direct.{IsVisited, by_definition, by_field, by_fragment}
 use Rattle.graphql_bundles.specs.Ends.{IsShown}
 use Rattle.graphql_bundles.proofs.EndLaw.{end-meets-contract}
+use Rattle.graphql_rules_merging.specs.Alone.{AllStandAlone}
 use Rattle.graphql_rules_merging.specs.Comparing.{Stage}
 use Rattle.graphql_rules_merging.specs.Finished.{IsFinished, AreFound}
+use Rattle.graphql_rules_merging.proofs.StandingAlone.{alone-meets}
 use Rattle.graphql_rules_merging.proofs.Merged.{IsOpened, opened_inner, opened_own, opened_definition, finished_meets}
 use Rattle.graphql_rules_merging.proofs.Reordered.{Promised}
 
@@ -61,10 +63,19 @@ module _ {S C : Type 0} (eq : S → S → Bool) (schema : Declarations S C) (doc
   shown = each-set schema document all table is settled (IsVisited pieces (length document))
       (λ p q h i. by_fragment p q h i) (λ p f h i. by_field p f h i) (λ k small. by_definition k small)
 
+  -- where there is nothing to compare
+  by-none : SameAsItself eq → AllStandAlone pieces → Promised eq schema.types (document_sets schema document) []
+  by-none itself alone =
+      alone-meets eq schema.types pieces alone itself (definition_sets schema document) (owns schema document all table is settled eq)
+      (λ set i. let n = number set i in (n.0, n.2))
+      (λ set i. elim (shown set i) [ inl h ↦ inl (h.0, h.2) | inr e ↦ inr e ])
+
   pub promised : SameAsItself eq → SameByAThird eq → (errors : Places) → AreFound eq schema.types pieces (length document) errors
       → Promised eq schema.types (document_sets schema document) errors
   promised itself third errors (inl h) =
       end-meets-contract S C eq third schema.types pieces (definition_sets schema document) (length document) h.0 errors
       (owns schema document all table is settled eq) root number shown h.1 h.2
-  promised itself third errors (inr h) =
+  promised itself third errors (inr (inl h)) =
       subst (Promised eq schema.types (document_sets schema document)) h.1 (by-pairs itself h.0 h.2)
+  promised itself third errors (inr (inr h)) =
+      subst (Promised eq schema.types (document_sets schema document)) (sym h.1) (by-none itself h.0)

@@ -18,6 +18,7 @@ pub mod Merged
 pub mod Reordered
 pub mod Lowest
 pub mod InOrder
+pub mod StandingAlone
 pub mod Joined
 pub mod Visits
 pub mod Classing

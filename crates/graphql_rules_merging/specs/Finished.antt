@@ -10,6 +10,7 @@ use Rattle.graphql_merging.specs.Pieces.{Pieces, PieceField}
 use Rattle.graphql_merging.specs.Told.{Names, Tells, Fits}
 use Rattle.graphql_bundles.specs.Ends.{IsEnd}
 use Rattle.graphql_rules_merging.specs.declared.agenda.SetPair.{SetPair}
+use Rattle.graphql_rules_merging.specs.Alone.{AllStandAlone}
 use Rattle.graphql_rules_merging.specs.Agenda.{pair_of, IsListed, IsBegun}
 use Rattle.graphql_rules_merging.specs.Comparing.{Stage, members_in, HasOneKey, fields_of, LeadsTo}
 use Rattle.graphql_rules_merging.specs.Comparing.{DoAgree}
@@ -69,6 +70,10 @@ module _ {S C : Type 0} (eq : S → S → Bool) (types : List (MetaType S C)) (t
     abbrev pub AreOfPairs : Places → Type 0
     AreOfPairs errors = (stage : Stage) × (stage.told ≡ errors) × IsFinished stage
 
-    -- what is told where the rule ends: bundles decide it, or pairs
+    -- no two fields of one response key stand together, so that nothing is told
+    abbrev pub AreOfNone : Places → Type 0
+    AreOfNone errors = AllStandAlone t × (errors ≡ [])
+
+    -- what is told where the rule ends: bundles decide it, or pairs, or there is nothing to decide
     abbrev pub AreFound : Places → Type 0
-    AreFound errors = AreOfBundles errors ⊎ AreOfPairs errors
+    AreFound errors = AreOfBundles errors ⊎ (AreOfPairs errors ⊎ AreOfNone errors)

@@ -1,6 +1,7 @@
 pub mod Numbers
 pub mod PairTables
 pub mod Agenda
+pub mod Alone
 pub mod Counted
 pub mod Comparing
 pub mod Finished

@@ -94,7 +94,7 @@ fn compare_with<S: Eq, C>(
 }
 
 /// The fields that follow one of them.
-fn after<'n, 'd, 'a, S, C>(
+pub(crate) fn after<'n, 'd, 'a, S, C>(
     fields: &'n [WrittenField<'d, 'a, S, C>],
     index: usize,
 ) -> &'n [WrittenField<'d, 'a, S, C>]

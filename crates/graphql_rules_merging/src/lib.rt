@@ -3,6 +3,7 @@
 #![tactic(auto)]
 
 mod agenda;
+mod alone;
 mod begin;
 mod classes;
 mod field_numbers;

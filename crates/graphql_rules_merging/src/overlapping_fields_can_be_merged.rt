@@ -17,6 +17,7 @@ ghost use Rattle.graphql_rules_merging.specs.OverlappingFieldsCanBeMerged.{IsCou
 ghost use Rattle.graphql_visitors.specs.Reports.{ReportsBy};
 ghost use Rattle.graphql_visitors.specs.Subjects.{subject_of};
 
+use crate::alone::all_stand_alone;
 use crate::finish::merge_errors;
 use crate::order::put_in_order;
 use graphql_bundles::{Conflict, Outcome, told_by_bundles};
@@ -145,7 +146,8 @@ fn most_of<S, C>(table: &SetTable<'_, '_, S, C>, comparisons: u128) -> u128
 }
 
 /// The conflicts of the fields of these sets that do not merge, in the order in which they are
-/// found: those that going through bundles tells. Where it met its bound and told nothing, each two
+/// found: none where no two fields of one response key stand together, else those that going
+/// through bundles tells. Where it met its bound and told nothing, each two
 /// fields of one response key that stand together are compared. The sets below `definitions` are
 /// those of the document's definitions. An error of the call is want of memory.
 fn found_errors<S: Eq, C>(
@@ -161,6 +163,9 @@ fn found_errors<S: Eq, C>(
         AreFound S.eq schema.now.types (pieces_of fragments table.now) definitions
         (conflicts.places found)) }
 {
+    if all_stand_alone(table) {
+        return Ok(Items::new(alloc));
+    }
     let limit = bound_of(table);
     let most = most_of(table, *comparisons);
     let told = told_by_bundles(alloc, schema, table, definitions, limit, most, comparisons)?;

@@ -1,4 +1,4 @@
-use Rattle.std.proofs.Common.{inr}
+use Rattle.std.proofs.Common.{inl, inr}
 use Rattle.std.proofs.lemmas.Result.{IfOk-weaker}
 use Rattle.graphql_values.proofs.SameValueLaws.{same_as_itself, by_a_third}
 use Rattle.graphql_rule_errors.specs.Places.{places}
@@ -21,5 +21,5 @@ returns-clause-merging g c =
     let table = c.in_ok-table.ensures.numbered in
     promised_named eq schema.types (document_sets schema document) found (places errors) same
     (promised eq schema document table.0 c.in_ok-table.table table.1 settled (same_as_itself eq g.met.S.Eq.laws) (by_a_third eq g.met.S.Eq.laws)
-    found (inr (c.in_ok-found.ensures (fragments_listed document)))))
+    found (inr (inl (c.in_ok-found.ensures (fragments_listed document))))))
     c.put_in_order.ensures.same
