@@ -1,12 +1,11 @@
 -- Groups, one field more.
-use Rattle.std.proofs.Common.{◌≡◌, refl, sym, ◌∙◌, ap, subst, ℕ, suc, ◌+◌, ◌<◌, arith, Bool, true, false, not, ◌||◌, nat_lt, List, [], ◌∷◌, ◌++◌, map, length, take, get_or, cond, Some, None, append-nil, append_assoc, length-append}
-use Rattle.std.specs.Option.{unwrap_or}
-use Rattle.std.specs.List.{list_any, position, position_or_len, slice_set, AllByRecursion, IsDistinct}
+use Rattle.std.proofs.Common.{◌≡◌, refl, sym, ◌∙◌, ap, subst, ℕ, suc, ◌+◌, ◌<◌, arith, Bool, true, false, not, ◌||◌, nat_lt, List, [], ◌∷◌, ◌++◌, map, length, take, get_or, cond, append-nil, append_assoc, length-append}
+use Rattle.std.specs.List.{list_any, position_or_len, slice_set, AllByRecursion, IsDistinct}
 use Rattle.std.specs.Str.{bytes_eq}
 use Rattle.std.specs.Cmp.Lexicographic.{nat_list_eq_equiv}
-use Rattle.std.proofs.lemmas.Bool.{ltb-false}
-use Rattle.std.proofs.lemmas.List.{take_more, map-append}
-use Rattle.std.proofs.lemmas.List.Sums.{prefix_len-le-length}
+use Rattle.std.proofs.lemmas.Bool.{ltb-true, ltb-false}
+use Rattle.std.proofs.lemmas.List.{take_more, map-append, get_or-map, length-map}
+use Rattle.std.proofs.lemmas.List.Sums.{position_or_len_is}
 use Rattle.std.proofs.lemmas.List.Elements.{filter-append}
 use Rattle.std.proofs.lemmas.Map.Keys.{IsDistinct-head, IsDistinct-tail, IsDistinct-push}
 use Rattle.std.proofs.lemmas.Slice.Eq.{bytes_eq-Decides}
@@ -105,19 +104,30 @@ module _ {S : Type 0} where
             ∙ ap (map joins) (sym (map-append (by_key xs) (keys xs) (y.head.key ∷ [])))
             ∙ joins-all xs (keys xs ++ y.head.key ∷ [])
 
--- the place of a group by its key, in a scan
-module _ {X : Type 0} (p : Bytes → Bool) where
-  by-key : (gs : List (Bytes × X)) → position_or_len (λ g. p g.0) gs ≡ position_or_len p (map (λ g. g.0) gs)
-  by-key [] = refl
-  by-key (g ∷ gs) = ap (λ n. cond (not (p g.0)) (1 + n) 0) (by-key gs)
+-- the first groups have keys that fail
+abbrev pub ArePassed : {X : Type 0} → (Bytes → Bool) → List (Bytes × X) → ℕ → Type 0
+ArePassed p gs n = (k : ℕ) → k < n → p (get_or (map (λ g. g.0) gs) k []) ≡ false
 
-  pub scanned : (gs : List (Bytes × X)) → unwrap_or (position (λ g. p g.0) gs) (length gs) ≡ position_or_len p (map (λ g. g.0) gs)
-  scanned gs = cases (nat_lt (position_or_len (λ g. p g.0) gs) (length gs)) refl ∙ by-key gs
+-- the place of a group by its key, in a scan
+module _ {X : Type 0} (p : Bytes → Bool) (gs : List (Bytes × X)) where
+  -- the keys stand at the groups' places
+  pub key-there : (k : ℕ) (g : Bytes × X) → k < length gs → g ≡ get_or gs k g → get_or (map (λ h. h.0) gs) k [] ≡ g.0
+  key-there k g within is = get_or-map (λ (h : Bytes × X). h.0) gs k g [] within ∙ ap (λ h. h.0) (sym is)
+
+  pub passed-more : (n : ℕ) (g : Bytes × X) → n < length gs → g ≡ get_or gs n g → p g.0 ≡ false → ArePassed p gs n → ArePassed p gs (n + 1)
+  passed-more n g within is fails passed = λ k less. cases k (nat_lt k n) refl less
     where
-      cases : (q : Bool) → nat_lt (position_or_len (λ g. p g.0) gs) (length gs) ≡ q
-          → unwrap_or (cond q (Some (position_or_len (λ g. p g.0) gs)) None) (length gs) ≡ position_or_len (λ g. p g.0) gs
-      cases true t = refl
-      cases false t = omega (arith, ltb-false _ _ t, prefix_len-le-length (λ (g : Bytes × X). not (p g.0)) gs)
+      cases : (k : ℕ) (q : Bool) → nat_lt k n ≡ q → k < n + 1 → p (get_or (map (λ h. h.0) gs) k []) ≡ false
+      cases k true t less = passed k (ltb-true k n t)
+      cases k false t less = subst (λ m. p (get_or (map (λ h. h.0) gs) m []) ≡ false) (omega (arith, less, ltb-false k n t)) (ap p (key-there n g within is) ∙ fails)
+
+  pub stops-at : (n : ℕ) (g : Bytes × X) → n < length gs → g ≡ get_or gs n g → p g.0 ≡ true → ArePassed p gs n → n ≡ position_or_len p (map (λ h. h.0) gs)
+  stops-at n g within is passes passed =
+      sym (position_or_len_is p (map (λ h. h.0) gs) n [] (omega (arith, within, length-map gs (λ h. h.0))) passed (λ _. ap p (key-there n g within is) ∙ passes))
+
+  pub stops-after : (n : ℕ) → n ≡ length gs → ArePassed p gs n → n ≡ position_or_len p (map (λ h. h.0) gs)
+  stops-after n all passed =
+      sym (position_or_len_is p (map (λ h. h.0) gs) n [] (omega (arith, all, length-map gs (λ h. h.0))) passed (λ less. absurd (omega (arith, less, all, length-map gs (λ h. h.0)))))
 
 -- a field is put to its group
 module _ {S : Type 0} (x : CollectedField S) where

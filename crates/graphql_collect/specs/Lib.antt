@@ -1,3 +1,4 @@
+pub mod Few
 pub mod Grouped
 pub mod Walks
 pub mod Walked

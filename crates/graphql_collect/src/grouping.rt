@@ -5,6 +5,7 @@ ghost use Rattle.std.specs.List.{IsDistinct, position_or_len};
 ghost use Rattle.std.specs.Str.{bytes_eq};
 ghost use Rattle.graphql_collect.specs.Grouped.{IsGrouped, begun, key_at, put};
 
+use crate::few::Few;
 use graphql_collected::CollectedField;
 use graphql_names::same_name;
 use graphql_text::{Items, TextRef};
@@ -13,7 +14,7 @@ use indexmap::IndexSet;
 use std::alloc::{AllocError, Global};
 
 /// A response key, and its fields, the first of them first.
-pub type Group<'d, 'a, S> = (TextRef<'d>, Items<CollectedField<'d, 'a, S>>);
+pub type Group<'d, 'a, S> = (TextRef<'d>, Few<CollectedField<'d, 'a, S>>);
 
 /// The response key of the field.
 fn key_of<'d, S>(occurrence: &CollectedField<'d, '_, S>) -> TextRef<'d>
@@ -29,16 +30,17 @@ const FEW: usize = 8;
 fn place_of<S>(groups: &[Group<'_, '_, S>], key: &str) -> usize
     ensures { result ≡ position_or_len (bytes_eq key.now) (map (λ g. g.0) groups.now) }
 {
-    groups
-        .iter()
-        .position(|group| same_name(key, group.0.as_str()))
-        .unwrap_or(groups.len())
+    'groups: for (place, group) in groups.iter().enumerate() {
+        if same_name(key, group.0.as_str()) {
+            return place;
+        }
+    }
+    groups.len()
 }
 
 /// Begins a group for the field's key, the last, if its place is after all groups. An error is want
 /// of memory.
 fn begin_at<'d, 'a, S>(
-    alloc: Global,
     occurrence: &CollectedField<'d, 'a, S>,
     place: usize,
     groups: &mut Items<Group<'d, 'a, S>>,
@@ -48,7 +50,7 @@ fn begin_at<'d, 'a, S>(
     ensures { OnOk result (groups.new ≡ begun occurrence.now groups.old) }
 {
     if place == groups.len() {
-        groups.push((key_of(occurrence), Items::new(alloc)))?;
+        groups.push((key_of(occurrence), Few::new()))?;
     }
     Ok(())
 }
@@ -67,8 +69,8 @@ fn put_at<'d, 'a, S>(
     ensures put { OnOk result (groups.new ≡ put occurrence.now groups.old) }
     ensures distinct { OnOk result (IsDistinct bytes_eq (map (λ g. g.0) groups.new)) }
 {
-    begin_at(alloc, occurrence, place, groups)?;
-    groups[place].1.push(*occurrence)?;
+    begin_at(occurrence, place, groups)?;
+    groups[place].1.push(alloc, *occurrence)?;
     Ok(())
 }
 

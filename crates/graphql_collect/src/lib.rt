@@ -3,8 +3,10 @@
 #![tactic(auto)]
 
 mod collecting;
+mod few;
 mod grouping;
 mod open_set;
 
 pub use collecting::{fields_below, fields_of_set};
+pub use few::Few;
 pub use grouping::{Group, grouped};

@@ -1,14 +1,23 @@
-use Rattle.std.proofs.Common.{◌≡◌, ◌∙◌, ap, length, rules, tests}
-use Rattle.std.specs.List.{position}
-use Rattle.std.specs.Option.{unwrap_or}
+use Rattle.std.proofs.Common.{◌≡◌, ◌∙◌, sym, ap, true, false, arith, length}
 use Rattle.std.specs.Str.{bytes_eq}
-use Rattle.std.proofs.lemmas.Iterator.{YieldsList-from_slice}
-use Rattle.std.proofs.lemmas.Iterator.Search.{position_from_yields_List}
-use Rattle.graphql_collect.proofs.Keyed.{scanned}
+use Rattle.graphql_collect.proofs.Keyed.{passed-more, stops-at, stops-after}
 use Rattle.graphql_collect.proofs.grouping.place_of.Goals as goal
+
+pub returns-then-same_name : goal.returns-then-same_name
+returns-then-same_name g c =
+    let p = bytes_eq c.args.key.now in
+    let x = c.index-groups-place.result in
+    let passes : p x.0 ≡ true = ap p (sym c.as_str.ensures) ∙ sym c.same_name.ensures ∙ c.if-same_name.true in
+    stops-at p c.args.groups.now c.groups.place x c.groups-test.true c.index-groups-place.is passes c.groups.invariant
+
+pub groups-preserved : goal.groups-preserved
+groups-preserved g c =
+    let p = bytes_eq c.args.key.now in
+    let x = c.index-groups-place.result in
+    let fails : p x.0 ≡ false = ap p (sym c.as_str.ensures) ∙ sym c.same_name.ensures ∙ c.if-same_name.false in
+    passed-more p c.args.groups.now c.groups.place x c.groups-test.true c.index-groups-place.is fails c.groups.invariant
 
 pub returns : goal.returns
 returns g c =
-    let found : c.position.result ≡ position (λ h. bytes_eq c.args.key.now h.0) c.args.groups.now =
-    position_from_yields_List (λ h. bytes_eq c.args.key.now h.0) _ _ c.position.result c.position.ensures.ran (YieldsList-from_slice _ c.iter.ensures.rest) (λ x b q k. search (rules, tests)) in
-    c.unwrap_or.ensures ∙ ap (λ o. unwrap_or o (length c.args.groups.now)) found ∙ scanned (bytes_eq c.args.key.now) c.args.groups.now
+    let all : c.groups.place ≡ length c.args.groups.now = omega (arith, c.groups-test.false, c.groups.auto.place-end) in
+    sym all ∙ stops-after (bytes_eq c.args.key.now) c.args.groups.now c.groups.place all c.groups.invariant

@@ -1,5 +1,5 @@
 use Rattle.std.specs.List.{All}
-use Rattle.std.proofs.Common.{◌≡◌, ◌∙◌, sym, ap, subst, map, take, take_all, option_map}
+use Rattle.std.proofs.Common.{arith, ◌≡◌, ◌∙◌, sym, ap, subst, map, take, take_all, option_map}
 use Rattle.graphql_collect.specs.Grouped.{all_found}
 use Rattle.graphql_collected.specs.Requests.{fragments_in}
 use Rattle.graphql_semantics.specs.Completion.{object_members}
@@ -16,14 +16,16 @@ use Rattle.graphql_execution_walk.proofs.OutcomeLemmas.{gives-map}
 use Rattle.graphql_execution_walk.proofs.RootLemmas.{by_groups, groups-more, members-distinct}
 use Rattle.graphql_execution_walk.proofs.selections.answer_selections.Goals as goal
 
-pub answer_group-requires-clause-keyed : goal.answer_group-requires-clause-keyed
-answer_group-requires-clause-keyed g c =
+pub answer_group-requires : goal.answer_group-requires
+answer_group-requires g c =
     let fr = fragments_in c.args.executor.now.request.now in
     let items = c.as_slice-group-items.result.now in
     let x = c.group-item.result in
     let are = c.in_ok-groups.ensures in
-    let keyed : All HasKey items = subst (All HasKey) (sym c.as_slice-group-items.ensures) (groups-keyed fr are.found c.in_ok-groups.groups are.groups) in
-    subst HasKey (sym c.group-item.is) (keyed c.groups.group-index x c.groups-test.true)
+    let keyed : All HasKey items = subst (All HasKey) (sym c.as_slice-group-items.ensures) (groups-keyed fr are.found c.in_ok-groups.groups are.groups) in (
+      omega arith,
+      (c.requires.settled, (c.requires.typed, subst HasKey (sym c.group-item.is) (keyed c.groups.group-index x c.groups-test.true))),
+    )
 
 pub groups-preserved : goal.groups-preserved
 groups-preserved g c =

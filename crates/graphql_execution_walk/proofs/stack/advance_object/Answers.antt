@@ -20,35 +20,31 @@ object_of-requires g c =
     let f = c.args.object_frame in
     distinct-end f.members (drop f.next f.groups) (drop-end f.groups f.next (sym (rw (c.in-None.is, c.get.ensures) at c.get-2.ensures.value))) c.requires.fine.0.2
 
--- the object's type is that of its node
-pub start-requires-clause-typed : goal.start-requires-clause-typed
-start-requires-clause-typed g c =
-    let rq = c.args.executor.now.request.now in
-    let ty = g.R.GraphQLValue.type_of c.args.resolver.now c.args.executor.now.context.now in
-    let an = g.R.GraphQLValue.answer c.args.resolver.now c.args.executor.now.context.now in
-    let f = c.args.object_frame in
-    inl (c.as_str.ensures ∙ c.requires.fine.0.0 ∙ ap (λ h. h f.node) (engine-concrete g.S.ScalarValue.of_text g.S.ScalarValue.of_bool g.S.ScalarValue.answer rq ty an))
-
-pub start-requires-clause-keyed : goal.start-requires-clause-keyed
-start-requires-clause-keyed g c =
-    let f = c.args.object_frame in
-    let x = c.in-Some.group.now in
-    let here : slice_get f.groups f.next ≡ Some x = sym (rw (c.in-Some.is, c.get.ensures) at c.get-2.ensures.value) in
-    all-at HasKey f.groups f.next x c.requires.fine.0.1 here
-
--- what is known at the group's place is known of the group
-pub start-requires-clause-prepared : goal.start-requires-clause-prepared
-start-requires-clause-prepared g c =
+-- the object's type is that of its node, and what is known at the group's place is known of the group
+pub start-requires : goal.start-requires
+start-requires g c =
     let rq = c.args.executor.now.request.now in
     let ty = g.R.GraphQLValue.type_of c.args.resolver.now c.args.executor.now.context.now in
     let an = g.R.GraphQLValue.answer c.args.resolver.now c.args.executor.now.context.now in
     let f = c.args.object_frame in
     let x = c.in-Some.group.now in
     let here : slice_get f.groups f.next ≡ Some x = sym (rw (c.in-Some.is, c.get.ensures) at c.get-2.ensures.value) in
-    rw c.as_str.ensures
-    (known-here rq f.object f.groups f.prepared f.next x
-    (if-prepared g.S.ScalarValue.of_text g.S.ScalarValue.of_bool g.S.ScalarValue.answer rq ty an f.object f.groups f.prepared c.requires.fine.0.3)
-    here c.prepared_at-prepared_field.result c.prepared_at-prepared_field.ensures)
+    let typed = (c.as_str.ensures ∙ c.requires.fine.0.0 ∙ ap (λ h. h f.node) (engine-concrete g.S.ScalarValue.of_text g.S.ScalarValue.of_bool g.S.ScalarValue.answer rq ty an)) in (
+      omega arith,
+      (
+        c.requires.settled,
+        (
+          inl typed,
+          (
+            all-at HasKey f.groups f.next x c.requires.fine.0.1 here,
+            rw c.as_str.ensures
+                (known-here rq f.object f.groups f.prepared f.next x
+                (if-prepared g.S.ScalarValue.of_text g.S.ScalarValue.of_bool g.S.ScalarValue.answer rq ty an f.object f.groups f.prepared c.requires.fine.0.3)
+                here c.prepared_at-prepared_field.result c.prepared_at-prepared_field.ensures),
+          ),
+        ),
+      ),
+    )
 
 pub returns-in-None-clause-steps : goal.returns-in-None-clause-steps
 returns-in-None-clause-steps g c = λ path at.
