@@ -10,8 +10,8 @@ ghost use Rattle.graphql_execution_walk.specs.Frames.{known_of};
 
 use crate::frames::{Begun, Frame, Known, KnownGroups, KnownIn};
 use crate::prepared::prepared_again;
-use graphql_output_values::{Object, Value};
-use graphql_text::{Items, Text};
+use graphql_output_values::{Key, Object, Value};
+use graphql_text::Items;
 use std::alloc::{AllocError, Global};
 
 /// What is known of an object type, once more. An error says that there are too many.
@@ -72,7 +72,7 @@ pub(crate) fn behind<T>(items: &Items<T>, place: usize) -> usize
 }
 
 /// The object of these members.
-pub(crate) fn object_of<S>(members: Option<Items<(Text, Value<S>)>>) -> Option<Value<S>>
+pub(crate) fn object_of<S>(members: Option<Items<(Key, Value<S>)>>) -> Option<Value<S>>
     requires { IfSome members HasDistinctKeys }
     ensures { result ≡ option_map object_members members }
 {

@@ -6,8 +6,8 @@ use crate::shared::Shared;
 use graphql_collect::Group;
 use graphql_field_results::Resolved;
 use graphql_names::{NameMap, Named, TypeModifier};
-use graphql_output_values::Value;
-use graphql_text::{Items, SourcePosition, Text, TextRef};
+use graphql_output_values::{Key, Value};
+use graphql_text::{Items, SourcePosition, TextRef};
 
 /// An object in progress, whose groups are a `G`, and what is known of them a `P`.
 #[derive(Drop)]
@@ -32,7 +32,7 @@ pub(crate) struct ObjectFrame<'d, S, N, G, P> {
     pub is_needed: bool,
 
     /// The members so far; `None` once one is missing.
-    pub members: Option<Items<(Text, Value<S>)>>,
+    pub members: Option<Items<(Key, Value<S>)>>,
 }
 
 /// What is selected from an object type: its groups, which are a `G`, and what is known of them, a

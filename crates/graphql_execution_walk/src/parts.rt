@@ -9,8 +9,8 @@ ghost use Rattle.graphql_execution_walk.specs.Parts.{IsOuter, null_here};
 
 use graphql_field_results::Resolved;
 use graphql_names::TypeModifier;
-use graphql_output_values::Value;
-use graphql_text::{Items, Text, TextRef};
+use graphql_output_values::{Key, Value};
+use graphql_text::{Items, TextRef};
 use std::alloc::AllocError;
 
 /// The outermost wrap of a type, and those within it.
@@ -102,10 +102,10 @@ pub(crate) fn with_item<S: Drop>(
 
 /// The members with one more, nothing where either is nothing.
 pub(crate) fn with_member<S: Drop>(
-    members: Option<Items<(Text, Value<S>)>>,
+    members: Option<Items<(Key, Value<S>)>>,
     key: &TextRef<'_>,
     value: Option<Value<S>>,
-) -> Result<Option<Items<(Text, Value<S>)>>, AllocError>
+) -> Result<Option<Items<(Key, Value<S>)>>, AllocError>
     ensures { Gives result (both (λ xs x. xs ++ (key.now, x) ∷ []) members value) }
 {
     match members {
@@ -114,7 +114,7 @@ pub(crate) fn with_member<S: Drop>(
             None => Ok(None),
             Some(value) => {
                 let mut members = members;
-                let key = Text::from_str(*members.allocator(), key.as_str())?;
+                let key = Key::from_str(*members.allocator(), key.as_str())?;
                 members.push((key, value))?;
                 Ok(Some(members))
             }

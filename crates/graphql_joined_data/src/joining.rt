@@ -12,7 +12,7 @@ ghost use Rattle.graphql_joined_data.specs.Joining.{FieldJoinsOrDiffers, JoinsOr
 ghost use Rattle.graphql_joined_data.specs.Joining.{new_fields};
 
 use crate::join_fault::JoinFault;
-use graphql_output_values::{Object, ScalarValue, Value};
+use graphql_output_values::{Key, Object, ScalarValue, Value};
 use graphql_text::{Items, Text};
 use std::alloc::{AllocError, Global};
 use std::collections::HashMap;
@@ -123,10 +123,10 @@ fn joined_objects<S: ScalarValue + Drop>(
 #[cycle(joins)]
 fn joined_field<S: ScalarValue + Drop>(
     alloc: Global,
-    key: &Text,
+    key: &Key,
     first: &Value<S>,
     other: Option<&Value<S>>,
-) -> Result<(Text, Value<S>), JoinFault>
+) -> Result<(Key, Value<S>), JoinFault>
     requires first_distinct { HasDistinctKeysThroughout first.now }
     requires other_distinct { IfSome (option_copied other) HasDistinctKeysThroughout }
     ensures joins { FieldJoinsOrDiffers S.eq key.now first.now (option_copied other.entry) result }
@@ -140,9 +140,9 @@ fn joined_field<S: ScalarValue + Drop>(
 
 /// The field of a key that the other object does not have.
 fn copied_field<S: ScalarValue + Drop>(
-    key: &Text,
+    key: &Key,
     first: &Value<S>,
-) -> Result<(Text, Value<S>), JoinFault>
+) -> Result<(Key, Value<S>), JoinFault>
     requires { HasDistinctKeysThroughout first.now }
     ensures joins { FieldJoinsOrDiffers S.eq key.now first.now None result }
     ensures distinct { IfOk result (λ field. HasDistinctKeysThroughout field.1) }
@@ -154,10 +154,10 @@ fn copied_field<S: ScalarValue + Drop>(
 #[cycle(joins)]
 fn joined_under_key<S: ScalarValue + Drop>(
     alloc: Global,
-    key: &Text,
+    key: &Key,
     first: &Value<S>,
     second: &Value<S>,
-) -> Result<(Text, Value<S>), JoinFault>
+) -> Result<(Key, Value<S>), JoinFault>
     requires first_distinct { HasDistinctKeysThroughout first.now }
     requires second_distinct { HasDistinctKeysThroughout second.now }
     ensures joins { FieldJoinsOrDiffers S.eq key.now first.now (Some second.now) result }
@@ -171,10 +171,10 @@ fn joined_under_key<S: ScalarValue + Drop>(
 }
 
 /// The path that starts with this key, and goes on with this one.
-fn behind(key: &Text, mut path: Items<Text>) -> Result<Items<Text>, AllocError>
+fn behind(key: &Key, mut path: Items<Text>) -> Result<Items<Text>, AllocError>
     ensures { Gives result (key.now ∷ path) }
 {
-    path.insert(0, key.clone()?)?;
+    path.insert(0, Text::from_str(*path.allocator(), key.as_str())?)?;
     Ok(path)
 }
 
@@ -183,7 +183,7 @@ fn push_new_fields<S: ScalarValue + Drop>(
     alloc: Global,
     first: &Object<S>,
     second: &Object<S>,
-    fields: &mut Items<(Text, Value<S>)>,
+    fields: &mut Items<(Key, Value<S>)>,
 ) -> Result<(), AllocError>
     ensures { OnOk result (fields.new
         ≡ fields.old ++ new_fields first.now.fields second.now.fields) }

@@ -13,20 +13,20 @@ use crate::groups::{answer_group, groups_of_root};
 use crate::mutation_value::GraphQLMutationValue;
 use graphql_execution_walk::Executor;
 use graphql_field_results::ExecutionError;
-use graphql_output_values::{Object, Value};
+use graphql_output_values::{Key, Object, Value};
 use graphql_schema::SchemaScalar;
-use graphql_text::{Items, Text, TextRef};
+use graphql_text::{Items, TextRef};
 use std::alloc::AllocError;
 
 /// Adds a member. An error is want of memory.
 fn push_member<S: Drop>(
-    members: &mut Items<(Text, Value<S>)>,
+    members: &mut Items<(Key, Value<S>)>,
     key: &TextRef<'_>,
     value: Value<S>,
 ) -> Result<(), AllocError>
     ensures { OnOk result (members.new ≡ members.old ++ (key.now, value) ∷ []) }
 {
-    let key = Text::from_str(*members.allocator(), key.as_str())?;
+    let key = Key::from_str(*members.allocator(), key.as_str())?;
     members.push((key, value))?;
     Ok(())
 }

@@ -16,3 +16,4 @@ pub mod Lookups
 pub mod Laws
 pub mod DistinctLaws
 pub mod InputOfOutput
+pub mod Keys

@@ -2,10 +2,11 @@
 
 ghost use Rattle.graphql_text.specs.Memory.{Gives};
 
+use crate::key::Key;
 use crate::object::Object;
 use crate::value::Value;
 use graphql_scalars::ScalarValue;
-use graphql_text::{Items, Text};
+use graphql_text::Items;
 use std::alloc::AllocError;
 
 impl<S: ScalarValue + Drop> Clone for Value<S> {
@@ -66,8 +67,8 @@ fn copy_of_items<S: ScalarValue + Drop>(
 /// A second list, of the same fields.
 #[cycle(copies)]
 fn copy_of_fields<S: ScalarValue + Drop>(
-    fields: &Items<(Text, Value<S>)>,
-) -> Result<Items<(Text, Value<S>)>, AllocError>
+    fields: &Items<(Key, Value<S>)>,
+) -> Result<Items<(Key, Value<S>)>, AllocError>
     ensures { Gives result fields.now }
 {
     let mut copies = Items::with_capacity(*fields.allocator(), fields.len())?;

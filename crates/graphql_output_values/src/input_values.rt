@@ -8,7 +8,7 @@ ghost use Rattle.graphql_values.specs.InputValues.{unplaced, unplaced_pair};
 use crate::{Object, Value};
 use graphql_scalars::ScalarValue;
 use graphql_text::{Items, Spanning, Text};
-use graphql_values::{InputValue, ToInputValue, push_unlocated, push_unlocated_field};
+use graphql_values::{InputValue, ToInputValue, push_unlocated};
 use std::alloc::{AllocError, Global};
 
 /// The same value, in no text: it holds neither an enum value nor a variable, since a value of an
@@ -59,7 +59,9 @@ fn fields_of<S: ScalarValue>(
 {
     let mut pairs = Items::with_capacity(alloc, object.field_count())?;
     'fields: for field in object.as_slice() {
-        push_unlocated_field(&mut pairs, &field.0, input_of(alloc, &field.1)?)?;
+        let name = Text::from_str(alloc, field.0.as_str())?;
+        let value = input_of(alloc, &field.1)?;
+        pairs.push((Spanning::unlocated(name), Spanning::unlocated(value)))?;
     }
     Ok(pairs)
 }

@@ -6,6 +6,7 @@ mod display;
 mod equality;
 mod input_values;
 mod into_value;
+mod key;
 pub mod laws;
 mod lookup;
 mod object;
@@ -14,6 +15,7 @@ mod walk;
 
 pub use graphql_scalars::{DefaultScalarValue, ScalarValue};
 pub use into_value::IntoValue;
+pub use key::Key;
 pub use object::Object;
 pub use value::Value;
 pub use walk::{Step, Walk};

@@ -14,8 +14,9 @@ ghost use Rattle.graphql_output_values.specs.Objects.{HasDistinctKeys, field_val
 
 mod traits;
 
+use crate::key::Key;
 use crate::value::Value;
-use graphql_text::{Items, Text};
+use graphql_text::Items;
 use std::alloc::{AllocError, Global};
 use std::mem;
 use std::slice::Iter;
@@ -28,7 +29,7 @@ use std::slice::Iter;
 #[cycle(values)]
 #[derive(Debug, Drop)]
 pub struct Object<S> {
-    pub(crate) fields: Items<(Text, Value<S>)>,
+    pub(crate) fields: Items<(Key, Value<S>)>,
 }
 
 impl<S> Object<S> {
@@ -44,7 +45,7 @@ impl<S> Object<S> {
 
     /// The object of these fields, whose keys are distinct. It looks for no key, and takes no
     /// memory.
-    pub fn from_distinct(fields: Items<(Text, Value<S>)>) -> Object<S>
+    pub fn from_distinct(fields: Items<(Key, Value<S>)>) -> Object<S>
         requires { HasDistinctKeys fields }
         ensures { result.fields ≡ fields }
     {
@@ -95,7 +96,7 @@ impl<S> Object<S> {
     /// the object stays. A scan, so that as many calls as there are fields take the square of their
     /// number: where the keys are known to be distinct, `from_distinct` makes the object of all
     /// fields at once. The law `distinct_under_keys` speaks of the old value's keys.
-    pub fn add_field(&mut self, key: Text, value: Value<S>) -> Result<Option<Value<S>>, AllocError>
+    pub fn add_field(&mut self, key: Key, value: Value<S>) -> Result<Option<Value<S>>, AllocError>
     where
         S: Drop,
         ensures old { IfOk result (λ old. old ≡ field_value self.old.fields key) }
@@ -142,17 +143,17 @@ impl<S> Object<S> {
     }
 
     /// The fields in order, each its key and its value, as a slice.
-    pub fn as_slice(&self) -> &[(Text, Value<S>)]
+    pub fn as_slice(&self) -> &[(Key, Value<S>)]
         ensures { result.now ≡ self.now.fields }
     {
         self.fields.as_slice()
     }
 
     /// The fields in order, each its key and its value.
-    pub fn iter(&self) -> Iter<'_, (Text, Value<S>)>
+    pub fn iter(&self) -> Iter<'_, (Key, Value<S>)>
         ensures rest { iter_rest result ≡ self.now.fields }
         ensures bound { length (iter_rest result) < 2 ^ 64 }
-        ensures runs { EveryRun (iter_steps {A = Text × Value S})
+        ensures runs { EveryRun (iter_steps {A = Key × Value S})
             (λ p. ItemsMapTo p (λ y. y.now) (iter_rest p.from)) }
     {
         self.fields.iter()

@@ -10,9 +10,10 @@ ghost use Rattle.graphql_output_values.specs.declared.value.Value.TheVariants as
 
 mod let_go;
 
+use crate::key::Key;
 use crate::object::Object;
 use graphql_scalars::DefaultScalarValue;
-use graphql_text::{Items, Text};
+use graphql_text::Items;
 use std::alloc::AllocError;
 
 /// A value that a field, or a whole operation, answers (GraphQL October 2021, 7.1 Response Format).
@@ -181,9 +182,9 @@ impl<S: Drop> Value<S> {
     /// The fields with each scalar mapped, in order.
     #[cycle(map_scalars)]
     fn map_fields<T: Drop, F: Fn(S) -> T>(
-        fields: Items<(Text, Value<S>)>,
+        fields: Items<(Key, Value<S>)>,
         turn: &F,
-    ) -> Result<Items<(Text, Value<T>)>, AllocError>
+    ) -> Result<Items<(Key, Value<T>)>, AllocError>
         requires { (s : S) → F.pre turn.now s }
         ensures { (f : S → T) → Turns (F.post turn.now) f
             → Gives result (map (map_field f) fields) }

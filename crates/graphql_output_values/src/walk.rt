@@ -4,8 +4,9 @@ ghost use Rattle.std.specs.Prelude.{◌≡◌, ◌∷◌, [], IfOk, MatchOption}
 ghost use Rattle.graphql_output_values.specs.Pending.{Opens, ahead, task_steps, told};
 ghost use Rattle.graphql_output_values.specs.Steps.{fields_steps, items_steps, steps};
 
+use crate::key::Key;
 use crate::value::Value;
-use graphql_text::{Items, Text};
+use graphql_text::Items;
 use std::alloc::{AllocError, Global};
 
 /// What a walk over a value tells next.
@@ -49,10 +50,10 @@ enum Task<'a, S> {
     MoreItems(&'a [Value<S>]),
 
     /// To tell fields, and the end of their object.
-    Fields(&'a [(Text, Value<S>)]),
+    Fields(&'a [(Key, Value<S>)]),
 
     /// The same, each field behind a gap.
-    MoreFields(&'a [(Text, Value<S>)]),
+    MoreFields(&'a [(Key, Value<S>)]),
 }
 
 /// A walk over a value, which tells its steps in order. What it has yet to do stands on the heap,
@@ -149,7 +150,7 @@ fn open_items<'a, S>(
 /// Tells the first step of fields and the end of their object.
 fn open_fields<'a, S>(
     tasks: &mut Items<Task<'a, S>>,
-    fields: &'a [(Text, Value<S>)],
+    fields: &'a [(Key, Value<S>)],
 ) -> Result<Step<'a, S>, AllocError>
     ensures { IfOk result (λ step. Opens (fields_steps fields.now) step tasks.old tasks.new) }
 {

@@ -12,7 +12,7 @@ ghost use Rattle.graphql_resolvers.specs.Answers.{Answers};
 use crate::answer::{Answer, Reply};
 use crate::failure::Failure;
 use graphql_field_results::{FieldError, Resolved};
-use graphql_output_values::{Object, Value};
+use graphql_output_values::{Key, Object, Value};
 use graphql_scalars::DefaultScalarValue;
 use graphql_text::{Items, Text};
 use std::alloc::{AllocError, Global};
@@ -117,7 +117,7 @@ fn put_text(
     ensures { OnOk result (object.new.fields
         ≡ with_field object.old.fields (pair_of pair.now).0 (pair_of pair.now).1) }
 {
-    let key = Text::from_str(alloc, pair.0)?;
+    let key = Key::from_str(alloc, pair.0)?;
     let text = Text::from_str(alloc, pair.1)?;
     object.add_field(key, Value::Scalar(DefaultScalarValue::String(text)))?;
     Ok(())

@@ -14,7 +14,7 @@ use graphql_joined_data::laws::{default_scalars_are_one_where_equal, differing_h
 use graphql_joined_data::{JoinFault, join_data};
 use graphql_joins::laws::joins_are_one;
 use graphql_output_values::laws::distinct_by_forms;
-use graphql_output_values::{Object, ScalarValue, Value};
+use graphql_output_values::{Key, Object, ScalarValue, Value};
 use graphql_text::Text;
 use graphql_values::DefaultScalarValue;
 use std::alloc::{AllocError, Global};
@@ -29,7 +29,7 @@ fn object_of(alloc: Global, key: &Text, scalar: &DefaultScalarValue) -> Result<D
     distinct_by_forms::<DefaultScalarValue>();
     let mut object = Object::with_capacity(alloc, 1)?;
     let value = Value::Scalar(scalar.clone()?);
-    let _ = object.add_field(key.clone()?, value)?;
+    let _ = object.add_field(Key::from_str(alloc, key.as_str())?, value)?;
     Ok(Value::Object(object))
 }
 

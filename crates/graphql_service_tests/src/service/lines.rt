@@ -13,7 +13,7 @@ ghost use Rattle.graphql_service_tests.specs.Samples as spec;
 use graphql_file_service::service::{request_from_line, value_to_json};
 use graphql_json::laws as json_laws;
 use graphql_lines::{GraphQLRequest, laws};
-use graphql_output_values::{DefaultScalarValue, Object, Value};
+use graphql_output_values::{DefaultScalarValue, Key, Object, Value};
 use graphql_text::{Items, Text};
 use graphql_values::InputValue;
 use std::alloc::{AllocError, Global};
@@ -61,7 +61,7 @@ fn add(
     key: &str,
     value: Value<DefaultScalarValue>,
 ) -> Result<(), AllocError> {
-    object.add_field(Text::from_str(alloc, key)?, value)?;
+    object.add_field(Key::from_str(alloc, key)?, value)?;
     Ok(())
 }
 

@@ -2,7 +2,7 @@ ghost use Rattle.std.specs.Prelude.{◌≡◌, IfOk};
 ghost use Rattle.graphql_text.specs.Memory.{Gives};
 
 use crate::told::check;
-use graphql_output_values::{DefaultScalarValue, IntoValue, Object, Value};
+use graphql_output_values::{DefaultScalarValue, IntoValue, Key, Object, Value};
 use graphql_scalars::ToScalarValue;
 use graphql_text::{Items, Text};
 use std::alloc::{AllocError, Global};
@@ -25,7 +25,7 @@ fn with_field(
     value: Value,
 ) -> Result<Fields, AllocError> {
     let mut fields = fields;
-    let _ = fields.add_field(Text::from_str(alloc, key)?, value)?;
+    let _ = fields.add_field(Key::from_str(alloc, key)?, value)?;
     Ok(fields)
 }
 
@@ -78,7 +78,7 @@ fn set_false(object: &mut Fields, key: &str) {
 /// Whether the sample's integer was 1, and the sample with 2 for it and `false` for `null`.
 fn put_text(alloc: Global) -> Result<String, AllocError> {
     let mut object = sample(alloc)?;
-    let old = object.add_field(Text::from_str(alloc, "int")?, Value::scalar(2))?;
+    let old = object.add_field(Key::from_str(alloc, "int")?, Value::scalar(2))?;
     let was_one = old == Some(Value::scalar(1));
     set_false(&mut object, "null");
     let value = Value::object(object);
@@ -95,12 +95,12 @@ fn hidden_text(alloc: Global) -> Result<String, AllocError> {
 }
 
 /// The field of this key and value.
-fn pair(alloc: Global, key: &str, value: i32) -> Result<(Text, Value), AllocError> {
-    Ok((Text::from_str(alloc, key)?, Value::scalar(value)))
+fn pair(alloc: Global, key: &str, value: i32) -> Result<(Key, Value), AllocError> {
+    Ok((Key::from_str(alloc, key)?, Value::scalar(value)))
 }
 
 /// The pairs of `a`, `b` and `a` again.
-fn three_pairs(alloc: Global) -> Result<Vec<(Text, Value)>, AllocError> {
+fn three_pairs(alloc: Global) -> Result<Vec<(Key, Value)>, AllocError> {
     let pairs = vec![in alloc;
         pair(alloc, "a", 1)?,
         pair(alloc, "b", 2)?,
@@ -116,6 +116,18 @@ fn keys_of(alloc: Global, object: &Fields) -> Result<String, AllocError> {
         keys.push_str(field.0.as_str())?;
     }
     Ok(keys)
+}
+
+/// An object of two long keys that differ in their last byte, a copy of it, and whether both are
+/// the same: 16 bytes stand in a key, and 17 on the heap.
+fn long_keys(alloc: Global) -> Result<String, AllocError> {
+    let one = Object::with_capacity(alloc, 2)?;
+    let two = with_field(one, alloc, "sixteen_bytes_ab", Value::scalar(1))?;
+    let all = with_field(two, alloc, "sixteen_bytes_abc", Value::scalar(2))?;
+    let copy = all.clone()?;
+    let is_same = copy == all;
+    let value = Value::object(copy);
+    format!(in alloc; "{is_same} {value}")
 }
 
 /// The keys of the object that is made of three pairs.
@@ -158,6 +170,11 @@ fn values_are_displayed(rt: HostRuntime) {
         "{\"int\": true, \"null\": null, \"string\": true}",
     );
     check(&rt, made_keys(alloc), "ab");
+    check(
+        &rt,
+        long_keys(alloc),
+        "true {\"sixteen_bytes_ab\": 1, \"sixteen_bytes_abc\": 2}",
+    );
 }
 
 /// The list of `true`, this value and `false`.
@@ -218,6 +235,7 @@ fn lettered(alloc: Global, letters: &str) -> Result<Fields, AllocError> {
     for letter in letters.chars() {
         let mut key = Text::new(alloc);
         key.push(letter)?;
+        let key = Key::from_str(alloc, key.as_str())?;
         let _ = fields.add_field(key, Value::scalar(true))?;
     }
     Ok(fields)

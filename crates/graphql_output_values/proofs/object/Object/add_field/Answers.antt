@@ -4,19 +4,21 @@ use Rattle.graphql_output_values.proofs.ObjectLemmas.{place, value_at, value_now
 use Rattle.graphql_output_values.proofs.DistinctKeyLaws.{once_put}
 use Rattle.graphql_output_values.proofs.object.Object.add_field.Goals as goal
 
--- the key is found at a place
-at_place : (g : _) (c : goal.After-drop-key-inside g) → place c.args.key c.args.self.now.fields ≡ Some c.in-Some.place
-at_place g c = ap (λ k. place k c.args.self.now.fields) (sym c.as_str.ensures) ∙ sym c.place_of.ensures ∙ c.in-Some.is
-
--- or nowhere
+-- the key is nowhere
 nowhere : (g : _) (c : goal.In_ok-push-in-None g) → place c.args.key c.args.self.now.fields ≡ None
 nowhere g c = ap (λ k. place k c.args.self.now.fields) (sym c.as_str.ensures) ∙ sym c.place_of.ensures ∙ c.in-None.is
 
 pub returns-in-Some-clause-old : goal.returns-in-Some-clause-old
-returns-in-Some-clause-old g c = let at = value_at c.args.key c.args.self.now.fields c.in-Some.place c.index_mut-field.result.now (at_place g c) in cc
+returns-in-Some-clause-old g c =
+    let here = ap (λ k. place k c.args.self.now.fields) (sym c.as_str.ensures) ∙ sym c.place_of.ensures ∙ c.in-Some.is in
+    let at = value_at c.args.key c.args.self.now.fields c.in-Some.place c.index_mut-field.result.now here in
+    cc
 
 pub returns-in-Some-clause-fields : goal.returns-in-Some-clause-fields
-returns-in-Some-clause-fields g c = let put = put_at c.args.key c.args.self.now.fields c.args.value c.in-Some.place c.index_mut-field.result.now (at_place g c) in cc
+returns-in-Some-clause-fields g c =
+    let here = ap (λ k. place k c.args.self.now.fields) (sym c.as_str.ensures) ∙ sym c.place_of.ensures ∙ c.in-Some.is in
+    let put = put_at c.args.key c.args.self.now.fields c.args.value c.in-Some.place c.index_mut-field.result.now here in
+    cc
 
 pub returns-in-Some-clause-distinct : goal.returns-in-Some-clause-distinct
 returns-in-Some-clause-distinct g c distinct = subst HasDistinctKeys (sym (returns-in-Some-clause-fields g c)) (distinct_after c.args.key c.args.value c.args.self.now.fields distinct)
