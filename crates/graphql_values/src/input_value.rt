@@ -16,7 +16,7 @@ mod walk;
 
 use graphql_scalars::DefaultScalarValue;
 use graphql_text::{Items, Spanning, Text};
-pub use pushed::{push_unlocated, push_unlocated_field};
+pub use pushed::push_unlocated;
 use pushed::{unlocated_fields, unlocated_items};
 use std::alloc::{AllocError, Global};
 pub use variables::Variables;

@@ -13,4 +13,4 @@ pub use graphql_names::{
     BorrowedType, Name, NameParseError, Named, NamedItems, Type, TypeModifier, TypeModifiers,
 };
 pub use graphql_scalars::{DefaultScalarValue, ParseScalarResult, ParseScalarValue, ScalarValue};
-pub use input_value::{InputValue, Variables, push_unlocated, push_unlocated_field};
+pub use input_value::{InputValue, Variables, push_unlocated};

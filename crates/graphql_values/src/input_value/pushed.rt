@@ -46,18 +46,6 @@ pub(super) fn push_field<T: Drop>(
     Ok(())
 }
 
-/// Adds a field of this name that stands in no text. An error is want of memory.
-pub fn push_unlocated_field<T: Drop>(
-    fields: &mut Items<(Spanning<Text>, Spanning<T>)>,
-    name: &Text,
-    item: T,
-) -> Result<(), AllocError>
-    ensures { OnOk result (fields.new ≡ fields.old ++ unplaced_pair (name.now, item) ∷ []) }
-{
-    fields.push(unlocated_field((name.clone()?, item)))?;
-    Ok(())
-}
-
 /// The items, which stand in no text. An error is want of memory.
 pub(super) fn unlocated_items<T: Drop>(
     alloc: Global,
