@@ -14,6 +14,8 @@ mod finding;
 #[cfg(test)]
 pub mod in_parts;
 #[cfg(test)]
+pub mod in_three;
+#[cfg(test)]
 mod introspected;
 #[cfg(test)]
 pub mod joined;

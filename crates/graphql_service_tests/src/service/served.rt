@@ -7,6 +7,7 @@ ghost use Rattle.graphql_schema.specs.ScalarChecks.{IsBoolean, IsId, IsInt, IsSt
 
 use crate::service::alike::{self, are_alike};
 use crate::service::files::{is_told, served};
+use crate::service::in_three::{self, are_joined_in_three};
 use crate::service::introspected::tells_of_itself;
 use crate::service::joined::{self, are_joined};
 use crate::service::plain::{self, tells, tells_chain};
@@ -71,6 +72,9 @@ pub enum Asked<'a> {
     /// What is answered of queries' parts, and of the whole, where the human of this `id` has no
     /// name.
     InParts(&'a str, &'a [joined::Row<'a>]),
+
+    /// That three queries are answered apart what one query of all three is answered.
+    InThree(&'a [in_three::Row<'a>]),
 
     /// That a schema whose types do not keep what they promise makes no service.
     Unkept,
@@ -163,6 +167,11 @@ fn with_schema(
             let service = service(rt, schema, records, 65_536);
             let mut records = nameless(alloc, id).expect(rt, "memory");
             are_joined(rt, alloc, &service, &mut records, rows);
+        }
+        Asked::InThree(rows) => {
+            let service = service(rt, schema, records, 65_536);
+            let mut records = sample_records(alloc).expect(rt, "memory");
+            are_joined_in_three(rt, alloc, &service, &mut records, rows);
         }
         Asked::Runs(runs) => are_served(rt, alloc, &mut service(rt, schema, records, 80), runs),
         _ => {
