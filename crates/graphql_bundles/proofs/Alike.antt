@@ -7,7 +7,7 @@ use Rattle.graphql_tree.specs.Arguments.{Argument}
 use Rattle.graphql_schema.specs.declared.meta.MetaType.{MetaType}
 use Rattle.graphql_schema.specs.Types.{TypeOf}
 use Rattle.graphql_merging.specs.Merging.{is_leaf, IsAmong, SameArguments, SameShape, SameShapes}
-use Rattle.graphql_bundles.specs.BundleLaws.{SameFieldByAThird, SameShapeByAThird}
+use Rattle.graphql_bundles.specs.BundleLaws.{SameFieldByAThird}
 
 module _ {S : Type 0} (eq : S → S → Bool) (third : SameByAThird eq) where
   among-third : (ys zs : List (Argument S)) → All (IsAmong eq zs) ys → (x : Argument S) → IsAmong eq ys x → IsAmong eq zs x
@@ -47,6 +47,3 @@ module _ {S C : Type 0} (types : List (MetaType S C)) where
     where
       some : Some s ≡ None → ⊥
       some e = cc
-
-pub same-shape-by-a-third : (S C : Type 0) (eq : S → S → Bool) → SameShapeByAThird S C eq
-same-shape-by-a-third S C eq types s t u f g = shape-third types s t u f g

@@ -14,7 +14,7 @@ use Rattle.graphql_merging.specs.Merging.{SameField, SameShapes, Agree, Merging,
 use Rattle.graphql_merging.specs.Sets.{Set, members_of, sets_of}
 use Rattle.graphql_merging.specs.Pieces.{Pieces, PieceField, StandsIn, directly, in_fragment, IsPieceOf, HasOwnPieces, IsSettled}
 use Rattle.graphql_bundles.specs.Bundles.{Bundle, Part, Group, every, parts, in_part, IsNamed, OwnOf, StandsAmong, Holds, IsVoid, IsGathered, Stood, IsGroupOf, HasShape, IsAlike, IsPassed, MeetAll, IsReachedBundle, of_definition, of_part}
-use Rattle.graphql_bundles.specs.BundleLaws.{AlikeAgree, BundlesSettle, BundlesStayTogether, FoundIsTold, BundlesMeetContract}
+use Rattle.graphql_bundles.specs.BundleLaws.{FoundIsTold, BundlesMeetContract}
 use Rattle.graphql_merging.proofs.Contracts.{done-meets, set-of-root}
 use Rattle.graphql_merging.proofs.Nested.{nested-sets-follow}
 use Rattle.graphql_merging.proofs.Settled.{settled-piece}
@@ -156,15 +156,6 @@ module _ (S C : Type 0) (eq : S → S → Bool) (types : List (MetaType S C)) (t
     reached-meets _ (of_definition k b small only) = let r = root k small in (r.0, r.1, set-meets (members_of types r.0) k b only r.2)
     reached-meets _ (of_part b c group part h of is same only) =
         let r = reached-meets b h in (r.0, r.1, part-meets (members_of types r.0) b c group part r.2 of is same only)
-
-pub alike-agree-law : (S C : Type 0) (eq : S → S → Bool) → SameByAThird eq → AlikeAgree S C eq
-alike-agree-law S C eq third types t x group named alike f g i j = alike-agree S C eq third types t x group named alike f g i j
-
-pub bundles-settle-law : (S C : Type 0) (eq : S → S → Bool) → SameByAThird eq → BundlesSettle S C eq
-bundles-settle-law S C eq third types t bundles errors passed none = bundles-settle S C eq third types t bundles errors passed none
-
-pub bundles-stay-together : (S C : Type 0) (eq : S → S → Bool) → BundlesStayTogether S C eq
-bundles-stay-together S C eq types t definitions roots owns root b h = reached-meets S C eq types t owns definitions roots root b h
 
 pub found-is-told : (S C : Type 0) (eq : S → S → Bool) → FoundIsTold S C eq
 found-is-told S C eq types t definitions roots owns root e h =

@@ -1,14 +1,9 @@
 -- The fields that stand directly in a set, compared with one of each class.
-use Rattle.std.proofs.Common.{◌≡◌, ap, sym, subst, ◌∙◌, Bool, List, [], ◌∷◌, ◌++◌, map, ◌⊎◌, inl, inr}
-use Rattle.std.specs.List.{Any}
-use Rattle.graphql_values.specs.Laws.{SameByAThird}
+use Rattle.std.proofs.Common.{◌≡◌, ap, Bool, List, [], ◌∷◌, ◌++◌, map, ◌⊎◌, inl, inr}
 use Rattle.graphql_merging.specs.Members.{Member}
-use Rattle.graphql_merging.specs.Merging.{SameField}
-use Rattle.graphql_merging.specs.Told.{Names, later_pairs}
-use Rattle.graphql_bundles.specs.BundleLaws.{DirectByClasses, ToldIsDirect}
-use Rattle.graphql_bundles.proofs.Alike.{same-field-by-a-third}
-use Rattle.graphql_merging.proofs.Contracts.{any-among}
-use Rattle.graphql_merging.proofs.DirectFields.{In, to-In, from-In}
+use Rattle.graphql_merging.specs.Told.{later_pairs}
+use Rattle.graphql_bundles.specs.BundleLaws.{ToldIsDirect}
+use Rattle.graphql_merging.proofs.DirectFields.{In}
 
 module _ {X : Type 0} where
   pub left-In : (x : X) (xs ys : List X) → In x xs → In x (xs ++ ys)
@@ -57,19 +52,6 @@ module _ {S C : Type 0} where
       last : (b f : Member S C) → In b (f ∷ []) → b ≡ f
       last b f (inl e) = e
       last b f (inr i) = absurd i
-
-pub direct-by-classes : (S C : Type 0) (eq : S → S → Bool) → SameByAThird eq → DirectByClasses S C eq
-direct-by-classes S C eq third types ms f old new told still step a b i key =
-    elim (later-push ms f a b (to-In (a, b) (later_pairs (ms ++ f ∷ [])) i)) [
-      | inl j ↦ elim (told a b (from-In (a, b) (later_pairs ms) j) key) [ inl s ↦ inl s | inr n ↦ inr (any-among (λ e. Names e a b) old new still n) ]
-      | inr j ↦ at-last j.0 j.1
-    ]
-  where
-    at-last : In a ms → b ≡ f → SameField eq types a b ⊎ Any (λ e. Names e a b) new
-    at-last j e = subst (λ g. SameField eq types a g ⊎ Any (λ e. Names e a g) new) (sym e) (elim (step a (from-In a ms j) (key ∙ ap (λ (m : Member S C). m.head.key) e)) [
-      | inl h ↦ inl (same-field-by-a-third S C eq third types a f h.0 h.1 h.2)
-      | inr n ↦ inr n
-    ])
 
 pub told-is-direct : (S C : Type 0) (eq : S → S → Bool) → ToldIsDirect S C eq
 told-is-direct S C eq types sets errors told set a b i pair key differ = elim (told set i a b pair key) [

@@ -1,14 +1,18 @@
 -- Fields that stand directly in one set, compared by classes.
-use Rattle.std.proofs.Common.{◌≡◌, ap, sym, subst, ◌∙◌, arith, ℕ, ◌+◌, ◌<◌, ◌≤◌, Bool, false, List, [], ◌∷◌, ◌++◌, map, take, drop, length, get_or, slice_get, Some, None, append-nil, append_assoc, ◌⊎◌, inl, inr}
+use Rattle.std.proofs.Common.{◌≡◌, refl, ap, sym, subst, ◌∙◌, arith, ℕ, ◌+◌, ◌<◌, ◌≤◌, Bool, true, false, not, ◌&&◌, ◌||◌, List, reverse, Option, [], ◌∷◌, ◌++◌, map, take, drop, length, get_or, slice_get, Some, None, append-nil, append_assoc, ◌⊎◌, inl, inr}
 use Rattle.std.specs.List.{Any, Contains}
-use Rattle.std.proofs.lemmas.List.{map-append, length-append}
+use Rattle.std.specs.Str.{bytes_eq}
+use Rattle.std.specs.Cmp.Lexicographic.{nat_list_eq_equiv}
+use Rattle.std.proofs.lemmas.List.{map-append, length-append, reverse-append}
 use Rattle.std.proofs.lemmas.List.Elements.{Contains-append_left, Contains-append_right, Contains-append_cases}
 use Rattle.graphql_text.specs.declared.position.SourcePosition.{SourcePosition}
 use Rattle.graphql_schema.specs.declared.meta.MetaType.{MetaType}
 use Rattle.graphql_rule_errors.specs.Places.{Places}
 use Rattle.graphql_tree.specs.declared.document.Fragment.{Fragment}
-use Rattle.graphql_merging.specs.Members.{Member}
-use Rattle.graphql_merging.specs.Merging.{Agree}
+use Rattle.graphql_schema.specs.Types.{TypeOf}
+use Rattle.graphql_schema.specs.Lookups.{own_name, is_object}
+use Rattle.graphql_merging.specs.Members.{Member, declared}
+use Rattle.graphql_merging.specs.Merging.{Agree, SameShape, SameShapes, apart, is_leaf}
 use Rattle.graphql_merging.specs.Selected.{seen}
 use Rattle.graphql_merging.specs.Told.{Names, AddsErrors, later_pairs}
 use Rattle.graphql_merging.specs.declared.table.WrittenField.{WrittenField}
@@ -18,12 +22,25 @@ use Rattle.graphql_merging.proofs.Reports.{adds-nothing, adds-both}
 use Rattle.graphql_merging.proofs.Nested.{one-only, in-nothing}
 use Rattle.graphql_bundles.specs.declared.direct.Split.{Split}
 use Rattle.graphql_bundles.specs.Direct.{AreAlike, all_seen, ComparesBefore, SortsOut, DirectParts}
-use Rattle.graphql_bundles.proofs.DirectClasses.{With, left-In, right-In, either-In, later-push}
-use Rattle.graphql_bundles.proofs.ListLemmas.{here, map_has, map_of, take-one}
+use Rattle.graphql_bundles.proofs.DirectClasses.{With, of-with, left-In, right-In, either-In, later-push}
+use Rattle.graphql_bundles.proofs.ListLemmas.{here, there, map_has, map_of, take-one}
 
 -- two fields
 abbrev pub MemberPair : Type 0 → Type 0 → Type 0
 MemberPair S C = Member S C × Member S C
+
+-- what is asked of two fields does not hang on which of them comes first
+and-turned : (p q : Bool) → (p && q) ≡ (q && p)
+and-turned true true = refl
+and-turned true false = refl
+and-turned false true = refl
+and-turned false false = refl
+
+or-turned : (p q : Bool) → (p || q) ≡ (q || p)
+or-turned true true = refl
+or-turned true false = refl
+or-turned false true = refl
+or-turned false false = refl
 
 module _ {S C : Type 0} where
   longer : (x f a b : Member S C) (ys : List (Member S C)) → In {X = MemberPair S C} (a, b) (With x ys) → In {X = MemberPair S C} (a, b) (With x (ys ++ f ∷ []))
@@ -48,6 +65,21 @@ module _ {S C : Type 0} where
       last (y ∷ ys) = inr (last ys)
   later-new (x ∷ ms) f a (inr i) = right-In {X = MemberPair S C} (a, f) (With x (ms ++ f ∷ [])) (later_pairs (ms ++ f ∷ [])) (later-new ms f a i)
 
+  apart-turned : (a b : Member S C) → apart a b ≡ apart b a
+  apart-turned a b =
+      ap (λ same. (is_object a.parent && is_object b.parent) && not same) (nat_list_eq_equiv.symm (own_name a.parent) (own_name b.parent))
+      ∙ ap (λ both. both && not (bytes_eq (own_name b.parent) (own_name a.parent))) (and-turned (is_object a.parent) (is_object b.parent))
+
+  shape-turned : (types : List (MetaType S C)) (s t : TypeOf) → SameShape types s t → SameShape types t s
+  shape-turned types s t same =
+      (sym same.0, λ leaf. sym (same.1 (or-turned (is_leaf types s.name) (is_leaf types t.name) ∙ leaf)))
+
+  shapes-turned : (types : List (MetaType S C)) (s t : Option TypeOf) → SameShapes types s t → SameShapes types t s
+  shapes-turned types None None same = tt
+  shapes-turned types None (Some t) same = tt
+  shapes-turned types (Some s) None same = tt
+  shapes-turned types (Some s) (Some t) same = shape-turned types s t same
+
 module _ {S C : Type 0} (eq : S → S → Bool) (types : List (MetaType S C)) (fragments : List (Fragment S)) where
   abbrev at : WrittenField S C → Member S C
   at f = seen fragments f.selected
@@ -56,19 +88,26 @@ module _ {S C : Type 0} (eq : S → S → Bool) (types : List (MetaType S C)) (f
   all = all_seen fragments
 
   abbrev beside : WrittenField S C → WrittenField S C → MemberPair S C
-  beside f a = (at a, at f)
+  beside f a = (at f, at a)
 
-  -- of fields that were compared with one behind them
+  -- what agrees with another agrees the other way round
+  agree-turned : (a b : Member S C) → Agree eq types false a b → Agree eq types false b a
+  agree-turned a b agree = (
+    λ together. let same = agree.0 (apart-turned a b ∙ together) in (sym same.0, (same.1.1, same.1.0)),
+    shapes-turned types (declared a) (declared b) agree.1,
+  )
+
+  -- of fields that were compared with one that was taken up later
   abbrev NamedWith : Places → WrittenField S C → WrittenField S C → Type 0
-  NamedWith more a f = Agree eq types false (at a) (at f) ⊎ Any (λ e. Names e (at a) (at f)) more
+  NamedWith more a f = Agree eq types false (at a) (at f) ⊎ Any (λ e. Names e (at f) (at a)) more
 
   named-before : (earlier : List (WrittenField S C)) (f : WrittenField S C) (told more : Places) → ComparesBefore eq types fragments earlier f told more
       → (a : WrittenField S C) → Contains earlier a → NamedWith more a f
   named-before earlier f told more adds a i =
-      elim (tells-named (Agree eq types false) (map {B = MemberPair S C} (beside f) earlier) adds.0 adds.2 (at a) (at f)
-      (to-In {X = MemberPair S C} (at a, at f) (map {B = MemberPair S C} (beside f) earlier) (map_has {B = MemberPair S C} (beside f) earlier a i))) [
-        | inl agree ↦ inl agree
-        | inr named ↦ inr (any-among (λ e. Names e (at a) (at f)) adds.0 more
+      elim (tells-named (Agree eq types false) (map {B = MemberPair S C} (beside f) earlier) adds.0 adds.2 (at f) (at a)
+      (to-In {X = MemberPair S C} (at f, at a) (map {B = MemberPair S C} (beside f) earlier) (map_has {B = MemberPair S C} (beside f) earlier a i))) [
+        | inl agree ↦ inl (agree-turned (at f) (at a) agree)
+        | inr named ↦ inr (any-among (λ e. Names e (at f) (at a)) adds.0 more
             (λ e j. subst (λ es. Contains es e) (sym adds.1) (Contains-append_right told adds.0 e j)) named)
       ]
 
@@ -77,12 +116,12 @@ module _ {S C : Type 0} (eq : S → S → Bool) (types : List (MetaType S C)) (f
   before-none f told = adds-nothing (Agree eq types false) told
 
   pub before-more : (earlier : List (WrittenField S C)) (f : WrittenField S C) (i : ℕ) (a : WrittenField S C) (old mid new : Places) → i < length earlier → a ≡ get_or earlier i a
-      → ComparesBefore eq types fragments (take i earlier) f old mid → AddsErrors (Agree eq types false) ((at a, at f) ∷ []) mid new
+      → ComparesBefore eq types fragments (take i earlier) f old mid → AddsErrors (Agree eq types false) ((at f, at a) ∷ []) mid new
       → ComparesBefore eq types fragments (take (i + 1) earlier) f old new
   before-more earlier f i a old mid new within is g h =
       subst (λ (ps : List (MemberPair S C)). AddsErrors (Agree eq types false) ps old new)
       (sym (map-append {B = MemberPair S C} (beside f) (take i earlier) (a ∷ [])) ∙ ap (map {B = MemberPair S C} (beside f)) (take-one earlier i a within is))
-      (adds-both (Agree eq types false) (map {B = MemberPair S C} (beside f) (take i earlier)) ((at a, at f) ∷ []) old mid new g h)
+      (adds-both (Agree eq types false) (map {B = MemberPair S C} (beside f) (take i earlier)) ((at f, at a) ∷ []) old mid new g h)
 
   -- an error of two of these fields
   abbrev pub FoundOf : List (WrittenField S C) → List SourcePosition → Type 0
@@ -90,7 +129,7 @@ module _ {S C : Type 0} (eq : S → S → Bool) (types : List (MetaType S C)) (f
 
   found-before : (earlier : List (WrittenField S C)) (f : WrittenField S C) (told more : Places) (adds : ComparesBefore eq types fragments earlier f told more)
       → (e : List SourcePosition) → Contains adds.0 e
-      → (a : WrittenField S C) × Contains earlier a × (Agree eq types false (at a) (at f) → ⊥) × Names e (at a) (at f)
+      → (a : WrittenField S C) × Contains earlier a × (Agree eq types false (at f) (at a) → ⊥) × Names e (at f) (at a)
   found-before earlier f told more adds e i =
       let r = tells-sound (Agree eq types false) (map {B = MemberPair S C} (beside f) earlier) adds.0 adds.2 e (to-In e adds.0 i) in
       let m = map_of {B = MemberPair S C} (beside f) earlier (r.0, r.1) (from-In {X = MemberPair S C} (r.0, r.1) (map {B = MemberPair S C} (beside f) earlier) r.2) in (
@@ -111,7 +150,7 @@ module _ {S C : Type 0} (eq : S → S → Bool) (types : List (MetaType S C)) (f
       pub found : (e : List SourcePosition) → Contains errors e → FoundOf ms e
       pub first : Contains ms head
       pub pairs : (a b : Member S C) → Contains (later_pairs (all ms)) (a, b)
-          → AreAlike eq types (all ms) a b ⊎ (Any (λ e. Names e a b) new ⊎ Contains (later_pairs (all split.others)) (a, b))
+          → AreAlike eq types (all ms) a b ⊎ (Any (λ e. Names e b a) new ⊎ Contains (later_pairs (all split.others)) (a, b))
 
     pub sorted-first : (split : Split S C) (told : Places) → split.alike ≡ head ∷ [] → split.others ≡ [] → Sorted (head ∷ []) split told told
     sorted-first split told alike others = record {
@@ -126,7 +165,7 @@ module _ {S C : Type 0} (eq : S → S → Bool) (types : List (MetaType S C)) (f
     }
 
     abbrev Result : List (WrittenField S C) → Places → List (WrittenField S C) → Member S C → Member S C → Type 0
-    Result ms new others a b = AreAlike eq types (all ms) a b ⊎ (Any (λ e. Names e a b) new ⊎ Contains (later_pairs (all others)) (a, b))
+    Result ms new others a b = AreAlike eq types (all ms) a b ⊎ (Any (λ e. Names e b a) new ⊎ Contains (later_pairs (all others)) (a, b))
 
     more-told : (ms ns : List (WrittenField S C)) (old new : Places) (es : Places) (others rest : List (WrittenField S C)) (a b : Member S C) → new ≡ old ++ es
         → ((w : WrittenField S C) → Contains ms w → Contains ns w)
@@ -136,7 +175,7 @@ module _ {S C : Type 0} (eq : S → S → Bool) (types : List (MetaType S C)) (f
         let m = map_of at ms third.0 third.1 in
         inl (inr (third.0, subst (Contains (all ns)) m.2 (map_has at ns m.0 (sub m.0 m.1)), third.2, third.3))
     more-told ms ns old new es others rest a b grown sub kept (inr (inl named)) =
-        inr (inl (any-among (λ e. Names e a b) old new (λ e i. subst (λ ds. Contains ds e) (sym grown) (Contains-append_left old es e i)) named))
+        inr (inl (any-among (λ e. Names e b a) old new (λ e i. subst (λ ds. Contains ds e) (sym grown) (Contains-append_left old es e i)) named))
     more-told ms ns old new es others rest a b grown sub kept (inr (inr left)) = inr (inr (kept (a, b) left))
 
     -- one more
@@ -176,7 +215,7 @@ module _ {S C : Type 0} (eq : S → S → Bool) (types : List (MetaType S C)) (f
           → ((a : WrittenField S C) → Contains earlier a → Contains ms a) → (e : List SourcePosition) → Contains (h.errors ++ adds.0) e → FoundOf (ms ++ f ∷ []) e
       sum-found earlier adds sub e i = elim (Contains-append_cases h.errors adds.0 e i) [
         | inl j ↦ (let r = h.found e j in (r.0, r.1, left r.0 r.2, left r.1 r.3, r.4, r.5))
-        | inr j ↦ (let r = found-before earlier f mid new adds e j in (r.0, f, left r.0 (sub r.0 r.1), last, r.2, r.3))
+        | inr j ↦ (let r = found-before earlier f mid new adds e j in (f, r.0, last, left r.0 (sub r.0 r.1), r.2, r.3))
       ]
 
       result-named : (rest : List (WrittenField S C)) (a : WrittenField S C) → NamedWith new a f → Result (ms ++ f ∷ []) new rest (at a) (at f)
@@ -279,8 +318,8 @@ module _ {S C : Type 0} (eq : S → S → Bool) (types : List (MetaType S C)) (f
     pairs = (λ a b i. elim (f.pairs a b i) [
       | inl alike ↦ inl alike
       | inr r ↦ elim r [
-        | inl named ↦ inr (inl (any-among (λ e. Names e a b) mid new (λ e j. subst (λ es. Contains es e) (sym g.told) (Contains-append_left mid g.errors e j)) named))
-        | inr k ↦ wider a b (Any (λ e. Names e a b) new ⊎ Contains (later_pairs (all more)) (a, b)) (g.pairs a b k)
+        | inl named ↦ inr (inl (any-among (λ e. Names e b a) mid new (λ e j. subst (λ es. Contains es e) (sym g.told) (Contains-append_left mid g.errors e j)) named))
+        | inr k ↦ wider a b (Any (λ e. Names e b a) new ⊎ Contains (later_pairs (all more)) (a, b)) (g.pairs a b k)
       ]
     ]);
   }
@@ -291,6 +330,60 @@ module _ {S C : Type 0} (eq : S → S → Bool) (types : List (MetaType S C)) (f
           let m = map_of at rest third.0 third.1 in
           inl (inr (third.0, subst (Contains (all fields)) m.2 (map_has at fields m.0 (f.among m.0 m.1)), third.2, third.3))
       wider a b T (inr r) = inr r
+
+module _ {X : Type 0} where
+  -- what a list contains from the last item on, it contains
+  pub of-turned : (xs : List X) (x : X) → Contains (reverse xs) x → Contains xs x
+  of-turned [] x i = i
+  of-turned (y ∷ ys) x i = elim (Contains-append_cases (reverse ys) (y ∷ []) x (subst (λ zs. Contains zs x) (reverse-append (y ∷ []) ys) i)) [
+    | inl j ↦ there y ys x (of-turned ys x j)
+    | inr j ↦ subst (λ z. Contains (y ∷ ys) z) (one-only y x j) (here y ys)
+  ]
+
+map-turned : {A B : Type 0} (f : A → B) (xs : List A) → map f (reverse xs) ≡ reverse (map f xs)
+map-turned f [] = refl
+map-turned f (x ∷ xs) =
+    ap (map f) (reverse-append (x ∷ []) xs) ∙ map-append f (reverse xs) (x ∷ []) ∙ ap (λ ys. ys ++ f x ∷ []) (map-turned f xs) ∙ sym (reverse-append (f x ∷ []) (map f xs))
+
+module _ {S C : Type 0} where
+  In-turned : (ms : List (Member S C)) (a : Member S C) → In a ms → In a (reverse ms)
+  In-turned [] a i = i
+  In-turned (m ∷ ms) a (inl e) = subst (In a) (sym (reverse-append (m ∷ []) ms)) (right-In a (reverse ms) (m ∷ []) (inl e))
+  In-turned (m ∷ ms) a (inr i) = subst (In a) (sym (reverse-append (m ∷ []) ms)) (left-In a (reverse ms) (m ∷ []) (In-turned ms a i))
+
+  -- each two, the last of them first
+  later-turned : (ms : List (Member S C)) (a b : Member S C) → In {X = MemberPair S C} (a, b) (later_pairs ms) → In {X = MemberPair S C} (b, a) (later_pairs (reverse ms))
+  later-turned [] a b i = absurd i
+  later-turned (m ∷ ms) a b i =
+      subst (λ ns. In {X = MemberPair S C} (b, a) (later_pairs ns)) (sym (reverse-append (m ∷ []) ms))
+      (elim (either-In {X = MemberPair S C} (a, b) (With m ms) (later_pairs ms) i) [
+        | inl j ↦ (let r = of-with m ms a b j in
+            subst (λ c. In {X = MemberPair S C} (b, c) (later_pairs (reverse ms ++ m ∷ []))) (sym r.0) (later-new (reverse ms) m b (In-turned ms b r.1)))
+        | inr j ↦ later-kept (reverse ms) m b a (later-turned ms a b j)
+      ])
+
+module _ {S C : Type 0} (eq : S → S → Bool) (types : List (MetaType S C)) (fragments : List (Fragment S)) where
+  -- of fields that were taken up from the last to the first: each two of them
+  pub parts-turned : (fields : List (WrittenField S C)) (old new : Places) → DirectParts eq types fragments (reverse fields) [] old new
+      → (a b : Member S C) → Contains (later_pairs (all_seen fragments fields)) (a, b)
+      → AreAlike eq types (all_seen fragments fields) a b ⊎ Any (λ e. Names e a b) new
+  parts-turned fields old new h a b i = judged (h.pairs b a turned)
+    where
+      turned : Contains (later_pairs (all_seen fragments (reverse fields))) (b, a)
+      turned =
+          from-In {X = MemberPair S C} (b, a) (later_pairs (all_seen fragments (reverse fields)))
+          (subst (λ ms. In {X = MemberPair S C} (b, a) (later_pairs ms)) (sym (map-turned (at eq types fragments) fields))
+          (later-turned (all_seen fragments fields) a b (to-In {X = MemberPair S C} (a, b) (later_pairs (all_seen fragments fields)) i)))
+
+      judged : AreAlike eq types (all_seen fragments (reverse fields)) b a
+          ⊎ (Any (λ e. Names e a b) new ⊎ Contains (later_pairs (all_seen fragments [])) (b, a))
+          → AreAlike eq types (all_seen fragments fields) a b ⊎ Any (λ e. Names e a b) new
+      judged (inl (inl agree)) = inl (inl (agree-turned eq types fragments b a agree))
+      judged (inl (inr third)) =
+          let m = map_of (at eq types fragments) (reverse fields) third.0 third.1 in
+          inl (inr (third.0, subst (Contains (all_seen fragments fields)) m.2 (map_has (at eq types fragments) fields m.0 (of-turned fields m.0 m.1)), third.3, third.2))
+      judged (inr (inl named)) = inr named
+      judged (inr (inr none)) = in-nothing {X = MemberPair S C} (b, a) none
 
 pub first-rest : {X : Type 0} (xs : List X) (h : X) → slice_get xs 0 ≡ Some h → h ∷ drop 1 xs ≡ xs
 first-rest [] h e = clash h e

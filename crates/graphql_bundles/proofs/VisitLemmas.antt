@@ -1,5 +1,5 @@
 -- The sets of a document are gone to, and what is told of the fields that stand directly in them.
-use Rattle.std.proofs.Common.{◌≡◌, refl, ap, sym, subst, ◌∙◌, arith, ℕ, ◌+◌, ◌<◌, ◌≤◌, Bool, true, false, not, ◌||◌, cond, List, [], ◌∷◌, ◌++◌, map, filter, take, length, get_or, slice_get, Option, Some, None, append-nil, append_assoc, ◌↔◌, ◌⊎◌, inl, inr}
+use Rattle.std.proofs.Common.{◌≡◌, refl, ap, sym, subst, ◌∙◌, arith, ℕ, ◌+◌, ◌<◌, ◌≤◌, Bool, true, false, not, ◌||◌, cond, List, [], ◌∷◌, ◌++◌, map, filter, reverse, take, length, get_or, slice_get, Option, Some, None, append-nil, append_assoc, ◌↔◌, ◌⊎◌, inl, inr}
 use Rattle.std.specs.List.{Any, Contains}
 use Rattle.std.specs.Option.{option_map_or}
 use Rattle.std.specs.Str.{bytes_eq}
@@ -33,7 +33,7 @@ use Rattle.graphql_bundles.specs.Direct.{IsVisited, by_definition, by_fragment, 
 use Rattle.graphql_bundles.specs.Groups.{KeyGroup, IsGrouped, key_at, under}
 use Rattle.graphql_bundles.proofs.ClosedLemmas.{adds-both}
 use Rattle.graphql_bundles.proofs.DirectClasses.{With, left-In, right-In, either-In}
-use Rattle.graphql_bundles.proofs.DirectLemmas.{MemberPair}
+use Rattle.graphql_bundles.proofs.DirectLemmas.{MemberPair, of-turned, parts-turned}
 use Rattle.graphql_bundles.proofs.ListLemmas.{here, map_has, map_of, filter_of, take-cases, take-one, past-end}
 
 -- the first of these numbers
@@ -236,7 +236,7 @@ module _ {S C : Type 0} (eq : S → S → Bool) (types : List (MetaType S C)) (f
       record { errors = []; told = sym (append-nil told); found = (λ e i. in-nothing e i); all = (λ g i. in-nothing g i) }
 
   pub groups-told-more : (fields : List (WrittenField S C)) (groups : List (KeyGroup S C)) (i : ℕ) (g : KeyGroup S C) (old mid new : Places) → IsGrouped fields groups
-      → i < length groups → g ≡ get_or groups i g → GroupsTold fields (take i groups) old mid → DirectParts eq types fragments g.1 [] mid new
+      → i < length groups → g ≡ get_or groups i g → GroupsTold fields (take i groups) old mid → DirectParts eq types fragments (reverse g.1) [] mid new
       → GroupsTold fields (take (i + 1) groups) old new
   groups-told-more fields groups i g old mid new grouped within is h p = record {
     errors = h.errors ++ p.errors;
@@ -244,8 +244,8 @@ module _ {S C : Type 0} (eq : S → S → Bool) (types : List (MetaType S C)) (f
     found = (λ e j. elim (Contains-append_cases h.errors p.errors e j) [
       | inl k ↦ h.found e k
       | inr k ↦ (let r = p.found e k in
-          let v = own r.0 r.2 in
-          let w = own r.1 r.3 in
+          let v = own r.0 (of-turned g.1 r.0 r.2) in
+          let w = own r.1 (of-turned g.1 r.1 r.3) in
           (seen-at r.0, seen-at r.1, map_has seen-at fields r.0 v.0, map_has seen-at fields r.1 w.0, sym v.1 ∙ w.1, r.4, r.5))
     ]);
     all = (λ k j a b l. elim (take-cases groups i g within is k j) [
@@ -254,7 +254,7 @@ module _ {S C : Type 0} (eq : S → S → Bool) (types : List (MetaType S C)) (f
         | inr named ↦ inr (any-among (λ e. Names e a b) mid new (λ e n. subst (λ es. Contains es e) (sym p.told) (Contains-append_left mid p.errors e n)) named)
       ]
       | inr e ↦ subst (λ (q : KeyGroup S C). Contains (later_pairs (map seen-at q.1)) (a, b) → AreAlike eq types (map seen-at q.1) a b ⊎ Any (λ e. Names e a b) new) e
-          (λ n. ended (p.pairs a b n)) l
+          (λ n. parts-turned eq types fragments g.1 mid new p a b n) l
     ]);
   }
     where
@@ -262,11 +262,6 @@ module _ {S C : Type 0} (eq : S → S → Bool) (types : List (MetaType S C)) (f
       own w j =
           let r = filter_of (λ v. bytes_eq g.0 (key_at v)) fields w (subst (λ fs. Contains fs w) (grouped.of g (i, within, sym is)) j) in
           (r.0, (bytes_eq-Decides g.0 (key_at w)).0 r.1)
-
-      ended : {a b : Member S C} {A N : Type 0} → A ⊎ (N ⊎ Contains (later_pairs (map seen-at [])) (a, b)) → A ⊎ N
-      ended (inl x) = inl x
-      ended (inr (inl n)) = inr n
-      ended {a} {b} (inr (inr k)) = in-nothing {X = Member S C × Member S C} (a, b) k
 
   -- all groups: all fields
   pub groups-told-all : (fields : List (WrittenField S C)) (groups : List (KeyGroup S C)) (old new : Places) → IsGrouped fields groups → GroupsTold fields groups old new

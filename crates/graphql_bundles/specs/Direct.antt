@@ -71,12 +71,12 @@ module _ {S C : Type 0} (eq : S → S → Bool) (types : List (MetaType S C)) wh
     pub all : (p : ℕ) → Contains sets p → AreDirectTold (map (λ f. f.member) (t.direct p)) new
 
   module _ (fragments : List (Fragment S)) where
-    -- fields that stand before another are compared with it
+    -- a field is compared with fields that were taken up before it
     abbrev pub ComparesBefore : List (WrittenField S C) → WrittenField S C → Places → Places
         → Type 0
     ComparesBefore earlier f =
         AddsErrors (Agree eq types false)
-        (map (λ a. (seen fragments a.selected, seen fragments f.selected)) earlier)
+        (map (λ a. (seen fragments f.selected, seen fragments a.selected)) earlier)
 
     -- a field that agrees with the head is put to those that do, and else to the others; it is
     -- compared with those of the other kind
@@ -89,7 +89,8 @@ module _ {S C : Type 0} (eq : S → S → Bool) (types : List (MetaType S C)) wh
         ⊎ ((new.alike ≡ old.alike) × (new.others ≡ old.others ++ f ∷ [])
         × ComparesBefore old.alike f told more)
 
-    -- fields of one response key: two of them are alike or named, or are both among the rest
+    -- fields of one response key, the last of them first: two of them are alike or named, or are both
+    -- among the rest
     pub record DirectParts (fields rest : List (WrittenField S C)) (old new : Places) : Type 0 where
       pub among : (f : WrittenField S C) → Contains rest f → Contains fields f
       pub errors : Places
@@ -100,4 +101,4 @@ module _ {S C : Type 0} (eq : S → S → Bool) (types : List (MetaType S C)) wh
           × Names e (seen fragments f.selected) (seen fragments g.selected)
       pub pairs : (a b : Member S C) → Contains (later_pairs (all_seen fragments fields)) (a, b)
           → AreAlike (all_seen fragments fields) a b
-          ⊎ (Any (λ e. Names e a b) new ⊎ Contains (later_pairs (all_seen fragments rest)) (a, b))
+          ⊎ (Any (λ e. Names e b a) new ⊎ Contains (later_pairs (all_seen fragments rest)) (a, b))

@@ -68,15 +68,6 @@ module _ {S C : Type 0} (t : Pieces S C) where
       pub grows : Grows (IsFoundIn b) (LeadsTo b) old new
       pub passed : IsPassed t eq types new.bundles new.told b
 
-    -- the first bundles are gone through; `IsRight`: what errors are
-    pub record IsUnderway (IsRight : List SourcePosition → Type 0) (definitions number : ℕ)
-        (stage : Stage) : Type 0 where
-      pub begun : (k : ℕ) → k < definitions → IsGathered t stage.bundles false (λ p. p ≡ k)
-      pub passed : (b : Bundle) → Contains (take number stage.bundles) b
-          → IsPassed t eq types stage.bundles stage.told b
-      pub reached : (b : Bundle) → Contains stage.bundles b → IsReachedBundle t definitions b
-      pub right : (e : List SourcePosition) → Contains stage.told e → IsRight e
-
     -- the first bundles are gone through, where the bound was not met; what is told is right, and
     -- what is begun is reached, in any case
     pub record IsGoing (definitions number : ℕ) (stage : Stage) : Type 0 where

@@ -1,6 +1,7 @@
 //! The fields that stand directly in one set are compared by classes.
 
 ghost use Rattle.std.specs.Prelude.{◌≡◌, ◌+◌, ◌*◌, ◌≤◌, [], ◌∷◌, List, IfOk, OnOk, length};
+ghost use Rattle.std.specs.Prelude.{reverse};
 ghost use Rattle.graphql_bundles.specs.Conflicts.{places};
 ghost use Rattle.graphql_tree.specs.declared.document.Fragment.{Fragment};
 ghost use Rattle.graphql_bundles.specs.Direct.{ComparesBefore, DirectParts, SortsOut};
@@ -22,7 +23,8 @@ pub(crate) struct Split<'d, 'a, S, C = <S as SchemaScalar>::Check> {
     pub others: Items<WrittenField<'d, 'a, S, C>>,
 }
 
-/// Compares fields with one that stands behind them. An error of the call is want of memory.
+/// Compares a field with some that were taken up before it, and so stand behind it. An error of the
+/// call is want of memory.
 fn compare_before<S: PartialEq, C>(
     alloc: Global,
     schema: &SchemaType<S, C>,
@@ -37,7 +39,7 @@ fn compare_before<S: PartialEq, C>(
         (places told.old) (places told.new)) }
 {
     for other in earlier {
-        compare(alloc, schema, false, false, other, field, told, comparisons)?;
+        compare(alloc, schema, false, false, field, other, told, comparisons)?;
     }
     Ok(())
 }
@@ -110,7 +112,9 @@ fn sort_all<'d, 'a, S: PartialEq, C>(
 }
 
 /// Compares fields of one response key that stand in one set: each two that differ are told. Takes
-/// time in proportion to the fields and to what is told. An error of the call is want of memory.
+/// time in proportion to the fields and to what is told. The last field is taken up first, so that
+/// what is told of a class comes in falling order, of which a sort makes rising order in one pass.
+/// An error of the call is want of memory.
 pub(crate) fn direct_group<'d, 'a, S: PartialEq, C>(
     alloc: Global,
     schema: &SchemaType<S, C>,
@@ -121,11 +125,12 @@ pub(crate) fn direct_group<'d, 'a, S: PartialEq, C>(
     ensures counted { let all = length fields.now in
         OnOk result (comparisons.new ≤ comparisons.old + all * all) }
     ensures told { OnOk result ((fragments : List (Fragment S)) →
-        DirectParts S.eq schema.now.types fragments fields.now []
+        DirectParts S.eq schema.now.types fragments (reverse fields.now) []
         (places told.old) (places told.new)) }
 {
     let mut rest = Items::new(alloc);
     rest.extend_from_slice(fields)?;
+    rest.as_mut_slice().reverse();
     'classes: while let Some(head) = rest.first().copied() {
         let behind = &rest.as_slice()[1..];
         let more = sort_all(alloc, schema, &head, behind, told, comparisons)?;

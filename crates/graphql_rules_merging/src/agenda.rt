@@ -7,7 +7,7 @@ use crate::queue::PairQueue;
 use std::alloc::{AllocError, Global};
 
 /// Two selection sets by their numbers, of which the first is no greater.
-#[derive(Clone, Copy, Debug, PartialEq, Eq)]
+#[derive(Clone, Copy)]
 pub(crate) struct SetPair {
     /// The smaller number.
     pub left: usize,

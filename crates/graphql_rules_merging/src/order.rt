@@ -40,7 +40,7 @@ pub(crate) fn put_in_order(
         (c : Conflict) × HasFirstReason found c × (error ≡ error_of c))) }
 {
     let mut conflicts = found.into_vec();
-    conflicts.sort_unstable();
+    conflicts.sort()?;
     conflicts.dedup_by(|later, earlier| later.locations == earlier.locations);
     errors_of(alloc, conflicts)
 }

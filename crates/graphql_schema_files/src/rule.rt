@@ -1,7 +1,7 @@
 //! What is asked of each declaration by itself.
 
 /// What is asked of each declaration by itself.
-#[derive(Clone, Copy, Debug, PartialEq, Eq)]
+#[derive(Clone, Copy)]
 pub(crate) enum Rule {
     /// The names of types, fields and arguments are names (GraphQL October 2021, 2.1.9 Names).
     Names,

@@ -1,4 +1,4 @@
-use Rattle.std.proofs.Common.{[], ap, arith, subst, length, take_all, ◌+◌, ◌*◌, ◌≤◌}
+use Rattle.std.proofs.Common.{[], ap, arith, reverse, subst, length, take_all, ◌+◌, ◌*◌, ◌≤◌}
 use Rattle.graphql_bundles.specs.Counted.{fields_of_groups}
 use Rattle.graphql_bundles.proofs.Sums.{more-squares}
 use Rattle.graphql_bundles.specs.Conflicts.{places}
@@ -40,6 +40,6 @@ loop-group-preserved g c = record {
       let types = c.args.schema.now.types in
       groups-told-more eq types fragments c.args.fields.now c.args.groups.now c.loop-group.group-index c.group-item.result (places c.args.told.now)
       (places c.loop-group.told) (places c.direct_group.new.told) c.requires c.loop-group-test.true c.group-item.is (c.loop-group.invariant.told fragments)
-      (subst (λ fs. DirectParts eq types fragments fs [] (places c.loop-group.told) (places c.direct_group.new.told)) c.as_slice.ensures
+      (subst (λ fs. DirectParts eq types fragments (reverse fs) [] (places c.loop-group.told) (places c.direct_group.new.told)) c.as_slice.ensures
       (c.in_ok-direct_group.ensures.told fragments));
 }

@@ -9,32 +9,32 @@ use Rattle.graphql_rules_merging.proofs.order.put_in_order.Goals as goal
 
 pub returns-clause-once : goal.returns-clause-once
 returns-clause-once c =
-    let moved = c.sort_unstable.new.self.items in
+    let moved = c.sort.new.self.items in
     let kept = dedup_same _ same_places _ (λ x y b f' x' y' k. search rules) moved c.dedup_by.new.self.items c.dedup_by.ensures.filtered in
     IfOk-weaker c.errors_of.result _ _
     (λ errors is.
-    (told-kept c.args.found moved (subst (λ old. IsPermutation old moved) c.into_vec-conflicts.ensures c.sort_unstable.ensures.permutation)
-    c.sort_unstable.ensures.sorted errors (is ∙ ap (map error_of) kept)).once)
+    (told-kept c.args.found moved (subst (λ old. IsPermutation old moved) c.into_vec-conflicts.ensures c.sort.ensures.permutation)
+    c.in_ok-sort.ensures.sorted errors (is ∙ ap (map error_of) kept)).once)
     c.errors_of.ensures
 
 pub returns-clause-same : goal.returns-clause-same
 returns-clause-same c =
-    let moved = c.sort_unstable.new.self.items in
+    let moved = c.sort.new.self.items in
     let kept = dedup_same _ same_places _ (λ x y b f' x' y' k. search rules) moved c.dedup_by.new.self.items c.dedup_by.ensures.filtered in
     IfOk-weaker c.errors_of.result _ _
     (λ errors is.
-    (told-kept c.args.found moved (subst (λ old. IsPermutation old moved) c.into_vec-conflicts.ensures c.sort_unstable.ensures.permutation)
-    c.sort_unstable.ensures.sorted errors (is ∙ ap (map error_of) kept)).same)
+    (told-kept c.args.found moved (subst (λ old. IsPermutation old moved) c.into_vec-conflicts.ensures c.sort.ensures.permutation)
+    c.in_ok-sort.ensures.sorted errors (is ∙ ap (map error_of) kept)).same)
     c.errors_of.ensures
 
 pub returns-clause-first : goal.returns-clause-first
 returns-clause-first c =
-    let moved = c.sort_unstable.new.self.items in
+    let moved = c.sort.new.self.items in
     let kept = dedup_same _ same_places _ (λ x y b f' x' y' k. search rules) moved c.dedup_by.new.self.items c.dedup_by.ensures.filtered in
     IfOk-weaker c.errors_of.result _ _
     (λ errors is.
-    (told-kept c.args.found moved (subst (λ old. IsPermutation old moved) c.into_vec-conflicts.ensures c.sort_unstable.ensures.permutation)
-    c.sort_unstable.ensures.sorted errors (is ∙ ap (map error_of) kept)).first)
+    (told-kept c.args.found moved (subst (λ old. IsPermutation old moved) c.into_vec-conflicts.ensures c.sort.ensures.permutation)
+    c.in_ok-sort.ensures.sorted errors (is ∙ ap (map error_of) kept)).first)
     c.errors_of.ensures
 
 pub returns-clause-sorted : goal.returns-clause-sorted
