@@ -96,6 +96,12 @@ module _ {S C : Type 0} (s : Scalars S C) (root node : RootNode S C) (same : nod
   exactly-over {A} result h =
       subst (λ n. IfOk result (λ (found : Option A). IsSome found ↔ IsAllowed s store size_limit (asked_of n request))) same h
 
+  pub plain-over : {A E : Type 0} (bytes_of : A → Bytes) (result : Result (Option A) E)
+      → IfOk result (λ found. IfSome found (λ text. IsPlainTextWithin s (asked_of node request) size_limit (bytes_of text)))
+      → IfOk result (λ found. IfSome found (λ text. IsPlainTextWithin s (asked_of root request) size_limit (bytes_of text)))
+  plain-over {A} bytes_of result h =
+      subst (λ n. IfOk result (λ (found : Option A). IfSome found (λ text. IsPlainTextWithin s (asked_of n request) size_limit (bytes_of text)))) same h
+
   pub allowed-over : {A E : Type 0} (bytes_of : A → Bytes) (result : Result (Option A) E)
       → (TakesStandIn s node.schema → IfOk result (λ found. IfSome found (λ text. IsAllowed s store size_limit (asked_for node request (bytes_of text)))))
       → IfOk result (λ found. IfSome found (λ text. IsAllowed s store size_limit (asked_for root request (bytes_of text))))

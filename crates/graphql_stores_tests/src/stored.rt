@@ -1,7 +1,7 @@
 //! Requests whose plain text is in a store, and that text in their place.
 
 ghost use Rattle.std.specs.Prelude.{◌↔◌, IfSome, IfOk, IsSome, string_bytes};
-ghost use Rattle.graphql_plain_requests.specs.PlainRequests.{asked_of};
+ghost use Rattle.graphql_plain_requests.specs.PlainRequests.{IsPlainTextWithin, asked_of};
 ghost use Rattle.graphql_service.specs.PlainRequests.{TakesStandIn};
 ghost use Rattle.graphql_stores.specs.Allowed.{IsAllowed};
 ghost use Rattle.graphql_stores_tests.specs.Stored.{StoredIsAnsweredSo, asked_for};
@@ -29,6 +29,9 @@ pub fn stored_text<S: SchemaScalar + Drop>(
     ensures exactly { IfOk result (λ found. IsSome found
         ↔ IsAllowed ⟦<S as Meaning>⟧.meaning store.now limit
         (asked_of root_node.now request.now)) }
+    ensures plain { IfOk result (λ found. IfSome found
+        (λ text. IsPlainTextWithin ⟦<S as Meaning>⟧.meaning (asked_of root_node.now request.now)
+        limit (string_bytes text))) }
     ensures allowed { TakesStandIn ⟦<S as Meaning>⟧.meaning root_node.now.schema
         → IfOk result (λ found. IfSome found
         (λ text. IsAllowed ⟦<S as Meaning>⟧.meaning store.now limit
@@ -104,6 +107,9 @@ where
     ensures exactly { IfOk result (λ asked. IfOk asked (λ found. IsSome found
         ↔ IsAllowed ⟦<S as Meaning>⟧.meaning store.now SELECTION_LIMIT
         (asked_of root_node request.now))) }
+    ensures plain { IfOk result (λ asked. IfOk asked (λ found. IfSome found
+        (λ text. IsPlainTextWithin ⟦<S as Meaning>⟧.meaning (asked_of root_node request.now)
+        SELECTION_LIMIT (string_bytes text)))) }
     ensures allowed { IfOk result (λ asked. IfOk asked (λ found. IfSome found
         (λ text. IsAllowed ⟦<S as Meaning>⟧.meaning store.now SELECTION_LIMIT
         (asked_for root_node request.now (string_bytes text))))) }
@@ -129,7 +135,10 @@ pub fn answered_as_stored_by_service<S: SchemaScalar + Drop, R: GraphQLMutationV
 where
     R: Drop,
     R::Context: Drop,
-    ensures { IfOk result (λ asked. IfOk asked (λ found. IfSome found
+    ensures exactly { IfOk result (λ asked. IfOk asked (λ found. IsSome found
+        ↔ IsAllowed ⟦<S as Meaning>⟧.meaning store.now SELECTION_LIMIT
+        (asked_of root_node request.now))) }
+    ensures alike { IfOk result (λ asked. IfOk asked (λ found. IfSome found
         (λ answer. StoredIsAnsweredSo ⟦<S as Meaning>⟧.meaning root_node
         (⟦<R as Resolving<S>>⟧.resolving resolver) store.now SELECTION_LIMIT request.now
         ⟦<ExecutionError<S> as Ord>⟧.cmp context.old answer.0 answer.1 context.new))) }

@@ -10,6 +10,9 @@ returns-then-allows-clause-exactly g c = (
   (λ _. refl),
 )
 
+pub returns-then-allows-clause-plain : goal.returns-then-allows-clause-plain
+returns-then-allows-clause-plain g c = c.in_ok-text.ensures.plain
+
 pub returns-then-allows-clause-allowed : goal.returns-then-allows-clause-allowed
 returns-then-allows-clause-allowed g c = λ takes.
     text-allowed _ c.args.root_node.now c.args.store.now c.args.limit c.args.request.now c.as_str-query.result.now
