@@ -89,8 +89,8 @@ module _ {S C : Type 0} (eq : S → S → Bool) (types : List (MetaType S C)) wh
         ⊎ ((new.alike ≡ old.alike) × (new.others ≡ old.others ++ f ∷ [])
         × ComparesBefore old.alike f told more)
 
-    -- fields of one response key, the last of them first: two of them are alike or named, or are both
-    -- among the rest
+    -- fields of one response key, the last of them first: two of them are alike or named, or both
+    -- are among the rest
     pub record DirectParts (fields rest : List (WrittenField S C)) (old new : Places) : Type 0 where
       pub among : (f : WrittenField S C) → Contains rest f → Contains fields f
       pub errors : Places

@@ -1,5 +1,5 @@
-//! A query in three parts, each asked of a service of its own, as a gateway does that sends parts of
-//! a selection set to several services, and all of them asked of one.
+//! A query in three parts, each asked of a service of its own, as a gateway does that sends parts
+//! of a selection set to several services, and all of them asked of one.
 
 ghost use Rattle.std.specs.Prelude.{IfSome};
 ghost use Rattle.graphql_output_values.specs.DistinctKeys.{HasDistinctKeysThroughout};
