@@ -13,9 +13,7 @@ use Rattle.graphql_field_results.specs.declared.field_fault.FieldFault.{FieldFau
 use Rattle.graphql_field_results.specs.declared.field_fault.FieldFault.TheVariants as fault
 use Rattle.graphql_field_results.specs.declared.resolved.Resolved.{Resolved, out-Resolved}
 use Rattle.graphql_field_results.specs.declared.resolved.Resolved.TheOpen.{Resolved-F}
-use Rattle.graphql_tree.specs.declared.document.Fragment.{Fragment}
 use Rattle.graphql_semantics.specs.Completion.{Members, at_required, blame_at}
-use Rattle.graphql_semantics.specs.Engines.{Engine}
 use Rattle.graphql_semantics.specs.Evaluation.{evaluate}
 use Rattle.graphql_semantics.specs.Outcomes.{Outcome, fails}
 use Rattle.graphql_semantics.specs.Turns.{all_turns, turns_at_required}
@@ -23,6 +21,7 @@ use Rattle.graphql_execution_walk.specs.declared.frames.Begun.{Begun}
 use Rattle.graphql_execution_walk.specs.declared.frames.Begun.TheVariants as begun
 use Rattle.graphql_execution_walk.specs.declared.report.Report.{Report}
 use Rattle.graphql_execution_walk.specs.Begins.{Begins, HasBegun, IsTold, outcome_at, own_error_at, turns_of_answer}
+use Rattle.graphql_execution_walk.specs.Evaluations.{Evaluation}
 use Rattle.graphql_execution_walk.specs.Frames.{FineBegun, Leads, comes_to, known_of}
 use Rattle.graphql_execution_walk.specs.FrameTurns.{begun_turns}
 use Rattle.graphql_execution_walk.specs.OwnErrors.{own_at_required}
@@ -31,32 +30,32 @@ use Rattle.graphql_execution_walk.specs.KnownTypes.{IsKnown}
 use Rattle.graphql_execution_walk.proofs.FrameLemmas.{leads-same}
 use Rattle.graphql_execution_walk.proofs.OwnErrorLaws.{own-fails, own-turns}
 
-module _ {S N : Type 0} (e : Engine S N) (sets : List (Tree S)) (name : Bytes) (fragments : List (Fragment S)) (location : SourcePosition) (wraps : List TypeModifier) (answer : Result (Resolved S N) (FieldError S)) where
+module _ {S N : Type 0} (here : Evaluation S N) (sets : List (Tree S)) (name : Bytes) (location : SourcePosition) (wraps : List TypeModifier) (answer : Result (Resolved S N) (FieldError S)) where
   -- a report that stands at a place gets what the place itself tells
   pub record BegunAt (old : Report S) (now : Begun S N) (new : Report S) : Type 0 where
-    pub leads : Leads (outcome_at e sets name location wraps answer old.path) old (comes_to e fragments now old.path) new
+    pub leads : Leads (outcome_at here.engine sets name location wraps answer old.path) old (comes_to here now old.path) new
     pub path : new.path ≡ old.path
-    pub turns : begun_turns e fragments now ≡ turns_of_answer e sets name wraps answer
-    pub fine : FineBegun e fragments now
-    pub known : IfSome (known_of now) (λ k. IsKnown e fragments name sets k.object k)
+    pub turns : begun_turns here now ≡ turns_of_answer here.engine sets name wraps answer
+    pub fine : FineBegun here now
+    pub known : IfSome (known_of now) (λ k. IsKnown here name sets k.object k)
 
   abbrev can_stand : N → Bool
-  can_stand m = e.is_possible name (e.concrete m)
+  can_stand m = here.engine.is_possible name (here.engine.concrete m)
 
   -- where the place itself fails nothing else does
-  pub own-outcome : (x : FieldError S) (path : List Bytes) → own_error_at e name wraps answer ≡ Some x → outcome_at e sets name location wraps answer path ≡ fails (blame_at path location x)
-  own-outcome x path own = own-fails name (e.is_leaf name) can_stand (λ m. evaluate e path (e.concrete m) m sets) (blame_at path location) wraps answer x own
+  pub own-outcome : (x : FieldError S) (path : List Bytes) → own_error_at here.engine name wraps answer ≡ Some x → outcome_at here.engine sets name location wraps answer path ≡ fails (blame_at path location x)
+  own-outcome x path own = own-fails name (here.engine.is_leaf name) can_stand (λ m. evaluate here.engine path (here.engine.concrete m) m sets) (blame_at path location) wraps answer x own
 
-  begun-well : (b : Begun S N) (old new : Report S) → HasBegun e sets name fragments location wraps answer b → new.path ≡ old.path → new.errors ≡ old.errors → BegunAt old b new
+  begun-well : (b : Begun S N) (old new : Report S) → HasBegun here sets name location wraps answer b → new.path ≡ old.path → new.errors ≡ old.errors → BegunAt old b new
   begun-well b old new h path errors = record {
-    leads = leads-same (outcome_at e sets name location wraps answer old.path) (comes_to e fragments b old.path) old new (h.gives old.path) errors;
+    leads = leads-same (outcome_at here.engine sets name location wraps answer old.path) (comes_to here b old.path) old new (h.gives old.path) errors;
     path = path;
     turns = h.turns;
     fine = h.fine;
     known = h.known;
   }
 
-  begun-ill : (x : FieldError S) (old new : Report S) → own_error_at e name wraps answer ≡ Some x → new.path ≡ old.path → new.errors ≡ old.errors ++ blame_at old.path location x ∷ [] → BegunAt old (begun.Value None) new
+  begun-ill : (x : FieldError S) (old new : Report S) → own_error_at here.engine name wraps answer ≡ Some x → new.path ≡ old.path → new.errors ≡ old.errors ++ blame_at old.path location x ∷ [] → BegunAt old (begun.Value None) new
   begun-ill x old new own path errors = record {
     leads = record {
       told = blame_at old.path location x ∷ [];
@@ -64,12 +63,12 @@ module _ {S N : Type 0} (e : Engine S N) (sets : List (Tree S)) (name : Bytes) (
       errors = errors;
     };
     path = path;
-    turns = sym (own-turns name (e.is_leaf name) can_stand (λ m. all_turns e (e.concrete m) m sets) wraps answer x own);
+    turns = sym (own-turns name (here.engine.is_leaf name) can_stand (λ m. all_turns here.engine (here.engine.concrete m) m sets) wraps answer x own);
     fine = tt;
     known = tt;
   }
 
-  pub told-begins : (r : Result (Begun S N) (FieldFault S)) (old : Report S) (now : Begun S N) (new : Report S) → Begins e sets name fragments location wraps answer r → IsTold location r old now new → BegunAt old now new
+  pub told-begins : (r : Result (Begun S N) (FieldFault S)) (old : Report S) (now : Begun S N) (new : Report S) → Begins here sets name location wraps answer r → IsTold location r old now new → BegunAt old now new
   told-begins (Ok b) old now new h t = subst (λ n. BegunAt old n new) (sym t.0) (begun-well b old new h t.1 t.2)
   told-begins (Err (fault.Error x)) old now new h t = subst (λ n. BegunAt old n new) (sym t.0) (begun-ill x old new h t.1 t.2)
   told-begins (Err fault.Memory) old now new h t = absurd t
@@ -95,21 +94,21 @@ module _ {S N : Type 0} where
   turns-required some (Resolved-F.List items) p = refl
   turns-required some (Resolved-F.Node node) p = refl
 
-module _ {S N : Type 0} (e : Engine S N) (sets : List (Tree S)) (name : Bytes) (fragments : List (Fragment S)) (location : SourcePosition) (wraps : List TypeModifier) (r : Resolved S N) (some : null_here r ≡ false) where
+module _ {S N : Type 0} (here : Evaluation S N) (sets : List (Tree S)) (name : Bytes) (location : SourcePosition) (wraps : List TypeModifier) (r : Resolved S N) (some : null_here r ≡ false) where
   abbrev may_stand : N → Bool
-  may_stand m = e.is_possible name (e.concrete m)
+  may_stand m = here.engine.is_possible name (here.engine.concrete m)
 
   abbrev within : List Bytes → Outcome S (Value S)
-  within path = outcome_at e sets name location wraps (Ok r) path
+  within path = outcome_at here.engine sets name location wraps (Ok r) path
 
-  own-within : own_error_at e name (modifier.NonNull ∷ wraps) (Ok r) ≡ own_error_at e name wraps (Ok r)
-  own-within = own-required name (e.is_leaf name) may_stand (own_error_at e name wraps (Ok r)) (out-Resolved S N r) some
+  own-within : own_error_at here.engine name (modifier.NonNull ∷ wraps) (Ok r) ≡ own_error_at here.engine name wraps (Ok r)
+  own-within = own-required name (here.engine.is_leaf name) may_stand (own_error_at here.engine name wraps (Ok r)) (out-Resolved S N r) some
 
-  pub required-begins : (begins : Result (Begun S N) (FieldFault S)) → Begins e sets name fragments location wraps (Ok r) begins → Begins e sets name fragments location (modifier.NonNull ∷ wraps) (Ok r) begins
+  pub required-begins : (begins : Result (Begun S N) (FieldFault S)) → Begins here sets name location wraps (Ok r) begins → Begins here sets name location (modifier.NonNull ∷ wraps) (Ok r) begins
   required-begins (Ok b) h = record {
     own = own-within ∙ h.own;
-    gives = λ path. outcome-required (λ m. evaluate e path (e.concrete m) m sets) (blame_at path location) name (e.is_leaf name) may_stand (within path) (out-Resolved S N r) some ∙ h.gives path;
-    turns = h.turns ∙ sym (turns-required (turns_of_answer e sets name wraps (Ok r)) (out-Resolved S N r) some);
+    gives = λ path. outcome-required (λ m. evaluate here.engine path (here.engine.concrete m) m sets) (blame_at path location) name (here.engine.is_leaf name) may_stand (within path) (out-Resolved S N r) some ∙ h.gives path;
+    turns = h.turns ∙ sym (turns-required (turns_of_answer here.engine sets name wraps (Ok r)) (out-Resolved S N r) some);
     fine = h.fine;
     known = h.known;
   }

@@ -22,6 +22,7 @@ use Rattle.graphql_written_out.specs.Groups.{groups}
 use Rattle.graphql_names.specs.Names.{Bytes}
 use Rattle.graphql_written_out.specs.Trees.{Head, Tree}
 use Rattle.graphql_execution_walk.specs.declared.frames.Frame.TheVariants as frame
+use Rattle.graphql_execution_walk.specs.Evaluations.{Evaluation}
 use Rattle.graphql_execution_walk.specs.Frames.{FrameIn, ObjectFrameIn, ListFrameIn}
 use Rattle.graphql_execution_walk.specs.KnownTypes.{AreKnown, IsKnown, IsTaught, KnownIn, known_at}
 use Rattle.graphql_execution_walk.specs.Sets.{kept_sets}
@@ -112,76 +113,76 @@ module _ {S N : Type 0} where
   pub group-path : (path : List Bytes) (f : ObjectFrameIn S N) (g : Group S) → slice_get f.groups f.next ≡ Some g → down path (frame.Object f) ≡ path ++ g.0 ∷ []
   group-path path f g at = ap (down_group path) (drop-next f.groups f.next g at)
 
-module _ {S N : Type 0} (e : Engine S N) (fragments : List (Fragment S)) where
-  pub fine-last : (fs : List (FrameIn S N)) (f : FrameIn S N) → AllFine e fragments fs → Fine e fragments f → AllFine e fragments (fs ++ f ∷ [])
+module _ {S N : Type 0} (here : Evaluation S N) where
+  pub fine-last : (fs : List (FrameIn S N)) (f : FrameIn S N) → AllFine here fs → Fine here f → AllFine here (fs ++ f ∷ [])
   fine-last [] f h k = (k, tt)
   fine-last (g ∷ fs) f h k = (h.0, fine-last fs f h.1 k)
 
-  pub fine-pop : (fs : List (FrameIn S N)) (f : FrameIn S N) → AllFine e fragments (fs ++ f ∷ []) → AllFine e fragments fs × Fine e fragments f
+  pub fine-pop : (fs : List (FrameIn S N)) (f : FrameIn S N) → AllFine here (fs ++ f ∷ []) → AllFine here fs × Fine here f
   fine-pop [] f h = (tt, h.0)
   fine-pop (g ∷ fs) f h = (let ih = fine-pop fs f h.1 in ((h.0, ih.0), ih.1))
 
-module _ {S N : Type 0} (e : Engine S N) (fragments : List (Fragment S)) where
+module _ {S N : Type 0} (here : Evaluation S N) where
   close_group-after : (path : List Bytes) (f : ObjectFrameIn S N) (gs : List (Group S)) (told : List (ExecutionError S)) (o : Outcome S (Value S))
-      → close_group e fragments path f gs (after told o) ≡ after told (close_group e fragments path f gs o)
+      → close_group here path f gs (after told o) ≡ after told (close_group here path f gs o)
   close_group-after path f [] told o = refl
-  close_group-after path f (g ∷ gs) told o = more-after object_members f.members told (outcome_map (λ x. (g.0, x)) (show_place f.is_needed o)) (groups_left e fragments path f.object f.node gs)
+  close_group-after path f (g ∷ gs) told o = more-after object_members f.members told (outcome_map (λ x. (g.0, x)) (show_place f.is_needed o)) (groups_left here path f.object f.node gs)
 
   -- what the innermost place tells first, the whole tells first
-  close-after : (path : List Bytes) (f : FrameIn S N) (told : List (ExecutionError S)) (o : Outcome S (Value S)) → close e fragments path f (after told o) ≡ after told (close e fragments path f o)
+  close-after : (path : List Bytes) (f : FrameIn S N) (told : List (ExecutionError S)) (o : Outcome S (Value S)) → close here path f (after told o) ≡ after told (close here path f o)
   close-after path (frame.Object f) told o = close_group-after path f (drop f.next f.groups) told o
-  close-after path (frame.List f) told o = more-after value.List f.values told (show_place (is_required (reverse f.wraps.now)) o) (map (item_at e fragments path f) (reverse f.items))
+  close-after path (frame.List f) told o = more-after value.List f.values told (show_place (is_required (reverse f.wraps.now)) o) (map (item_at here path f) (reverse f.items))
 
   resume-after : (path : List Bytes) (fs : List (FrameIn S N)) (told : List (ExecutionError S)) (o : List Bytes → Outcome S (Value S))
-      → resume e fragments path fs (λ q. after told (o q)) ≡ after told (resume e fragments path fs o)
+      → resume here path fs (λ q. after told (o q)) ≡ after told (resume here path fs o)
   resume-after path [] told o = refl
-  resume-after path (f ∷ fs) told o = ap (close e fragments path f) (resume-after (down path f) fs told o) ∙ close-after path f told (resume e fragments (down path f) fs o)
+  resume-after path (f ∷ fs) told o = ap (close here path f) (resume-after (down path f) fs told o) ∙ close-after path f told (resume here (down path f) fs o)
 
   -- a place counts at its own path alone
-  resume-at : (path : List Bytes) (fs : List (FrameIn S N)) (o p : List Bytes → Outcome S (Value S)) → o (path_of path fs) ≡ p (path_of path fs) → resume e fragments path fs o ≡ resume e fragments path fs p
+  resume-at : (path : List Bytes) (fs : List (FrameIn S N)) (o p : List Bytes → Outcome S (Value S)) → o (path_of path fs) ≡ p (path_of path fs) → resume here path fs o ≡ resume here path fs p
   resume-at path [] o p h = h
-  resume-at path (f ∷ fs) o p h = ap (close e fragments path f) (resume-at (down path f) fs o p h)
+  resume-at path (f ∷ fs) o p h = ap (close here path f) (resume-at (down path f) fs o p h)
 
   resume-last : (path : List Bytes) (fs : List (FrameIn S N)) (f : FrameIn S N) (o : List Bytes → Outcome S (Value S))
-      → resume e fragments path (fs ++ f ∷ []) o ≡ resume e fragments path fs (λ q. close e fragments q f (o (down q f)))
+      → resume here path (fs ++ f ∷ []) o ≡ resume here path fs (λ q. close here q f (o (down q f)))
   resume-last path [] f o = refl
-  resume-last path (g ∷ fs) f o = ap (close e fragments path g) (resume-last (down path g) fs f o)
+  resume-last path (g ∷ fs) f o = ap (close here path g) (resume-last (down path g) fs f o)
 
   -- a step at the innermost place
   pub in-place : (path : List Bytes) (fs : List (FrameIn S N)) (told : List (ExecutionError S)) (o p : List Bytes → Outcome S (Value S)) → o (path_of path fs) ≡ after told (p (path_of path fs))
-      → resume e fragments path fs o ≡ after told (resume e fragments path fs p)
+      → resume here path fs o ≡ after told (resume here path fs p)
   in-place path fs told o p h = resume-at path fs o (λ q. after told (p q)) h ∙ resume-after path fs told p
 
   -- a step that leaves a frame to wait
   pub pushed : (path : List Bytes) (fs : List (FrameIn S N)) (f : FrameIn S N) (told : List (ExecutionError S)) (o p : List Bytes → Outcome S (Value S))
-      → o (path_of path fs) ≡ after told (close e fragments (path_of path fs) f (p (down (path_of path fs) f)))
-      → resume e fragments path fs o ≡ after told (resume e fragments path (fs ++ f ∷ []) p)
-  pushed path fs f told o p h = in-place path fs told o (λ q. close e fragments q f (p (down q f))) h ∙ ap (after told) (sym (resume-last path fs f p))
+      → o (path_of path fs) ≡ after told (close here (path_of path fs) f (p (down (path_of path fs) f)))
+      → resume here path fs o ≡ after told (resume here path (fs ++ f ∷ []) p)
+  pushed path fs f told o p h = in-place path fs told o (λ q. close here q f (p (down q f))) h ∙ ap (after told) (sym (resume-last path fs f p))
 
   -- a frame gets the value it waits for
-  pub popped : (path : List Bytes) (fs : List (FrameIn S N)) (f : FrameIn S N) (v : Option (Value S)) (p : List Bytes → Outcome S (Value S)) → ((q : List Bytes) → close e fragments q f (shows v) ≡ p q)
-      → resume e fragments path (fs ++ f ∷ []) (λ q. shows v) ≡ resume e fragments path fs p
-  popped path fs f v p h = resume-last path fs f (λ q. shows v) ∙ resume-at path fs (λ q. close e fragments q f (shows v)) p (h (path_of path fs))
+  pub popped : (path : List Bytes) (fs : List (FrameIn S N)) (f : FrameIn S N) (v : Option (Value S)) (p : List Bytes → Outcome S (Value S)) → ((q : List Bytes) → close here q f (shows v) ≡ p q)
+      → resume here path (fs ++ f ∷ []) (λ q. shows v) ≡ resume here path fs p
+  popped path fs f v p h = resume-last path fs f (λ q. shows v) ∙ resume-at path fs (λ q. close here q f (shows v)) p (h (path_of path fs))
 
-  pub object-begins : (path : List Bytes) (object : Bytes) (node : N) (ts : List (Tree S)) (found : List (Found S)) (gs : List (Group S)) → map (group_found fragments) gs ≡ groups found → Repeats found (found_in e object ts)
-      → outcome_map object_members (evaluate e path object node ts) ≡ more object_members (Some []) (groups_left e fragments path object node gs)
+  pub object-begins : (path : List Bytes) (object : Bytes) (node : N) (ts : List (Tree S)) (found : List (Found S)) (gs : List (Group S)) → map (group_found here.fragments) gs ≡ groups found → Repeats found (found_in here.engine object ts)
+      → outcome_map object_members (evaluate here.engine path object node ts) ≡ more object_members (Some []) (groups_left here path object node gs)
   object-begins path object node ts found gs is repeats =
-      more-begins object_members (evaluate e path object node ts) (groups_left e fragments path object node gs)
-      (sym (evaluate-groups e path object node ts found repeats) ∙ ap (λ hs. together (map (keyed e (evaluate e) path object node) hs)) (sym is))
+      more-begins object_members (evaluate here.engine path object node ts) (groups_left here path object node gs)
+      (sym (evaluate-groups here.engine path object node ts found repeats) ∙ ap (λ hs. together (map (keyed here.engine (evaluate here.engine) path object node) hs)) (sym is))
 
   -- an object's next group
   abbrev pub awaits : ObjectFrameIn S N → Bool → ObjectFrameIn S N
   awaits f needed = record { node = f.node; object = f.object; groups = f.groups; prepared = f.prepared; next = f.next; is_needed = needed; members = f.members }
 
   pub group-starts : (path : List Bytes) (f : ObjectFrameIn S N) (g : Group S) (needed : Bool) (told : List (ExecutionError S)) (o : List Bytes → Outcome S (Value S)) → slice_get f.groups f.next ≡ Some g
-      → group e (evaluate e) path f.object f.node g.0 (all_found fragments g.1) ≡ after told (show_place needed (o (path ++ g.0 ∷ [])))
-      → rest e fragments path (frame.Object f) ≡ after told (close e fragments path (frame.Object (awaits f needed)) (o (down path (frame.Object (awaits f needed)))))
+      → group here.engine (evaluate here.engine) path f.object f.node g.0 (all_found here.fragments g.1) ≡ after told (show_place needed (o (path ++ g.0 ∷ [])))
+      → rest here path (frame.Object f) ≡ after told (close here path (frame.Object (awaits f needed)) (o (down path (frame.Object (awaits f needed)))))
   group-starts path f g needed told o at is =
       rw (drop-next f.groups f.next g at)
-      (ap (λ x. more object_members f.members (outcome_map (λ v. (g.0, v)) x ∷ groups_left e fragments path f.object f.node (drop (f.next + 1) f.groups))) is
-      ∙ more-after object_members f.members told (outcome_map (λ v. (g.0, v)) (show_place needed (o (path ++ g.0 ∷ [])))) (groups_left e fragments path f.object f.node (drop (f.next + 1) f.groups)))
+      (ap (λ x. more object_members f.members (outcome_map (λ v. (g.0, v)) x ∷ groups_left here path f.object f.node (drop (f.next + 1) f.groups))) is
+      ∙ more-after object_members f.members told (outcome_map (λ v. (g.0, v)) (show_place needed (o (path ++ g.0 ∷ [])))) (groups_left here path f.object f.node (drop (f.next + 1) f.groups)))
 
-  pub object-ends : (path : List Bytes) (f : ObjectFrameIn S N) → slice_get f.groups f.next ≡ None → rest e fragments path (frame.Object f) ≡ shows (option_map object_members f.members)
+  pub object-ends : (path : List Bytes) (f : ObjectFrameIn S N) → slice_get f.groups f.next ≡ None → rest here path (frame.Object f) ≡ shows (option_map object_members f.members)
   object-ends path f at = rw (drop-end f.groups f.next at) (more-none object_members f.members)
 
   both-keyed : (k : Bytes) (m : Option (Members S)) (v : Option (Value S)) → last m (option_map (λ x. (k, x)) v) ≡ both (λ xs x. xs ++ (k, x) ∷ []) m v
@@ -194,19 +195,19 @@ module _ {S N : Type 0} (e : Engine S N) (fragments : List (Fragment S)) where
 
   pub group-given : (f : ObjectFrameIn S N) (g : Group S) (v : Option (Value S)) (members : Option (Members S)) → slice_get f.groups f.next ≡ Some g
       → members ≡ both (λ xs x. xs ++ (g.0, x) ∷ []) f.members (shown f.is_needed v)
-      → (path : List Bytes) → close e fragments path (frame.Object f) (shows v) ≡ rest e fragments path (frame.Object (goes_on f members))
+      → (path : List Bytes) → close here path (frame.Object f) (shows v) ≡ rest here path (frame.Object (goes_on f members))
   group-given f g v members at is path =
       rw (drop-next f.groups f.next g at)
-      (more-first object_members f.members (option_map (λ x. (g.0, x)) (shown f.is_needed v)) (groups_left e fragments path f.object f.node (drop (f.next + 1) f.groups))
-      ∙ ap (λ ms. more object_members ms (groups_left e fragments path f.object f.node (drop (f.next + 1) f.groups))) (both-keyed g.0 f.members (shown f.is_needed v) ∙ sym is))
+      (more-first object_members f.members (option_map (λ x. (g.0, x)) (shown f.is_needed v)) (groups_left here path f.object f.node (drop (f.next + 1) f.groups))
+      ∙ ap (λ ms. more object_members ms (groups_left here path f.object f.node (drop (f.next + 1) f.groups))) (both-keyed g.0 f.members (shown f.is_needed v) ∙ sym is))
 
   pub nothing-given : (f : ObjectFrameIn S N) (v : Option (Value S)) → slice_get f.groups f.next ≡ None
-      → (path : List Bytes) → close e fragments path (frame.Object f) (shows v) ≡ rest e fragments path (frame.Object f)
+      → (path : List Bytes) → close here path (frame.Object f) (shows v) ≡ rest here path (frame.Object f)
   nothing-given f v at path = rw (drop-end f.groups f.next at) refl
 
   pub item-given : (f : ListFrameIn S N) (v : Option (Value S)) (values : Option (List (Value S))) (path : List Bytes)
-      → close e fragments path (frame.List f) (shows v) ≡ more value.List (last f.values (shown (is_required (reverse f.wraps.now)) v)) (map (item_at e fragments path f) (reverse f.items))
-  item-given f v values path = more-first value.List f.values (shown (is_required (reverse f.wraps.now)) v) (map (item_at e fragments path f) (reverse f.items))
+      → close here path (frame.List f) (shows v) ≡ more value.List (last f.values (shown (is_required (reverse f.wraps.now)) v)) (map (item_at here path f) (reverse f.items))
+  item-given f v values path = more-first value.List f.values (shown (is_required (reverse f.wraps.now)) v) (map (item_at here path f) (reverse f.items))
 
 -- the keys stay apart
 pub fine-nothing : {S : Type 0} (k : Bytes) (keys : List Bytes) (ms : Option (Members S)) (v : Option (Value S)) → IfSome ms (λ xs. IsDistinct bytes_eq (keys_of xs ++ k ∷ keys))
@@ -268,68 +269,68 @@ keys-found fragments (g ∷ gs) = ap (λ ks. g.0 ∷ ks) (keys-found fragments g
 pub distinct-begins : {S : Type 0} (fragments : List (Fragment S)) (xs : List (Found S)) (gs : List (Group S)) → map (group_found fragments) gs ≡ groups xs → IsDistinct bytes_eq (map (λ h. h.0) gs)
 distinct-begins fragments xs gs is = subst (IsDistinct bytes_eq) (sym (ap (λ (hs : List (Bytes × List (Found _))). map (λ h. h.0) hs) is) ∙ keys-found fragments gs) (distinct-groups xs)
 
-module _ {S N : Type 0} (e : Engine S N) (fragments : List (Fragment S)) where
+module _ {S N : Type 0} (here : Evaluation S N) where
   pub step-in_place : (path : List Bytes) (fs : List (FrameIn S N)) (o p : List Bytes → Outcome S (Value S)) (old new : Report S) → new.path ≡ path_of path fs
-      → Leads (o (path_of path fs)) old (p (path_of path fs)) new → Steps e fragments path (resume e fragments path fs o) old fs p new
-  step-in_place path fs o p old new at l = record { leads = record { told = l.told; is = in-place e fragments path fs l.told o p l.is; errors = l.errors }; stands = at }
+      → Leads (o (path_of path fs)) old (p (path_of path fs)) new → Steps here path (resume here path fs o) old fs p new
+  step-in_place path fs o p old new at l = record { leads = record { told = l.told; is = in-place here path fs l.told o p l.is; errors = l.errors }; stands = at }
 
   pub step-pushed : (path : List Bytes) (fs : List (FrameIn S N)) (f : FrameIn S N) (o p : List Bytes → Outcome S (Value S)) (old new : Report S) → new.path ≡ down (path_of path fs) f
-      → Leads (o (path_of path fs)) old (close e fragments (path_of path fs) f (p (down (path_of path fs) f))) new → Steps e fragments path (resume e fragments path fs o) old (fs ++ f ∷ []) p new
+      → Leads (o (path_of path fs)) old (close here (path_of path fs) f (p (down (path_of path fs) f))) new → Steps here path (resume here path fs o) old (fs ++ f ∷ []) p new
   step-pushed path fs f o p old new at l =
-      record { leads = record { told = l.told; is = pushed e fragments path fs f l.told o p l.is; errors = l.errors }; stands = at ∙ sym (path-last path fs f) }
+      record { leads = record { told = l.told; is = pushed here path fs f l.told o p l.is; errors = l.errors }; stands = at ∙ sym (path-last path fs f) }
 
   pub step-popped : (path : List Bytes) (fs : List (FrameIn S N)) (f : FrameIn S N) (v : Option (Value S)) (p : List Bytes → Outcome S (Value S)) (old new : Report S) → old.path ≡ path_of path (fs ++ f ∷ [])
-      → ((q : List Bytes) → close e fragments q f (shows v) ≡ p q) → ((q : List Bytes) → old.path ≡ down q f → new.path ≡ q) → new.errors ≡ old.errors
-      → Steps e fragments path (resume e fragments path (fs ++ f ∷ []) (λ q. shows v)) old fs p new
+      → ((q : List Bytes) → close here q f (shows v) ≡ p q) → ((q : List Bytes) → old.path ≡ down q f → new.path ≡ q) → new.errors ≡ old.errors
+      → Steps here path (resume here path (fs ++ f ∷ []) (λ q. shows v)) old fs p new
   step-popped path fs f v p old new at given up same =
-      record { leads = leads-same _ _ old new (popped e fragments path fs f v p given) same; stands = up (path_of path fs) (at ∙ path-last path fs f) }
+      record { leads = leads-same _ _ old new (popped here path fs f v p given) same; stands = up (path_of path fs) (at ∙ path-last path fs f) }
 
   -- a step after those before it
   pub step-then : (path : List Bytes) (o : Outcome S (Value S)) (fs gs : List (FrameIn S N)) (p q : List Bytes → Outcome S (Value S)) (old mid new : Report S)
-      → Steps e fragments path o old fs p mid → Steps e fragments path (resume e fragments path fs p) mid gs q new → Steps e fragments path o old gs q new
+      → Steps here path o old fs p mid → Steps here path (resume here path fs p) mid gs q new → Steps here path o old gs q new
   step-then path o fs gs p q old mid new l k =
-      record { leads = leads-then o (resume e fragments path fs p) (resume e fragments path gs q) old mid new l.leads k.leads; stands = k.stands }
+      record { leads = leads-then o (resume here path fs p) (resume here path gs q) old mid new l.leads k.leads; stands = k.stands }
 
-  pub list-ends : (path : List Bytes) (f : ListFrameIn S N) → f.items ≡ [] → rest e fragments path (frame.List f) ≡ shows (option_map value.List f.values)
-  list-ends path f p = ap (λ xs. more value.List f.values (map (item_at e fragments path f) (reverse xs))) p ∙ more-none value.List f.values
+  pub list-ends : (path : List Bytes) (f : ListFrameIn S N) → f.items ≡ [] → rest here path (frame.List f) ≡ shows (option_map value.List f.values)
+  list-ends path f p = ap (λ xs. more value.List f.values (map (item_at here path f) (reverse xs))) p ∙ more-none value.List f.values
 
   abbrev pub keeps : ListFrameIn S N → List (Resolved S N) → ListFrameIn S N
   keeps f items = record { name = f.name; selected = f.selected; location = f.location; wraps = f.wraps; items = items; values = f.values; known = f.known }
 
   -- a list's next item
   pub item-starts : (path : List Bytes) (f : ListFrameIn S N) (items : List (Resolved S N)) (x : Resolved S N) (o : Outcome S (Value S)) (old new : Report S) → f.items ≡ items ++ x ∷ []
-      → Leads (completed e (λ m. evaluate e path (e.concrete m) m (kept_sets fragments f.selected)) (blame_at path f.location) f.name (reverse f.wraps.now) x) old o new
-      → Leads (rest e fragments path (frame.List f)) old (close e fragments path (frame.List (keeps f items)) o) new
+      → Leads (completed here.engine (λ m. evaluate here.engine path (here.engine.concrete m) m (kept_sets here.fragments f.selected)) (blame_at path f.location) f.name (reverse f.wraps.now) x) old o new
+      → Leads (rest here path (frame.List f)) old (close here path (frame.List (keeps f items)) o) new
   item-starts path f items x o old new p l =
       let needed = is_required (reverse f.wraps.now) in
-      let left = map (item_at e fragments path f) (reverse items) in
+      let left = map (item_at here path f) (reverse items) in
       record {
         told = l.told;
-        is = ap (λ xs. more value.List f.values (map (item_at e fragments path f) xs)) (ap reverse p ∙ reverse-append items (x ∷ []))
+        is = ap (λ xs. more value.List f.values (map (item_at here path f) xs)) (ap reverse p ∙ reverse-append items (x ∷ []))
             ∙ ap (λ y. more value.List f.values (show_place needed y ∷ left)) l.is
             ∙ more-after value.List f.values l.told (show_place needed o) left;
         errors = l.errors;
       }
 
 -- what was known is known when one more type is
-module _ {S N : Type 0} (e : Engine S N) (fragments : List (Fragment S)) (name : Bytes) (sets : List (Tree S)) where
+module _ {S N : Type 0} (here : Evaluation S N) (name : Bytes) (sets : List (Tree S)) where
   abbrev IsSome : Bytes → Option (KnownIn S) → Type 0
-  IsSome object known = IfSome known (IsKnown e fragments name sets object)
+  IsSome object known = IfSome known (IsKnown here name sets object)
 
-  taught-at : (k : KnownIn S) (old : Option (KnownIn S)) (object : Bytes) (same : Bool) → (same ≡ true → k.object ≡ object) → IsKnown e fragments name sets k.object k → IsSome object old
+  taught-at : (k : KnownIn S) (old : Option (KnownIn S)) (object : Bytes) (same : Bool) → (same ≡ true → k.object ≡ object) → IsKnown here name sets k.object k → IsSome object old
       → IsSome object (cond same (Some k) old)
-  taught-at k old object true is are h = subst (λ o. IsKnown e fragments name sets o k) (is refl) are
+  taught-at k old object true is are h = subst (λ o. IsKnown here name sets o k) (is refl) are
   taught-at k old object false is are h = h
 
-  taught-here : (k : KnownIn S) (old new : Option (KnownIn S)) (object : Bytes) → IsKnown e fragments name sets k.object k → IsSome object old
+  taught-here : (k : KnownIn S) (old new : Option (KnownIn S)) (object : Bytes) → IsKnown here name sets k.object k → IsSome object old
       → (new ≡ old) ⊎ (new ≡ cond (bytes_eq k.object object) (Some k) old) → IsSome object new
   taught-here k old new object are h (inl same) = subst (IsSome object) (sym same) h
   taught-here k old new object are h (inr put) =
       subst (IsSome object) (sym put) (taught-at k old object (bytes_eq k.object object) (λ p. (bytes_eq-Decides k.object object).0 p) are h)
 
-  pub known-taught : (old new : List (KnownIn S)) (more : Option (KnownIn S)) → IsTaught old more new → IfSome more (λ k. IsKnown e fragments name sets k.object k) → AreKnown e fragments name sets old
-      → AreKnown e fragments name sets new
-  known-taught old new None t are h = subst (AreKnown e fragments name sets) (sym t) h
+  pub known-taught : (old new : List (KnownIn S)) (more : Option (KnownIn S)) → IsTaught old more new → IfSome more (λ k. IsKnown here name sets k.object k) → AreKnown here name sets old
+      → AreKnown here name sets new
+  known-taught old new None t are h = subst (AreKnown here name sets) (sym t) h
   known-taught old new (Some k) t are h = λ object. taught-here k (known_at old object) (known_at new object) object are (h object) (t object)
 
 -- nothing more need be known

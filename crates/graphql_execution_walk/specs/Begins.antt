@@ -12,7 +12,6 @@ use Rattle.graphql_field_results.specs.declared.field_error.FieldError.{FieldErr
 use Rattle.graphql_field_results.specs.declared.field_fault.FieldFault.{FieldFault}
 use Rattle.graphql_field_results.specs.declared.field_fault.FieldFault.TheVariants as fault
 use Rattle.graphql_field_results.specs.declared.resolved.Resolved.{Resolved}
-use Rattle.graphql_tree.specs.declared.document.Fragment.{Fragment}
 use Rattle.graphql_semantics.specs.Completion.{blame_at, complete_result}
 use Rattle.graphql_semantics.specs.Engines.{Engine}
 use Rattle.graphql_semantics.specs.Evaluation.{evaluate}
@@ -21,6 +20,7 @@ use Rattle.graphql_semantics.specs.Turns.{all_turns, turns_of_result}
 use Rattle.graphql_execution_walk.specs.declared.frames.Begun.{Begun}
 use Rattle.graphql_execution_walk.specs.declared.frames.Begun.TheVariants as begun
 use Rattle.graphql_execution_walk.specs.declared.report.Report.{Report}
+use Rattle.graphql_execution_walk.specs.Evaluations.{Evaluation}
 use Rattle.graphql_execution_walk.specs.Frames.{FineBegun, comes_to, known_of}
 use Rattle.graphql_execution_walk.specs.FrameTurns.{begun_turns}
 use Rattle.graphql_execution_walk.specs.OwnErrors.{own_error_of}
@@ -47,22 +47,23 @@ module _ {S N : Type 0} (e : Engine S N) (sets : List (Tree S)) (name : Bytes) w
   turns_of_answer wraps answer = turns_of_result (λ m. all_turns e (e.concrete m) m sets)
       (λ m. e.is_possible name (e.concrete m)) wraps answer
 
-  module _ (fragments : List (Fragment S)) (location : SourcePosition) (wraps : List TypeModifier)
-      (answer : Result (Resolved S N) (FieldError S)) where
-    -- the place itself does not fail, and comes to what has begun
-    pub record HasBegun (b : Begun S N) : Type 0 where
-      pub own : own_error_at e name wraps answer ≡ None
-      pub gives : (path : List Bytes)
-          → outcome_at location wraps answer path ≡ comes_to e fragments b path
-      pub turns : begun_turns e fragments b ≡ turns_of_answer wraps answer
-      pub fine : FineBegun e fragments b
-      pub known : IfSome (known_of b) (λ k. IsKnown e fragments name sets k.object k)
+module _ {S N : Type 0} (here : Evaluation S N) (sets : List (Tree S)) (name : Bytes)
+    (location : SourcePosition) (wraps : List TypeModifier)
+    (answer : Result (Resolved S N) (FieldError S)) where
+  -- the place itself does not fail, and comes to what has begun
+  pub record HasBegun (b : Begun S N) : Type 0 where
+    pub own : own_error_at here.engine name wraps answer ≡ None
+    pub gives : (path : List Bytes)
+        → outcome_at here.engine sets name location wraps answer path ≡ comes_to here b path
+    pub turns : begun_turns here b ≡ turns_of_answer here.engine sets name wraps answer
+    pub fine : FineBegun here b
+    pub known : IfSome (known_of b) (λ k. IsKnown here name sets k.object k)
 
-    -- what has begun, or the error of the place itself, unless memory runs out
-    abbrev pub Begins : Result (Begun S N) (FieldFault S) → Type 0
-    Begins (Ok b) = HasBegun b
-    Begins (Err (fault.Error x)) = own_error_at e name wraps answer ≡ Some x
-    Begins (Err fault.Memory) = Unit {0}
+  -- what has begun, or the error of the place itself, unless memory runs out
+  abbrev pub Begins : Result (Begun S N) (FieldFault S) → Type 0
+  Begins (Ok b) = HasBegun b
+  Begins (Err (fault.Error x)) = own_error_at here.engine name wraps answer ≡ Some x
+  Begins (Err fault.Memory) = Unit {0}
 
 -- what has begun at a place, or nothing where the place itself fails, which is told
 abbrev pub IsTold : {S N : Type 0} → SourcePosition → Result (Begun S N) (FieldFault S) → Report S

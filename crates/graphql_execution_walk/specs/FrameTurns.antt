@@ -2,7 +2,6 @@
 use Rattle.std.specs.Prelude.{ℕ, ◌+◌, List, map, drop, reverse}
 use Rattle.std.specs.List.{sum}
 use Rattle.graphql_names.specs.Names.{Bytes}
-use Rattle.graphql_tree.specs.declared.document.Fragment.{Fragment}
 use Rattle.graphql_names.specs.declared.type_modifier.TypeModifier.{TypeModifier}
 use Rattle.graphql_written_out.specs.Trees.{Tree}
 use Rattle.graphql_collect.specs.Grouped.{Group, all_found}
@@ -14,6 +13,7 @@ use Rattle.graphql_execution_walk.specs.declared.frames.Begun.TheVariants as beg
 use Rattle.graphql_execution_walk.specs.declared.frames.Frame.TheVariants as frame
 use Rattle.graphql_execution_walk.specs.declared.frames.Turned.{Turned}
 use Rattle.graphql_execution_walk.specs.declared.frames.Turned.TheVariants as turned
+use Rattle.graphql_execution_walk.specs.Evaluations.{Evaluation}
 use Rattle.graphql_execution_walk.specs.Frames.{FrameIn, ListFrameIn}
 use Rattle.graphql_execution_walk.specs.Sets.{kept_sets}
 
@@ -24,18 +24,20 @@ abbrev pub answer_turns : {S N : Type 0} → Engine S N → List (Tree S) → By
 answer_turns e sets name =
     turns_at (λ m. all_turns e (e.concrete m) m sets) (λ m. e.is_possible name (e.concrete m))
 
-module _ {S N : Type 0} (e : Engine S N) (fragments : List (Fragment S)) where
+module _ {S N : Type 0} (here : Evaluation S N) where
   -- to set out for a group, and for its answer
   abbrev pub group_turns : Bytes → N → Group S → ℕ
   group_turns object node g =
-      1 + turns_of_group e (all_turns e) object node (all_found fragments g.1)
+      1 + turns_of_group here.engine (all_turns here.engine) object node
+      (all_found here.fragments g.1)
 
   abbrev pub groups_turns : Bytes → N → List (Group S) → ℕ
   groups_turns object node gs = sum (map (group_turns object node) gs)
 
   abbrev pub item_turns : ListFrameIn S N → Resolved S N → ℕ
   item_turns f r =
-      1 + answer_turns e (kept_sets fragments f.selected) f.name (reverse f.wraps.now) r
+      1 + answer_turns here.engine (kept_sets here.fragments f.selected) f.name
+      (reverse f.wraps.now) r
 
   -- of a frame at whose next group or item the walk stands
   abbrev pub rest_turns : FrameIn S N → ℕ

@@ -6,8 +6,7 @@ use Rattle.std.specs.Prelude.{◌≡◌, IfSome, List, [], ◌∷◌, ◌++◌, 
 use Rattle.std.specs.Prelude.{None}
 use Rattle.graphql_output_values.specs.declared.value.Value.{Value}
 use Rattle.graphql_output_values.specs.declared.value.Value.TheVariants as value
-use Rattle.graphql_tree.specs.declared.document.Fragment.{Fragment}
-use Rattle.graphql_collect.specs.Grouped.{Group, group_found}
+use Rattle.graphql_collect.specs.Grouped.{Group, all_found, group_found}
 use Rattle.graphql_names.specs.Names.{Bytes}
 use Rattle.graphql_execution_walk.specs.declared.frames.Begun.{Begun}
 use Rattle.graphql_execution_walk.specs.declared.frames.Begun.TheVariants as begun
@@ -20,8 +19,8 @@ use Rattle.graphql_execution_walk.specs.declared.frames.ListFrame.{ListFrame}
 use Rattle.graphql_field_results.specs.declared.execution_error.ExecutionError.{ExecutionError}
 use Rattle.graphql_execution_walk.specs.declared.report.Report.{Report}
 use Rattle.graphql_field_results.specs.declared.resolved.Resolved.{Resolved}
-use Rattle.graphql_semantics.specs.Engines.{Engine}
-use Rattle.graphql_semantics.specs.Evaluation.{evaluate, keyed}
+use Rattle.graphql_execution_walk.specs.Evaluations.{Evaluation}
+use Rattle.graphql_semantics.specs.Evaluation.{evaluate, group, keyed}
 use Rattle.graphql_semantics.specs.Completion.{blame_at, is_required, object_members}
 use Rattle.graphql_execution_walk.specs.Completed.{completed_item}
 use Rattle.graphql_execution_walk.specs.KnownTypes.{AreKnown, KnownIn}
@@ -82,16 +81,23 @@ module _ {S N : Type 0} where
   path_of path [] = path
   path_of path (f ∷ fs) = path_of (down path f) fs
 
-module _ {S N : Type 0} (e : Engine S N) (fragments : List (Fragment S)) where
+module _ {S N : Type 0} (here : Evaluation S N) where
   abbrev pub groups_left : List Bytes → Bytes → N → List (Group S)
       → List (Outcome S (Bytes × Value S))
   groups_left path object node gs =
-      map (keyed e (evaluate e) path object node) (map (group_found fragments) gs)
+      map (keyed here.engine (evaluate here.engine) path object node)
+      (map (group_found here.fragments) gs)
 
   abbrev pub item_at : List Bytes → ListFrameIn S N → Resolved S N → Outcome S (Value S)
   item_at path f =
-      completed_item e (λ m. evaluate e path (e.concrete m) m (kept_sets fragments f.selected))
-      (blame_at path f.location) f.name (reverse f.wraps.now)
+      completed_item here.engine
+      (λ m. evaluate here.engine path (here.engine.concrete m) m
+      (kept_sets here.fragments f.selected)) (blame_at path f.location) f.name (reverse f.wraps.now)
+
+  -- what a group gives on a node of an object type, below the place of the path
+  abbrev pub group_outcome : List Bytes → Bytes → N → Group S → Outcome S (Value S)
+  group_outcome path object node g =
+      group here.engine (evaluate here.engine) path object node g.0 (all_found here.fragments g.1)
 
   -- what a frame gives at whose next group or item the loop stands
   abbrev pub rest : List Bytes → FrameIn S N → Outcome S (Value S)
@@ -150,17 +156,17 @@ module _ {S N : Type 0} where
     known = known;
   }
 
-module _ {S N : Type 0} (e : Engine S N) (fragments : List (Fragment S)) where
+module _ {S N : Type 0} (here : Evaluation S N) where
   -- an object's type is that of its node, its groups have their keys, no key stands twice among its
   -- members so far and the groups that are left, and what is known of its fields is so; so is what
   -- a list knows
   abbrev pub Fine : FrameIn S N → Type 0
-  Fine (frame.Object f) = (f.object ≡ e.concrete f.node)
+  Fine (frame.Object f) = (f.object ≡ here.engine.concrete f.node)
       × All HasKey f.groups
       × IfSome f.members
       (λ ms. IsDistinct bytes_eq (keys_of ms ++ map (λ g. g.0) (drop f.next f.groups)))
-      × IfSome f.prepared (ArePrepared (asked_by e) f.object f.groups)
-  Fine (frame.List f) = AreKnown e fragments f.name (kept_sets fragments f.selected) f.known
+      × IfSome f.prepared (ArePrepared (asked_by here.engine) f.object f.groups)
+  Fine (frame.List f) = AreKnown here f.name (kept_sets here.fragments f.selected) f.known
 
   abbrev pub AllFine : List (FrameIn S N) → Type 0
   AllFine [] = Unit {0}
@@ -171,20 +177,25 @@ module _ {S N : Type 0} (e : Engine S N) (fragments : List (Fragment S)) where
   FineBegun (begun.Frame f) = Fine f
 
 -- what a turn leaves: the end, where no frame waits, or what there is now
-abbrev pub turned_to : {S N : Type 0} (e : Engine S N) (fragments : List (Fragment S)) → Turned S N
-    → List Bytes → Outcome S (Value S)
-turned_to e fragments (turned.Done v) path = shows v
-turned_to e fragments (turned.Open b) path = comes_to e fragments b path
+abbrev pub turned_to : {S N : Type 0} → Evaluation S N → Turned S N → List Bytes
+    → Outcome S (Value S)
+turned_to here (turned.Done v) path = shows v
+turned_to here (turned.Open b) path = comes_to here b path
 
-abbrev pub FineTurned : {S N : Type 0} (e : Engine S N) (fragments : List (Fragment S)) → Turned S N
-    → List (FrameIn S N) → Type 0
-FineTurned e fragments (turned.Done v) waiting = waiting ≡ []
-FineTurned e fragments (turned.Open b) waiting =
-    AllFine e fragments waiting × FineBegun e fragments b
+abbrev pub FineTurned : {S N : Type 0} → Evaluation S N → Turned S N → List (FrameIn S N) → Type 0
+FineTurned here (turned.Done v) waiting = waiting ≡ []
+FineTurned here (turned.Open b) waiting = AllFine here waiting × FineBegun here b
 
--- a step: what is told is part of what was left to tell; the report stands at the innermost place
-pub record Steps {S N : Type 0} (e : Engine S N) (fragments : List (Fragment S)) (path : List Bytes)
-    (before : Outcome S (Value S)) (old : Report S) (waiting : List (FrameIn S N))
-    (now : List Bytes → Outcome S (Value S)) (new : Report S) : Type 0 where
-  pub leads : Leads before old (resume e fragments path waiting now) new
-  pub stands : new.path ≡ path_of path waiting
+module _ {S N : Type 0} (here : Evaluation S N) where
+  -- a step: what is told is part of what was left to tell; the report stands at the innermost place
+  pub record Steps (path : List Bytes) (before : Outcome S (Value S)) (old : Report S)
+      (waiting : List (FrameIn S N)) (now : List Bytes → Outcome S (Value S)) (new : Report S)
+      : Type 0 where
+    pub leads : Leads before old (resume here path waiting now) new
+    pub stands : new.path ≡ path_of path waiting
+
+  -- a step from what the innermost place gives before these frames, wherever the outermost stands
+  abbrev pub Advances : List (FrameIn S N) → (List Bytes → Outcome S (Value S)) → Report S
+      → List (FrameIn S N) → (List Bytes → Outcome S (Value S)) → Report S → Type 0
+  Advances waited before old waiting now new = (path : List Bytes) → old.path ≡ path_of path waited
+      → Steps path (resume here path waited before) old waiting now new

@@ -2,12 +2,11 @@
 use Rattle.std.specs.Str.{bytes_eq}
 use Rattle.std.specs.Prelude.{◌≡◌, ◌⊎◌, true, IfSome, cond, List, Option, Some, None}
 use Rattle.graphql_names.specs.Names.{Bytes, named}
-use Rattle.graphql_tree.specs.declared.document.Fragment.{Fragment}
 use Rattle.graphql_collect.specs.Grouped.{Group}
 use Rattle.graphql_written_out.specs.Trees.{Tree}
-use Rattle.graphql_semantics.specs.Engines.{Engine}
 use Rattle.graphql_semantics.specs.Evaluation.{found_in}
 use Rattle.graphql_execution_walk.specs.declared.frames.Known.{Known}
+use Rattle.graphql_execution_walk.specs.Evaluations.{Evaluation}
 use Rattle.graphql_execution_walk.specs.Prepared.{ArePrepared, asked_by}
 use Rattle.graphql_execution_walk.specs.declared.prepared.Prepared.{Prepared}
 use Rattle.graphql_execution_walk.specs.Sets.{AreGroups}
@@ -28,14 +27,13 @@ IsTaught old (Some k) new = (object : Bytes) →
     (known_at new object ≡ known_at old object)
     ⊎ (known_at new object ≡ cond (bytes_eq k.object object) (Some k) (known_at old object))
 
-module _ {S N : Type 0} (e : Engine S N) (fragments : List (Fragment S)) (name : Bytes)
-    (sets : List (Tree S)) where
+module _ {S N : Type 0} (here : Evaluation S N) (name : Bytes) (sets : List (Tree S)) where
   -- of an object type that can stand at the type of this name: the groups of what is selected from
   -- it, and what is known of their first fields
   pub record IsKnown (object : Bytes) (k : KnownIn S) : Type 0 where
-    pub possible : e.is_possible name object ≡ true
-    pub groups : AreGroups fragments (found_in e object sets) k.groups
-    pub prepared : IfSome k.prepared (ArePrepared (asked_by e) object k.groups)
+    pub possible : here.engine.is_possible name object ≡ true
+    pub groups : AreGroups here.fragments (found_in here.engine object sets) k.groups
+    pub prepared : IfSome k.prepared (ArePrepared (asked_by here.engine) object k.groups)
 
   -- what is known of an object type, if anything is, is so
   abbrev pub AreKnown : List (KnownIn S) → Type 0

@@ -3,7 +3,7 @@ pub mod FieldDeclarations
 pub mod FieldPaths
 pub mod Asked
 pub mod Engines
-pub mod EngineAt
+pub mod Evaluations
 pub mod Paths
 pub mod Completed
 pub mod GivesOutcome

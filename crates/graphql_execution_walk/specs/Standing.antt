@@ -13,7 +13,7 @@ use Rattle.graphql_occurrences.specs.DeclaredLent.{literal_of}
 use Rattle.graphql_arguments.specs.ArgumentValues.{Given}
 use Rattle.graphql_written_out.specs.Fields.{Found}
 use Rattle.graphql_written_out.specs.Trees.{Tree}
-use Rattle.graphql_written_out.specs.Written.{head_of}
+use Rattle.graphql_written_out.specs.Written.{Settled, head_of}
 use Rattle.graphql_collected.specs.declared.request.Request.{Request}
 use Rattle.graphql_collected.specs.Occurrences.{found}
 use Rattle.graphql_collected.specs.Requests.{fragments_in}
@@ -21,6 +21,7 @@ use Rattle.graphql_semantics.specs.Evaluation.{sets_below}
 use Rattle.graphql_look_ahead.specs.Selections.{none_or}
 use Rattle.graphql_execution_walk.specs.declared.executor.Executor.{Executor}
 use Rattle.graphql_execution_walk.specs.Engines.{arguments_in}
+use Rattle.graphql_execution_walk.specs.Evaluations.{Evaluation}
 use Rattle.graphql_execution_walk.specs.FieldDeclarations.{declared_type}
 use Rattle.graphql_execution_walk.specs.FieldPaths.{keys_of, place_of}
 use Rattle.graphql_execution_walk.specs.Sets.{sets_in}
@@ -29,6 +30,10 @@ use Rattle.graphql_execution_walk.specs.Sets.{sets_in}
 abbrev pub IsTypeOf : {N : Type 0} → Bytes → N → (N → Bytes) → N → Bytes → Type 0
 IsTypeOf query root type_of node object =
     (object ≡ type_of node) ⊎ ((object ≡ query) × (node ≡ root))
+
+-- the same, where evaluation stands
+abbrev pub IsTyped : {S N : Type 0} → Evaluation S N → N → Bytes → Type 0
+IsTyped here = IsTypeOf here.query here.root here.type_of
 
 -- the place of a field of an object type, which is the first of its response key
 pub record IsPlaceOf {S C : Type 0} (request : Request S C) (object : Bytes)
@@ -50,6 +55,11 @@ pub record IsPlaceOf {S C : Type 0} (request : Request S C) (object : Bytes)
   pub selects : sets ≡ sets_below (found (fragments_in request) field ∷ others)
 
 module _ {S C Context : Type 0} (executor : Executor Context S C) where
+  -- the fragments of its request are without a cycle (5.5.2.2 Fragment Spreads Must Not Form
+  -- Cycles)
+  abbrev pub IsSettled : Type 0
+  IsSettled = Settled (fragments_in executor.request.now)
+
   -- the executor stands at a field of an object type
   abbrev pub StandsAt : Bytes → Placed (Field S) → Type 0
   StandsAt object field =

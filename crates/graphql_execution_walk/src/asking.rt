@@ -3,17 +3,16 @@
 ghost use Rattle.std.specs.Prelude.{◌≡◌, IfSome};
 ghost use Rattle.graphql_text.specs.Memory.{Gives, GivesBy};
 ghost use Rattle.graphql_arguments.specs.GivenValues.{arguments_told};
-ghost use Rattle.graphql_collected.specs.Requests.{fragments_in};
-ghost use Rattle.graphql_written_out.specs.Written.{Settled, head_of};
+ghost use Rattle.graphql_written_out.specs.Written.{head_of};
 ghost use Rattle.graphql_execution_walk.specs.Answered.{Answered};
-ghost use Rattle.graphql_execution_walk.specs.Asked.{asked_type, told_of_itself};
-ghost use Rattle.graphql_execution_walk.specs.declared.asked.Asked.TheVariants as asked;
-ghost use Rattle.graphql_execution_walk.specs.EngineAt.{engine_at};
+ghost use Rattle.graphql_execution_walk.specs.Asked.{told_of_itself};
 ghost use Rattle.graphql_execution_walk.specs.Engines.{arguments_in as values_in};
+ghost use Rattle.graphql_execution_walk.specs.Evaluations.{answer_for};
 ghost use Rattle.graphql_execution_walk.specs.Prepared.{Prepares, asked_in};
-ghost use Rattle.graphql_execution_walk.specs.Standing.{IsTypeOf, StandsAt};
+ghost use Rattle.graphql_execution_walk.specs.Standing.{IsSettled, IsTyped, StandsAt};
 
 use crate::asked::{Asked, of_resolver, of_schema};
+use crate::evaluating::Evaluating;
 use crate::executor::Executor;
 use crate::fields::{declared_arguments, query_root_name};
 use crate::graphql_value::GraphQLValue;
@@ -88,19 +87,16 @@ pub(crate) fn ask<'p, 'd, 'a, S: SchemaScalar + Drop, R: GraphQLValue<S>>(
     field: &'p Spanning<Field<'a, S>>,
     prepared: Option<&Prepared<'_>>,
 ) -> FieldResult<Resolved<S, Asked<'d, S, R::Node>>, S>
-    requires settled { Settled (fragments_in executor.now.request.now) }
+    requires settled { IsSettled executor.now }
     requires schema { schema.now ≡ executor.now.request.now.schema.now }
-    requires typed { IsTypeOf executor.now.request.now.schema.now.query
-        (asked.Own (R.root_node resolver.now))
-        (asked_type (R.type_of resolver.now executor.now.context.now)) node.now object.now }
+    requires typed { let here = ⟦<R as Evaluating<S>>⟧.here resolver.now executor.now in
+        IsTyped here node.now object.now }
     requires stands { StandsAt executor.now object.now field.now }
     requires prepared { IfSome prepared
         (λ known.
         Prepares (asked_in executor.now.request.now) object.now (head_of field.now) known.now) }
-    ensures { let e = engine_at S.of_text S.of_bool S.answer (R.type_of resolver.now)
-        (R.answer resolver.now) executor.now in
-        Answered (e.answer node.now object.now (head_of field.now).name
-        (e.arguments object.now (head_of field.now))) result }
+    ensures { let here = ⟦<R as Evaluating<S>>⟧.here resolver.now executor.now in
+        Answered (answer_for here node.now object.now (head_of field.now)) result }
 {
     let name = field.item.name.item.as_str();
     let arguments = arguments_at(executor.alloc, executor.request, object, field, prepared)?;

@@ -2,18 +2,16 @@
 
 ghost use Rattle.std.specs.Prelude.{◌≡◌, IfOk, IfSome, [], List, Ok, reverse};
 ghost use Rattle.std.specs.Option.{option_copied};
-ghost use Rattle.graphql_collected.specs.Requests.{fragments_in};
-ghost use Rattle.graphql_written_out.specs.Written.{Settled};
 ghost use Rattle.graphql_field_results.specs.declared.resolved.Resolved.TheVariants as resolved;
-ghost use Rattle.graphql_execution_walk.specs.Begins.{Begins};
-ghost use Rattle.graphql_execution_walk.specs.EngineAt.{engine_at};
 ghost use Rattle.graphql_execution_walk.specs.FieldDeclarations.{is_leaf_named};
 ghost use Rattle.graphql_execution_walk.specs.Parts.{IsListAround};
 ghost use Rattle.graphql_execution_walk.specs.Prepared.{ArePrepared, asked_in};
-ghost use Rattle.graphql_execution_walk.specs.Sets.{sets_in};
-ghost use Rattle.graphql_execution_walk.specs.Spots.{IsCollected, IsSpot, MayStand, known_in_list};
+ghost use Rattle.graphql_execution_walk.specs.Spots.{BeginsAt, IsCollected, IsSpot, MayStand};
+ghost use Rattle.graphql_execution_walk.specs.Spots.{known_in_list};
+ghost use Rattle.graphql_execution_walk.specs.Standing.{IsSettled};
 
 use crate::asked::{Asked, asked_type_name};
+use crate::evaluating::Evaluating;
 use crate::executor::Executor;
 use crate::failing::{misfit, own_null};
 use crate::fields::{is_leaf, possible_name};
@@ -92,7 +90,7 @@ fn collected_there<'d, 'a, S: SchemaScalar + Drop, Context>(
     spot: &Spot<'_, 'd, 'a, S>,
     object: &'d str,
 ) -> Result<KnownIn<'d, 'a, S>, AllocError>
-    requires settled { Settled (fragments_in executor.now.request.now) }
+    requires settled { IsSettled executor.now }
     ensures { IfOk result
         (IsCollected S.answer executor.now.request.now spot.now object.now) }
 {
@@ -113,13 +111,11 @@ fn selected_there<'d, 'a, S: SchemaScalar + Drop, R: GraphQLValue<S>>(
     spot: &Spot<'_, 'd, 'a, S>,
     node: &Asked<'d, S, R::Node>,
 ) -> Result<Option<KnownIn<'d, 'a, S>>, AllocError>
-    requires settled { Settled (fragments_in executor.now.request.now) }
-    requires spot { let e = engine_at S.of_text S.of_bool S.answer (R.type_of resolver.now)
-        (R.answer resolver.now) executor.now in
-        IsSpot e executor.now.request.now spot.now }
-    ensures { let e = engine_at S.of_text S.of_bool S.answer (R.type_of resolver.now)
-        (R.answer resolver.now) executor.now in
-        IfOk result (MayStand e executor.now.request.now spot.now (e.concrete node.now)) }
+    requires settled { IsSettled executor.now }
+    requires spot { let here = ⟦<R as Evaluating<S>>⟧.here resolver.now executor.now in
+        IsSpot here executor.now.request.now spot.now }
+    ensures { let here = ⟦<R as Evaluating<S>>⟧.here resolver.now executor.now in
+        IfOk result (MayStand here spot.now (here.engine.concrete node.now)) }
 {
     let object = asked_type_name(resolver, executor.context, node);
     if let Some(known) = known_by(spot, object) {
@@ -138,15 +134,11 @@ fn begin_node<'d, 'a, S: SchemaScalar + Drop, R: GraphQLValue<S>>(
     spot: &Spot<'_, 'd, 'a, S>,
     node: Asked<'d, S, R::Node>,
 ) -> FieldResult<Begun<'d, 'a, S, Asked<'d, S, R::Node>>, S>
-    requires settled { Settled (fragments_in executor.now.request.now) }
-    requires spot { let e = engine_at S.of_text S.of_bool S.answer (R.type_of resolver.now)
-        (R.answer resolver.now) executor.now in
-        IsSpot e executor.now.request.now spot.now }
-    ensures { let e = engine_at S.of_text S.of_bool S.answer (R.type_of resolver.now)
-        (R.answer resolver.now) executor.now in
-        Begins e (sets_in executor.now.request.now spot.now.selected) spot.now.name.now
-        (fragments_in executor.now.request.now) spot.now.location [] (Ok (resolved.Node node.entry))
-        result }
+    requires settled { IsSettled executor.now }
+    requires spot { let here = ⟦<R as Evaluating<S>>⟧.here resolver.now executor.now in
+        IsSpot here executor.now.request.now spot.now }
+    ensures { let here = ⟦<R as Evaluating<S>>⟧.here resolver.now executor.now in
+        BeginsAt here spot.now [] (Ok (resolved.Node node.entry)) result }
 {
     let Some(known) = selected_there(resolver, executor, spot, &node)? else {
         drop(node);
@@ -183,14 +175,11 @@ fn begin_named<'d, 'a, S: SchemaScalar + Drop, R: GraphQLValue<S>>(
     spot: &Spot<'_, 'd, 'a, S>,
     answer: Resolved<S, Asked<'d, S, R::Node>>,
 ) -> FieldResult<Begun<'d, 'a, S, Asked<'d, S, R::Node>>, S>
-    requires settled { Settled (fragments_in executor.now.request.now) }
-    requires spot { let e = engine_at S.of_text S.of_bool S.answer (R.type_of resolver.now)
-        (R.answer resolver.now) executor.now in
-        IsSpot e executor.now.request.now spot.now }
-    ensures { let e = engine_at S.of_text S.of_bool S.answer (R.type_of resolver.now)
-        (R.answer resolver.now) executor.now in
-        Begins e (sets_in executor.now.request.now spot.now.selected) spot.now.name.now
-        (fragments_in executor.now.request.now) spot.now.location [] (Ok answer.entry) result }
+    requires settled { IsSettled executor.now }
+    requires spot { let here = ⟦<R as Evaluating<S>>⟧.here resolver.now executor.now in
+        IsSpot here executor.now.request.now spot.now }
+    ensures { let here = ⟦<R as Evaluating<S>>⟧.here resolver.now executor.now in
+        BeginsAt here spot.now [] (Ok answer.entry) result }
 {
     let name = spot.name.as_str();
     match answer {
@@ -217,11 +206,8 @@ fn begin_list<'d, 'a, S: SchemaScalar + Drop, R: GraphQLValue<S>>(
     answer: Resolved<S, Asked<'d, S, R::Node>>,
 ) -> FieldResult<Begun<'d, 'a, S, Asked<'d, S, R::Node>>, S>
     requires { IsListAround whole.now wraps.now }
-    ensures { let e = engine_at S.of_text S.of_bool S.answer (R.type_of resolver.now)
-        (R.answer resolver.now) executor.now in
-        Begins e (sets_in executor.now.request.now spot.now.selected) spot.now.name.now
-        (fragments_in executor.now.request.now) spot.now.location (reverse whole.now)
-        (Ok answer.entry) result }
+    ensures { let here = ⟦<R as Evaluating<S>>⟧.here resolver.now executor.now in
+        BeginsAt here spot.now (reverse whole.now) (Ok answer.entry) result }
 {
     let name = spot.name.as_str();
     match answer {
@@ -255,15 +241,11 @@ pub(crate) fn begin<'d, 'a, S: SchemaScalar + Drop, R: GraphQLValue<S>>(
     wraps: &'d [TypeModifier],
     answer: Resolved<S, Asked<'d, S, R::Node>>,
 ) -> FieldResult<Begun<'d, 'a, S, Asked<'d, S, R::Node>>, S>
-    requires settled { Settled (fragments_in executor.now.request.now) }
-    requires spot { let e = engine_at S.of_text S.of_bool S.answer (R.type_of resolver.now)
-        (R.answer resolver.now) executor.now in
-        IsSpot e executor.now.request.now spot.now }
-    ensures { let e = engine_at S.of_text S.of_bool S.answer (R.type_of resolver.now)
-        (R.answer resolver.now) executor.now in
-        Begins e (sets_in executor.now.request.now spot.now.selected) spot.now.name.now
-        (fragments_in executor.now.request.now) spot.now.location (reverse wraps.now)
-        (Ok answer.entry) result }
+    requires settled { IsSettled executor.now }
+    requires spot { let here = ⟦<R as Evaluating<S>>⟧.here resolver.now executor.now in
+        IsSpot here executor.now.request.now spot.now }
+    ensures { let here = ⟦<R as Evaluating<S>>⟧.here resolver.now executor.now in
+        BeginsAt here spot.now (reverse wraps.now) (Ok answer.entry) result }
 {
     match take_apart(wraps) {
         Outer::Named => begin_named(resolver, executor, spot, answer),

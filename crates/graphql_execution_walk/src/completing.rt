@@ -2,20 +2,19 @@
 
 ghost use Rattle.std.specs.Prelude.{◌≡◌, ◌++◌, IfOk, Ok, OnErr, OnOk, reverse, unwrap_or};
 ghost use Rattle.graphql_output_values.specs.declared.value.Value.TheVariants as value;
-ghost use Rattle.graphql_collected.specs.Requests.{fragments_in};
-ghost use Rattle.graphql_written_out.specs.Written.{Settled};
 ghost use Rattle.graphql_execution_walk.specs.Asked.{map_nodes};
 ghost use Rattle.graphql_execution_walk.specs.declared.asked.Asked.TheVariants as asked;
 ghost use Rattle.graphql_execution_walk.specs.Begins.{Begins, Completes};
 ghost use Rattle.graphql_execution_walk.specs.Completions.{own_error_here, outcome_here};
-ghost use Rattle.graphql_execution_walk.specs.EngineAt.{engine_at};
 ghost use Rattle.graphql_execution_walk.specs.Engines.{engine_of};
 ghost use Rattle.graphql_execution_walk.specs.FieldPaths.{place_of};
-ghost use Rattle.graphql_execution_walk.specs.Sets.{sets_in};
+ghost use Rattle.graphql_execution_walk.specs.Sets.{sets_of};
+ghost use Rattle.graphql_execution_walk.specs.Standing.{IsSettled};
 
 use crate::asked::{Asked, of_resolver};
 use crate::beginning::{Spot, begin};
 use crate::context::FromContext;
+use crate::evaluating::Evaluating;
 use crate::executor::Executor;
 use crate::frames::{Begun, KnownGroups};
 use crate::graphql_value::GraphQLValue;
@@ -34,13 +33,11 @@ fn begin_here<'d, 'a, S: SchemaScalar + Drop, R: GraphQLValue<S>>(
     executor: &Executor<'_, 'd, 'a, R::Context, S>,
     answer: Resolved<S, Asked<'d, S, R::Node>>,
 ) -> FieldResult<Begun<'d, 'a, S, Asked<'d, S, R::Node>>, S>
-    requires { Settled (fragments_in executor.now.request.now) }
-    ensures { let e = engine_at S.of_text S.of_bool S.answer (R.type_of resolver.now)
-        (R.answer resolver.now) executor.now in
-        Begins e (sets_in executor.now.request.now executor.now.selected)
-        executor.now.current_type.name.now (fragments_in executor.now.request.now)
-        (place_of executor.now.path) (reverse executor.now.current_type.modifiers.now)
-        (Ok answer.entry) result }
+    requires { IsSettled executor.now }
+    ensures { let here = ⟦<R as Evaluating<S>>⟧.here resolver.now executor.now in
+        Begins here (sets_of here.fragments executor.now.selected)
+        executor.now.current_type.name.now (place_of executor.now.path)
+        (reverse executor.now.current_type.modifiers.now) (Ok answer.entry) result }
 {
     let name = TextRef::new(executor.current_type.name);
     let known: Option<&KnownGroups<'d, 'a, S>> = None;
@@ -74,12 +71,11 @@ impl<'c, 'd, 'a, Context, S: SchemaScalar + Drop> Executor<'c, 'd, 'a, Context, 
         answer: Resolved<S, R::Node>,
         errors: &mut Items<ExecutionError<S>>,
     ) -> FieldResult<Option<Value<S>>, S>
-        requires { Settled (fragments_in self.now.request.now) }
-        ensures { let e = engine_at S.of_text S.of_bool S.answer (R.type_of resolver.now)
-            (R.answer resolver.now) self.now in
+        requires { IsSettled self.now }
+        ensures { let here = ⟦<R as Evaluating<S>>⟧.here resolver.now self.now in
             let answer = map_nodes asked.Own answer in
-            Completes (own_error_here e self.now answer) (outcome_here e self.now answer) errors.old
-            result errors.new }
+            Completes (own_error_here here.engine self.now answer)
+            (outcome_here here.engine self.now answer) errors.old result errors.new }
     {
         let answer = of_resolver(self.alloc, answer)?;
         self.resolve_asked(resolver, answer, errors)
@@ -93,11 +89,10 @@ impl<'c, 'd, 'a, Context, S: SchemaScalar + Drop> Executor<'c, 'd, 'a, Context, 
         answer: Resolved<S, Asked<'d, S, R::Node>>,
         errors: &mut Items<ExecutionError<S>>,
     ) -> FieldResult<Option<Value<S>>, S>
-        requires { Settled (fragments_in self.now.request.now) }
-        ensures { let e = engine_at S.of_text S.of_bool S.answer (R.type_of resolver.now)
-            (R.answer resolver.now) self.now in
-            Completes (own_error_here e self.now answer.entry)
-            (outcome_here e self.now answer.entry) errors.old result errors.new }
+        requires { IsSettled self.now }
+        ensures { let here = ⟦<R as Evaluating<S>>⟧.here resolver.now self.now in
+            Completes (own_error_here here.engine self.now answer.entry)
+            (outcome_here here.engine self.now answer.entry) errors.old result errors.new }
     {
         let begun = begin_here(resolver, self, answer)?;
         let mut report = Report {
@@ -119,7 +114,7 @@ impl<'c, 'd, 'a, Context, S: SchemaScalar + Drop> Executor<'c, 'd, 'a, Context, 
         answer: Resolved<S, R::Node>,
         errors: &mut Items<ExecutionError<S>>,
     ) -> FieldResult<Option<Value<S>>, S>
-        requires { Settled (fragments_in self.now.request.now) }
+        requires { IsSettled self.now }
         ensures { let context = Within.within self.now.context.now in
             let e = engine_of S.of_text S.of_bool S.answer self.now.request.now
             (R.type_of resolver.now context) (R.answer resolver.now context) in
@@ -140,15 +135,15 @@ impl<'c, 'd, 'a, Context, S: SchemaScalar + Drop> Executor<'c, 'd, 'a, Context, 
         answer: Resolved<S, R::Node>,
         errors: &mut Items<ExecutionError<S>>,
     ) -> Result<Value<S>, AllocError>
-        requires { Settled (fragments_in self.now.request.now) }
-        ensures value { let e = engine_at S.of_text S.of_bool S.answer (R.type_of resolver.now)
-            (R.answer resolver.now) self.now in
+        requires { IsSettled self.now }
+        ensures value { let here = ⟦<R as Evaluating<S>>⟧.here resolver.now self.now in
             let answer = map_nodes asked.Own answer in
-            IfOk result (λ v. v ≡ unwrap_or (outcome_here e self.now answer).value value.Null) }
-        ensures told { let e = engine_at S.of_text S.of_bool S.answer (R.type_of resolver.now)
-            (R.answer resolver.now) self.now in
+            IfOk result (λ v. v
+            ≡ unwrap_or (outcome_here here.engine self.now answer).value value.Null) }
+        ensures told { let here = ⟦<R as Evaluating<S>>⟧.here resolver.now self.now in
             let answer = map_nodes asked.Own answer in
-            OnOk result (errors.new ≡ errors.old ++ (outcome_here e self.now answer).failures) }
+            OnOk result (errors.new
+            ≡ errors.old ++ (outcome_here here.engine self.now answer).failures) }
         ensures kept { OnErr result (errors.new ≡ errors.old) }
     {
         match self.resolve(resolver, answer, errors) {

@@ -20,9 +20,7 @@ pub trait GraphQLValue<S: SchemaScalar> {
     ghost use Rattle.std.specs.Prelude.{◌≡◌, ℕ, List, Result};
     ghost use Rattle.graphql_arguments.specs.ArgumentValues.{Given};
     ghost use Rattle.graphql_arguments.specs.GivenValues.{arguments_told};
-    ghost use Rattle.graphql_collected.specs.Requests.{fragments_in};
-    ghost use Rattle.graphql_execution_walk.specs.Standing.{IsAsked};
-    ghost use Rattle.graphql_written_out.specs.Written.{Settled};
+    ghost use Rattle.graphql_execution_walk.specs.Standing.{IsAsked, IsSettled};
     ghost use Rattle.graphql_field_results.specs.declared.resolved.Resolved.{Resolved};
     ghost use Rattle.graphql_field_results.specs.declared.field_error.FieldError.{FieldError};
     ghost use Rattle.graphql_execution_walk.specs.Answered.{Answered, SameArguments};
@@ -59,7 +57,7 @@ pub trait GraphQLValue<S: SchemaScalar> {
         arguments: &Arguments<'_, S>,
         executor: &Executor<'_, '_, '_, Self::Context, S>,
     ) -> FieldResult<Resolved<S, Self::Node>, S>
-        requires settled { Settled (fragments_in executor.now.request.now) }
+        requires settled { IsSettled executor.now }
         requires asked { IsAsked executor.now (root_node self.now)
             (type_of self.now executor.now.context.now) node.now
             field.now (arguments_told arguments.now) }

@@ -1,19 +1,15 @@
 //! What an operation's selection set gives.
 
 ghost use Rattle.std.specs.Prelude.{IfOk};
-ghost use Rattle.graphql_collected.specs.Requests.{fragments_in};
 ghost use Rattle.graphql_semantics.specs.Completion.{object_members};
 ghost use Rattle.graphql_semantics.specs.Evaluation.{evaluate};
 ghost use Rattle.graphql_semantics.specs.Outcomes.{outcome_map};
-ghost use Rattle.graphql_written_out.specs.Written.{Settled};
-ghost use Rattle.graphql_execution_walk.specs.Asked.{asked_type};
-ghost use Rattle.graphql_execution_walk.specs.declared.asked.Asked.TheVariants as asked;
-ghost use Rattle.graphql_execution_walk.specs.EngineAt.{engine_at};
 ghost use Rattle.graphql_execution_walk.specs.GivesOutcome.{GivesOutcome};
-ghost use Rattle.graphql_execution_walk.specs.Sets.{sets_in};
-ghost use Rattle.graphql_execution_walk.specs.Standing.{IsTypeOf};
+ghost use Rattle.graphql_execution_walk.specs.Sets.{sets_of};
+ghost use Rattle.graphql_execution_walk.specs.Standing.{IsSettled, IsTyped};
 
 use crate::asked::Asked;
+use crate::evaluating::Evaluating;
 use crate::executor::Executor;
 use crate::frame_parts::object_of;
 use crate::graphql_value::GraphQLValue;
@@ -39,15 +35,13 @@ pub fn answer_selections<'d, 'a, S: SchemaScalar + Drop, R: GraphQLValue<S>>(
     node: &Asked<'d, S, R::Node>,
     report: &mut Report<'d, S>,
 ) -> Result<Option<Value<S>>, AllocError>
-    requires settled { Settled (fragments_in executor.now.request.now) }
-    requires typed { IsTypeOf executor.now.request.now.schema.now.query
-        (asked.Own (R.root_node resolver.now))
-        (asked_type (R.type_of resolver.now executor.now.context.now)) node.now object.now }
-    ensures { let e = engine_at S.of_text S.of_bool S.answer (R.type_of resolver.now)
-        (R.answer resolver.now) executor.now in
-        IfOk result (λ value.
-        GivesOutcome (outcome_map object_members (evaluate e report.old.path object.now node.now
-        (sets_in executor.now.request.now executor.now.selected))) report.old value report.new) }
+    requires settled { IsSettled executor.now }
+    requires typed { let here = ⟦<R as Evaluating<S>>⟧.here resolver.now executor.now in
+        IsTyped here node.now object.now }
+    ensures { let here = ⟦<R as Evaluating<S>>⟧.here resolver.now executor.now in
+        IfOk result (λ value. GivesOutcome (outcome_map object_members
+        (evaluate here.engine report.old.path object.now node.now
+        (sets_of here.fragments executor.now.selected))) report.old value report.new) }
 {
     let groups = groups_collected(executor.alloc, executor.request, object, executor.selected)?;
     let mut members = Some(Items::new(executor.alloc));

@@ -1,28 +1,20 @@
 //! Answers on a stack of objects and lists in progress, which is kept on the heap.
 
 ghost use Rattle.std.specs.Prelude.{◌≡◌, ◌<◌, ◌+◌, ◌++◌, [], ◌∷◌, OnOk, IfOk, List};
-ghost use Rattle.graphql_output_values.specs.declared.value.Value.TheVariants as value;
-ghost use Rattle.graphql_collect.specs.Grouped.{all_found};
-ghost use Rattle.graphql_collected.specs.Requests.{fragments_in};
-ghost use Rattle.graphql_names.specs.Names.{Bytes};
-ghost use Rattle.graphql_written_out.specs.Written.{Settled};
 ghost use Rattle.graphql_execution_walk.specs.declared.frames.Frame.TheVariants as frame;
-ghost use Rattle.graphql_execution_walk.specs.Asked.{asked_type};
-ghost use Rattle.graphql_execution_walk.specs.declared.asked.Asked.TheVariants as asked;
-ghost use Rattle.graphql_execution_walk.specs.EngineAt.{engine_at};
-ghost use Rattle.graphql_semantics.specs.Evaluation.{evaluate, group};
 ghost use Rattle.graphql_execution_walk.specs.FrameTurns.{all_waiting, begun_turns, rest_turns};
 ghost use Rattle.graphql_execution_walk.specs.FrameTurns.{turned_turns};
-ghost use Rattle.graphql_execution_walk.specs.Frames.{Steps, resume, path_of, comes_to, known_of};
-ghost use Rattle.graphql_execution_walk.specs.Frames.{learns, turned_to, rest, Fine, AllFine};
-ghost use Rattle.graphql_execution_walk.specs.Frames.{FineBegun, FineTurned};
+ghost use Rattle.graphql_execution_walk.specs.Frames.{Advances, comes_to, group_outcome};
+ghost use Rattle.graphql_execution_walk.specs.Frames.{known_of, learns, turned_to, rest, Fine};
+ghost use Rattle.graphql_execution_walk.specs.Frames.{AllFine, FineBegun, FineTurned};
 ghost use Rattle.graphql_execution_walk.specs.GivesOutcome.{GivesOutcome};
 ghost use Rattle.graphql_execution_walk.specs.KnownTypes.{IsTaught, KnownIn};
 ghost use Rattle.graphql_execution_walk.specs.Sets.{HasKey};
-ghost use Rattle.graphql_execution_walk.specs.Standing.{IsTypeOf};
+ghost use Rattle.graphql_execution_walk.specs.Standing.{IsSettled, IsTyped};
 
 use crate::asked::Asked;
 use crate::beginning::{Spot, begin};
+use crate::evaluating::Evaluating;
 use crate::executor::Executor;
 use crate::failing::begun_or_told;
 use crate::frame_parts::{list_of, news_of, object_of};
@@ -109,27 +101,18 @@ fn advance_object<'d, 'a, S: SchemaScalar + Drop, R: GraphQLValue<S>>(
     waiting: &mut Items<FrameIn<'d, 'a, S, Asked<'d, S, R::Node>>>,
     report: &mut Report<'d, S>,
 ) -> Result<Begun<'d, 'a, S, Asked<'d, S, R::Node>>, AllocError>
-    requires settled { Settled (fragments_in executor.now.request.now) }
-    requires fine { let e = engine_at S.of_text S.of_bool S.answer (R.type_of resolver.now)
-        (R.answer resolver.now) executor.now in
-        Fine e (fragments_in executor.now.request.now) (frame.Object object_frame)
-        × AllFine e (fragments_in executor.now.request.now) waiting.now }
-    ensures steps { let e = engine_at S.of_text S.of_bool S.answer (R.type_of resolver.now)
-        (R.answer resolver.now) executor.now in
-        let fr = fragments_in executor.now.request.now in
-        IfOk result (λ b. (path : List Bytes) → report.old.path ≡ path_of path waiting.old
-        → Steps e fr path (resume e fr path waiting.old (λ q. rest e fr q
-        (frame.Object object_frame.entry))) report.old waiting.new (comes_to e fr b) report.new) }
-    ensures turns { let e = engine_at S.of_text S.of_bool S.answer (R.type_of resolver.now)
-        (R.answer resolver.now) executor.now in
-        IfOk result (λ b. all_waiting e (fragments_in executor.now.request.now) waiting.new
-        + begun_turns e (fragments_in executor.now.request.now) b
-        < all_waiting e (fragments_in executor.now.request.now) waiting.old
-        + rest_turns e (fragments_in executor.now.request.now) (frame.Object object_frame.entry)) }
-    ensures fine { let e = engine_at S.of_text S.of_bool S.answer (R.type_of resolver.now)
-        (R.answer resolver.now) executor.now in
-        IfOk result (λ b. AllFine e (fragments_in executor.now.request.now) waiting.new
-        × FineBegun e (fragments_in executor.now.request.now) b) }
+    requires settled { IsSettled executor.now }
+    requires fine { let here = ⟦<R as Evaluating<S>>⟧.here resolver.now executor.now in
+        Fine here (frame.Object object_frame) × AllFine here waiting.now }
+    ensures steps { let here = ⟦<R as Evaluating<S>>⟧.here resolver.now executor.now in
+        IfOk result (λ begun. Advances here waiting.old
+        (λ path. rest here path (frame.Object object_frame.entry)) report.old
+        waiting.new (comes_to here begun) report.new) }
+    ensures turns { let here = ⟦<R as Evaluating<S>>⟧.here resolver.now executor.now in
+        IfOk result (λ begun. all_waiting here waiting.new + begun_turns here begun
+        < all_waiting here waiting.old + rest_turns here (frame.Object object_frame.entry)) }
+    ensures fine { let here = ⟦<R as Evaluating<S>>⟧.here resolver.now executor.now in
+        IfOk result (λ begun. AllFine here waiting.new × FineBegun here begun) }
 {
     let ObjectFrame {
         node,
@@ -176,27 +159,18 @@ fn advance_list<'d, 'a, S: SchemaScalar + Drop, R: GraphQLValue<S>>(
     waiting: &mut Items<FrameIn<'d, 'a, S, Asked<'d, S, R::Node>>>,
     report: &mut Report<'d, S>,
 ) -> Result<Begun<'d, 'a, S, Asked<'d, S, R::Node>>, AllocError>
-    requires settled { Settled (fragments_in executor.now.request.now) }
-    requires fine { let e = engine_at S.of_text S.of_bool S.answer (R.type_of resolver.now)
-        (R.answer resolver.now) executor.now in
-        Fine e (fragments_in executor.now.request.now) (frame.List list_frame)
-        × AllFine e (fragments_in executor.now.request.now) waiting.now }
-    ensures steps { let e = engine_at S.of_text S.of_bool S.answer (R.type_of resolver.now)
-        (R.answer resolver.now) executor.now in
-        let fr = fragments_in executor.now.request.now in
-        IfOk result (λ b. (path : List Bytes) → report.old.path ≡ path_of path waiting.old
-        → Steps e fr path (resume e fr path waiting.old (λ q. rest e fr q
-        (frame.List list_frame.entry))) report.old waiting.new (comes_to e fr b) report.new) }
-    ensures turns { let e = engine_at S.of_text S.of_bool S.answer (R.type_of resolver.now)
-        (R.answer resolver.now) executor.now in
-        IfOk result (λ b. all_waiting e (fragments_in executor.now.request.now) waiting.new
-        + begun_turns e (fragments_in executor.now.request.now) b
-        < all_waiting e (fragments_in executor.now.request.now) waiting.old
-        + rest_turns e (fragments_in executor.now.request.now) (frame.List list_frame.entry)) }
-    ensures fine { let e = engine_at S.of_text S.of_bool S.answer (R.type_of resolver.now)
-        (R.answer resolver.now) executor.now in
-        IfOk result (λ b. AllFine e (fragments_in executor.now.request.now) waiting.new
-        × FineBegun e (fragments_in executor.now.request.now) b) }
+    requires settled { IsSettled executor.now }
+    requires fine { let here = ⟦<R as Evaluating<S>>⟧.here resolver.now executor.now in
+        Fine here (frame.List list_frame) × AllFine here waiting.now }
+    ensures steps { let here = ⟦<R as Evaluating<S>>⟧.here resolver.now executor.now in
+        IfOk result (λ begun. Advances here waiting.old
+        (λ path. rest here path (frame.List list_frame.entry)) report.old
+        waiting.new (comes_to here begun) report.new) }
+    ensures turns { let here = ⟦<R as Evaluating<S>>⟧.here resolver.now executor.now in
+        IfOk result (λ begun. all_waiting here waiting.new + begun_turns here begun
+        < all_waiting here waiting.old + rest_turns here (frame.List list_frame.entry)) }
+    ensures fine { let here = ⟦<R as Evaluating<S>>⟧.here resolver.now executor.now in
+        IfOk result (λ begun. AllFine here waiting.new × FineBegun here begun) }
 {
     let ListFrame {
         name,
@@ -241,26 +215,17 @@ fn turn<'d, 'a, S: SchemaScalar + Drop, R: GraphQLValue<S>>(
     waiting: &mut Items<FrameIn<'d, 'a, S, Asked<'d, S, R::Node>>>,
     report: &mut Report<'d, S>,
 ) -> Result<Turned<'d, 'a, S, Asked<'d, S, R::Node>>, AllocError>
-    requires settled { Settled (fragments_in executor.now.request.now) }
-    requires fine { let e = engine_at S.of_text S.of_bool S.answer (R.type_of resolver.now)
-        (R.answer resolver.now) executor.now in
-        AllFine e (fragments_in executor.now.request.now) waiting.now
-        × FineBegun e (fragments_in executor.now.request.now) now }
-    ensures steps { let e = engine_at S.of_text S.of_bool S.answer (R.type_of resolver.now)
-        (R.answer resolver.now) executor.now in
-        let fr = fragments_in executor.now.request.now in
-        IfOk result (λ t. (path : List Bytes) → report.old.path ≡ path_of path waiting.old
-        → Steps e fr path (resume e fr path waiting.old (comes_to e fr now.entry)) report.old
-        waiting.new (turned_to e fr t) report.new) }
-    ensures turns { let e = engine_at S.of_text S.of_bool S.answer (R.type_of resolver.now)
-        (R.answer resolver.now) executor.now in
-        IfOk result (λ t. all_waiting e (fragments_in executor.now.request.now) waiting.new
-        + turned_turns e (fragments_in executor.now.request.now) t
-        < all_waiting e (fragments_in executor.now.request.now) waiting.old
-        + begun_turns e (fragments_in executor.now.request.now) now.entry) }
-    ensures fine { let e = engine_at S.of_text S.of_bool S.answer (R.type_of resolver.now)
-        (R.answer resolver.now) executor.now in
-        IfOk result (λ t. FineTurned e (fragments_in executor.now.request.now) t waiting.new) }
+    requires settled { IsSettled executor.now }
+    requires fine { let here = ⟦<R as Evaluating<S>>⟧.here resolver.now executor.now in
+        AllFine here waiting.now × FineBegun here now }
+    ensures steps { let here = ⟦<R as Evaluating<S>>⟧.here resolver.now executor.now in
+        IfOk result (λ turned. Advances here waiting.old (comes_to here now.entry) report.old
+        waiting.new (turned_to here turned) report.new) }
+    ensures turns { let here = ⟦<R as Evaluating<S>>⟧.here resolver.now executor.now in
+        IfOk result (λ turned. all_waiting here waiting.new + turned_turns here turned
+        < all_waiting here waiting.old + begun_turns here now.entry) }
+    ensures fine { let here = ⟦<R as Evaluating<S>>⟧.here resolver.now executor.now in
+        IfOk result (λ turned. FineTurned here turned waiting.new) }
 {
     match now {
         Begun::Value(value) => match waiting.pop() {
@@ -288,14 +253,12 @@ pub(crate) fn drive<'d, 'a, S: SchemaScalar + Drop, R: GraphQLValue<S>>(
     first: Begun<'d, 'a, S, Asked<'d, S, R::Node>>,
     report: &mut Report<'d, S>,
 ) -> Result<Option<Value<S>>, AllocError>
-    requires settled { Settled (fragments_in executor.now.request.now) }
-    requires fine { let e = engine_at S.of_text S.of_bool S.answer (R.type_of resolver.now)
-        (R.answer resolver.now) executor.now in
-        FineBegun e (fragments_in executor.now.request.now) first }
-    ensures { let e = engine_at S.of_text S.of_bool S.answer (R.type_of resolver.now)
-        (R.answer resolver.now) executor.now in
-        IfOk result (λ value. GivesOutcome (comes_to e (fragments_in executor.now.request.now)
-        first.entry report.old.path) report.old value report.new) }
+    requires settled { IsSettled executor.now }
+    requires fine { let here = ⟦<R as Evaluating<S>>⟧.here resolver.now executor.now in
+        FineBegun here first }
+    ensures { let here = ⟦<R as Evaluating<S>>⟧.here resolver.now executor.now in
+        IfOk result (λ value. GivesOutcome (comes_to here first.entry report.old.path) report.old
+        value report.new) }
 {
     let mut waiting = Items::new(executor.alloc);
     let mut now = first;
@@ -316,16 +279,14 @@ pub(crate) fn answer_group<'d, 'a, S: SchemaScalar + Drop, R: GraphQLValue<S>>(
     these: &Group<'d, 'a, S>,
     report: &mut Report<'d, S>,
 ) -> Result<Option<Value<S>>, AllocError>
-    requires settled { Settled (fragments_in executor.now.request.now) }
-    requires typed { IsTypeOf executor.now.request.now.schema.now.query
-        (asked.Own (R.root_node resolver.now))
-        (asked_type (R.type_of resolver.now executor.now.context.now)) node.now object.now }
+    requires settled { IsSettled executor.now }
+    requires typed { let here = ⟦<R as Evaluating<S>>⟧.here resolver.now executor.now in
+        IsTyped here node.now object.now }
     requires keyed { HasKey these.now }
-    ensures { let e = engine_at S.of_text S.of_bool S.answer (R.type_of resolver.now)
-        (R.answer resolver.now) executor.now in
-        IfOk result (λ value. GivesOutcome (group e (evaluate e) report.old.path object.now node.now
-        these.now.0 (all_found (fragments_in executor.now.request.now) these.now.1)) report.old
-        value report.new) }
+    ensures { let here = ⟦<R as Evaluating<S>>⟧.here resolver.now executor.now in
+        IfOk result (λ value. GivesOutcome
+        (group_outcome here report.old.path object.now node.now these.now) report.old value
+        report.new) }
 {
     let started = start(resolver, executor, object, node, these, None, report)?;
     let value = drive(resolver, executor, started.begun, report)?;

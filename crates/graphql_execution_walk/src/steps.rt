@@ -1,31 +1,27 @@
 //! What groups come to, and what frames get that wait for places.
 
 ghost use Rattle.std.specs.Prelude.{◌≡◌, ◌++◌, [], ◌∷◌, reverse, IfOk, IfSome, OnOk, List};
-ghost use Rattle.graphql_tree.specs.declared.document.Fragment.{Fragment};
 ghost use Rattle.graphql_collect.specs.Grouped.{all_found};
-ghost use Rattle.graphql_collected.specs.Requests.{fragments_in};
 ghost use Rattle.graphql_occurrences.specs.DeclaredLent.{literal_of};
 ghost use Rattle.graphql_names.specs.Names.{Bytes};
-ghost use Rattle.graphql_written_out.specs.Written.{Settled, head_of};
-ghost use Rattle.graphql_semantics.specs.Engines.{Engine};
-ghost use Rattle.graphql_semantics.specs.Evaluation.{evaluate, group, sets_below};
+ghost use Rattle.graphql_written_out.specs.Written.{head_of};
+ghost use Rattle.graphql_semantics.specs.Evaluation.{sets_below};
 ghost use Rattle.graphql_semantics.specs.Outcomes.{show_place};
 ghost use Rattle.graphql_semantics.specs.Turns.{all_turns, turns_of_group};
 ghost use Rattle.graphql_execution_walk.specs.declared.frames.Frame.TheVariants as frame;
 ghost use Rattle.graphql_execution_walk.specs.Begins.{Begins};
-ghost use Rattle.graphql_execution_walk.specs.Asked.{asked_type};
-ghost use Rattle.graphql_execution_walk.specs.declared.asked.Asked.TheVariants as asked;
-ghost use Rattle.graphql_execution_walk.specs.EngineAt.{engine_at};
+ghost use Rattle.graphql_execution_walk.specs.Evaluations.{Evaluation, answer_for};
 ghost use Rattle.graphql_execution_walk.specs.FrameTurns.{begun_turns, rest_turns, waiting_turns};
 ghost use Rattle.graphql_execution_walk.specs.Frames.{Fine, FineBegun, Leads, close, comes_to};
-ghost use Rattle.graphql_execution_walk.specs.Frames.{down, rest, shows};
+ghost use Rattle.graphql_execution_walk.specs.Frames.{down, group_outcome, rest, shows};
 ghost use Rattle.graphql_execution_walk.specs.Prepared.{IsPrepared, Prepares, asked_in};
 ghost use Rattle.graphql_execution_walk.specs.Sets.{HasKey};
-ghost use Rattle.graphql_execution_walk.specs.Standing.{IsPlaceOf, IsTypeOf};
+ghost use Rattle.graphql_execution_walk.specs.Standing.{IsPlaceOf, IsSettled, IsTyped};
 
 use crate::asked::Asked;
 use crate::asking::ask;
 use crate::beginning::{Spot, begin};
+use crate::evaluating::Evaluating;
 use crate::executor::Executor;
 use crate::failing::begun_or_told;
 use crate::frame_parts::behind;
@@ -60,23 +56,20 @@ fn begin_field<'p, 'd, 'a, S: SchemaScalar + Drop, R: GraphQLValue<S>>(
     prepared: Option<&Prepared<'d>>,
     keys: &'p [TextRef<'d>],
 ) -> FieldResult<Begun<'d, 'a, S, Asked<'d, S, R::Node>>, S>
-    requires settled { Settled (fragments_in executor.now.request.now) }
-    requires typed { IsTypeOf executor.now.request.now.schema.now.query
-        (asked.Own (R.root_node resolver.now))
-        (asked_type (R.type_of resolver.now executor.now.context.now)) node.now object.now }
-    requires place { IsPlaceOf executor.now.request.now object.now first.now.field.now
+    requires settled { IsSettled executor.now }
+    requires typed { let here = ⟦<R as Evaluating<S>>⟧.here resolver.now executor.now in
+        IsTyped here node.now object.now }
+    requires place { let here = ⟦<R as Evaluating<S>>⟧.here resolver.now executor.now in
+        IsPlaceOf executor.now.request.now object.now first.now.field.now
         first.now.among.now (literal_of declared) first.now.field.now.span.start keys.now
-        (sets_below (all_found (fragments_in executor.now.request.now) fields.now)) }
+        (sets_below (all_found here.fragments fields.now)) }
     requires prepared { IfSome prepared (λ known.
         Prepares (asked_in executor.now.request.now) object.now
         (head_of first.now.field.now) known.now) }
-    ensures { let e = engine_at S.of_text S.of_bool S.answer (R.type_of resolver.now)
-        (R.answer resolver.now) executor.now in
-        Begins e (sets_below (all_found (fragments_in executor.now.request.now) fields.now))
-        declared.entry.name.now (fragments_in executor.now.request.now)
+    ensures { let here = ⟦<R as Evaluating<S>>⟧.here resolver.now executor.now in
+        Begins here (sets_below (all_found here.fragments fields.now)) declared.entry.name.now
         first.now.field.now.span.start (reverse declared.entry.modifiers.now)
-        (e.answer node.now object.now (head_of first.now.field.now).name
-        (e.arguments object.now (head_of first.now.field.now))) result }
+        (answer_for here node.now object.now (head_of first.now.field.now)) result }
 {
     let name = TextRef::new(declared.name);
     let wraps = declared.modifiers;
@@ -114,29 +107,25 @@ pub(crate) fn start<'d, 'a, S: SchemaScalar + Drop, R: GraphQLValue<S>>(
     prepared: Option<&Prepared<'d>>,
     report: &mut Report<'d, S>,
 ) -> Result<Started<'d, 'a, S, Asked<'d, S, R::Node>>, AllocError>
-    requires settled { Settled (fragments_in executor.now.request.now) }
-    requires typed { IsTypeOf executor.now.request.now.schema.now.query
-        (asked.Own (R.root_node resolver.now))
-        (asked_type (R.type_of resolver.now executor.now.context.now)) node.now object.now }
+    requires settled { IsSettled executor.now }
+    requires typed { let here = ⟦<R as Evaluating<S>>⟧.here resolver.now executor.now in
+        IsTyped here node.now object.now }
     requires keyed { HasKey these.now }
     requires prepared { IfSome prepared
         (λ known.
         IsPrepared (asked_in executor.now.request.now) object.now these.now known.now) }
-    ensures leads { let e = engine_at S.of_text S.of_bool S.answer (R.type_of resolver.now)
-        (R.answer resolver.now) executor.now in
-        IfOk result (λ s. Leads (group e (evaluate e) report.old.path object.now node.now
-        these.now.0 (all_found (fragments_in executor.now.request.now) these.now.1))
-        report.old (show_place s.is_needed (comes_to e (fragments_in executor.now.request.now)
-        s.begun (report.old.path ++ these.now.0 ∷ []))) report.new) }
+    ensures leads { let here = ⟦<R as Evaluating<S>>⟧.here resolver.now executor.now in
+        IfOk result (λ s. Leads
+        (group_outcome here report.old.path object.now node.now these.now) report.old
+        (show_place s.is_needed (comes_to here s.begun (report.old.path ++ these.now.0 ∷ [])))
+        report.new) }
     ensures path { OnOk result (report.new.path ≡ report.old.path ++ these.now.0 ∷ []) }
-    ensures turns { let e = engine_at S.of_text S.of_bool S.answer (R.type_of resolver.now)
-        (R.answer resolver.now) executor.now in
-        IfOk result (λ s. begun_turns e (fragments_in executor.now.request.now) s.begun
-        ≡ turns_of_group e (all_turns e) object.now node.now
-        (all_found (fragments_in executor.now.request.now) these.now.1)) }
-    ensures fine { let e = engine_at S.of_text S.of_bool S.answer (R.type_of resolver.now)
-        (R.answer resolver.now) executor.now in
-        IfOk result (λ s. FineBegun e (fragments_in executor.now.request.now) s.begun) }
+    ensures turns { let here = ⟦<R as Evaluating<S>>⟧.here resolver.now executor.now in
+        IfOk result (λ s. begun_turns here s.begun
+        ≡ turns_of_group here.engine (all_turns here.engine) object.now node.now
+        (all_found here.fragments these.now.1)) }
+    ensures fine { let here = ⟦<R as Evaluating<S>>⟧.here resolver.now executor.now in
+        IfOk result (λ s. FineBegun here s.begun) }
 {
     report.enter(&these.0)?;
     let Some(first) = these.1.first() else {
@@ -172,17 +161,15 @@ fn give_object<'d, 'a, S: Drop, N: Drop>(
     value: Option<Value<S>>,
     report: &mut Report<'d, S>,
 ) -> Result<FrameIn<'d, 'a, S, N>, AllocError>
-    ensures gives { IfOk result
-        (λ f. (e : Engine S N) (fragments : List (Fragment S)) (path : List Bytes)
-        → close e fragments path (frame.Object waits.entry) (shows value)
-        ≡ rest e fragments path f) }
+    ensures gives { IfOk result (λ f. (here : Evaluation S N) (path : List Bytes)
+        → close here path (frame.Object waits.entry) (shows value) ≡ rest here path f) }
     ensures path { OnOk result ((path : List Bytes)
         → report.old.path ≡ down path (frame.Object waits.entry) → report.new.path ≡ path) }
     ensures errors { OnOk result (report.new.errors ≡ report.old.errors) }
-    ensures turns { IfOk result (λ f. (e : Engine S N) (fragments : List (Fragment S))
-        → rest_turns e fragments f ≡ waiting_turns e fragments (frame.Object waits.entry)) }
-    ensures fine { (e : Engine S N) (fragments : List (Fragment S))
-        → Fine e fragments (frame.Object waits.entry) → IfOk result (Fine e fragments) }
+    ensures turns { IfOk result (λ f. (here : Evaluation S N)
+        → rest_turns here f ≡ waiting_turns here (frame.Object waits.entry)) }
+    ensures fine { (here : Evaluation S N) → Fine here (frame.Object waits.entry)
+        → IfOk result (Fine here) }
 {
     let ObjectFrame {
         node,
@@ -226,13 +213,12 @@ fn give_list<'d, 'a, S: Drop, N: Drop>(
     waits: ListFrameIn<'d, 'a, S, N>,
     value: Option<Value<S>>,
 ) -> Result<FrameIn<'d, 'a, S, N>, AllocError>
-    ensures gives { IfOk result
-        (λ f. (e : Engine S N) (fragments : List (Fragment S)) (path : List Bytes)
-        → close e fragments path (frame.List waits.entry) (shows value) ≡ rest e fragments path f) }
-    ensures turns { IfOk result (λ f. (e : Engine S N) (fragments : List (Fragment S))
-        → rest_turns e fragments f ≡ waiting_turns e fragments (frame.List waits.entry)) }
-    ensures fine { (e : Engine S N) (fragments : List (Fragment S))
-        → Fine e fragments (frame.List waits.entry) → IfOk result (Fine e fragments) }
+    ensures gives { IfOk result (λ f. (here : Evaluation S N) (path : List Bytes)
+        → close here path (frame.List waits.entry) (shows value) ≡ rest here path f) }
+    ensures turns { IfOk result (λ f. (here : Evaluation S N)
+        → rest_turns here f ≡ waiting_turns here (frame.List waits.entry)) }
+    ensures fine { (here : Evaluation S N) → Fine here (frame.List waits.entry)
+        → IfOk result (Fine here) }
 {
     let ListFrame {
         name,
@@ -261,16 +247,14 @@ pub(crate) fn give<'d, 'a, S: Drop, N: Drop>(
     value: Option<Value<S>>,
     report: &mut Report<'d, S>,
 ) -> Result<FrameIn<'d, 'a, S, N>, AllocError>
-    ensures gives { IfOk result
-        (λ f. (e : Engine S N) (fragments : List (Fragment S)) (path : List Bytes)
-        → close e fragments path waits.entry (shows value) ≡ rest e fragments path f) }
+    ensures gives { IfOk result (λ f. (here : Evaluation S N) (path : List Bytes)
+        → close here path waits.entry (shows value) ≡ rest here path f) }
     ensures path { OnOk result
         ((path : List Bytes) → report.old.path ≡ down path waits.entry → report.new.path ≡ path) }
     ensures errors { OnOk result (report.new.errors ≡ report.old.errors) }
-    ensures turns { IfOk result (λ f. (e : Engine S N) (fragments : List (Fragment S))
-        → rest_turns e fragments f ≡ waiting_turns e fragments waits.entry) }
-    ensures fine { (e : Engine S N) (fragments : List (Fragment S)) → Fine e fragments waits.entry
-        → IfOk result (Fine e fragments) }
+    ensures turns { IfOk result (λ f. (here : Evaluation S N)
+        → rest_turns here f ≡ waiting_turns here waits.entry) }
+    ensures fine { (here : Evaluation S N) → Fine here waits.entry → IfOk result (Fine here) }
 {
     match waits {
         Frame::Object(frame) => give_object(frame, value, report),

@@ -33,8 +33,8 @@ use Rattle.graphql_execution_walk.specs.FieldDeclarations.{declared_type}
 use Rattle.graphql_execution_walk.specs.FieldPaths.{keys_of, place_of}
 use Rattle.graphql_execution_walk.specs.Sets.{sets_in}
 use Rattle.graphql_execution_walk.specs.declared.executor.Executor.{Executor}
-use Rattle.graphql_execution_walk.proofs.BeginLemmas.{own-outcome}
 use Rattle.graphql_execution_walk.proofs.EngineParts.{engine-declared}
+use Rattle.graphql_execution_walk.proofs.OwnErrorLaws.{own-fails}
 use Rattle.graphql_mutation.specs.Completing.{IsValueOrTold, outcome_of_result, own_error_of_result, step_shown}
 use Rattle.graphql_mutation.specs.Mutations.{Changes, mutation_of}
 use Rattle.graphql_mutation.specs.Runs.{HasRun, LeavesOrKeeps}
@@ -103,9 +103,11 @@ module _ {S N X Context C : Type 0} (m : Mutation S N X) (executor : Executor Co
   told-fails : (x : FieldError S) → own ≡ Some x
       → comes ≡ fails (blame_at (keys_of executor.path) (place_of executor.path) x)
   told-fails x h =
-      own-outcome (m.engine step.after) (sets_in executor.request.now executor.selected)
-      executor.current_type.name.now (fragments_in executor.request.now) (place_of executor.path)
-      (reverse executor.current_type.modifiers.now) step.answer x (keys_of executor.path) h
+      let e = m.engine step.after in
+      let name = executor.current_type.name.now in
+      own-fails name (e.is_leaf name) (λ n. e.is_possible name (e.concrete n))
+      (λ n. evaluate e (keys_of executor.path) (e.concrete n) n (sets_in executor.request.now executor.selected))
+      (blame_at (keys_of executor.path) (place_of executor.path)) (reverse executor.current_type.modifiers.now) step.answer x h
 
   told-comes : (r : Result (Option (Value S)) (FieldFault S)) (v : Option (Value S))
       (old mid new : List (ExecutionError S))

@@ -1,9 +1,9 @@
 //! What a field of a mutation's root comes to, on the context that its answer leaves.
 
 ghost use Rattle.std.specs.Prelude.{◌≡◌, ◌⊎◌, IfOk, OnErr};
-ghost use Rattle.graphql_collected.specs.Requests.{fragments_in};
-ghost use Rattle.graphql_written_out.specs.Written.{Settled, head_of};
+ghost use Rattle.graphql_written_out.specs.Written.{head_of};
 ghost use Rattle.graphql_execution_walk.specs.Begins.{Completes};
+ghost use Rattle.graphql_execution_walk.specs.Standing.{IsSettled};
 ghost use Rattle.graphql_mutation.specs.Completing.{IsValueOrTold, outcome_of_result};
 ghost use Rattle.graphql_mutation.specs.Completing.{own_error_of_result, step_shown};
 ghost use Rattle.graphql_mutation.specs.Mutations.{mutation_of};
@@ -31,7 +31,7 @@ fn complete_field<'d, 'a, S: SchemaScalar + Drop, R: GraphQLMutationValue<S>>(
     field: &'d Spanning<Field<'a, S>>,
     errors: &mut Items<ExecutionError<S>>,
 ) -> FieldResult<Option<Value<S>>, S>
-    requires { Settled (fragments_in executor.now.request.now) }
+    requires { IsSettled executor.now }
     ensures completes { let m = mutation_of S.of_text S.of_bool S.answer executor.now.request.now
         (R.type_of resolver.now) (R.answer resolver.now) (R.changes resolver.now) in
         let step = step_of m object.now context.old (head_of field.now) in
@@ -78,7 +78,7 @@ pub(crate) fn show_field<'d, 'a, S: SchemaScalar + Drop, R: GraphQLMutationValue
     field: &'d Spanning<Field<'a, S>>,
     errors: &mut Items<ExecutionError<S>>,
 ) -> Result<Option<Value<S>>, AllocError>
-    requires { Settled (fragments_in executor.now.request.now) }
+    requires { IsSettled executor.now }
     ensures run { let m = mutation_of S.of_text S.of_bool S.answer executor.now.request.now
         (R.type_of resolver.now) (R.answer resolver.now) (R.changes resolver.now) in
         let step = step_of m object.now context.old (head_of field.now) in

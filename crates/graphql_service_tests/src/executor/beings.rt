@@ -4,11 +4,10 @@ ghost use Rattle.std.specs.Prelude.{◌≡◌, ◌∷◌, [], Ok, Err};
 ghost use Rattle.std.specs.Option.{option_copied};
 ghost use Rattle.graphql_text.specs.Memory.{Gives};
 ghost use Rattle.graphql_arguments.specs.GivenValues.{arguments_told};
-ghost use Rattle.graphql_collected.specs.Requests.{fragments_in};
 ghost use Rattle.graphql_semantics.specs.Completion.{reason};
-ghost use Rattle.graphql_written_out.specs.Written.{Settled};
 ghost use Rattle.graphql_field_results.specs.declared.resolved.Resolved.TheVariants as resolved;
 ghost use Rattle.graphql_execution_walk.specs.Answered.{Answered};
+ghost use Rattle.graphql_execution_walk.specs.Standing.{IsSettled};
 ghost use Rattle.graphql_service_tests.specs.Beings as spec;
 ghost use Rattle.graphql_service_tests.specs.Kinds.{kind};
 
@@ -165,7 +164,7 @@ fn of_root(
     field: &str,
     arguments: &Arguments<'_, DefaultScalarValue>,
 ) -> FieldResult<Answer, DefaultScalarValue>
-    requires { Settled (fragments_in executor.now.request.now) }
+    requires { IsSettled executor.now }
     ensures { Answered (spec.of_root field.now (arguments_told arguments.now)) result }
 {
     let alloc = executor.alloc();

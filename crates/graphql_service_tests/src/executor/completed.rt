@@ -1,10 +1,9 @@
 //! What answers come to that a resolver completes itself.
 
 ghost use Rattle.std.specs.Prelude.{Ok};
-ghost use Rattle.graphql_collected.specs.Requests.{fragments_in};
-ghost use Rattle.graphql_written_out.specs.Written.{Settled};
 ghost use Rattle.graphql_field_results.specs.declared.resolved.Resolved.TheVariants as resolved;
 ghost use Rattle.graphql_execution_walk.specs.Answered.{Answered};
+ghost use Rattle.graphql_execution_walk.specs.Standing.{IsSettled};
 
 use crate::executor::beings::{Answer, Being, null_if};
 use crate::executor::kennel::Kennel;
@@ -60,7 +59,7 @@ fn tell_resolved(
     errors: &mut Errors,
     told: &mut String,
 ) -> Result<(), AllocError>
-    requires { Settled (fragments_in executor.now.request.now) }
+    requires { IsSettled executor.now }
 {
     let given = executor.resolve(&Kennel, answer, errors);
     tell(executor.alloc(), given, told)
@@ -73,7 +72,7 @@ fn tell_value(
     errors: &mut Errors,
     told: &mut String,
 ) -> Result<(), AllocError>
-    requires { Settled (fragments_in executor.now.request.now) }
+    requires { IsSettled executor.now }
 {
     let value = executor.resolve_into_value(&Kennel, answer, errors)?;
     tell(executor.alloc(), Ok(Some(value)), told)
@@ -85,7 +84,7 @@ fn tell_here(
     errors: &mut Errors,
     told: &mut String,
 ) -> Result<(), AllocError>
-    requires { Settled (fragments_in executor.now.request.now) }
+    requires { IsSettled executor.now }
 {
     let flag = DefaultScalarValue::Boolean(true);
     let other = DefaultScalarValue::Boolean(true);
@@ -104,7 +103,7 @@ fn tell_at_types(
     errors: &mut Errors,
     told: &mut String,
 ) -> Result<(), AllocError>
-    requires { Settled (fragments_in executor.now.request.now) }
+    requires { IsSettled executor.now }
 {
     let Some(fragment) = executor.fragment_by_name("f") else {
         return Ok(());
@@ -123,7 +122,7 @@ fn tell_at_field(
     errors: &mut Errors,
     told: &mut String,
 ) -> Result<(), AllocError>
-    requires { Settled (fragments_in executor.now.request.now) }
+    requires { IsSettled executor.now }
 {
     let object = executor.current_type().name;
     if declared_type(executor.schema(), object, "owner").is_none() {
@@ -141,7 +140,7 @@ fn tell_at_field(
 /// What answers come to, and then the errors that are told, each behind the end of a line. An error
 /// is want of memory.
 fn completions_told(executor: &Place<'_, '_, '_>) -> Result<String, AllocError>
-    requires { Settled (fragments_in executor.now.request.now) }
+    requires { IsSettled executor.now }
 {
     let alloc = executor.alloc();
     let mut told = String::new(alloc);
@@ -156,7 +155,7 @@ fn completions_told(executor: &Place<'_, '_, '_>) -> Result<String, AllocError>
 
 /// `Null`, if answers come to what they should at the field of the one request that asks for it.
 pub fn completed(executor: &Place<'_, '_, '_>) -> FieldResult<Answer, DefaultScalarValue>
-    requires { Settled (fragments_in executor.now.request.now) }
+    requires { IsSettled executor.now }
     ensures { Answered (Ok resolved.Null) result }
 {
     let told = completions_told(executor)?;

@@ -1,11 +1,9 @@
 use Rattle.std.proofs.Common.{arith, refl, sym, ◌∙◌, ap, subst, inl, ◌≡◌, ◌++◌, ◌∷◌, [], drop, slice_get, Some, None}
 use Rattle.graphql_collect.specs.Grouped.{all_found}
-use Rattle.graphql_collected.specs.Requests.{fragments_in}
 use Rattle.graphql_semantics.specs.Evaluation.{evaluate, group}
 use Rattle.graphql_semantics.specs.Outcomes.{show_place}
-use Rattle.graphql_execution_walk.specs.EngineAt.{engine_at}
-use Rattle.graphql_execution_walk.specs.Engines.{engine_of}
 use Rattle.graphql_execution_walk.specs.declared.frames.Frame.TheVariants as frame
+use Rattle.graphql_execution_walk.specs.Evaluations.{evaluation_at}
 use Rattle.graphql_execution_walk.specs.Frames.{Leads, comes_to, path_of, rest, shows}
 use Rattle.graphql_execution_walk.specs.Sets.{HasKey}
 use Rattle.graphql_execution_walk.proofs.FrameLemmas.{awaits, distinct-end, drop-end, fine-last, group-path, group-starts, leads-same, object-ends, step-in_place, step-pushed}
@@ -48,64 +46,50 @@ start-requires g c =
 
 pub returns-in-None-clause-steps : goal.returns-in-None-clause-steps
 returns-in-None-clause-steps g c = λ path at.
-    let rq = c.args.executor.now.request.now in
-    let ty = g.R.GraphQLValue.type_of c.args.resolver.now c.args.executor.now.context.now in
-    let an = g.R.GraphQLValue.answer c.args.resolver.now c.args.executor.now.context.now in
-    let e = engine_of g.S.ScalarValue.of_text g.S.ScalarValue.of_bool g.S.ScalarValue.answer rq ty an in
-    let fr = fragments_in rq in
+    let here = evaluation_at g.S.ScalarValue.of_text g.S.ScalarValue.of_bool g.S.ScalarValue.answer (g.R.GraphQLValue.root_node c.args.resolver.now) (g.R.GraphQLValue.type_of c.args.resolver.now) (g.R.GraphQLValue.answer c.args.resolver.now) c.args.executor.now in
     let old = c.args.report.now in
     let f = c.args.object_frame in
     let fs = c.args.waiting.now in
     let none : slice_get f.groups f.next ≡ None = sym (rw (c.in-None.is, c.get.ensures) at c.get-2.ensures.value) in
-    step-in_place e fr path fs (λ q. rest e fr q (frame.Object f)) (λ q. shows c.object_of.result) old old at
-    (leads-same (rest e fr (path_of path fs) (frame.Object f)) (shows c.object_of.result) old old (object-ends e fr (path_of path fs) f none ∙ ap shows (sym c.object_of.ensures)) refl)
+    step-in_place here path fs (λ q. rest here q (frame.Object f)) (λ q. shows c.object_of.result) old old at
+    (leads-same (rest here (path_of path fs) (frame.Object f)) (shows c.object_of.result) old old (object-ends here (path_of path fs) f none ∙ ap shows (sym c.object_of.ensures)) refl)
 
 pub returns-clause-steps : goal.returns-clause-steps
 returns-clause-steps g c = λ path at.
-    let rq = c.args.executor.now.request.now in
-    let ty = g.R.GraphQLValue.type_of c.args.resolver.now c.args.executor.now.context.now in
-    let an = g.R.GraphQLValue.answer c.args.resolver.now c.args.executor.now.context.now in
-    let e = engine_of g.S.ScalarValue.of_text g.S.ScalarValue.of_bool g.S.ScalarValue.answer rq ty an in
-    let fr = fragments_in rq in
+    let here = evaluation_at g.S.ScalarValue.of_text g.S.ScalarValue.of_bool g.S.ScalarValue.answer (g.R.GraphQLValue.root_node c.args.resolver.now) (g.R.GraphQLValue.type_of c.args.resolver.now) (g.R.GraphQLValue.answer c.args.resolver.now) c.args.executor.now in
     let old = c.args.report.now in
     let f = c.args.object_frame in
     let fs = c.args.waiting.now in
     let x = c.in-Some.group.now in
-    let here : slice_get f.groups f.next ≡ Some x = sym (rw (c.in-Some.is, c.get.ensures) at c.get-2.ensures.value) in
+    let held : slice_get f.groups f.next ≡ Some x = sym (rw (c.in-Some.is, c.get.ensures) at c.get-2.ensures.value) in
     let started = c.in_ok-started-in-Some.started in
     let new = c.start.new.report in
     let p = path_of path fs in
-    let leads = subst (λ q. Leads (group e (evaluate e) q f.object f.node x.0 (all_found fr x.1)) old (show_place started.is_needed (comes_to e fr started.begun (q ++ x.0 ∷ []))) new) at
+    let leads = subst (λ q. Leads (group here.engine (evaluate here.engine) q f.object f.node x.0 (all_found here.fragments x.1)) old (show_place started.is_needed (comes_to here started.begun (q ++ x.0 ∷ []))) new) at
     (rw c.as_str.ensures at c.in_ok-started-in-Some.ensures.leads) in
     rw c.in_ok-wait.ensures
-    (step-pushed e fr path fs (frame.Object (awaits e fr f started.is_needed)) (λ q. rest e fr q (frame.Object f)) (comes_to e fr started.begun) old new
-    (c.in_ok-started-in-Some.ensures.path ∙ ap (λ q. q ++ x.0 ∷ []) at ∙ sym (group-path p (awaits e fr f started.is_needed) x here))
-    (record { told = leads.told; is = group-starts e fr p f x started.is_needed leads.told (comes_to e fr started.begun) here leads.is; errors = leads.errors }))
+    (step-pushed here path fs (frame.Object (awaits here f started.is_needed)) (λ q. rest here q (frame.Object f)) (comes_to here started.begun) old new
+    (c.in_ok-started-in-Some.ensures.path ∙ ap (λ q. q ++ x.0 ∷ []) at ∙ sym (group-path p (awaits here f started.is_needed) x held))
+    (record { told = leads.told; is = group-starts here p f x started.is_needed leads.told (comes_to here started.begun) held leads.is; errors = leads.errors }))
 
 pub returns-clause-fine : goal.returns-clause-fine
 returns-clause-fine g c =
-    let rq = c.args.executor.now.request.now in
-    let e = engine_at g.S.ScalarValue.of_text g.S.ScalarValue.of_bool g.S.ScalarValue.answer (g.R.GraphQLValue.type_of c.args.resolver.now) (g.R.GraphQLValue.answer c.args.resolver.now) c.args.executor.now in
-    let fr = fragments_in rq in
+    let here = evaluation_at g.S.ScalarValue.of_text g.S.ScalarValue.of_bool g.S.ScalarValue.answer (g.R.GraphQLValue.root_node c.args.resolver.now) (g.R.GraphQLValue.type_of c.args.resolver.now) (g.R.GraphQLValue.answer c.args.resolver.now) c.args.executor.now in
     let f = c.args.object_frame in
-    rw c.in_ok-wait.ensures (fine-last e fr c.args.waiting.now (frame.Object (record { node = f.node; object = f.object; groups = f.groups; prepared = f.prepared; next = f.next; is_needed = c.in_ok-started-in-Some.started.is_needed; members = f.members })) c.requires.fine.1 c.requires.fine.0, c.in_ok-started-in-Some.ensures.fine)
+    rw c.in_ok-wait.ensures (fine-last here c.args.waiting.now (frame.Object (record { node = f.node; object = f.object; groups = f.groups; prepared = f.prepared; next = f.next; is_needed = c.in_ok-started-in-Some.started.is_needed; members = f.members })) c.requires.fine.1 c.requires.fine.0, c.in_ok-started-in-Some.ensures.fine)
 
 pub returns-in-None-clause-turns : goal.returns-in-None-clause-turns
 returns-in-None-clause-turns g c = omega arith
 
 pub returns-clause-turns : goal.returns-clause-turns
 returns-clause-turns g c =
-    let rq = c.args.executor.now.request.now in
-    let ty = g.R.GraphQLValue.type_of c.args.resolver.now c.args.executor.now.context.now in
-    let an = g.R.GraphQLValue.answer c.args.resolver.now c.args.executor.now.context.now in
-    let e = engine_of g.S.ScalarValue.of_text g.S.ScalarValue.of_bool g.S.ScalarValue.answer rq ty an in
-    let fr = fragments_in rq in
+    let here = evaluation_at g.S.ScalarValue.of_text g.S.ScalarValue.of_bool g.S.ScalarValue.answer (g.R.GraphQLValue.root_node c.args.resolver.now) (g.R.GraphQLValue.type_of c.args.resolver.now) (g.R.GraphQLValue.answer c.args.resolver.now) c.args.executor.now in
     let f = c.args.object_frame in
     let fs = c.args.waiting.now in
     let x = c.in-Some.group.now in
-    let here : slice_get f.groups f.next ≡ Some x = sym (rw (c.in-Some.is, c.get.ensures) at c.get-2.ensures.value) in
+    let held : slice_get f.groups f.next ≡ Some x = sym (rw (c.in-Some.is, c.get.ensures) at c.get-2.ensures.value) in
     let started = c.in_ok-started-in-Some.started in
     let begun_so = rw c.as_str.ensures at c.in_ok-started-in-Some.ensures.turns in
-    let due = group-due e fr f x here in
-    let last = waiting-last e fr fs (frame.Object (awaits e fr f started.is_needed)) in
+    let due = group-due here f x held in
+    let last = waiting-last here fs (frame.Object (awaits here f started.is_needed)) in
     rw c.in_ok-wait.ensures (omega (arith, begun_so, due, last))

@@ -5,7 +5,7 @@ use Rattle.graphql_execution_walk.proofs.FrameLemmas.{item-given}
 use Rattle.graphql_execution_walk.proofs.steps.give_list.Goals as goal
 
 pub returns-clause-gives : goal.returns-clause-gives
-returns-clause-gives g c = λ e fr path.
+returns-clause-gives g c = λ here path.
     let f = c.args.waits in
-    item-given e fr f c.args.value c.in_ok-values.values path
-    ∙ ap (λ vs. more value.List vs (map (item_at e fr path f) (reverse f.items))) (sym (rw (c.shown.ensures, c.is_required.ensures) at c.in_ok-values.ensures))
+    item-given here f c.args.value c.in_ok-values.values path
+    ∙ ap (λ vs. more value.List vs (map (item_at here path f) (reverse f.items))) (sym (rw (c.shown.ensures, c.is_required.ensures) at c.in_ok-values.ensures))

@@ -9,6 +9,7 @@ use Rattle.graphql_tree.specs.declared.selection.Selection.TheVariants as select
 use Rattle.graphql_written_out.specs.Written.{head_of}
 use Rattle.graphql_execution_walk.specs.Begins.{outcome_at}
 use Rattle.graphql_execution_walk.specs.Engines.{engine_of}
+use Rattle.graphql_execution_walk.specs.Evaluations.{evaluation_at}
 use Rattle.graphql_execution_walk.specs.FieldDeclarations.{declared_type}
 use Rattle.graphql_execution_walk.specs.Frames.{Leads, comes_to}
 use Rattle.graphql_execution_walk.proofs.BeginLemmas.{told-begins}
@@ -88,8 +89,7 @@ returns-clause-leads g c =
     let rq = c.args.executor.now.request.now in
     let ty = g.R.GraphQLValue.type_of c.args.resolver.now c.args.executor.now.context.now in
     let an = g.R.GraphQLValue.answer c.args.resolver.now c.args.executor.now.context.now in
-    let e = engine_of g.S.ScalarValue.of_text g.S.ScalarValue.of_bool g.S.ScalarValue.answer rq ty an in
-    let fr = fragments_in rq in
+    let here = evaluation_at g.S.ScalarValue.of_text g.S.ScalarValue.of_bool g.S.ScalarValue.answer (g.R.GraphQLValue.root_node c.args.resolver.now) (g.R.GraphQLValue.type_of c.args.resolver.now) (g.R.GraphQLValue.answer c.args.resolver.now) c.args.executor.now in
     let old = c.args.report.now in
     let object = c.args.object.now in
     let node = c.args.node.now in
@@ -100,16 +100,16 @@ returns-clause-leads g c =
     let named = ap (λ f. f object (head_of x.field.now).name) (engine-declared g.S.ScalarValue.of_text g.S.ScalarValue.of_bool g.S.ScalarValue.answer rq ty an) ∙ ap (declared_type rq.schema.now.types object) (sym c.as_str.ensures) in
     let found = c.in-Some-declared_at.declared in
     let type : TypeOf = record { name = found.name.now; modifiers = found.modifiers.now } in
-    let declared : e.declared object (head_of x.field.now).name ≡ Some type = named ∙ sym (rw c.in-Some-declared_at.is at c.declared_at.ensures) in
+    let declared : here.engine.declared object (head_of x.field.now).name ≡ Some type = named ∙ sym (rw c.in-Some-declared_at.is at c.declared_at.ensures) in
     let mid = c.enter.new.self in
     let down : mid.path ≡ old.path ++ key ∷ [] = c.in_ok-enter.ensures.path in
-    let answer = e.answer node object (head_of x.field.now).name (e.arguments object (head_of x.field.now)) in
-    let sets = sets_below (all_found fr fields) in
+    let answer = here.engine.answer node object (head_of x.field.now).name (here.engine.arguments object (head_of x.field.now)) in
+    let sets = sets_below (all_found here.fragments fields) in
     let now = c.in_ok-begun.begun in
-    let at = told-begins e sets type.name fr x.field.now.span.start (reverse type.modifiers) answer c.begin_field-begins.result mid now c.begun_or_told.new.report (rw c.as_slice-fields.ensures at c.begin_field-begins.ensures) c.in_ok-begun.ensures in
+    let at = told-begins here sets type.name x.field.now.span.start (reverse type.modifiers) answer c.begin_field-begins.result mid now c.begun_or_told.new.report (rw c.as_slice-fields.ensures at c.begin_field-begins.ensures) c.in_ok-begun.ensures in
     rw c.is_required-is_needed.ensures
-    (group-leads fr e old.path object node key fields x first type answer old mid c.begun_or_told.new.report (comes_to e fr now (old.path ++ key ∷ [])) declared refl c.in_ok-enter.ensures.errors
-    (subst (λ p. Leads (outcome_at e sets type.name x.field.now.span.start (reverse type.modifiers) answer p) mid (comes_to e fr now p) c.begun_or_told.new.report) down at.leads))
+    (group-leads here.fragments here.engine old.path object node key fields x first type answer old mid c.begun_or_told.new.report (comes_to here now (old.path ++ key ∷ [])) declared refl c.in_ok-enter.ensures.errors
+    (subst (λ p. Leads (outcome_at here.engine sets type.name x.field.now.span.start (reverse type.modifiers) answer p) mid (comes_to here now p) c.begun_or_told.new.report) down at.leads))
 
 pub returns-in_default-clause-turns : goal.returns-in_default-clause-turns
 returns-in_default-clause-turns g c = rw (nothing_first c.args.these.now.1 (rw c.in_default.is at c.first.ensures)) refl
@@ -133,8 +133,7 @@ returns-clause-turns g c =
     let rq = c.args.executor.now.request.now in
     let ty = g.R.GraphQLValue.type_of c.args.resolver.now c.args.executor.now.context.now in
     let an = g.R.GraphQLValue.answer c.args.resolver.now c.args.executor.now.context.now in
-    let e = engine_of g.S.ScalarValue.of_text g.S.ScalarValue.of_bool g.S.ScalarValue.answer rq ty an in
-    let fr = fragments_in rq in
+    let here = evaluation_at g.S.ScalarValue.of_text g.S.ScalarValue.of_bool g.S.ScalarValue.answer (g.R.GraphQLValue.root_node c.args.resolver.now) (g.R.GraphQLValue.type_of c.args.resolver.now) (g.R.GraphQLValue.answer c.args.resolver.now) c.args.executor.now in
     let object = c.args.object.now in
     let node = c.args.node.now in
     let fields = c.args.these.now.1 in
@@ -143,7 +142,7 @@ returns-clause-turns g c =
     let named = ap (λ f. f object (head_of x.field.now).name) (engine-declared g.S.ScalarValue.of_text g.S.ScalarValue.of_bool g.S.ScalarValue.answer rq ty an) ∙ ap (declared_type rq.schema.now.types object) (sym c.as_str.ensures) in
     let found = c.in-Some-declared_at.declared in
     let type : TypeOf = record { name = found.name.now; modifiers = found.modifiers.now } in
-    let declared : e.declared object (head_of x.field.now).name ≡ Some type = named ∙ sym (rw c.in-Some-declared_at.is at c.declared_at.ensures) in
-    let answer = e.answer node object (head_of x.field.now).name (e.arguments object (head_of x.field.now)) in
-    let at = told-begins e (sets_below (all_found fr fields)) type.name fr x.field.now.span.start (reverse type.modifiers) answer c.begin_field-begins.result c.enter.new.self c.in_ok-begun.begun c.begun_or_told.new.report (rw c.as_slice-fields.ensures at c.begin_field-begins.ensures) c.in_ok-begun.ensures in
-    rw (group-turns fr e object node fields x first, declared) at.turns
+    let declared : here.engine.declared object (head_of x.field.now).name ≡ Some type = named ∙ sym (rw c.in-Some-declared_at.is at c.declared_at.ensures) in
+    let answer = here.engine.answer node object (head_of x.field.now).name (here.engine.arguments object (head_of x.field.now)) in
+    let at = told-begins here (sets_below (all_found here.fragments fields)) type.name x.field.now.span.start (reverse type.modifiers) answer c.begin_field-begins.result c.enter.new.self c.in_ok-begun.begun c.begun_or_told.new.report (rw c.as_slice-fields.ensures at c.begin_field-begins.ensures) c.in_ok-begun.ensures in
+    rw (group-turns here.fragments here.engine object node fields x first, declared) at.turns

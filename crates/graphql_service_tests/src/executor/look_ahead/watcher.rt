@@ -1,9 +1,8 @@
 //! The resolver of the tests, which looks ahead.
 
 ghost use Rattle.std.specs.Prelude.{◌≡◌};
-ghost use Rattle.graphql_collected.specs.Requests.{fragments_in};
-ghost use Rattle.graphql_written_out.specs.Written.{Settled};
 ghost use Rattle.graphql_execution_walk.specs.Answered.{Answered};
+ghost use Rattle.graphql_execution_walk.specs.Standing.{IsSettled};
 ghost use Rattle.graphql_service_tests.specs.Persons as spec;
 
 use crate::executor::look_ahead::look::{Look, tell_seen};
@@ -42,7 +41,7 @@ fn note(
     look: Look<'_>,
     executor: &Executor<'_, '_, '_, Notes, DefaultScalarValue>,
 ) -> Result<(), AllocError>
-    requires { Settled (fragments_in executor.now.request.now) }
+    requires { IsSettled executor.now }
 {
     let Some(field) = executor.look_ahead() else {
         return Ok(());
@@ -69,7 +68,7 @@ fn of_root(
     executor: &Executor<'_, '_, '_, Notes, DefaultScalarValue>,
     field: &str,
 ) -> FieldResult<Answer, DefaultScalarValue>
-    requires { Settled (fragments_in executor.now.request.now) }
+    requires { IsSettled executor.now }
     ensures { Answered (spec.of_root field.now) result }
 {
     if field == "hero" {

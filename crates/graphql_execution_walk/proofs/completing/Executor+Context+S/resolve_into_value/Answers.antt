@@ -1,10 +1,9 @@
 use Rattle.std.proofs.Common.{◌∙◌, sym, ap, ◌++◌, ◌∷◌, [], Ok, reverse, unwrap_or}
 use Rattle.graphql_output_values.specs.declared.value.Value.TheVariants as value
-use Rattle.graphql_collected.specs.Requests.{fragments_in}
 use Rattle.graphql_semantics.specs.Outcomes.{Outcome}
 use Rattle.graphql_execution_walk.specs.Asked.{map_nodes}
 use Rattle.graphql_execution_walk.specs.declared.asked.Asked.TheVariants as asked
-use Rattle.graphql_execution_walk.specs.EngineAt.{engine_at}
+use Rattle.graphql_execution_walk.specs.Evaluations.{evaluation_at}
 use Rattle.graphql_execution_walk.specs.FieldPaths.{error_at, keys_of, place_of}
 use Rattle.graphql_execution_walk.specs.Sets.{sets_in}
 use Rattle.graphql_execution_walk.proofs.BeginLemmas.{own-outcome}
@@ -12,18 +11,18 @@ use Rattle.graphql_execution_walk.proofs.completing.Executor+Context+S.resolve_i
 
 pub returns-in_ok-push_error-in-Err-Error-clause-value : goal.returns-in_ok-push_error-in-Err-Error-clause-value
 returns-in_ok-push_error-in-Err-Error-clause-value g c =
-    let here = c.args.self.now in
-    let rq = here.request.now in
-    let e = engine_at g.S.ScalarValue.of_text g.S.ScalarValue.of_bool g.S.ScalarValue.answer (g.R.GraphQLValue.type_of c.args.resolver.now) (g.R.GraphQLValue.answer c.args.resolver.now) here in
+    let place = c.args.self.now in
+    let rq = place.request.now in
+    let here = evaluation_at g.S.ScalarValue.of_text g.S.ScalarValue.of_bool g.S.ScalarValue.answer (g.R.GraphQLValue.root_node c.args.resolver.now) (g.R.GraphQLValue.type_of c.args.resolver.now) (g.R.GraphQLValue.answer c.args.resolver.now) c.args.self.now in
     sym (ap (λ (o : Outcome _ _). unwrap_or o.value value.Null)
-    (own-outcome e (sets_in rq here.selected) here.current_type.name.now (fragments_in rq) (place_of here.path) (reverse here.current_type.modifiers.now) (Ok (map_nodes asked.Own c.args.answer)) c.in-Err-Error.error (keys_of here.path) (rw c.in-Err-Error.field-0-is at c.in-Err-Error.ensures).0))
+    (own-outcome here (sets_in rq place.selected) place.current_type.name.now (place_of place.path) (reverse place.current_type.modifiers.now) (Ok (map_nodes asked.Own c.args.answer)) c.in-Err-Error.error (keys_of place.path) (rw c.in-Err-Error.field-0-is at c.in-Err-Error.ensures).0))
 
 pub returns-in_ok-push_error-in-Err-Error-clause-told : goal.returns-in_ok-push_error-in-Err-Error-clause-told
 returns-in_ok-push_error-in-Err-Error-clause-told g c =
-    let here = c.args.self.now in
-    let rq = here.request.now in
-    let e = engine_at g.S.ScalarValue.of_text g.S.ScalarValue.of_bool g.S.ScalarValue.answer (g.R.GraphQLValue.type_of c.args.resolver.now) (g.R.GraphQLValue.answer c.args.resolver.now) here in
+    let place = c.args.self.now in
+    let rq = place.request.now in
+    let here = evaluation_at g.S.ScalarValue.of_text g.S.ScalarValue.of_bool g.S.ScalarValue.answer (g.R.GraphQLValue.root_node c.args.resolver.now) (g.R.GraphQLValue.type_of c.args.resolver.now) (g.R.GraphQLValue.answer c.args.resolver.now) c.args.self.now in
     c.in_ok-push_error-in-Err-Error.ensures.told
-    ∙ ap (λ es. es ++ error_at (place_of here.path) here.path c.in-Err-Error.error ∷ []) (rw c.in-Err-Error.field-0-is at c.in-Err-Error.ensures).1
+    ∙ ap (λ es. es ++ error_at (place_of place.path) place.path c.in-Err-Error.error ∷ []) (rw c.in-Err-Error.field-0-is at c.in-Err-Error.ensures).1
     ∙ sym (ap (λ (o : Outcome _ _). c.args.errors.now ++ o.failures)
-    (own-outcome e (sets_in rq here.selected) here.current_type.name.now (fragments_in rq) (place_of here.path) (reverse here.current_type.modifiers.now) (Ok (map_nodes asked.Own c.args.answer)) c.in-Err-Error.error (keys_of here.path) (rw c.in-Err-Error.field-0-is at c.in-Err-Error.ensures).0))
+    (own-outcome here (sets_in rq place.selected) place.current_type.name.now (place_of place.path) (reverse place.current_type.modifiers.now) (Ok (map_nodes asked.Own c.args.answer)) c.in-Err-Error.error (keys_of place.path) (rw c.in-Err-Error.field-0-is at c.in-Err-Error.ensures).0))
