@@ -20,6 +20,7 @@ locations_text [] = []
 locations_text (place ∷ places) =
     codes ",\"locations\":[" ++ (joined [] (map location_text (place ∷ places)) ++ codes "]")
 
+-- an error of a request as a JSON object
 abbrev pub request_error_text : RuleError → Bytes
 request_error_text error = codes "{\"message\":"
     ++ (json_text error.message ++ (locations_text error.locations ++ codes "}"))

@@ -36,9 +36,11 @@ module _ {S : Type 0} where
   default_of values a = if has_value values a.name then None
       else option_map (λ v. (a.name, unplaced v)) a.default_value
 
+  -- the values that are written and given, in order
   abbrev pub written_values : (Bytes → Option (InputValue S)) → List (Written S) → Given S
   written_values given written = filter_map (filled_argument given) written
 
+  -- the defaults of declared arguments that are absent, in order
   abbrev pub absent_defaults : List (Argument S) → Given S → Given S
   absent_defaults declared values = filter_map (default_of values) declared
 

@@ -18,6 +18,7 @@ module _ {S : Type 0} where
   abbrev pub pair_told : Bytes × Placed (GivenValue S) → Value S
   pair_told p = (p.0, record { item = value_told p.1.item; span = p.1.span })
 
+  -- the values that lent ones stand for, by their names
   abbrev pub values_told : List (Bytes × Placed (GivenValue S)) → Given S
   values_told values = map pair_told values
 

@@ -19,9 +19,11 @@ abbrev pub Group : Type 0 → Type 0
 Group S = Bytes × Lent S
 
 module _ {S : Type 0} where
+  -- the fields of a group, their sets written out
   abbrev pub all_found : List (Fragment S) → Lent S → List (Found S)
   all_found fragments = map (λ x. found fragments x.field.now)
 
+  -- a group, the sets of its fields written out
   abbrev pub group_found : List (Fragment S) → Group S → Bytes × List (Found S)
   group_found fragments g = (g.0, all_found fragments g.1)
 

@@ -25,12 +25,15 @@ module _ {S C : Type 0} where
   unfoldable pub is_below_in : Request S C → Bytes → Bytes → Bool
   is_below_in request object on = is_named_subtype request.schema.now.types object on
 
+  -- the fragments of a request's document
   abbrev pub fragments_in : Request S C → List (Fragment S)
   fragments_in request = fragments_listed request.fragments.document.now
 
+  -- the fields of a set that apply to an object type and are not left out
   abbrev pub fields_in : (S → ScalarAnswer) → Request S C → Bytes → Tree S → List (Found S)
   fields_in answer request object = fields (drops_in answer request) (is_below_in request object)
 
+  -- a set with the fragments of a request written out
   abbrev pub written_in : Request S C → List (Selection S) → Tree S
   written_in request = written (fragments_in request)
 

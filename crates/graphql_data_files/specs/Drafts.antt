@@ -56,6 +56,7 @@ record_of draft = do
   fields ← fields_of draft.fields
   Some (draft.id, record { type_name = draft.type_name; fields = fields })
 
+-- the records of a file, or nothing where one is none
 abbrev pub records_of : List Draft → Option Entries
 records_of [] = Some []
 records_of (draft ∷ drafts) = do

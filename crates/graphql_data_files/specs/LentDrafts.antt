@@ -5,6 +5,7 @@ use Rattle.graphql_data_files.specs.Drafts.{Draft, Drafts}
 use Rattle.graphql_data_files.specs.declared.drafts.Draft.{Draft as LentDraft}
 use Rattle.graphql_data_files.specs.declared.drafts.Drafts.{Drafts as LentDrafts}
 
+-- the record that a lent one stands for
 abbrev pub draft_told : LentDraft → Draft
 draft_told draft =
     record {
@@ -13,5 +14,6 @@ draft_told draft =
       fields = members_view draft.fields.now.entries;
     }
 
+-- the file that a lent one stands for
 abbrev pub file_told : LentDrafts → Drafts
 file_told file = record { root = file.root; records = map draft_told file.records }

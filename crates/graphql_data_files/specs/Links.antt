@@ -50,6 +50,7 @@ module _ (records : Entries) where
         option_map_or (λ known. known.is_leaf || value_leads f.1) (known_field types object f.0)
         true
 
+    -- each link of a record leads to a record
     abbrev pub record_leads : Record → Bool
     record_leads r = list_all (field_leads r.type_name) r.fields
 

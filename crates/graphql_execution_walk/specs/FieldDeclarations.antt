@@ -31,6 +31,7 @@ module _ {S C : Type 0} (types : List (MetaType S C)) where
   declared_arguments object name =
       unwrap_or (field_arguments (field_of (type_named types object) name)) []
 
+  -- the type of this name is a scalar or an enum
   abbrev pub is_leaf_named : Bytes → Bool
   is_leaf_named name = is_leaf (type_named types name)
 

@@ -52,6 +52,7 @@ module _ {S N : Type 0} (here : Evaluation S N) where
   abbrev pub all_waiting : List (FrameIn S N) → ℕ
   all_waiting fs = sum (map waiting_turns fs)
 
+  -- how many turns are left for what has begun
   abbrev pub begun_turns : Begun S N → ℕ
   begun_turns (begun.Value v) = 1
   begun_turns (begun.Frame f) = rest_turns f

@@ -7,6 +7,7 @@ use Rattle.graphql_grammar.specs.declared.kind.Kind.TheVariants as k
 use Rattle.graphql_grammar.specs.Kinds.{Kinds, kind}
 use Rattle.graphql_grammar.specs.Input.{Input, Located, Fault, first, unexpected}
 
+-- an input of these tokens, the end of its text, and where what was read ends
 abbrev pub mk : List Located → Span → SourcePosition → Input
 mk xs f e = record { ahead = xs; finish = f; end = e }
 

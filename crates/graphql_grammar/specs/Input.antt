@@ -18,9 +18,11 @@ use Rattle.graphql_grammar.specs.Kinds.{kind}
 abbrev pub At : Type 0 → Type 0
 At A = Spanning A Span
 
+-- a token at its place
 abbrev pub Located : Type 0
 Located = At Token
 
+-- what is left to read, and where the text and the last token that was read end
 pub record Input : Type 0 where
   -- the tokens that are left before the end of the text
   pub ahead : List Located
@@ -29,6 +31,7 @@ pub record Input : Type 0 where
   -- where the last token that was read ends
   pub end : SourcePosition
 
+-- the first of these tokens, else the end of the text
 abbrev pub first : Span → List Located → Located
 first finish [] = record { item = t.EndOfFile; span = finish }
 first finish (x ∷ xs) = x
@@ -37,9 +40,11 @@ first finish (x ∷ xs) = x
 unfoldable pub peek : Input → Located
 peek i = first i.finish i.ahead
 
+-- the kind of the next token
 unfoldable pub peek_kind : Input → Kind
 peek_kind i = kind (peek i).item
 
+-- how many tokens are left before the end
 abbrev pub left : Input → ℕ
 left i = length i.ahead
 
@@ -53,12 +58,15 @@ next i = record i { ahead = drop 1 i.ahead; end = end_after i.end i.ahead }
 
 -- ---- parsers
 
+-- what is read with what is left behind it, or the fault
 abbrev pub Outcome : Type 0 → Type 0
 Outcome A = Result (A × Input) Fault
 
+-- what is read of an input
 abbrev pub Parser : Type 0 → Type 0
 Parser A = Input → Outcome A
 
+-- what is read goes to the next parser; a fault stays one
 abbrev pub and_then : {A B : Type 0} → Outcome A → (A → Parser B) → Outcome B
 and_then (Ok p) f = f p.0 p.1
 and_then (Err e) f = Err e
@@ -71,6 +79,7 @@ infixl 10 ◌>>◌
 abbrev pub ◌>>◌ : {A B : Type 0} → Parser A → Parser B → Parser B
 p >> q = p >>= (λ _. q)
 
+-- this, of no token
 abbrev pub pure : {A : Type 0} → A → Parser A
 pure a = λ i. Ok (a, i)
 
@@ -79,9 +88,11 @@ abbrev pub unexpected : Token → ParseError
 unexpected t.EndOfFile = UnexpectedEndOfFile
 unexpected token = UnexpectedToken (source_of token)
 
+-- the fault that the next token is not expected
 unfoldable pub refusal : Input → Fault
 refusal i = record { item = unexpected (peek i).item; span = (peek i).span }
 
+-- refuses the next token
 abbrev pub refuse : {A : Type 0} → Parser A
 refuse = λ i. Err (refusal i)
 

@@ -22,6 +22,7 @@ word_kind name = if bytes_eq name (codes "on") then k.On
     else if bytes_eq name (codes "null") then k.Null
     else k.Name
 
+-- the kind of a token
 abbrev pub kind : Token → Kind
 kind (t.Name name) = word_kind name
 kind (t.Scalar s) = k.Scalar
@@ -42,18 +43,22 @@ kind t.EndOfFile = k.EndOfFile
 
 -- ---- sets of kinds
 
+-- a set of kinds
 abbrev pub Kinds : Type 0
 Kinds = Kind → Bool
 
 abbrev pub same_kind : Kind → Kind → Bool
 same_kind = sameb the_type
 
+-- the empty set of kinds
 abbrev pub no_kind : Kinds
 no_kind = λ v. false
 
+-- this kind alone
 abbrev pub only : Kind → Kinds
 only w = λ v. same_kind v w
 
+-- the kinds of one set and of the other
 abbrev pub either : Kinds → Kinds → Kinds
 either s u = λ v. s v || u v
 

@@ -7,6 +7,7 @@ use Rattle.graphql_grammar.specs.declared.kind.Kind.{Kind}
 use Rattle.graphql_grammar.specs.Kinds.{Kinds, kind, only}
 use Rattle.graphql_grammar.specs.Input.{At, Located}
 
+-- which tokens spell what
 abbrev pub Rel : Type 0 → Type 1
 Rel A = List Located → A → Type 0
 

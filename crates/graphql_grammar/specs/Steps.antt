@@ -23,9 +23,11 @@ when kinds p q = λ i. if sees kinds i then p i else q i
 unfoldable pub token : {A : Type 0} → Kinds → (Token → A) → Parser A
 token kinds meaning = when kinds (λ i. Ok (meaning (peek i).item, next i)) refuse
 
+-- a token of this kind
 abbrev pub expect : Kind → Parser (Unit {0})
 expect w = token (only w) (λ x. tt {0})
 
+-- the text of a name
 abbrev pub name_of : Token → List ℕ
 name_of (t.Name n) = n
 name_of x = []
@@ -34,6 +36,7 @@ name_of x = []
 abbrev pub name_in : Kinds → Parser (List ℕ)
 name_in kinds = token kinds name_of
 
+-- any name
 abbrev pub name : Parser (List ℕ)
 name = name_in names
 
@@ -55,6 +58,7 @@ abbrev pub placed : {A : Type 0} → Input → A → Parser (At A)
 placed i x =
     λ j. Ok (record { item = x; span = record { start = (peek i).span.start; end = j.end } }, j)
 
+-- what a parser reads, with its place
 abbrev pub located : {A : Type 0} → Parser A → Parser (At A)
 located p = λ i. and_then (p i) (placed i)
 
@@ -69,6 +73,7 @@ all_from kinds item zero found = pure found
 all_from kinds item (suc n) found =
     when kinds (item >>= (λ x. all_from kinds item n (found ++ x ∷ []))) (pure found)
 
+-- items as long as one begins, behind those that were found
 abbrev pub all : {A : Type 0} → Kinds → Parser A → List A → Parser (List A)
 all kinds item found = λ i. all_from kinds item (left i) found i
 
@@ -78,6 +83,7 @@ until_from close item zero found = refuse
 until_from close item (suc n) found = when (only close) (λ i. Ok (found, next i))
     (item >>= (λ x. until_from close item n (found ++ x ∷ [])))
 
+-- items up to the token that closes, behind those that were found
 abbrev pub until : {A : Type 0} → Kind → Parser A → List A → Parser (List A)
 until close item found = λ i. until_from close item (left i) found i
 

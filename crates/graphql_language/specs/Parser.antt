@@ -6,6 +6,7 @@ use Rattle.graphql_text.specs.Memory.{UnlessMemory}
 use Rattle.graphql_grammar.specs.Input.{At, Input, Located, Fault, IsMemory, StandsFor, peek, next}
 use Rattle.graphql_grammar.specs.Input.{refusal}
 
+-- what a parser has left to read, and its fault if it refused
 pub record State : Type 0 where
   pub input : Input
   -- a parser that has refused has failed
@@ -13,6 +14,7 @@ pub record State : Type 0 where
 
 -- ---- rules: what may be answered at an input, and what is left then
 
+-- what is read of an input, and what it leaves
 abbrev pub Rule : Type 0 → Type 1
 Rule A = Input → Result A Fault → Input → Type 0
 

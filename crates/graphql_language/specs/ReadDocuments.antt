@@ -31,6 +31,7 @@ type_by k.Mutation = o.Mutation
 type_by k.Subscription = o.Subscription
 type_by w = o.Query
 
+-- the operation type that a token names
 abbrev pub operation_type_of : Token → OperationType
 operation_type_of x = type_by (kind x)
 
@@ -57,6 +58,7 @@ module _ {S : Type 0} (reads : ScalarToken → Result S ParseError) (of_bool : B
   abbrev pub set : Parser (List (Selection S))
   set = selection_set reads of_bool (selection reads of_bool)
 
+  -- an operation that begins with its type
   unfoldable pub full_operation : Parser (Operation S)
   full_operation = do
     t ← token operation_words operation_type_of
@@ -84,6 +86,7 @@ module _ {S : Type 0} (reads : ScalarToken → Result S ParseError) (of_bool : B
     ss ← set
     pure (record { name = n; type_condition = c; directives = ds; selection_set = ss })
 
+  -- an operation or a fragment
   unfoldable pub definition : Parser (Definition S)
   definition = when (only k.Fragment) (do x ← fragment; pure (d.Fragment x))
       (do x ← operation; pure (d.Operation x))

@@ -20,6 +20,7 @@ use Rattle.graphql_value_syntax.specs.ReadDirectives.{arguments, directives}
 abbrev pub Names : Type 0
 Names = Option (At (List ℕ)) × At (List ℕ)
 
+-- an alias and a name, or a name
 unfoldable pub field_names : Parser Names
 field_names = do
   a ← located name
@@ -41,15 +42,18 @@ module _ {S : Type 0} where
   made_spread (spreads x) at = s.FragmentSpread (record { item = x; span = at.span })
   made_spread (inlines x) at = s.InlineFragment (record { item = x; span = at.span })
 
+  -- the selection that a spread is
   abbrev pub selection_of : At (Spread S) → Selection S
   selection_of at = made_spread at.item at
 
+  -- a field of its parts
   abbrev pub made_field : Names → Option (At (Arguments S)) → Option (List (At (Directive S)))
       → Option (List (Selection S)) → Field S
   made_field ns args ds ss =
       record { alias = ns.0; name = ns.1; arguments = args; directives = ds; selection_set = ss }
 
 module _ {S : Type 0} (reads : ScalarToken → Result S ParseError) (of_bool : Bool → S) where
+  -- the spread of a named fragment, behind its three points
   unfoldable pub fragment_spread : Parser (Spread S)
   fragment_spread = do
     n ← located (name_in fragment_names)
@@ -57,9 +61,11 @@ module _ {S : Type 0} (reads : ScalarToken → Result S ParseError) (of_bool : B
     pure (spreads (record { name = n; directives = ds }))
 
   module _ (inner : Parser (Selection S)) where
+    -- a selection set in its braces
     unfoldable pub selection_set : Parser (List (Selection S))
     selection_set = some_between k.CurlyOpen k.CurlyClose inner
 
+    -- an inline fragment, behind its three points
     unfoldable pub inline_fragment : Parser (Spread S)
     inline_fragment = do
       c ← optional (only k.On) type_condition
@@ -67,11 +73,13 @@ module _ {S : Type 0} (reads : ScalarToken → Result S ParseError) (of_bool : B
       ss ← selection_set
       pure (inlines (record { type_condition = c; directives = ds; selection_set = ss }))
 
+    -- a fragment spread or an inline fragment
     unfoldable pub spread : Parser (At (Spread S))
     spread = located do
       expect k.Ellipsis
       when fragment_names fragment_spread inline_fragment
 
+    -- a field, its parts in order
     unfoldable pub field : Parser (Field S)
     field = do
       ns ← field_names
@@ -80,6 +88,7 @@ module _ {S : Type 0} (reads : ScalarToken → Result S ParseError) (of_bool : B
       ss ← optional (only k.CurlyOpen) selection_set
       pure (made_field ns args ds ss)
 
+    -- one selection, with the parser of those within it
     unfoldable pub selection_layer : Parser (Selection S)
     selection_layer = when (only k.Ellipsis) (do x ← spread; pure (selection_of x))
         (do x ← located field; pure (s.Field x))

@@ -10,6 +10,7 @@ use Rattle.graphql_text.specs.Reading.{Refusal}
 use Rattle.graphql_text.specs.Tokens.{Located}
 use Rattle.graphql_lexer.specs.OneByOne.{Answer, Remains}
 
+-- a place by its index, line and column
 abbrev pub at : ℕ → ℕ → ℕ → SourcePosition
 at index line column = record { index = index; line = line; column = column }
 

@@ -37,6 +37,7 @@ module _ {S : Type 0} (of_bool : Bool → S) (of_int : ℤ → S) (of_text : Lis
   -- The value that data stands for, in no text: none where a number in it is no whole one of 32
   -- bits.
   abbrev mutual
+    -- the value that JSON is, or nothing where a number is no whole one of 32 bits
     pub input_of : Data → Option (InputValue S)
     input_of null = Some value.Null
     input_of (boolean b) = Some (value.Scalar (of_bool b))
@@ -50,6 +51,7 @@ module _ {S : Type 0} (of_bool : Bool → S) (of_int : ℤ → S) (of_text : Lis
     inputs_of (item d ds) =
         option_and_then (λ x. option_map (λ xs. unplaced x ∷ xs) (inputs_of ds)) (input_of d)
 
+    -- the fields that members of JSON are
     pub fields_of : Members → Option (List (Pair (InputValue S)))
     fields_of no_members = Some []
     fields_of (member k d ms) = option_and_then

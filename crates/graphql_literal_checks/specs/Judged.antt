@@ -48,6 +48,7 @@ module _ {S : Type 0} where
   abbrev pub is_constant : InputValue S → Bool
   is_constant v = list_all (λ _. false) (variables_in v)
 
+  -- no variable stands in one of these
   abbrev pub are_constant : List (Placed (InputValue S)) → Bool
   are_constant items = list_all (λ x. is_constant x.item) items
 

@@ -49,6 +49,7 @@ module _ {S C : Type 0} where
   left_in (around.List l) = items_left l.rest.now
   left_in (around.Object o) = fields_left o.rest.now
 
+  -- how many turns the values that are open take at most
   abbrev pub all_left : List (Open S C) → ℕ
   all_left fs = sum_by left_in fs
 

@@ -19,6 +19,7 @@ module _ {S : Type 0} where
   abbrev pub set_of : Placed (Field S) → List (Selection S)
   set_of x = listed x.item.selection_set
 
+  -- the selections of a field that was collected
   abbrev pub below_collected : CollectedField S → List (Selection S)
   below_collected x = set_of x.field.now
 

@@ -54,6 +54,7 @@ module _ {S C : Type 0} (types : List (MetaType S C)) where
     abbrev pub chosen_of : Set S C → List (Member S C)
     chosen_of set = chosen set.scope set.tree
 
+    -- the fields that are chosen of each of these sets
     abbrev pub chosen_of_all : List (Set S C) → List (Member S C)
     chosen_of_all = flat_map chosen_of
 

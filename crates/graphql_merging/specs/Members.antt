@@ -25,6 +25,7 @@ module _ {S C : Type 0} where
   abbrev pub declared_type : MetaType S C → Bytes → Option TypeOf
   declared_type parent name = field_type (field_in parent name)
 
+  -- the type that a field's parent declares for it
   abbrev pub declared : Member S C → Option TypeOf
   declared m = declared_type m.parent m.head.name
 

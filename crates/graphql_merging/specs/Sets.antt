@@ -22,6 +22,7 @@ pub record Set (S C : Type 0) : Type 0 where
   pub tree : Tree S
 
 module _ {S C : Type 0} (types : List (MetaType S C)) where
+  -- the fields that stand together in a set
   abbrev pub members_of : Set S C → List (Member S C)
   members_of set = members types set.scope set.tree
 
@@ -32,6 +33,7 @@ module _ {S C : Type 0} (types : List (MetaType S C)) where
       member scope head below ++ directs_in scope rest
   directs_in scope (inline on directives below rest) = directs_in scope rest
 
+  -- the fields that stand directly in a set
   abbrev pub directs_of : Set S C → List (Member S C)
   directs_of set = directs_in set.scope set.tree
 

@@ -12,6 +12,7 @@ use Rattle.std.specs.Str.{bytes_eq}
 abbrev pub Bytes : Type 0
 Bytes = List ℕ
 
+-- the name is one of these
 abbrev pub is_one_of : List Bytes → Bytes → Bool
 is_one_of names name = list_any (bytes_eq name) names
 
@@ -29,6 +30,7 @@ abbrev pub passes : {A : Type 0} → (A → Bool) → Option A → Bool
 passes test item = option_map_or test item false
 
 module _ {A : Type 0} (name_of : A → Bytes) where
+  -- the item has this name
   abbrev pub is_named : Bytes → A → Bool
   is_named name item = bytes_eq (name_of item) name
 

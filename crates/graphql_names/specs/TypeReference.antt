@@ -14,6 +14,7 @@ abbrev pub has_list : List TypeModifier → Bool
 has_list [] = false
 has_list (m ∷ ms) = wraps_in_list m || has_list ms
 
+-- the last wrap, which is the outermost
 abbrev pub outermost : List TypeModifier → Option TypeModifier
 outermost ms = slice_get ms (length ms - 1)
 

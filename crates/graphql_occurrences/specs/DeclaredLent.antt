@@ -9,6 +9,7 @@ use Rattle.graphql_occurrences.specs.declared.arguments.DeclaredArguments.{Decla
 use Rattle.graphql_occurrences.specs.declared.fields.KnownField.{KnownField}
 use Rattle.graphql_occurrences.specs.declared.literal.TypeLiteral.{TypeLiteral}
 
+-- the type that a lent one stands for
 abbrev pub literal_of : TypeLiteral → TypeOf
 literal_of t = record { name = t.name.now; modifiers = t.modifiers.now }
 

@@ -39,6 +39,7 @@ module _ {S : Type 0} where
   abbrev pub field_arguments : Option (Field S) → Option (List (Argument S))
   field_arguments = option_map arguments_of
 
+  -- the type that a field declares
   abbrev pub field_type : Option (Field S) → Option TypeOf
   field_type = option_map (λ f. f.field_type)
 

@@ -153,6 +153,7 @@ module _ {S C : Type 0} (schema : Declarations S C) where
       (arguments_events (OfDirective d.item.name.item) (directive_arguments declared)
       (arguments_in d.item.arguments) around) around
 
+  -- the events of directives at a location
   abbrev pub directives_events : DirectiveLocation → List (Placed (Directive S)) → Within S C
   directives_events place = each (directive_events place)
 
@@ -200,6 +201,7 @@ module _ {S C : Type 0} (schema : Declarations S C) where
   selection_layer (Selection-F.FragmentSpread s) = spread_events s
   selection_layer (Selection-F.InlineFragment i) = i.item i.span
 
+  -- the events of a selection
   unfoldable pub selection_events : Selection S → Within S C
   selection_events = fold-Selection S (Within S C) (PlacedWithin S C) (PlacedWithin S C)
       selection_layer field_layer inline_layer

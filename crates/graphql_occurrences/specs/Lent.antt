@@ -56,6 +56,7 @@ module _ {S : Type 0} where
   event_of (event.Leave n) = Leave (node_of n)
 
 module _ {S C : Type 0} where
+  -- what stands around, that what is lent stands for
   abbrev pub around_of : Around S C → spec.Around S C
   around_of a = record {
     current = option_map literal_of a.current;

@@ -108,14 +108,18 @@ module _ {S : Type 0} where
   inline_head_layer i =
       record { type_condition = i.type_condition; directives = None; selection_set = [] }
 
+  -- an inline fragment without what stands within it
   abbrev pub inline_head : InlineFragment S → InlineFragment S
   inline_head i = record i { directives = None; selection_set = [] }
 
+  -- a spread without its directives
   abbrev pub spread_head : FragmentSpread S → FragmentSpread S
   spread_head s = record s { directives = None }
 
+  -- an operation without what stands within it
   abbrev pub operation_head : Operation S → Operation S
   operation_head o = record o { directives = None; selection_set = [] }
 
+  -- a fragment without what stands within it
   abbrev pub fragment_head : Fragment S → Fragment S
   fragment_head f = record f { directives = None; selection_set = [] }

@@ -34,6 +34,7 @@ use Rattle.graphql_occurrences.specs.Parts.{InputPlace, VariablePart, Part, Vari
 use Rattle.graphql_occurrences.specs.Parts.{Condition, AField, ASpread, AnInline, ADirective, Given}
 use Rattle.graphql_occurrences.specs.Parts.{ObjectOf, VariableUsed}
 
+-- the definition of a variable, as a part
 abbrev pub variable_part : {S : Type 0} → Variable S → VariablePart S
 variable_part v = record { name = v.0; type_of = v.1.var_type; default = v.1.default_value }
 
@@ -56,6 +57,7 @@ module _ {S C : Type 0} (schema : Declarations S C) where
   unfoldable pub value_parts : InputValue S → OfValue
   value_parts = fold-InputValue S OfValue value_layer
 
+  -- the parts of a value at its place
   abbrev pub placed_parts : Option InputPlace → Placed (InputValue S) → List (Part S C)
   placed_parts here v = value_parts v.item v.span.start here
 
@@ -78,6 +80,7 @@ module _ {S C : Type 0} (schema : Declarations S C) where
       })
       ∷ given_parts d.span.start (directive_arguments declared) (arguments_in d.item.arguments)
 
+  -- the parts of directives at a location
   abbrev pub directives_parts : DirectiveLocation → Option (List (Placed (Directive S)))
       → List (Part S C)
   directives_parts at ds = flat_map (directive_parts at) (unwrap_or ds [])
@@ -138,6 +141,7 @@ module _ {S C : Type 0} (schema : Declarations S C) where
   selection_parts = fold-Selection S Below (SourcePosition → Below) (SourcePosition → Below)
       selection_layer field_layer inline_layer
 
+  -- the parts of a set in a type
   abbrev pub set_parts : Option (MetaType S C) → List (Selection S) → List (Part S C)
   set_parts parent selections = under parent (map selection_parts selections)
 
@@ -164,6 +168,7 @@ module _ {S C : Type 0} (schema : Declarations S C) where
       ∷ directives_parts location.FragmentDefinition f.directives
       ++ set_parts (known schema f.type_condition.item) f.selection_set
 
+  -- the parts of an operation or a fragment
   abbrev pub definition_parts : Definition S → List (Part S C)
   definition_parts (definition.Operation o) = operation_parts o.item
   definition_parts (definition.Fragment f) = fragment_parts f.item

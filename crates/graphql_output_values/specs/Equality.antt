@@ -16,6 +16,7 @@ module _ {A B : Type 0} (same : A → B → Bool) where
   agree (Some x) None = false
   agree (Some x) (Some y) = same x y
 
+  -- two objects agree under a key
   abbrev pub agree_under : List (Pair A) → List (Pair B) → List ℕ → Bool
   agree_under fields others key = agree (field_value fields key) (field_value others key)
 

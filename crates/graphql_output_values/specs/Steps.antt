@@ -34,6 +34,7 @@ module _ {S : Type 0} where
   object_steps_layer object = ObjectOpens
       ∷ (join_by (field_steps (λ part. part)) (Gap ∷ []) object.fields ++ ObjectCloses ∷ [])
 
+  -- the steps of a value, in the order of its text
   abbrev pub steps : Value S → List (Step S)
   steps = fold-Value S (List (Step S)) (List (Step S)) steps_layer object_steps_layer
 

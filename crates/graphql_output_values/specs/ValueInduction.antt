@@ -30,6 +30,7 @@ module _ {S : Type 0} (P : Value S → Type 0) where
   fields_hold ps =
       All-map (λ p. P p.1) (on_value (λ (e : PartWithProof). e.0)) ps (λ k d h. (get_or ps k d).1.1)
 
+  -- what holds of each value: of null, of scalars, and of lists and objects of such values
   pub value_ind :
       P value.Null
       → ((s : S) → P (value.Scalar s))

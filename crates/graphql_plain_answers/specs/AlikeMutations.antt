@@ -25,5 +25,6 @@ module _ {S N X : Type 0} (m n : Mutation S N X) where
   abbrev pub AreAlike : Tree S → Tree S → Type 0
   AreAlike = TreesAlike AreServedAlike AlwaysLeaveOutAlike
 
+  -- each two of these sets, one by one, are served alike
   abbrev pub SetsAreAlike : List (Tree S) → List (Tree S) → Type 0
   SetsAreAlike = EachAlike AreAlike

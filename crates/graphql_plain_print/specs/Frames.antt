@@ -53,10 +53,12 @@ module _ {S : Type 0} (answer : S → ScalarAnswer) (of_bool : Bool → S) where
   stack_tokens plan [] = []
   stack_tokens plan (f ∷ fs) = stack_tokens plan fs ++ frame_tokens plan f
 
+  -- how large the sets are that are yet to be printed
   abbrev pub stack_size : Plan S → List (Frame S) → ℕ
   stack_size plan [] = 0
   stack_size plan (f ∷ fs) = stack_size plan fs + frame_size plan f
 
+  -- the variables that are used by what is yet to be printed
   abbrev pub stack_uses : Plan S → List (Frame S) → List Bytes
   stack_uses plan [] = []
   stack_uses plan (f ∷ fs) = stack_uses plan fs ++ frame_uses plan f

@@ -16,6 +16,7 @@ use Rattle.graphql_plain_print.specs.declared.plan.Plan.{Plan}
 use Rattle.graphql_plain_text.specs.SpanTokens.{tokens_within}
 
 module _ {S : Type 0} where
+  -- the fragments of a plan's document
   abbrev pub fragments_by : Plan S → List (Fragment S)
   fragments_by plan = fragments_listed plan.fragments.document.now
 

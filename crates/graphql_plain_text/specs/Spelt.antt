@@ -13,6 +13,7 @@ pub record IsSpelt (token : Token) : Type 0 where
   -- it is not the end of a text
   pub goes_on : is_end token ≡ false
 
+-- each of these tokens is spelt
 abbrev pub AreSpelt : List Token → Type 0
 AreSpelt [] = Unit {0}
 AreSpelt (x ∷ xs) = IsSpelt x × AreSpelt xs

@@ -19,6 +19,7 @@ abbrev pub in_parentheses : {A : Type 0} → (A → List Token) → List A → L
 in_parentheses f [] = []
 in_parentheses f (x ∷ xs) = t.ParenOpen ∷ (flat_map f (x ∷ xs) ++ t.ParenClose ∷ [])
 
+-- tokens in braces
 abbrev pub in_braces : List Token → List Token
 in_braces tokens = t.CurlyOpen ∷ (tokens ++ t.CurlyClose ∷ [])
 

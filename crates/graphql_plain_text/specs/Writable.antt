@@ -11,6 +11,7 @@ use Rattle.graphql_values.specs.declared.input_value.InputValue.TheVariants as v
 use Rattle.graphql_values.specs.InputValues.{Placed, Pair}
 use Rattle.graphql_values.specs.InputValueText.{input_value_text}
 
+-- a value of the default scalars
 abbrev pub Value : Type 0
 Value = InputValue DefaultScalarValue
 

@@ -34,5 +34,6 @@ module _ {S : Type 0} (drops : Directives S → Bool) (stand_in : Directives S) 
       if drops directives then plain_set false rest
       else inline on [] (plain_set (drops_all drops below) below) (plain_set false rest)
 
+  -- the plain set of a set
   abbrev pub plain : Tree S → Tree S
   plain set = plain_set (drops_all drops set) set

@@ -35,6 +35,7 @@ module _ {S : Type 0} where
   abbrev pub arguments_as : List (Argument S) → Option (Placed (Arguments S))
   arguments_as = unless_empty (λ xs. unplaced (record { items = xs }))
 
+  -- definitions of variables, if there are any
   abbrev pub definitions_as : List (Variable S) → Option (Placed (VariableDefinitions S))
   definitions_as = unless_empty (λ xs. unplaced (record { items = xs }))
 
@@ -59,6 +60,7 @@ module _ {S : Type 0} where
         selection_set = selections_of below;
       })) ∷ selections_of rest
 
+  -- the operation that a plain one is
   abbrev pub operation_as : PlainOperation S → Operation S
   operation_as p =
       record {

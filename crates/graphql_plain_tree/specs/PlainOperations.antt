@@ -19,6 +19,7 @@ use Rattle.graphql_written_out.specs.Written.{written}
 use Rattle.graphql_plain_tree.specs.Plain.{plain}
 use Rattle.graphql_plain_tree.specs.StandIns.{skip_true}
 
+-- an operation with a plain set and the variables that it still uses
 pub record PlainOperation (S : Type 0) : Type 0 where
   pub operation_type : OperationType
   pub name : Option Bytes

@@ -8,6 +8,7 @@ use Rattle.graphql_scalars.specs.declared.default_scalar.DefaultScalarValue.TheV
 use Rattle.graphql_values.specs.declared.input_value.InputValue.{InputValue, out-InputValue}
 use Rattle.graphql_values.specs.declared.input_value.InputValue.TheOpen.{InputValue-F}
 
+-- the arguments of a field, of the default scalars
 abbrev pub Asked : Type 0
 Asked = Given DefaultScalarValue
 

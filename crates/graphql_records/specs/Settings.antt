@@ -25,9 +25,11 @@ use Rattle.graphql_records.specs.declared.record.Record.{Record}
 use Rattle.graphql_records.specs.declared.table_node.TableNode.TheVariants as node
 use Rattle.graphql_records.specs.declared.table_type.TableType.{TableType}
 
+-- values by the names of fields
 abbrev pub Fields : Type 0
 Fields = List (Bytes × FieldValue)
 
+-- why values are not set
 abbrev pub Fault : Type 0
 Fault = FieldError DefaultScalarValue
 

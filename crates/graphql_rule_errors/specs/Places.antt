@@ -7,6 +7,7 @@ use Rattle.graphql_rule_errors.specs.declared.rule_error.RuleError.{RuleError}
 abbrev pub Places : Type 0
 Places = List (List SourcePosition)
 
+-- of each error, in order, the places that it names
 abbrev pub places : List RuleError → Places
 places errors = map (λ e. e.locations) errors
 

@@ -15,6 +15,7 @@ pub record Mention : Type 0 where
   pub name : Bytes
   pub place : SourcePosition
 
+-- where a name is mentioned
 abbrev pub mention : Spanning Bytes Span → Mention
 mention name = record { name = name.item; place = name.span.start }
 

@@ -32,6 +32,7 @@ module _ {S C : Type 0} where
   literals_at _ = []
 
 module _ {S C : Type 0} (answer : S → ScalarAnswer) (accepts : C → InputValue S → Type 0) where
+  -- each argument's literal that does not conform
   abbrev pub arguments_of_correct_type_faults : Relation S C
   arguments_of_correct_type_faults subject part =
       Misfits answer accepts subject.schema.types (literals_at part)

@@ -26,6 +26,7 @@ module _ {S C : Type 0} (schema : Declarations S C) where
   defaults_at _ = []
 
 module _ {S C : Type 0} (answer : S → ScalarAnswer) (accepts : C → InputValue S → Type 0) where
+  -- each default that does not conform
   abbrev pub default_values_of_correct_type_faults : Relation S C
   default_values_of_correct_type_faults subject part =
       Misfits answer accepts subject.schema.types (defaults_at subject.schema part)

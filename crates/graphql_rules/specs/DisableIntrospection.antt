@@ -7,6 +7,7 @@ use Rattle.graphql_occurrences.specs.Parts.{AField}
 use Rattle.graphql_rule_errors.specs.Places.{error_if}
 use Rattle.graphql_visitors.specs.Rules.{Rule}
 
+-- a field that tells of the schema (4.1 Schema Introspection)
 abbrev pub introspects : Bytes → Bool
 introspects name = bytes_eq name (codes "__schema") || bytes_eq name (codes "__type")
 

@@ -24,5 +24,6 @@ module _ {S : Type 0} where
   abbrev pub undeclared_in : GivenPart S → Places
   undeclared_in g = undeclared_among g.declared g.given
 
+-- each argument that its field or directive does not declare
 abbrev pub known_argument_names_faults : {S C : Type 0} → Rule S C
 known_argument_names_faults = of_given undeclared_in

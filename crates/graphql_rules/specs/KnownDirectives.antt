@@ -11,6 +11,7 @@ abbrev pub misplaced : {S : Type 0} → DirectivePart S → Places
 misplaced d =
     error_if (not (passes (λ k. is_place k.locations d.location) d.declared)) (d.place ∷ [])
 
+-- each directive that is unknown, or stands at a location that is not its own
 abbrev pub known_directives_faults : {S C : Type 0} → Rule S C
 known_directives_faults subject (ADirective d) = misplaced d
 known_directives_faults subject _ = []

@@ -20,5 +20,6 @@ module _ {S : Type 0} where
   missing_in g =
       flat_map (missing g.place (is_one_of (map (λ a. a.0.item) g.given))) (unwrap_or g.declared [])
 
+-- each field or directive without an argument that it needs
 abbrev pub provided_non_null_arguments_faults : {S C : Type 0} → Rule S C
 provided_non_null_arguments_faults = of_given missing_in

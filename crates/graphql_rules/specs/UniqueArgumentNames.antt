@@ -9,5 +9,6 @@ use Rattle.graphql_rule_errors.specs.Repeats.{mention, repeats}
 abbrev pub repeated_in : {S : Type 0} → GivenPart S → Places
 repeated_in g = repeats (map (λ a. mention a.0) g.given)
 
+-- each name that a second argument has
 abbrev pub unique_argument_names_faults : {S C : Type 0} → Rule S C
 unique_argument_names_faults = of_given repeated_in

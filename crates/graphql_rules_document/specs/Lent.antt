@@ -11,12 +11,15 @@ use Rattle.graphql_rules_document.specs.declared.scopes.Scopes.{Scopes}
 use Rattle.graphql_rules_document.specs.declared.scopes.Spread.{Spread}
 use Rattle.graphql_rules_document.specs.declared.scopes.Use.{Use}
 
+-- the use of a variable that a lent one stands for
 abbrev pub use_of : Use → part.Use
 use_of u = record { name = u.name.now; place = u.place; at = option_map input_of u.at }
 
+-- the spread that a lent one stands for
 abbrev pub spread_of : Spread → spec.Spread
 spread_of s = record { name = s.name.now; place = s.place }
 
+-- the scope of a fragment that a lent one stands for
 abbrev pub fragment_of : FragmentScope → spec.FragmentScope
 fragment_of f = record {
   name = f.name.now;
@@ -27,6 +30,7 @@ fragment_of f = record {
 }
 
 module _ {S : Type 0} where
+  -- the scope of an operation that a lent one stands for
   abbrev pub operation_of : OperationScope S → spec.OperationScope S
   operation_of o = record {
     name = option_map (λ n. n.now) o.name;
@@ -36,6 +40,7 @@ module _ {S : Type 0} where
     spreads = map spread_of o.spreads;
   }
 
+  -- the scopes that lent ones stand for
   abbrev pub scopes_told : Scopes S → spec.Scopes S
   scopes_told s =
       record { operations = map operation_of s.operations; fragments = map fragment_of s.fragments }

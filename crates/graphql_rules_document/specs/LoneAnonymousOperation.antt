@@ -10,6 +10,7 @@ module _ {S : Type 0} where
   abbrev pub anonymous_among : ℕ → OperationScope S → Places
   anonymous_among count o = error_if (not (is_some o.name) && nat_lt 1 count) (o.place ∷ [])
 
+  -- each operation without a name that is not alone
   abbrev pub lone_anonymous_operation_faults : List (OperationScope S) → Places
   lone_anonymous_operation_faults operations =
       flat_map (anonymous_among (length operations)) operations

@@ -6,6 +6,7 @@ use Rattle.std.specs.Str.{bytes_eq}
 use Rattle.graphql_names.specs.Names.{Bytes}
 use Rattle.graphql_rules_document.specs.declared.scopes.FragmentScope.{FragmentScope}
 
+-- the names of fragments, in order
 abbrev pub fragment_names : List FragmentScope → List Bytes
 fragment_names = map (λ f. f.name.now)
 

@@ -13,5 +13,6 @@ cycle_at fragments f s = error_if (is_one_of (reached fragments (s ∷ [])) f.na
 abbrev pub cycles_in : List FragmentScope → FragmentScope → Places
 cycles_in fragments f = flat_map (cycle_at fragments f) f.spreads
 
+-- each spread by which a fragment reaches itself
 abbrev pub no_fragment_cycles_faults : List FragmentScope → Places
 no_fragment_cycles_faults fragments = flat_map (cycles_in fragments) fragments

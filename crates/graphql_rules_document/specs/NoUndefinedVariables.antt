@@ -16,5 +16,6 @@ module _ {S : Type 0} where
   abbrev pub undefined_in : List FragmentScope → OperationScope S → Places
   undefined_in fragments o = flat_map (undefined_use o) (uses_from fragments o)
 
+  -- each use of a variable that its operation does not define
   abbrev pub no_undefined_variables_faults : List (OperationScope S) → List FragmentScope → Places
   no_undefined_variables_faults operations fragments = flat_map (undefined_in fragments) operations

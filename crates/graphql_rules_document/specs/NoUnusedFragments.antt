@@ -6,9 +6,11 @@ use Rattle.graphql_rules_document.specs.Reached.{reached}
 use Rattle.graphql_rules_document.specs.Scopes.{FragmentScope, OperationScope}
 use Rattle.graphql_rule_errors.specs.Places.{Places, error_if}
 
+-- the place of a fragment that is none of these names
 abbrev pub unused_fragment : List Bytes → FragmentScope → Places
 unused_fragment names f = error_if (not (is_one_of names f.name)) (f.place ∷ [])
 
+-- each fragment that no operation reaches
 abbrev pub no_unused_fragments_faults : {S : Type 0} → List (OperationScope S) → List FragmentScope
     → Places
 no_unused_fragments_faults operations fragments =

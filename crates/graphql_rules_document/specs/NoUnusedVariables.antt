@@ -16,5 +16,6 @@ module _ {S : Type 0} where
   unused_in fragments o =
       flat_map (unused_variable (map (λ u. u.name) (uses_from fragments o))) o.defined
 
+  -- each variable that its operation does not use
   abbrev pub no_unused_variables_faults : List (OperationScope S) → List FragmentScope → Places
   no_unused_variables_faults operations fragments = flat_map (unused_in fragments) operations

@@ -21,6 +21,7 @@ pub record Spread : Type 0 where
   pub name : Bytes
   pub place : SourcePosition
 
+-- what an operation holds
 pub record OperationScope (S : Type 0) : Type 0 where
   pub name : Option Bytes
   pub place : SourcePosition
@@ -28,6 +29,7 @@ pub record OperationScope (S : Type 0) : Type 0 where
   pub uses : List Use
   pub spreads : List Spread
 
+-- what a fragment holds
 pub record FragmentScope : Type 0 where
   pub name : Bytes
   pub place : SourcePosition
@@ -49,6 +51,7 @@ module _ {S C : Type 0} where
   spread_at _ = []
 
 module _ {S C : Type 0} (schema : Declarations S C) where
+  -- the scope of an operation
   abbrev pub operation_scope : Placed (Operation S) → OperationScope S
   operation_scope o =
       let parts = operation_parts schema o.item in
@@ -71,9 +74,11 @@ module _ {S C : Type 0} (schema : Declarations S C) where
         spreads = flat_map spread_at parts;
       }
 
+  -- the scopes of a document's operations, in order
   abbrev pub operation_scopes : List (Definition S) → List (OperationScope S)
   operation_scopes document = map operation_scope (operations_of document)
 
+  -- the scopes of a document's fragments, in order
   abbrev pub fragment_scopes : List (Definition S) → List FragmentScope
   fragment_scopes document = map fragment_scope (fragments_of document)
 

@@ -7,6 +7,7 @@ use Rattle.graphql_names.specs.Names.{Bytes, is_one_of}
 use Rattle.graphql_rules_document.specs.declared.scopes.FragmentScope.{FragmentScope}
 use Rattle.graphql_rules_document.specs.declared.scopes.Spread.{Spread}
 
+-- the names of spreads, in order
 abbrev pub spread_names : List Spread → List Bytes
 spread_names = map (λ s. s.name.now)
 

@@ -8,5 +8,6 @@ use Rattle.graphql_rule_errors.specs.Repeats.{Mention, repeats}
 abbrev pub fragment_mention : FragmentScope → Mention
 fragment_mention f = record { name = f.name; place = f.place }
 
+-- each name that a second fragment has
 abbrev pub unique_fragment_names_faults : List FragmentScope → Places
 unique_fragment_names_faults fragments = repeats (map fragment_mention fragments)

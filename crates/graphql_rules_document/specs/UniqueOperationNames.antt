@@ -13,5 +13,6 @@ module _ {S : Type 0} where
   operation_mention o =
       option_to_list (option_map (λ name. record { name = name; place = o.place }) o.name)
 
+  -- each name that a second operation has
   abbrev pub unique_operation_names_faults : List (OperationScope S) → Places
   unique_operation_names_faults operations = repeats (flat_map operation_mention operations)

@@ -11,6 +11,7 @@ module _ {S : Type 0} where
   abbrev pub variable_mention : VariablePart S → Mention
   variable_mention v = mention v.name
 
+  -- each name that a second variable of an operation has
   abbrev pub unique_variable_names_faults : List (OperationScope S) → Places
   unique_variable_names_faults operations =
       flat_map (λ o. repeats (map variable_mention o.defined)) operations

@@ -72,6 +72,7 @@ module _ {S C : Type 0} (types : List (MetaType S C)) where
   abbrev pub disallowed_in : List FragmentScope → OperationScope S → Places
   disallowed_in fragments o = flat_map (disallowed_use o) (uses_from fragments o)
 
+  -- each use of a variable at a place that does not allow its type
   abbrev pub variables_in_allowed_position_faults : List (OperationScope S) → List FragmentScope
       → Places
   variables_in_allowed_position_faults operations fragments =

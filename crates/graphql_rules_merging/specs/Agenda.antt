@@ -24,6 +24,7 @@ listed_in waiting given = record {
   given = (λ pair. has_pair (given pair.around) pair.left pair.right);
 }
 
+-- which pairs of an agenda wait, and which were given out
 abbrev pub listed_of : Agenda → Listed
 listed_of agenda =
     listed_in (λ around. if around then agenda.apart.waiting else agenda.together.waiting)

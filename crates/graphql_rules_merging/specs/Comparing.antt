@@ -31,10 +31,12 @@ pub record Stage : Type 0 where
   pub told : Places
   pub listed : Listed
 
+-- how far the comparison is: what is told, and what is listed
 abbrev pub stage_of : Progress → Stage
 stage_of progress = record { told = places progress.told; listed = listed_of progress.agenda }
 
 module _ {S C : Type 0} where
+  -- the two fields of a pair, their sets written out
   abbrev pub members_in : PieceField S C × PieceField S C → Member S C × Member S C
   members_in p = (p.0.member, p.1.member)
 
@@ -73,6 +75,7 @@ module _ {S C : Type 0} where
         ⊎ OwnSets pair.around P (t.direct pair.left) (t.direct pair.right) other)
 
 module _ {S C : Type 0} (eq : S → S → Bool) (types : List (MetaType S C)) where
+  -- the two fields of a pair agree
   abbrev pub DoAgree : Bool → PieceField S C × PieceField S C → Type 0
   DoAgree x p = Agree eq types x p.0.member p.1.member
 

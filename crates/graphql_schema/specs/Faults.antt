@@ -32,6 +32,7 @@ pub record Roots : Type 0 where
   pub mutation : Option Bytes
   pub subscription : Option Bytes
 
+-- the names of the root types
 abbrev pub root_names : Roots → List Bytes
 root_names roots = roots.query ∷ option_to_list roots.mutation ++ option_to_list roots.subscription
 
@@ -114,6 +115,7 @@ module _ {S C : Type 0} where
   abbrev pub IsAbsent : List (MetaType S C) → Roots → FaultKind → Type 0
   IsAbsent types roots kind = (name : Bytes) → has_fault types roots kind name ≡ false
 
+  -- no kind of fault is there
   abbrev pub IsFaultless : List (MetaType S C) → Roots → Type 0
   IsFaultless types roots = (kind : FaultKind) → IsAbsent types roots kind
 

@@ -17,14 +17,17 @@ module _ {S C : Type 0} where
   abbrev pub type_named : List (MetaType S C) → Bytes → Option (MetaType S C)
   type_named = named own_name
 
+  -- an object type (3.6 Objects)
   abbrev pub is_object : MetaType S C → Bool
   is_object (meta.Object m) = true
   is_object _ = false
 
+  -- a scalar type (3.5 Scalars)
   abbrev pub is_scalar : MetaType S C → Bool
   is_scalar (meta.Scalar m) = true
   is_scalar _ = false
 
+  -- an interface type (3.7 Interfaces)
   abbrev pub is_interface : MetaType S C → Bool
   is_interface (meta.Interface m) = true
   is_interface _ = false

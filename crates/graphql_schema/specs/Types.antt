@@ -24,6 +24,7 @@ abbrev pub reference_to : Text → TypeOf
 reference_to name = record { name = name; modifiers = modifier.NonNull ∷ [] }
 
 module _ {S C : Type 0} where
+  -- the name of a type; what only refers to another type has none
   abbrev pub name_of : MetaType S C → Option Text
   name_of (meta.Scalar m) = Some m.name
   name_of (meta.Object m) = Some m.name
@@ -51,11 +52,13 @@ module _ {S C : Type 0} where
   url_of (meta.Scalar m) = m.specified_by_url
   url_of _ = None
 
+  -- the fields of an object or an interface
   abbrev pub fields_of : MetaType S C → List (Field S)
   fields_of (meta.Object m) = m.fields
   fields_of (meta.Interface m) = m.fields
   fields_of _ = []
 
+  -- the fields of an input object (3.10 Input Objects)
   abbrev pub input_fields_of : MetaType S C → List (Argument S)
   input_fields_of (meta.InputObject m) = m.input_fields
   input_fields_of _ = []

@@ -16,6 +16,7 @@ use Rattle.graphql_schema_files.specs.declared.drafts.DraftKind.TheVariants as k
 use Rattle.graphql_schema_files.specs.declared.drafts.TypeDraft.{TypeDraft}
 use Rattle.graphql_schema_files.specs.SpelledTexts.{HasLiteral, HasType, IsLiteral, IsType, Value}
 
+-- the default scalars
 abbrev pub S : Type 0
 S = DefaultScalarValue
 

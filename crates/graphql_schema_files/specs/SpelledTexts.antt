@@ -22,6 +22,7 @@ pub record IsSpelled {A : Type 0} (Tree : Rel (At A)) (text : Bytes) (x : A) : T
   pub spells : Tree start.ahead tree
   pub is : x ≡ tree.item
 
+-- a value of the default scalars
 abbrev pub Value : Type 0
 Value = InputValue DefaultScalarValue
 
@@ -33,6 +34,7 @@ IsType = IsSpelled TypeOf
 abbrev pub IsLiteral : Bytes → Value → Type 0
 IsLiteral = IsSpelled (ValueOf DefaultScalarValue reads scalar.Boolean true)
 
+-- the text is a reference to some type
 abbrev pub HasType : Bytes → Type 0
 HasType text = (t : TypeRef) × IsType text t
 

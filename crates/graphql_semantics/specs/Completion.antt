@@ -42,6 +42,7 @@ is_required (modifier.List size ∷ wraps) = false
 abbrev pub Members : Type 0 → Type 0
 Members S = List (Pair (Value S))
 
+-- the object of these members
 abbrev pub object_members : {S : Type 0} → Members S → Value S
 object_members members = value.Object (record { fields = members })
 
@@ -52,10 +53,12 @@ module _ {S N : Type 0} (run : N → Outcome S (Members S)) (blame : FieldError 
   abbrev pub misfit : List TypeModifier → Outcome S (Value S)
   misfit wraps = fails (blame (misfit_error name wraps))
 
+  -- the object that a node gives, where the node can stand there
   abbrev pub run_if : Bool → N → Outcome S (Value S)
   run_if true node = outcome_map object_members (run node)
   run_if false node = misfit []
 
+  -- the value of a scalar, where one can stand there
   abbrev pub leaf_if : Bool → S → Outcome S (Value S)
   leaf_if true scalar = gives (value.Scalar scalar)
   leaf_if false scalar = misfit []

@@ -62,6 +62,7 @@ module _ {S N : Type 0} (e : Engine S N) where
       answer_of (λ m. run (path ++ key ∷ []) (e.concrete m) m (sets_below (x ∷ xs)))
       (path ++ key ∷ []) object node x.head
 
+  -- what a group gives, under its key
   abbrev pub keyed : Runs S N → List Bytes → Bytes → N → Group S → Outcome S (Pair (Value S))
   keyed run path object node g = outcome_map (λ x. (g.0, x)) (group run path object node g.0 g.1)
 

@@ -12,6 +12,7 @@ pub record Outcome (S A : Type 0) : Type 0 where
   pub value : Option A
   pub failures : List (ExecutionError S)
 
+-- what is made of two values, where both are there
 abbrev pub both : {A B C : Type 0} → (A → B → C) → Option A → Option B → Option C
 both f None y = None
 both f (Some x) None = None
@@ -24,9 +25,11 @@ module _ {S : Type 0} where
   abbrev pub gives : {A : Type 0} → A → Outcome S A
   gives x = record { value = Some x; failures = [] }
 
+  -- nothing but this failure
   abbrev pub fails : {A : Type 0} → ExecutionError S → Outcome S A
   fails e = record { value = None; failures = e ∷ [] }
 
+  -- the same outcome of another value
   abbrev pub outcome_map : {A B : Type 0} → (A → B) → Outcome S A → Outcome S B
   outcome_map f o = record { value = option_map f o.value; failures = o.failures }
 
@@ -37,6 +40,7 @@ module _ {S : Type 0} where
   shown true None = None
   shown false None = Some value.Null
 
+  -- an outcome as its place shows it: a null goes on where the place is required
   abbrev pub show_place : Bool → Outcome S (Value S) → Outcome S (Value S)
   show_place is_required o = record { value = shown is_required o.value; failures = o.failures }
 

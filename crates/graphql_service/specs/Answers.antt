@@ -41,6 +41,7 @@ pub record Answerer (S C N X : Type 0) : Type 1 where
   pub limit : ℕ
   pub resolver : Resolver S N X
 
+-- by what a service answers
 abbrev pub answerer_of : {S C N X R : Type 0} → Scalars S C → (RuleError → RuleError → Ordering)
     → (ExecutionError S → ExecutionError S → Ordering) → (R → Resolver S N X) → Service S R X C
     → Answerer S C N X

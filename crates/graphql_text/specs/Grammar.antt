@@ -52,6 +52,7 @@ IsOptional k cs = (cs ≡ []) ⊎ ((c : ℕ) × (is_in k c ≡ true) × (cs ≡ 
 
 -- ---- names (2.1.9)
 
+-- characters that are a name (2.1.9 Names)
 abbrev pub IsName : List ℕ → Type 0
 IsName [] = ⊥
 IsName (c ∷ cs) = (is_in class.NameStart c ≡ true) × Each continues_name cs
@@ -149,10 +150,12 @@ IsPiece (character c) = is_string_character c ≡ true
 IsPiece (escaped c) = is_escape c ≡ true
 IsPiece (code a b c d) = IsCode (a ∷ b ∷ c ∷ d ∷ [])
 
+-- each of these is a piece
 abbrev pub ArePieces : List Piece → Type 0
 ArePieces [] = Unit {0}
 ArePieces (x ∷ xs) = IsPiece x × ArePieces xs
 
+-- the characters of pieces, one behind another
 abbrev pub spellings : List Piece → List ℕ
 spellings [] = []
 spellings (x ∷ xs) = spelling x ++ spellings xs

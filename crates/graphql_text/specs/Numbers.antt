@@ -49,6 +49,7 @@ unfoldable pub exponent : Place → Result Place Refusal
 exponent p = if begins class.Exponent p
     then digits (past_one class.Sign (past_one class.Exponent p)) else Ok p
 
+-- a number (2.9.1 Int Value, 2.9.2 Float Value)
 unfoldable pub number : Place → Result (Token × Place) Refusal
 number p = do
   w ← whole (past_one class.Minus p)

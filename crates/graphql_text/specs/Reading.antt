@@ -20,6 +20,7 @@ pub record Place : Type 0 where
   pub at : SourcePosition
   pub rest : List ℕ
 
+-- where a cursor stands
 abbrev pub place_of : Cursor → Place
 place_of c = record { at = c.at; rest = chars c.rest.now }
 
@@ -62,6 +63,7 @@ abbrev pub past : Class → SourcePosition → List ℕ → Place
 past k at [] = record { at = at; rest = [] }
 past k at (c ∷ cs) = if is_in k c then past k (step at c) cs else record { at = at; rest = c ∷ cs }
 
+-- what is left of a text
 pub record IsTail (whole rest : List ℕ) : Type 0 where
   pub front : List ℕ
   pub is : whole ≡ front ++ rest

@@ -82,6 +82,7 @@ ahead_from is_comment at (c ∷ cs) =
     || is_in class.Ignored c then ahead_from goes_on (step at c) cs
     else record { at = at; rest = c ∷ cs }
 
+-- the place behind what is ignored (2.1.7 Ignored Tokens)
 unfoldable pub ahead : Place → Place
 ahead p = ahead_from false p.at p.rest
 
@@ -94,6 +95,7 @@ unfoldable pub cut : Place → Result (Located × Place) Refusal
 cut p = token (ahead p)
     >>= (λ r. Ok (record { item = r.0; span = record { start = (ahead p).at; end = r.1.at } }, r.1))
 
+-- the end of the text
 abbrev pub is_end : Token → Bool
 is_end EndOfFile = true
 is_end _ = false

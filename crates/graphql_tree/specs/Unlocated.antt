@@ -27,10 +27,12 @@ use Rattle.graphql_tree.specs.Variables.{Variable}
 abbrev pub without_place : {A B : Type 0} → (A → B) → Placed A → Placed B
 without_place f x = unplaced (f x.item)
 
+-- a name without its place
 abbrev pub unlocated_name : Placed (List ℕ) → Placed (List ℕ)
 unlocated_name = without_place (λ n. n)
 
 module _ {S : Type 0} where
+  -- an argument without its places
   abbrev pub unlocated_argument : Argument S → Argument S
   unlocated_argument a = (unlocated_name a.0, without_place unlocated a.1)
 
@@ -45,6 +47,7 @@ module _ {S : Type 0} where
     arguments = option_map (without_place unlocated_arguments) d.arguments;
   }
 
+  -- directives without their places
   abbrev pub unlocated_directives : Option (List (Placed (Directive S)))
       → Option (List (Placed (Directive S)))
   unlocated_directives = option_map (map (without_place unlocated_directive))
@@ -57,6 +60,7 @@ module _ {S : Type 0} where
     directives = unlocated_directives v.directives;
   }
 
+  -- definitions of variables without their places
   abbrev pub unlocated_variables : VariableDefinitions S → VariableDefinitions S
   unlocated_variables v = record {
     items = map
@@ -137,5 +141,6 @@ module _ {S : Type 0} where
   unlocated_definition (definition.Fragment f) =
       definition.Fragment (without_place unlocated_fragment f)
 
+  -- a document without its places
   abbrev pub unlocated_document : List (Definition S) → List (Definition S)
   unlocated_document = map unlocated_definition

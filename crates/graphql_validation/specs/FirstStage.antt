@@ -37,9 +37,11 @@ local_rules =
     ∷ unique_argument_names_faults ∷ unique_input_field_names_faults ∷ []
 
 module _ {S C : Type 0} (subject : Subject S C) where
+  -- the parts of what is validated
   abbrev pub parts : List (Part S C)
   parts = occurrences subject.schema subject.document
 
+  -- the scopes of what is validated
   abbrev pub scopes : Scopes S
   scopes = scopes_in subject.schema subject.document
 
@@ -50,6 +52,7 @@ module _ {S C : Type 0} (subject : Subject S C) where
   abbrev pub local_places : Places
   local_places = flat_map places_of local_rules
 
+  -- where fields ask for the schema (4.1 Schema Introspection)
   abbrev pub introspection_places : Places
   introspection_places = places_of disable_introspection_faults
 

@@ -27,6 +27,7 @@ Sign w = TokenOf (only w) (λ v. tt {0})
 abbrev pub NameOf : List Located → List ℕ → Type 0
 NameOf = TokenOf names name_of
 
+-- which tokens spell which name at its place
 abbrev pub Named : List Located → At (List ℕ) → Type 0
 Named = Placed NameOf
 

@@ -27,11 +27,13 @@ some_of [] = None
 some_of (x ∷ xs) = Some (x ∷ xs)
 
 module _ {S : Type 0} (reads : ScalarToken → Result S ParseError) (of_bool : Bool → S) where
+  -- arguments in parentheses, each a name and its value
   unfoldable pub arguments : Bool → Parser (At (Arguments S))
   arguments is_const = located do
     ps ← some_between k.ParenOpen k.ParenClose (named (value reads of_bool is_const))
     pure (record { items = ps })
 
+  -- a directive and its arguments, if it has any
   unfoldable pub directive : Bool → Parser (At (Directive S))
   directive is_const = located do
     expect k.At
@@ -39,6 +41,7 @@ module _ {S : Type 0} (reads : ScalarToken → Result S ParseError) (of_bool : B
     args ← optional (only k.ParenOpen) (arguments is_const)
     pure (record { name = n; arguments = args })
 
+  -- directives, if there are any
   unfoldable pub directives : Bool → Parser (Option (List (At (Directive S))))
   directives is_const = do
     ds ← all (only k.At) (directive is_const) []
@@ -53,6 +56,7 @@ module _ {S : Type 0} (reads : ScalarToken → Result S ParseError) (of_bool : B
     expect k.Equals
     value reads of_bool true
 
+  -- the definition of a variable: its type, and its default if it has one
   unfoldable pub variable_definition : Parser VariableWith
   variable_definition = do
     n ← variable_name
@@ -62,6 +66,7 @@ module _ {S : Type 0} (reads : ScalarToken → Result S ParseError) (of_bool : B
     ds ← directives true
     pure (n, record { var_type = t; default_value = d; directives = ds })
 
+  -- definitions of variables in parentheses
   unfoldable pub variable_definitions : Parser (At (VariableDefinitions S))
   variable_definitions = located do
     ds ← some_between k.ParenOpen k.ParenClose variable_definition

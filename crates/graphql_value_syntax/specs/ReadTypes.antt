@@ -8,6 +8,7 @@ use Rattle.graphql_grammar.specs.Kinds.{only}
 use Rattle.graphql_grammar.specs.Input.{At, Parser, ◌>>=◌, ◌>>◌, pure, refuse, left}
 use Rattle.graphql_grammar.specs.Steps.{when, expect, name, located}
 
+-- a reference to a type: its name, and its wraps
 abbrev pub TypeRef : Type 0
 TypeRef = types.Type (List ℕ) (List TypeModifier)
 
@@ -29,6 +30,7 @@ module _ (inner : Parser (At TypeRef)) where
       (do expect k.BracketOpen; t ← inner; expect k.BracketClose; pure (list_of t))
       (do n ← name; pure (plain n))
 
+  -- a type, with a mark if no null is among its values
   unfoldable pub bare_type : Parser TypeRef
   bare_type = do
     t ← nullable

@@ -31,12 +31,14 @@ module _ {S : Type 0} (reads : ScalarToken → Result S ParseError) (of_bool : B
   word_by k.Null n = v.Null
   word_by w n = v.Enum n
 
+  -- what a word is as a value
   abbrev pub word_of : Token → InputValue S
   word_of x = word_by (kind x) (name_of x)
 
   abbrev pub word : Parser (InputValue S)
   word = token names word_of
 
+  -- a scalar, else a word
   abbrev pub word_or_scalar : Parser (InputValue S)
   word_or_scalar = when (only k.Scalar) (do s ← scalar reads; pure (v.Scalar s)) word
 

@@ -20,6 +20,7 @@ Pair A = Placed Text × Placed A
 abbrev pub unplaced : {A : Type 0} → A → Placed A
 unplaced x = record { item = x; span = record { start = origin; end = origin } }
 
+-- a field that stands in no text
 abbrev pub unplaced_pair : {A : Type 0} → Text × A → Pair A
 unplaced_pair p = (unplaced p.0, unplaced p.1)
 

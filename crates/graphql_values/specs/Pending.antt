@@ -30,6 +30,7 @@ module _ {S : Type 0} where
   told (step.Name name) = spec.Name name.now
   told step.Gap = spec.Gap
 
+  -- the steps that a task stands for
   abbrev pub task_steps : Task S → List (spec.Step S)
   task_steps (task.Value value) = steps value.now
   task_steps (task.Items items) = items_steps items.now

@@ -22,6 +22,7 @@ module _ {A : Type 0} where
   under name ps = map (λ p. p.1) (filter (λ p. bytes_eq p.0.item name) ps)
 
 mutual
+  -- two values are the same: of input objects by the names of their fields, in any order
   pub data SameValue (S : Type 0) (eq : S → S → Bool) : InputValue S → InputValue S → Type 0 where
     same_null : SameValue S eq value.Null value.Null
     same_scalar : (a b : S) → eq a b ≡ true → SameValue S eq (value.Scalar a) (value.Scalar b)

@@ -41,6 +41,7 @@ module _ {S : Type 0} where
   steps_layer (InputValue-F.Object pairs) =
       ObjectOpens ∷ (join_by (field_steps (λ part. part)) (Gap ∷ []) pairs ++ ObjectCloses ∷ [])
 
+  -- the steps of a value, in the order of its text
   abbrev pub steps : InputValue S → List (Step S)
   steps = fold-InputValue S (List (Step S)) steps_layer
 

@@ -26,6 +26,7 @@ each_given f (x ∷ xs) = option_and_then (λ y. option_map (λ ys. y ∷ ys) (e
 abbrev pub given_item : {A : Type 0} → Placed (Option A) → Option (Placed A)
 given_item x = option_map (λ given. record { item = given; span = x.span }) x.item
 
+-- a field, if its value is given
 abbrev pub given_pair : {A : Type 0} → Pair (Option A) → Option (Pair A)
 given_pair p = option_map (λ given. (p.0, given)) (given_item p.1)
 
@@ -63,5 +64,6 @@ module _ {S : Type 0} (given : Text → Option (InputValue S)) where
   abbrev pub constant_item : Placed (InputValue S) → Option (Placed (InputValue S))
   constant_item x = given_item (record { item = constant_of x.item; span = x.span })
 
+  -- a field with the values of variables, or nothing where one has none
   abbrev pub constant_pair : Pair (InputValue S) → Option (Pair (InputValue S))
   constant_pair p = option_map (λ x. (p.0, x)) (constant_item p.1)

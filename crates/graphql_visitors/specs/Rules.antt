@@ -37,6 +37,7 @@ module _ {S C : Type 0} where
   abbrev pub local : {V : Type 0} → Rule S C → Step V S C
   local rule subject v e w told = (w ≡ v) × (told ≡ told_at rule subject e)
 
+  -- the same by what a relation says of each part
   abbrev pub locally : {V : Type 0} → Relation S C → Step V S C
   locally Says subject v e w told = (w ≡ v) × TellAt Says subject e told
 

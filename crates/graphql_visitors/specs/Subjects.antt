@@ -14,6 +14,7 @@ pub record Subject (S C : Type 0) : Type 0 where
   pub document : List (Definition S)
 
 module _ {S C : Type 0} where
+  -- what a context is asked about: its schema's declarations and its document
   abbrev pub subject_of : ValidatorContext S C → Subject S C
   subject_of c =
       record { schema = declarations_of c.schema.now; document = c.fragments.document.now }

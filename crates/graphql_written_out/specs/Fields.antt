@@ -10,6 +10,7 @@ pub record Found (S : Type 0) : Type 0 where
   pub head : Head S
   pub below : Tree S
 
+-- a type condition applies, or there is none (6.3.2 CollectFields, DoesFragmentTypeApply)
 abbrev pub applies : (Bytes → Bool) → Option Bytes → Bool
 applies is_above None = true
 applies is_above (Some on) = is_above on

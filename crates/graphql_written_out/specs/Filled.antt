@@ -37,5 +37,6 @@ module _ {S : Type 0} (given : Text → Option (InputValue S)) where
   abbrev pub filled_item : Placed (InputValue S) → Placed (InputValue S)
   filled_item x = item_or_null (record { item = filled x.item; span = x.span })
 
+  -- a field with the values of variables in its value, if that is given
   abbrev pub filled_pair : Pair (InputValue S) → Option (Pair (InputValue S))
   filled_pair p = given_pair (p.0, record { item = filled p.1.item; span = p.1.span })

@@ -14,6 +14,7 @@ module _ {S : Type 0} where
       if list_any (bytes_eq x.head.key) done then keys_after done xs
       else x.head.key ∷ keys_after (done ++ x.head.key ∷ []) xs
 
+  -- the response keys, each once, in the order of their first fields
   abbrev pub keys : List (Found S) → List Bytes
   keys = keys_after []
 

@@ -7,6 +7,7 @@ use Rattle.graphql_values.specs.InputValues.{Placed}
 use Rattle.graphql_tree.specs.Arguments.{Argument}
 use Rattle.graphql_tree.specs.declared.directive.Directive.{Directive}
 
+-- directives at their places
 abbrev pub Directives : Type 0 → Type 0
 Directives S = List (Placed (Directive S))
 
@@ -34,6 +35,7 @@ height none = 0
 height (field head directives below rest) = max (height below + 1) (height rest)
 height (inline on directives below rest) = max (height below + 1) (height rest)
 
+-- nothing is selected
 abbrev pub is_empty : {S : Type 0} → Tree S → Bool
 is_empty none = true
 is_empty (field head directives below rest) = false

@@ -49,6 +49,7 @@ abbrev pub Before : Type 0 → Type 0
 Before S = Tree S → Tree S
 
 module _ {S : Type 0} where
+  -- selections one before another, and what follows them
   abbrev pub chain : List (Before S) → Tree S → Tree S
   chain [] rest = rest
   chain (f ∷ fs) rest = f (chain fs rest)
@@ -86,6 +87,7 @@ module _ {S : Type 0} where
     inline_layer i = inline (option_map (λ on. on.item) i.type_condition) (listed i.directives)
         (chain i.selection_set none)
 
+    -- a selection, its spreads written as this says
     abbrev pub write_with : Selection S → Before S
     write_with = fold-Selection S (Before S) (SourcePosition → Before S) (Before S) selection_layer
         field_layer inline_layer
@@ -97,6 +99,7 @@ module _ {S : Type 0} where
       write_with (λ x rest. spread_as (λ set. chain (map (write_one depth fragments) set) none)
       (listed x.directives) rest (fragment_meant fragments x.name.item))
 
+  -- a set, its spreads written out to a depth
   abbrev pub write : ℕ → List (Fragment S) → List (Selection S) → Tree S
   write depth fragments set = chain (map (write_one depth fragments) set) none
 
