@@ -6,11 +6,11 @@ use Rattle.allowed_queries.specs.declared.failure.Failure.{Failure}
 use Rattle.allowed_queries.specs.declared.failure.Failure.TheVariants.{Usage}
 
 -- three files, and no word behind them
-abbrev pub arguments_of : Option Word → Option Word → Option Word → Option Word
+abbrev pub program_arguments : Option Word → Option Word → Option Word → Option Word
     → Result Arguments Failure
-arguments_of (Some schema) (Some records) (Some allowed) None =
+program_arguments (Some schema) (Some records) (Some allowed) None =
     Ok (record { schema = schema; records = records; allowed = allowed })
-arguments_of (Some schema) (Some records) (Some allowed) (Some more) = Err Usage
-arguments_of (Some schema) (Some records) None more = Err Usage
-arguments_of (Some schema) None allowed more = Err Usage
-arguments_of None records allowed more = Err Usage
+program_arguments (Some schema) (Some records) (Some allowed) (Some more) = Err Usage
+program_arguments (Some schema) (Some records) None more = Err Usage
+program_arguments (Some schema) None allowed more = Err Usage
+program_arguments None records allowed more = Err Usage

@@ -26,7 +26,7 @@ pub fn arguments_of(
     allowed: Option<String>,
     more: Option<String>,
 ) -> Result<Arguments, Failure>
-    ensures { result ≡ spec.arguments_of schema records allowed more }
+    ensures { result ≡ spec.program_arguments schema records allowed more }
 {
     match (schema, records, allowed, more) {
         (Some(schema), Some(records), Some(allowed), None) => Ok(Arguments {

@@ -6,8 +6,8 @@ use Rattle.cached_answers.specs.declared.failure.Failure.{Failure}
 use Rattle.cached_answers.specs.declared.failure.Failure.TheVariants.{Usage}
 
 -- two files and a number of bytes, and no more
-abbrev pub arguments_of : Option Word → Option Word → Option Word → Option Word
+abbrev pub program_arguments : Option Word → Option Word → Option Word → Option Word
     → Result Arguments Failure
-arguments_of (Some schema) (Some records) (Some bytes) None =
+program_arguments (Some schema) (Some records) (Some bytes) None =
     Ok (record { schema = schema; records = records; bytes = bytes })
-arguments_of _ _ _ _ = Err Usage
+program_arguments _ _ _ _ = Err Usage

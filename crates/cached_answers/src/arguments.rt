@@ -27,7 +27,7 @@ pub fn arguments_of(
     bytes: Option<String>,
     more: Option<String>,
 ) -> Result<Arguments, Failure>
-    ensures { result ≡ spec.arguments_of schema records bytes more }
+    ensures { result ≡ spec.program_arguments schema records bytes more }
 {
     match (schema, records, bytes, more) {
         (Some(schema), Some(records), Some(bytes), None) => Ok(Arguments {

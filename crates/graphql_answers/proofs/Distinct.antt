@@ -19,7 +19,7 @@ use Rattle.graphql_output_values.proofs.DistinctKeyLaws.{by_forms, keeps_keys}
 use Rattle.graphql_field_results.specs.declared.execution_error.ExecutionError.{ExecutionError}
 use Rattle.graphql_rule_errors.specs.declared.rule_error.RuleError.{RuleError}
 use Rattle.graphql_answers.specs.Lines.{ToldInDistinctKeys}
-use Rattle.graphql_answers.specs.Responses.{object_of, text_of, number_of, location_of, locations_of, extensions_layer, extensions_by, extensions_of, field_error_of, plain_answer_of, request_error_of, response_of, refusal_of}
+use Rattle.graphql_answers.specs.Responses.{object_of, text_value, number_of, location_of, locations_of, extensions_layer, extensions_by, extensions_of, field_error_of, plain_answer_of, request_error_of, response_of, refusal_response}
 
 abbrev Distinct : Value ScalarAnswer → Type 0
 Distinct = HasDistinctKeysThroughout
@@ -38,7 +38,7 @@ mapped f P each (x ∷ xs) h = All-cons Distinct (f x) (map f xs) (each x (All-h
 of_list : {A : Type 0} (f : A → Value ScalarAnswer) (P : A → Type 0) → ((x : A) → P x → Distinct (f x)) → (xs : List A) → All P xs → Distinct (value.List (map f xs))
 of_list f P each xs all = (by_forms.2 (map f xs)).1 (mapped f P each xs all)
 
-of_text_value : (t : Bytes) → Distinct (text_of t)
+of_text_value : (t : Bytes) → Distinct (text_value t)
 of_text_value t = by_forms.1 (text t)
 
 of_number : (n : ℕ) → Distinct (number_of n)
@@ -81,13 +81,13 @@ of_request_fields m d (p ∷ ps) =
     (also (codes "message") m ((codes "locations", l) ∷ []) d (also (codes "locations") l [] (each_of (location_of) of_location (p ∷ ps)) none))
 
 of_request_error : (e : RuleError) → Distinct (request_error_of e)
-of_request_error e = of_request_fields (text_of e.message) (of_text_value e.message) e.locations
+of_request_error e = of_request_fields (text_value e.message) (of_text_value e.message) e.locations
 
 errors_key : (v : Value ScalarAnswer) → HasDistinctKeys ((codes "errors", v) ∷ [])
 unfolding IsDistinct
 errors_key v = (tt, tt)
 
-pub of_refusal : (errors : List RuleError) → Distinct (refusal_of errors)
+pub of_refusal : (errors : List RuleError) → Distinct (refusal_response errors)
 of_refusal errors =
     let all = value.List (map (request_error_of) errors) in
     of_object ((codes "errors", all) ∷ []) (errors_key all) (also (codes "errors") all [] (each_of (request_error_of) of_request_error errors) none)
@@ -98,7 +98,7 @@ plain_key v = (tt, tt)
 
 pub of_plain_answer : (plain : Bytes) → Distinct (plain_answer_of plain)
 of_plain_answer plain =
-    let told = text_of plain in
+    let told = text_value plain in
     of_object ((codes "plain", told) ∷ []) (plain_key told) (also (codes "plain") told [] (of_text_value plain) none)
 
 three_keys : (u v w : Value ScalarAnswer) → HasDistinctKeys ((codes "message", u) ∷ (codes "locations", v) ∷ (codes "path", w) ∷ [])
@@ -136,14 +136,14 @@ module _ {S : Type 0} (answer : S → ScalarAnswer) where
   of_field_error : (e : ExecutionError S) → ToldInDistinctKeys e → Distinct (field_error_of answer e)
   of_field_error e d =
       let beside = map_scalars answer e.error.extensions in
-      let m = text_of e.error.message in
+      let m = text_value e.error.message in
       let l = value.List (map location_of (e.location ∷ [])) in
-      let p = value.List (map text_of e.path) in
+      let p = value.List (map text_value e.path) in
       let front = λ (fs : List (Pair (Value ScalarAnswer))). (codes "message", m) ∷ (codes "locations", l) ∷ (codes "path", p) ∷ fs in
       let values = λ (fs : List (Pair (Value ScalarAnswer))) (h : AreDistinct fs).
       also (codes "message") m ((codes "locations", l) ∷ (codes "path", p) ∷ fs) (of_text_value e.error.message)
       (also (codes "locations") l ((codes "path", p) ∷ fs) (each_of location_of of_location (e.location ∷ []))
-      (also (codes "path") p fs (each_of text_of of_text_value e.path) h)) in
+      (also (codes "path") p fs (each_of text_value of_text_value e.path) h)) in
       by_extensions (λ fs. Distinct (object_of (front fs))) e.error.extensions
       (of_object (front []) (three_keys m l p) (values [] none))
       (of_object (front ((codes "extensions", beside) ∷ [])) (four_keys m l p beside)

@@ -12,7 +12,7 @@ use Rattle.graphql_output_values.specs.Objects.{Pair}
 use Rattle.graphql_output_values.specs.ValueEquations.{fold_null, fold_scalar, fold_list, fold_object}
 use Rattle.graphql_output_values.specs.ValueInduction.{value_ind}
 use Rattle.graphql_output_values.specs.declared.value.Value.{Value}
-use Rattle.graphql_json.specs.Json.{hex_digit, escaped, json_text, joined, member_json, int_or, bool_or, text_or_null, json, json_layer, fields_layer}
+use Rattle.graphql_json.specs.Json.{hex_digit, escaped, json_text, joined, member_json, int_or, bool_or, json_text_or_null, json, json_layer, fields_layer}
 use Rattle.graphql_json.proofs.JsonSteps.{object_is}
 
 abbrev has_feed : Bytes → Bool
@@ -77,7 +77,7 @@ no_feed-joined gap (x ∷ xs) g all =
     no_feed-append (gap ++ x) (joined (codes ",") xs) (no_feed-append gap x g (All-head HasNoFeed x xs all)) (no_feed-joined (codes ",") xs refl (All-tail HasNoFeed x xs all))
 
 module _ {S : Type 0} (answer : S → ScalarAnswer) where
-  no_feed-answer : (a : ScalarAnswer) → HasNoFeed (int_or answer (as_int a) (bool_or answer (as_bool a) (text_or_null answer (as_text a))))
+  no_feed-answer : (a : ScalarAnswer) → HasNoFeed (int_or answer (as_int a) (bool_or answer (as_bool a) (json_text_or_null answer (as_text a))))
   no_feed-answer (integer n) = no_feed-integer n
   no_feed-answer (boolean true) = refl
   no_feed-answer (boolean false) = refl

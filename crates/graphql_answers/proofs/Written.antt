@@ -18,10 +18,10 @@ use Rattle.graphql_output_values.specs.declared.value.Value.TheVariants as value
 use Rattle.graphql_output_values.proofs.MapLemmas.{map_scalars-null, map_scalars-scalar, map_scalars-list, map_scalars-object}
 use Rattle.graphql_field_results.specs.declared.execution_error.ExecutionError.{ExecutionError}
 use Rattle.graphql_rule_errors.specs.declared.rule_error.RuleError.{RuleError}
-use Rattle.graphql_json.specs.Json.{joined, json_text, member_json, int_or, bool_or, text_or_null, json, json_layer, fields_layer}
+use Rattle.graphql_json.specs.Json.{joined, json_text, member_json, int_or, bool_or, json_text_or_null, json, json_layer, fields_layer}
 use Rattle.graphql_json.proofs.JsonSteps.{object_is}
 use Rattle.graphql_answers.specs.Lines.{answer_json}
-use Rattle.graphql_answers.specs.Responses.{plain_answer_of, object_of, text_of, number_of, location_of, locations_of, extensions_layer, extensions_by, extensions_of, field_error_of, request_error_of, errors_of, response_of, refusal_of}
+use Rattle.graphql_answers.specs.Responses.{plain_answer_of, object_of, text_value, number_of, location_of, locations_of, extensions_layer, extensions_by, extensions_of, field_error_of, request_error_of, errors_of, response_of, refusal_response}
 use Rattle.graphql_answers.specs.Texts.{plain_answer_text, location_text, locations_text, extensions_text_layer, extensions_text, field_error_text, errors_text, response_text, request_error_text, refusal_text}
 
 same_texts : {A : Type 0} (f g : A → Bytes) → ((x : A) → f x ≡ g x) → (xs : List A) → map f xs ≡ map g xs
@@ -82,7 +82,7 @@ of_list f g same xs =
     fold_list layer members (map f xs)
     ∙ ap (λ ts. 91 ∷ joined [] ts ++ 93 ∷ []) (map-map answer_json f xs ∙ same_texts (λ x. answer_json (f x)) g same xs)
 
-of_text_value : (t : Bytes) → answer_json (text_of t) ≡ json_text t
+of_text_value : (t : Bytes) → answer_json (text_value t) ≡ json_text t
 of_text_value t = fold_scalar layer members (text t)
 
 of_number : (n : ℕ) → answer_json (number_of n) ≡ decimal n
@@ -109,11 +109,11 @@ of_locations (place ∷ places) =
 
 of_request_error : (e : RuleError) → answer_json (request_error_of e) ≡ request_error_text e
 of_request_error e =
-    of_fields ((codes "message", text_of e.message) ∷ locations_of e.locations)
+    of_fields ((codes "message", text_value e.message) ∷ locations_of e.locations)
     ∙ ap₂ (λ m l. 123 ∷ (member_json (codes "message", m) ++ l) ++ 125 ∷ []) (of_text_value e.message) (of_locations e.locations)
     ∙ ap (λ z. codes "{\"message\":" ++ z) (append_assoc (json_text e.message) (locations_text e.locations) (125 ∷ []))
 
-pub of_refusal : (errors : List RuleError) → answer_json (refusal_of errors) ≡ refusal_text errors
+pub of_refusal : (errors : List RuleError) → answer_json (refusal_response errors) ≡ refusal_text errors
 of_refusal errors =
     let texts = joined [] (map request_error_text errors) in
     of_fields ((codes "errors", value.List (map request_error_of errors)) ∷ [])
@@ -122,7 +122,7 @@ of_refusal errors =
 
 pub of_plain_answer : (plain : Bytes) → answer_json (plain_answer_of plain) ≡ plain_answer_text plain
 of_plain_answer plain =
-    of_fields ((codes "plain", text_of plain) ∷ [])
+    of_fields ((codes "plain", text_value plain) ∷ [])
     ∙ ap (λ t. 123 ∷ (member_json (codes "plain", t) ++ []) ++ 125 ∷ []) (of_text_value plain)
     ∙ ap (λ z. codes "{\"plain\":" ++ z) (ap (λ z. z ++ 125 ∷ []) (append-nil (json_text plain)))
 
@@ -144,8 +144,8 @@ error_fields m l p e =
 
 module _ {S : Type 0} (answer : S → ScalarAnswer) where
   same_scalar : (a : ScalarAnswer)
-      → int_or as_told (as_int a) (bool_or as_told (as_bool a) (text_or_null as_told (as_text a)))
-      ≡ int_or answer (as_int a) (bool_or answer (as_bool a) (text_or_null answer (as_text a)))
+      → int_or as_told (as_int a) (bool_or as_told (as_bool a) (json_text_or_null as_told (as_text a)))
+      ≡ int_or answer (as_int a) (bool_or answer (as_bool a) (json_text_or_null answer (as_text a)))
   same_scalar (integer n) = refl
   same_scalar (boolean true) = refl
   same_scalar (boolean false) = refl
@@ -194,13 +194,13 @@ module _ {S : Type 0} (answer : S → ScalarAnswer) where
 
   of_field_error : (e : ExecutionError S) → answer_json (field_error_of answer e) ≡ field_error_text answer e
   of_field_error e =
-      let m = text_of e.error.message in
+      let m = text_value e.error.message in
       let l = value.List (map location_of (e.location ∷ [])) in
-      let p = value.List (map text_of e.path) in
+      let p = value.List (map text_value e.path) in
       of_fields ((codes "message", m) ∷ (codes "locations", l) ∷ (codes "path", p) ∷ extensions_of answer e.error.extensions)
       ∙ ap₂ (λ m r. 123 ∷ (member_json (codes "message", m) ++ r) ++ 125 ∷ []) (of_text_value e.error.message)
       (ap₂ (λ l r. codes "," ++ member_json (codes "locations", l) ++ r) (of_list location_of location_text of_location (e.location ∷ []))
-      (ap₂ (λ p r. codes "," ++ member_json (codes "path", p) ++ r) (of_list text_of json_text of_text_value e.path) (of_beside e.error.extensions e.error.extensions)))
+      (ap₂ (λ p r. codes "," ++ member_json (codes "path", p) ++ r) (of_list text_value json_text of_text_value e.path) (of_beside e.error.extensions e.error.extensions)))
       ∙ error_fields (json_text e.error.message) (location_text e.location) (joined [] (map json_text e.path)) (extensions_text answer e.error.extensions)
 
   of_errors : (errors : List (ExecutionError S)) → joined (codes ",") (map member (errors_of answer errors)) ≡ errors_text answer errors

@@ -8,7 +8,7 @@ use Rattle.graphql_output_values.specs.declared.value.Value.{Value}
 use Rattle.graphql_field_results.specs.declared.execution_error.ExecutionError.{ExecutionError}
 use Rattle.graphql_rule_errors.specs.declared.rule_error.RuleError.{RuleError}
 use Rattle.graphql_json.specs.Json.{json}
-use Rattle.graphql_answers.specs.Responses.{plain_answer_of, refusal_of, response_of}
+use Rattle.graphql_answers.specs.Responses.{plain_answer_of, refusal_response, response_of}
 
 -- one line: it ends with a line feed, and holds no other
 pub record IsLine (bytes : Bytes) : Type 0 where
@@ -38,7 +38,7 @@ AnswersHaveDistinctKeys {S} answer =
     ((answered : Value S) (errors : List (ExecutionError S)) → HasDistinctKeysThroughout answered
     → All ToldInDistinctKeys errors
     → HasDistinctKeysThroughout (response_of answer answered errors))
-    × ((errors : List RuleError) → HasDistinctKeysThroughout (refusal_of errors))
+    × ((errors : List RuleError) → HasDistinctKeysThroughout (refusal_response errors))
 
 -- the answer that tells a plain text has distinct keys
 abbrev pub PlainHasDistinctKeys : Type 0

@@ -16,8 +16,8 @@ use Rattle.graphql_rule_errors.specs.declared.rule_error.RuleError.{RuleError}
 abbrev pub object_of : List (Pair (Value ScalarAnswer)) → Value ScalarAnswer
 object_of fields = value.Object (record { fields = fields })
 
-abbrev pub text_of : Bytes → Value ScalarAnswer
-text_of bytes = value.Scalar (text bytes)
+abbrev pub text_value : Bytes → Value ScalarAnswer
+text_value bytes = value.Scalar (text bytes)
 
 -- a number of JSON, which may be greater than an `Int`
 abbrev pub number_of : ℕ → Value ScalarAnswer
@@ -48,15 +48,16 @@ extensions_by {S} beside = fold-Value S (List (Pair (Value ScalarAnswer)))
 -- why a request is not executed
 abbrev pub request_error_of : RuleError → Value ScalarAnswer
 request_error_of error =
-    object_of ((codes "message", text_of error.message) ∷ locations_of error.locations)
+    object_of ((codes "message", text_value error.message) ∷ locations_of error.locations)
 
 -- the answer to a request that is refused, and has no data
-abbrev pub refusal_of : List RuleError → Value ScalarAnswer
-refusal_of errors = object_of ((codes "errors", value.List (map request_error_of errors)) ∷ [])
+abbrev pub refusal_response : List RuleError → Value ScalarAnswer
+refusal_response errors = object_of
+    ((codes "errors", value.List (map request_error_of errors)) ∷ [])
 
 -- the answer that tells a plain text
 abbrev pub plain_answer_of : Bytes → Value ScalarAnswer
-plain_answer_of plain = object_of ((codes "plain", text_of plain) ∷ [])
+plain_answer_of plain = object_of ((codes "plain", text_value plain) ∷ [])
 
 -- by what scalars answer
 module _ {S : Type 0} (answer : S → ScalarAnswer) where
@@ -67,9 +68,10 @@ module _ {S : Type 0} (answer : S → ScalarAnswer) where
   -- data down to it
   abbrev pub field_error_of : ExecutionError S → Value ScalarAnswer
   field_error_of error =
-      object_of ((codes "message", text_of error.error.message)
+      object_of ((codes "message", text_value error.error.message)
       ∷ (codes "locations", value.List (location_of error.location ∷ []))
-      ∷ (codes "path", value.List (map text_of error.path)) ∷ extensions_of error.error.extensions)
+      ∷ (codes "path", value.List (map text_value error.path))
+      ∷ extensions_of error.error.extensions)
 
   -- the errors of fields, left out where there is none
   abbrev pub errors_of : List (ExecutionError S) → List (Pair (Value ScalarAnswer))

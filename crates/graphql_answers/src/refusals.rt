@@ -3,7 +3,7 @@
 
 ghost use Rattle.std.specs.Prelude.{◌≡◌, ◌∷◌, [], ◌++◌, map, OnOk};
 ghost use Rattle.graphql_answers.specs.Lines.{answer_json};
-ghost use Rattle.graphql_answers.specs.Responses.{refusal_of};
+ghost use Rattle.graphql_answers.specs.Responses.{refusal_response};
 ghost use Rattle.graphql_answers.specs.Texts as spec;
 ghost use Rattle.graphql_json.specs.Json.{joined};
 ghost use Rattle.graphql_json.specs.Writing.{KeepsFront};
@@ -52,7 +52,7 @@ fn push_request_errors(out: &mut Vec<u8>, errors: &[RuleError]) -> Result<(), Al
 /// behind what it held.
 pub fn errors_to_json(out: &mut Vec<u8>, errors: &[RuleError]) -> Result<(), AllocError>
     ensures written { OnOk result
-        (out.new.items ≡ out.old.items ++ answer_json (refusal_of errors.now)) }
+        (out.new.items ≡ out.old.items ++ answer_json (refusal_response errors.now)) }
     ensures front { KeepsFront out.old.items out.new.items }
 {
     out.extend_from_slice(b"{\"errors\":[")?;
@@ -70,7 +70,7 @@ pub fn refusal_to_json(
     ensures written { OnOk result (out.new.items
         ≡ out.old.items
         ++ answer_json
-        (refusal_of (record { locations = places.now; message = message.now } ∷ []))) }
+        (refusal_response (record { locations = places.now; message = message.now } ∷ []))) }
     ensures front { KeepsFront out.old.items out.new.items }
 {
     out.extend_from_slice(b"{\"errors\":[")?;

@@ -11,12 +11,12 @@ use Rattle.graphql_tree.specs.Arguments.{Argument as Written}
 use Rattle.graphql_written_out.specs.Filled.{filled}
 
 -- a name with a value, at its place
-abbrev pub Value : Type 0 → Type 0
-Value S = Bytes × Placed (InputValue S)
+abbrev pub NamedValue : Type 0 → Type 0
+NamedValue S = Bytes × Placed (InputValue S)
 
 -- argument values: names with values, in order
 abbrev pub Given : Type 0 → Type 0
-Given S = List (Value S)
+Given S = List (NamedValue S)
 
 module _ {S : Type 0} where
   abbrev pub has_value : Given S → Bytes → Bool
@@ -27,12 +27,12 @@ module _ {S : Type 0} where
   value_named values name = option_map (λ p. p.1.item) (find (λ p. bytes_eq p.0 name) values)
 
   -- a written argument, at the place of its value; nothing where it is a variable without a value
-  abbrev pub filled_argument : (Bytes → Option (InputValue S)) → Written S → Option (Value S)
+  abbrev pub filled_argument : (Bytes → Option (InputValue S)) → Written S → Option (NamedValue S)
   filled_argument given a =
       option_map (λ v. (a.0.item, record { item = v; span = a.1.span })) (filled given a.1.item)
 
   -- the default of a declared argument that is absent, in no text
-  abbrev pub default_of : Given S → Argument S → Option (Value S)
+  abbrev pub default_of : Given S → Argument S → Option (NamedValue S)
   default_of values a = if has_value values a.name then None
       else option_map (λ v. (a.name, unplaced v)) a.default_value
 

@@ -13,7 +13,7 @@ use Rattle.graphql_merging.specs.Done.{all_sets}
 use Rattle.graphql_merging.specs.Merging.{SameField, SameShapes, Agree, Merging, in_set, in_sets, apart}
 use Rattle.graphql_merging.specs.Sets.{Set, members_of, sets_of}
 use Rattle.graphql_merging.specs.Pieces.{Pieces, PieceField, StandsIn, directly, in_fragment, IsPieceOf, HasOwnPieces, IsSettled}
-use Rattle.graphql_bundles.specs.Bundles.{Bundle, Part, Group, every, parts, in_part, IsNamed, OwnOf, StandsAmong, Holds, IsVoid, IsGathered, Stood, IsGroupOf, HasShape, IsAlike, IsPassed, MeetAll, IsReachedBundle, of_definition, of_part}
+use Rattle.graphql_bundles.specs.Bundles.{Bundle, GroupPart, BundleGroup, every, parts, in_part, IsNamed, OwnOf, StandsAmong, CoversPiece, IsVoid, IsGathered, Stood, IsGroupOf, HasShape, IsAlike, IsPassed, MeetAll, IsReachedBundle, of_definition, of_part}
 use Rattle.graphql_bundles.specs.BundleLaws.{FoundIsTold, BundlesMeetContract}
 use Rattle.graphql_merging.proofs.Contracts.{done-meets, set-of-root}
 use Rattle.graphql_merging.proofs.Nested.{nested-sets-follow}
@@ -31,12 +31,12 @@ module _ (S C : Type 0) (eq : S → S → Bool) (third : SameByAThird eq) (types
   shape-of-two None a b f g = shapes-none types (declared a) (declared b) f
   shape-of-two (Some s) a b f g = shapes-third types (declared a) (declared b) s f g
 
-  cover : (group : Group S C) (a b : Member S C) → IsNamed group.names a → IsNamed group.names b → apart a b ≡ false
+  cover : (group : BundleGroup S C) (a b : Member S C) → IsNamed group.names a → IsNamed group.names b → apart a b ≡ false
       → Covered group.names (is_object a.parent) (own_name a.parent) (is_object b.parent) (own_name b.parent)
   cover group a b f g e =
       covered group.names (is_object a.parent) (own_name a.parent) (is_object b.parent) (own_name b.parent) (named-In group.names a f) (named-In group.names b g) e
 
-  pub alike-agree : (x : Bool) (group : Group S C) → ((f : PieceField S C) → Contains group.fields f → IsNamed group.names f.member)
+  pub alike-agree : (x : Bool) (group : BundleGroup S C) → ((f : PieceField S C) → Contains group.fields f → IsNamed group.names f.member)
       → IsAlike eq types x group → (f g : PieceField S C) → Contains group.fields f → Contains group.fields g → Agree eq types x f.member g.member
   alike-agree x group named alike f g i j = (
     names x alike.field,
@@ -44,13 +44,13 @@ module _ (S C : Type 0) (eq : S → S → Bool) (third : SameByAThird eq) (types
   )
     where
       names : (y : Bool)
-          → ((part : Part) → Contains (parts y group.names) part → part.around ≡ false
+          → ((part : GroupPart) → Contains (parts y group.names) part → part.around ≡ false
           → (h : Member S C) × ((f : PieceField S C) → Contains group.fields f → in_part part f.member ≡ true → SameField eq types f.member h))
           → (y || apart f.member g.member) ≡ false → SameField eq types f.member g.member
       names true field e = absurd (false≢true (sym e))
       names false field e =
           let c = cover group f.member g.member (named f i) (named g j) e in
-          let part : Part = record { of = c.of; around = false } in
+          let part : GroupPart = record { of = c.of; around = false } in
           let h = field part (from-In part (parts false group.names) c.is_part) refl in
           same-field-by-a-third S C eq third types f.member g.member h.0 (h.1 f i c.left) (h.1 g j c.right)
 
@@ -59,8 +59,8 @@ module _ (S C : Type 0) (eq : S → S → Bool) (third : SameByAThird eq) (types
     gathered-stood x P p q (inl none) i j = inl (inl (none p i))
     gathered-stood x P p q (inr b) i j = inr (b.0, b.1, b.2, b.3 p i, b.3 q j)
 
-    own-stood : (x : Bool) (group : Group S C) → ((f : PieceField S C) → Contains group.fields f → IsNamed group.names f.member)
-        → ((part : Part) → Contains (parts x group.names) part → IsGathered t bundles part.around (OwnOf group part))
+    own-stood : (x : Bool) (group : BundleGroup S C) → ((f : PieceField S C) → Contains group.fields f → IsNamed group.names f.member)
+        → ((part : GroupPart) → Contains (parts x group.names) part → IsGathered t bundles part.around (OwnOf group part))
         → (f g : PieceField S C) → Contains group.fields f → Contains group.fields g → Stood t bundles f.own g.own (x || apart f.member g.member)
     own-stood true group named begun f g i j =
         gathered-stood true (OwnOf group (every true)) f.own g.own (begun (every true) (from-In (every true) (parts true group.names) (inl refl)))
@@ -76,7 +76,7 @@ module _ (S C : Type 0) (eq : S → S → Bool) (third : SameByAThird eq) (types
             (f, i, refl, refl) (g, j, refl, refl)
         cases false e =
             let c = cover group f.member g.member (named f i) (named g j) e in
-            let part : Part = record { of = c.of; around = false } in
+            let part : GroupPart = record { of = c.of; around = false } in
             gathered-stood false (OwnOf group part) f.own g.own (begun part (from-In part (parts false group.names) c.is_part))
             (f, i, c.left, refl) (g, j, c.right, refl)
 
@@ -84,7 +84,7 @@ module _ (S C : Type 0) (eq : S → S → Bool) (third : SameByAThird eq) (types
       void-inner : (p r : ℕ) → IsVoid t p → Contains (t.inner p) r → IsVoid t r
       void-inner p r v i = λ f h. v f (in_fragment p r f i h)
 
-      holds-inner : (sets : List ℕ) (p r : ℕ) → Holds t sets p → Contains (t.inner p) r → Holds t sets r
+      holds-inner : (sets : List ℕ) (p r : ℕ) → CoversPiece t sets p → Contains (t.inner p) r → CoversPiece t sets r
       holds-inner sets p r k i = λ f h. k f (in_fragment p r f i h)
 
       stood-left : (p q r : ℕ) (x : Bool) → Stood t bundles p q x → Contains (t.inner p) r → Stood t bundles r q x
@@ -123,7 +123,7 @@ module _ (S C : Type 0) (eq : S → S → Bool) (types : List (MetaType S C)) (t
     below b h f s i = (owns s.0 h s.2).only f i
 
     -- from a bundle to the own sets of a part of a group
-    part-meets : (b c : Bundle) (group : Group S C) (part : Part) → MeetAll t eq types ms b → IsGroupOf t b group → Contains (parts b.around group.names) part
+    part-meets : (b c : Bundle) (group : BundleGroup S C) (part : GroupPart) → MeetAll t eq types ms b → IsGroupOf t b group → Contains (parts b.around group.names) part
         → c.around ≡ part.around → ((f : PieceField S C) → StandsAmong t c.sets f → (p : ℕ) × OwnOf group part p × StandsIn t p f) → MeetAll t eq types ms c
     part-meets b c group part meets of is same only f g i j key =
         let u = only f i in

@@ -9,7 +9,7 @@ use Rattle.std.proofs.lemmas.Option.{get_or_from_slice_get, slice_get_within}
 use Rattle.indexmap.specs.IndexSet.{insert_key}
 use Rattle.indexmap.proofs.CallerLemmas.{Contains-insert_key}
 use Rattle.graphql_merging.specs.Pieces.{Pieces, PieceField, StandsIn, directly, in_fragment}
-use Rattle.graphql_bundles.specs.Bundles.{StandsAmong, Holds}
+use Rattle.graphql_bundles.specs.Bundles.{StandsAmong, CoversPiece}
 use Rattle.graphql_merging.proofs.Nested.{one-only, in-nothing}
 use Rattle.graphql_bundles.specs.Closed.{AddsNumbers, IsOpened, IsClosure, AreThose}
 use Rattle.graphql_bundles.proofs.ListLemmas.{past-end}
@@ -104,7 +104,7 @@ module _ {S C : Type 0} (t : Pieces S C) (sets : List ℕ) where
     some p f i e = in-nothing f (subst (λ fs. Contains fs f) e i)
 
     -- what stands in one of all stands directly in one of them
-    pub closed-holds : (p : ℕ) → Contains all p → Holds t closed p
+    pub closed-holds : (p : ℕ) → Contains all p → CoversPiece t closed p
     closed-holds p i f s = held-in p f i s
       where
         held-in : (p : ℕ) (f : PieceField S C) → Contains all p → StandsIn t p f → StandsAmong t closed f

@@ -15,14 +15,14 @@ use Rattle.graphql_tree.specs.declared.document.Fragment.{Fragment}
 use Rattle.graphql_merging.specs.Members.{Member, declared}
 use Rattle.graphql_merging.specs.Merging.{SameField, SameShapes, Agree, apart}
 use Rattle.graphql_merging.specs.Pieces.{PieceField}
-use Rattle.graphql_merging.specs.Selected.{seen}
+use Rattle.graphql_merging.specs.Selected.{member_of}
 use Rattle.graphql_merging.specs.Tables.{piece_field}
 use Rattle.graphql_merging.specs.Told.{Names, AddsErrors, Tells}
 use Rattle.graphql_merging.specs.declared.table.WrittenField.{WrittenField}
 use Rattle.graphql_merging.proofs.DirectFields.{In, to-In, from-In, tells-named, tells-sound}
 use Rattle.graphql_merging.proofs.Nested.{in-nothing}
 use Rattle.graphql_merging.proofs.Standing.{agreement-is-mutual, agree-under}
-use Rattle.graphql_bundles.specs.Bundles.{Part, one, parts, in_part}
+use Rattle.graphql_bundles.specs.Bundles.{GroupPart, of_object, parts, in_part}
 use Rattle.graphql_bundles.specs.Steps.{Compares, AreShaped, ArePartNamed, IsFoundOf}
 use Rattle.graphql_bundles.specs.Groups.{IsFoundAt, is_of, is_declared, names_in}
 use Rattle.graphql_bundles.proofs.ListLemmas.{map_has, map_of, filter_has, filter_of, take-cases}
@@ -52,7 +52,7 @@ compares-both F P Q old mid new f g = record {
 
 module _ {S C : Type 0} (eq : S → S → Bool) (types : List (MetaType S C)) (fragments : List (Fragment S)) where
   abbrev at : WrittenField S C → Member S C
-  at f = seen fragments f.selected
+  at f = member_of fragments f.selected
 
   abbrev pub Pair : Type 0
   Pair = Member S C × Member S C
@@ -149,39 +149,39 @@ module _ {S C : Type 0} (eq : S → S → Bool) (types : List (MetaType S C)) (f
 
   -- names and arguments: no field is in the part
   pub part-none : (group : List (WrittenField S C)) (name : Bytes) (old : Places) → filter (is_of (Some name)) group ≡ []
-      → Compares (IsFoundOf eq types false (fields group)) (ArePartNamed eq types (fields group) (one name)) old old
-  part-none group name old none = compares-none (IsFoundOf eq types false (fields group)) (ArePartNamed eq types (fields group) (one name)) old
+      → Compares (IsFoundOf eq types false (fields group)) (ArePartNamed eq types (fields group) (of_object name)) old old
+  part-none group name old none = compares-none (IsFoundOf eq types false (fields group)) (ArePartNamed eq types (fields group) (of_object name)) old
       (λ f i. (
         f.member,
         λ g j u. let m = map_of (piece_field fragments) group g j in
-            let k = filter_has (is_of (Some name)) group m.0 m.1 (ap (λ (p : PieceField S C). in_part (one name) p.member) m.2 ∙ u) in
+            let k = filter_has (is_of (Some name)) group m.0 m.1 (ap (λ (p : PieceField S C). in_part (of_object name) p.member) m.2 ∙ u) in
             in-nothing m.0 (subst (λ fs. Contains fs m.0) none k),
       ))
 
   -- the fields of the part are compared with one of it
   pub part-some : (group : List (WrittenField S C)) (name : Bytes) (h : WrittenField S C) (part : List (WrittenField S C)) (old new : Places)
       → part ≡ filter (is_of (Some name)) group → Contains part h → AddsErrors (Agree eq types false) (map {B = Pair} (beside h) part) old new
-      → Compares (IsFoundOf eq types false (fields group)) (ArePartNamed eq types (fields group) (one name)) old new
+      → Compares (IsFoundOf eq types false (fields group)) (ArePartNamed eq types (fields group) (of_object name)) old new
   part-some group name h part old new is i adds =
       compares-weaker (Differs false h part) (IsFoundOf eq types false (fields group)) (AllAgree false h part)
-      (ArePartNamed eq types (fields group) (one name)) old new
+      (ArePartNamed eq types (fields group) (of_object name)) old new
       (of-group false false h part group (λ e. e) (of h i).0 (λ f j. (of f j).0)) named (compares-with false h part old new adds)
     where
       of : (f : WrittenField S C) → Contains part f → Contains group f × (is_of (Some name) f ≡ true)
       of f j = filter_of (is_of (Some name)) group f (subst (λ fs. Contains fs f) is j)
 
-      named : AllAgree false h part → ArePartNamed eq types (fields group) (one name)
+      named : AllAgree false h part → ArePartNamed eq types (fields group) (of_object name)
       named agree _ _ = (
         at h,
         λ g j u. let m = map_of (piece_field fragments) group g j in
-            let v : is_of (Some name) m.0 ≡ true = ap (λ (p : PieceField S C). in_part (one name) p.member) m.2 ∙ u in
+            let v : is_of (Some name) m.0 ≡ true = ap (λ (p : PieceField S C). in_part (of_object name) p.member) m.2 ∙ u in
             let k = subst (λ fs. Contains fs m.0) (sym is) (filter_has (is_of (Some name)) group m.0 m.1 v) in
             let parents = of-name name (is_object (at m.0).parent) (own_name (at m.0).parent) (is_object (at h).parent) (own_name (at h).parent) v (of h i).1 in
             subst (λ (p : PieceField S C). SameField eq types p.member (at h)) m.2 (same-of (at h) (at m.0) parents (agree m.0 k)),
       )
 
   abbrev pub EachPart : List (WrittenField S C) → List Bytes → Type 0
-  EachPart group names = (part : Part) → Contains (parts false names) part → part.around ≡ false → ArePartNamed eq types (fields group) part
+  EachPart group names = (part : GroupPart) → Contains (parts false names) part → part.around ≡ false → ArePartNamed eq types (fields group) part
 
   -- all are compared with one whose parent is no object type
   pub names-some : (group : List (WrittenField S C)) (names : List Bytes) (h : WrittenField S C) (old new : Places)
@@ -207,17 +207,17 @@ module _ {S C : Type 0} (eq : S → S → Bool) (types : List (MetaType S C)) (f
   -- the fields of each object type are
   pub names-none : (group : List (WrittenField S C)) (names : List Bytes) (old new : Places) → names ≡ names_in group
       → IsFoundAt (λ f. not (is_object f.selected.parent.now)) group None
-      → Compares (IsFoundOf eq types false (fields group)) ((name : Bytes) → Contains names name → ArePartNamed eq types (fields group) (one name)) old new
+      → Compares (IsFoundOf eq types false (fields group)) ((name : Bytes) → Contains names name → ArePartNamed eq types (fields group) (of_object name)) old new
       → Compares (IsFoundOf eq types false (fields group)) (EachPart group names) old new
   names-none group names old new are none h =
       compares-weaker (IsFoundOf eq types false (fields group)) (IsFoundOf eq types false (fields group))
-      ((name : Bytes) → Contains names name → ArePartNamed eq types (fields group) (one name)) (EachPart group names) old new (λ e i. i) each h
+      ((name : Bytes) → Contains names name → ArePartNamed eq types (fields group) (of_object name)) (EachPart group names) old new (λ e i. i) each h
     where
       object : (o : Bool) → not o ≡ false → o ≡ true
       object true e = refl
       object false e = absurd (false≢true (sym e))
 
-      each : ((name : Bytes) → Contains names name → ArePartNamed eq types (fields group) (one name)) → EachPart group names
+      each : ((name : Bytes) → Contains names name → ArePartNamed eq types (fields group) (of_object name)) → EachPart group names
       each all part i e f j =
           let m = map_of (piece_field fragments) group f j in
           let there = subst (λ ns. Contains ns (own_name (at m.0).parent)) (sym are) (name-there group m.0 m.1 (object (is_object (at m.0).parent) (none m.0 m.1))) in
@@ -226,22 +226,22 @@ module _ {S C : Type 0} (eq : S → S → Bool) (types : List (MetaType S C)) (f
 
   -- the parts of some object types
   abbrev pub SomeParts : List (WrittenField S C) → List Bytes → Type 0
-  SomeParts group names = (name : Bytes) → Contains names name → ArePartNamed eq types (fields group) (one name)
+  SomeParts group names = (name : Bytes) → Contains names name → ArePartNamed eq types (fields group) (of_object name)
 
   pub parts-first : (group : List (WrittenField S C)) (old : Places) → Compares (IsFoundOf eq types false (fields group)) (SomeParts group []) old old
   parts-first group old = compares-none (IsFoundOf eq types false (fields group)) (SomeParts group []) old (λ name i. in-nothing name i)
 
   pub parts-more : (group : List (WrittenField S C)) (names : List Bytes) (i : ℕ) (name same : Bytes) (old mid new : Places) → i < length names → name ≡ get_or names i name
       → same ≡ name → Compares (IsFoundOf eq types false (fields group)) (SomeParts group (take i names)) old mid
-      → Compares (IsFoundOf eq types false (fields group)) (ArePartNamed eq types (fields group) (one same)) mid new
+      → Compares (IsFoundOf eq types false (fields group)) (ArePartNamed eq types (fields group) (of_object same)) mid new
       → Compares (IsFoundOf eq types false (fields group)) (SomeParts group (take (i + 1) names)) old new
   parts-more group names i name same old mid new within is e f h =
       compares-weaker (IsFoundOf eq types false (fields group)) (IsFoundOf eq types false (fields group))
-      (SomeParts group (take i names) × ArePartNamed eq types (fields group) (one same)) (SomeParts group (take (i + 1) names)) old new (λ d k. k) joins
-      (compares-both (IsFoundOf eq types false (fields group)) (SomeParts group (take i names)) (ArePartNamed eq types (fields group) (one same)) old mid new f h)
+      (SomeParts group (take i names) × ArePartNamed eq types (fields group) (of_object same)) (SomeParts group (take (i + 1) names)) old new (λ d k. k) joins
+      (compares-both (IsFoundOf eq types false (fields group)) (SomeParts group (take i names)) (ArePartNamed eq types (fields group) (of_object same)) old mid new f h)
     where
-      joins : SomeParts group (take i names) × ArePartNamed eq types (fields group) (one same) → SomeParts group (take (i + 1) names)
+      joins : SomeParts group (take i names) × ArePartNamed eq types (fields group) (of_object same) → SomeParts group (take (i + 1) names)
       joins both n j = elim (take-cases names i name within is n j) [
         | inl k ↦ both.0 n k
-        | inr q ↦ subst (λ m. ArePartNamed eq types (fields group) (one m)) (e ∙ q) both.1
+        | inr q ↦ subst (λ m. ArePartNamed eq types (fields group) (of_object m)) (e ∙ q) both.1
       ]

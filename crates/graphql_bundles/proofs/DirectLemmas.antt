@@ -13,7 +13,7 @@ use Rattle.graphql_schema.specs.Types.{TypeOf}
 use Rattle.graphql_schema.specs.Lookups.{own_name, is_object}
 use Rattle.graphql_merging.specs.Members.{Member, declared}
 use Rattle.graphql_merging.specs.Merging.{Agree, SameShape, SameShapes, apart, is_leaf}
-use Rattle.graphql_merging.specs.Selected.{seen}
+use Rattle.graphql_merging.specs.Selected.{member_of}
 use Rattle.graphql_merging.specs.Told.{Names, AddsErrors, later_pairs}
 use Rattle.graphql_merging.specs.declared.table.WrittenField.{WrittenField}
 use Rattle.graphql_merging.proofs.Contracts.{any-among}
@@ -21,7 +21,7 @@ use Rattle.graphql_merging.proofs.DirectFields.{In, to-In, from-In, tells-named,
 use Rattle.graphql_merging.proofs.Reports.{adds-nothing, adds-both}
 use Rattle.graphql_merging.proofs.Nested.{one-only, in-nothing}
 use Rattle.graphql_bundles.specs.declared.direct.Split.{Split}
-use Rattle.graphql_bundles.specs.Direct.{AreAlike, all_seen, ComparesBefore, SortsOut, DirectParts}
+use Rattle.graphql_bundles.specs.Direct.{AgreeThrough, all_seen, ComparesBefore, SortsOut, DirectParts}
 use Rattle.graphql_bundles.proofs.DirectClasses.{With, of-with, left-In, right-In, either-In, later-push}
 use Rattle.graphql_bundles.proofs.ListLemmas.{here, there, map_has, map_of, take-one}
 
@@ -82,7 +82,7 @@ module _ {S C : Type 0} where
 
 module _ {S C : Type 0} (eq : S → S → Bool) (types : List (MetaType S C)) (fragments : List (Fragment S)) where
   abbrev at : WrittenField S C → Member S C
-  at f = seen fragments f.selected
+  at f = member_of fragments f.selected
 
   abbrev all : List (WrittenField S C) → List (Member S C)
   all = all_seen fragments
@@ -150,7 +150,7 @@ module _ {S C : Type 0} (eq : S → S → Bool) (types : List (MetaType S C)) (f
       pub found : (e : List SourcePosition) → Contains errors e → FoundOf ms e
       pub first : Contains ms head
       pub pairs : (a b : Member S C) → Contains (later_pairs (all ms)) (a, b)
-          → AreAlike eq types (all ms) a b ⊎ (Any (λ e. Names e b a) new ⊎ Contains (later_pairs (all split.others)) (a, b))
+          → AgreeThrough eq types (all ms) a b ⊎ (Any (λ e. Names e b a) new ⊎ Contains (later_pairs (all split.others)) (a, b))
 
     pub sorted-first : (split : Split S C) (told : Places) → split.alike ≡ head ∷ [] → split.others ≡ [] → Sorted (head ∷ []) split told told
     sorted-first split told alike others = record {
@@ -165,7 +165,7 @@ module _ {S C : Type 0} (eq : S → S → Bool) (types : List (MetaType S C)) (f
     }
 
     abbrev Result : List (WrittenField S C) → Places → List (WrittenField S C) → Member S C → Member S C → Type 0
-    Result ms new others a b = AreAlike eq types (all ms) a b ⊎ (Any (λ e. Names e b a) new ⊎ Contains (later_pairs (all others)) (a, b))
+    Result ms new others a b = AgreeThrough eq types (all ms) a b ⊎ (Any (λ e. Names e b a) new ⊎ Contains (later_pairs (all others)) (a, b))
 
     more-told : (ms ns : List (WrittenField S C)) (old new : Places) (es : Places) (others rest : List (WrittenField S C)) (a b : Member S C) → new ≡ old ++ es
         → ((w : WrittenField S C) → Contains ms w → Contains ns w)
@@ -324,7 +324,7 @@ module _ {S C : Type 0} (eq : S → S → Bool) (types : List (MetaType S C)) (f
     ]);
   }
     where
-      wider : (a b : Member S C) (T : Type 0) → AreAlike eq types (all rest) a b ⊎ T → AreAlike eq types (all fields) a b ⊎ T
+      wider : (a b : Member S C) (T : Type 0) → AgreeThrough eq types (all rest) a b ⊎ T → AgreeThrough eq types (all fields) a b ⊎ T
       wider a b T (inl (inl agree)) = inl (inl agree)
       wider a b T (inl (inr third)) =
           let m = map_of at rest third.0 third.1 in
@@ -366,7 +366,7 @@ module _ {S C : Type 0} (eq : S → S → Bool) (types : List (MetaType S C)) (f
   -- of fields that were taken up from the last to the first: each two of them
   pub parts-turned : (fields : List (WrittenField S C)) (old new : Places) → DirectParts eq types fragments (reverse fields) [] old new
       → (a b : Member S C) → Contains (later_pairs (all_seen fragments fields)) (a, b)
-      → AreAlike eq types (all_seen fragments fields) a b ⊎ Any (λ e. Names e a b) new
+      → AgreeThrough eq types (all_seen fragments fields) a b ⊎ Any (λ e. Names e a b) new
   parts-turned fields old new h a b i = judged (h.pairs b a turned)
     where
       turned : Contains (later_pairs (all_seen fragments (reverse fields))) (b, a)
@@ -375,9 +375,9 @@ module _ {S C : Type 0} (eq : S → S → Bool) (types : List (MetaType S C)) (f
           (subst (λ ms. In {X = MemberPair S C} (b, a) (later_pairs ms)) (sym (map-turned (at eq types fragments) fields))
           (later-turned (all_seen fragments fields) a b (to-In {X = MemberPair S C} (a, b) (later_pairs (all_seen fragments fields)) i)))
 
-      judged : AreAlike eq types (all_seen fragments (reverse fields)) b a
+      judged : AgreeThrough eq types (all_seen fragments (reverse fields)) b a
           ⊎ (Any (λ e. Names e a b) new ⊎ Contains (later_pairs (all_seen fragments [])) (b, a))
-          → AreAlike eq types (all_seen fragments fields) a b ⊎ Any (λ e. Names e a b) new
+          → AgreeThrough eq types (all_seen fragments fields) a b ⊎ Any (λ e. Names e a b) new
       judged (inl (inl agree)) = inl (inl (agree-turned eq types fragments b a agree))
       judged (inl (inr third)) =
           let m = map_of (at eq types fragments) (reverse fields) third.0 third.1 in

@@ -16,7 +16,7 @@ use Rattle.graphql_merging.specs.Told.{later_pairs}
 use Rattle.graphql_merging.proofs.DirectFields.{to-In, from-In, later-In, direct-apart}
 use Rattle.graphql_merging.proofs.Nested.{in-nothing}
 use Rattle.graphql_bundles.specs.BundleLaws.{AreTold}
-use Rattle.graphql_bundles.specs.Direct.{IsVisited, AreAlike, AreDirectTold}
+use Rattle.graphql_bundles.specs.Direct.{IsVisited, AgreeThrough, AreDirectTold}
 use Rattle.graphql_bundles.specs.Ends.{IsEnd, IsShown}
 use Rattle.graphql_bundles.specs.Laws.{EndMeetsContract}
 use Rattle.graphql_bundles.proofs.Alike.{same-field-by-a-third}
@@ -30,7 +30,7 @@ module _ {S C : Type 0} (eq : S → S → Bool) (third : SameByAThird eq) (types
 
   -- fields of one set that are alike are one field
   alike-same : (set : Set S C) (a b : Member S C) → Contains (directs_of types set) a → Contains (directs_of types set) b
-      → AreAlike eq types (directs_of types set) a b → SameField eq types a b
+      → AgreeThrough eq types (directs_of types set) a b → SameField eq types a b
   alike-same set a b i j (inl agree) = agree.0 (direct-apart types set.scope set.tree a b i j)
   alike-same set a b i j (inr h) =
       same-field-by-a-third S C eq third types a b h.0 (turned h.0 a (h.2.0 (direct-apart types set.scope set.tree h.0 a h.1 i)))

@@ -13,7 +13,7 @@ use Rattle.graphql_merging.specs.Tables.{piece_field}
 use Rattle.graphql_merging.specs.declared.table.WrittenField.{WrittenField}
 use Rattle.graphql_merging.proofs.Nested.{one-only, in-nothing}
 use Rattle.graphql_merging.proofs.Standing.{agree-under}
-use Rattle.graphql_bundles.specs.Bundles.{Bundle, Part, Group, one, every, parts, in_part, OwnOf, StandsAmong, IsGathered, IsGroupPassed}
+use Rattle.graphql_bundles.specs.Bundles.{Bundle, GroupPart, BundleGroup, of_object, every, parts, in_part, OwnOf, StandsAmong, IsGathered, IsGroupPassed}
 use Rattle.graphql_bundles.specs.Closed.{IsClosure}
 use Rattle.graphql_bundles.specs.Going.{Stage, Grows, HoldsPart, GroupLeadsTo}
 use Rattle.graphql_bundles.specs.Steps.{Goes, Compares, AreShaped, ArePartNamed, IsFoundOf, HoldsSets}
@@ -157,7 +157,7 @@ told-stays F M P s u grows p none = p (no-first s.told grows.errors (sym grows.t
 
 module _ {S C : Type 0} (t : Pieces S C) (fragments : List (Fragment S)) (group : List (WrittenField S C)) where
   -- the own sets of the fields of a part
-  module _ (part : Part) (numbers : List ℕ) (are : numbers ≡ map (λ f. f.own) (filter (is_of part.of) group)) where
+  module _ (part : GroupPart) (numbers : List ℕ) (are : numbers ≡ map (λ f. f.own) (filter (is_of part.of) group)) where
     own-has : (p : ℕ) → OwnOf (group_of fragments group) part p → Contains numbers p
     own-has p h =
         let m = map_of (piece_field fragments) group h.0 h.1 in
@@ -180,46 +180,46 @@ module _ {S C : Type 0} (t : Pieces S C) (fragments : List (Fragment S)) (group 
         (λ e i. i) (λ b k. (k.0, λ f i. let s = k.1 f i in (s.0, own-of s.0 s.1, s.2)))
         (λ s g. gathered-as t s.bundles part.around (Contains numbers) (OwnOf (group_of fragments group) part) own-has g) h
 
-  abbrev it : Group S C
+  abbrev it : BundleGroup S C
   it = group_of fragments group
 
-  abbrev pub PartBegun : Part → Stage → Type 0
+  abbrev pub PartBegun : GroupPart → Stage → Type 0
   PartBegun part stage = IsGathered t stage.bundles part.around (OwnOf it part)
 
   -- the parts of some object types
   abbrev pub EachBegun : List Bytes → Stage → Type 0
-  EachBegun names stage = (name : Bytes) → Contains names name → PartBegun (one name) stage
+  EachBegun names stage = (name : Bytes) → Contains names name → PartBegun (of_object name) stage
 
   abbrev pub MayEach : List Bytes → Bundle → Type 0
-  MayEach names c = (name : Bytes) × Contains names name × HoldsPart t it (one name) c
+  MayEach names c = (name : Bytes) × Contains names name × HoldsPart t it (of_object name) c
 
   pub each-stays : (F : List SourcePosition → Type 0) (M : Bundle → Type 0) (names : List Bytes) → Stays F M (EachBegun names)
-  each-stays F M names s u grows h name i = gathered-stays t F M false (OwnOf it (one name)) s u grows (h name i)
+  each-stays F M names s u grows h name i = gathered-stays t F M false (OwnOf it (of_object name)) s u grows (h name i)
 
   pub each-none : (names : List Bytes) (stage : Stage) → Goes (λ e. ⊥) (MayEach names) (EachBegun []) stage stage
   each-none names stage = goes-none (λ e. ⊥) (MayEach names) (EachBegun []) stage (λ name i. in-nothing name i)
 
   pub each-more : (names : List Bytes) (i : ℕ) (name : Bytes) (old mid new : Stage) → i < length names → name ≡ get_or names i name
-      → Goes (λ e. ⊥) (MayEach names) (EachBegun (take i names)) old mid → Goes (λ e. ⊥) (HoldsPart t it (one name)) (PartBegun (one name)) mid new
+      → Goes (λ e. ⊥) (MayEach names) (EachBegun (take i names)) old mid → Goes (λ e. ⊥) (HoldsPart t it (of_object name)) (PartBegun (of_object name)) mid new
       → Goes (λ e. ⊥) (MayEach names) (EachBegun (take (i + 1) names)) old new
   each-more names i name old mid new within is f g =
-      goes-both (λ e. ⊥) (MayEach names) (EachBegun (take i names)) (PartBegun (one name)) (EachBegun (take (i + 1) names)) old mid new
+      goes-both (λ e. ⊥) (MayEach names) (EachBegun (take i names)) (PartBegun (of_object name)) (EachBegun (take (i + 1) names)) old mid new
       (each-stays (λ e. ⊥) (MayEach names) (take i names)) joins f
-      (goes-weaker (λ e. ⊥) (λ e. ⊥) (HoldsPart t it (one name)) (MayEach names) (PartBegun (one name)) (PartBegun (one name)) mid new
+      (goes-weaker (λ e. ⊥) (λ e. ⊥) (HoldsPart t it (of_object name)) (MayEach names) (PartBegun (of_object name)) (PartBegun (of_object name)) mid new
       (λ e i. i) (λ b h. (name, (i, within, sym is), h)) (λ s h. h) g)
     where
-      joins : (s : Stage) → EachBegun (take i names) s → PartBegun (one name) s → EachBegun (take (i + 1) names) s
+      joins : (s : Stage) → EachBegun (take i names) s → PartBegun (of_object name) s → EachBegun (take (i + 1) names) s
       joins s each last n j = elim (take-cases names i name within is n j) [
         | inl k ↦ each n k
-        | inr e ↦ subst (λ m. PartBegun (one m) s) e last
+        | inr e ↦ subst (λ m. PartBegun (of_object m) s) e last
       ]
 
   -- all parts around which no fields are apart
   abbrev pub AllBegun : List Bytes → Stage → Type 0
-  AllBegun names stage = (part : Part) → Contains (parts false names) part → PartBegun part stage
+  AllBegun names stage = (part : GroupPart) → Contains (parts false names) part → PartBegun part stage
 
   abbrev pub MayAll : List Bytes → Bundle → Type 0
-  MayAll names c = (part : Part) × Contains (parts false names) part × HoldsPart t it part c
+  MayAll names c = (part : GroupPart) × Contains (parts false names) part × HoldsPart t it part c
 
   pub all-none : (names : List Bytes) (old new : Stage) → names ≡ [] → Goes (λ e. ⊥) (HoldsPart t it (every false)) (PartBegun (every false)) old new
       → Goes (λ e. ⊥) (MayAll names) (AllBegun names) old new
@@ -233,7 +233,7 @@ module _ {S C : Type 0} (t : Pieces S C) (fragments : List (Fragment S)) (group 
       → Goes (λ e. ⊥) (MayAll names) (AllBegun names) old new
   all-one names old new some few h =
       goes-weaker (λ e. ⊥) (λ e. ⊥) (MayEach names) (MayAll names) (EachBegun names) (AllBegun names) old new (λ e i. i)
-      (λ b k. (one k.0, part-of-one names k.0 k.1, k.2))
+      (λ b k. (of_object k.0, part-of-one names k.0 k.1, k.2))
       (λ s k part i. elim (parts-are names part i) [
         | inl e ↦ absurd (some e)
         | inr r ↦ elim r [ inl e ↦ absurd (omega (arith, few, e.1)) | inr e ↦ subst (λ p. PartBegun p s) (sym e.2) (k e.0 e.1) ]
@@ -248,7 +248,7 @@ module _ {S C : Type 0} (t : Pieces S C) (fragments : List (Fragment S)) (group 
       (goes-weaker (λ e. ⊥) (λ e. ⊥) (HoldsPart t it (every true)) (MayAll names) (PartBegun (every true)) (PartBegun (every true)) old mid
       (λ e i. i) (λ b k. (every true, part-of-all names (omega (arith, many)), k)) (λ s k. k) f)
       (goes-weaker (λ e. ⊥) (λ e. ⊥) (MayEach names) (MayAll names) (EachBegun names) (EachBegun names) mid new
-      (λ e i. i) (λ b k. (one k.0, part-of-one names k.0 k.1, k.2)) (λ s k. k) g)
+      (λ e i. i) (λ b k. (of_object k.0, part-of-one names k.0 k.1, k.2)) (λ s k. k) g)
     where
       some : (names : List Bytes) → names ≡ [] → 2 ≤ length names → ⊥
       some [] e h = omega (arith, h)
@@ -288,12 +288,12 @@ module _ {S C : Type 0} (t : Pieces S C) (fragments : List (Fragment S)) (group 
           begun = (λ part i. subst (λ p. PartBegun p s) (one-only (every true) part i) own);
           alike = (λ none _ _. record {
             shape = shaped none;
-            field = (λ part i e. absurd (false≢true (sym e ∙ ap (λ (p : Part). p.around) (sym (one-only (every true) part i)))));
+            field = (λ part i e. absurd (false≢true (sym e ∙ ap (λ (p : GroupPart). p.around) (sym (one-only (every true) part i)))));
           });
         }
 
     abbrev pub EachNamed : Type 0
-    EachNamed = (part : Part) → Contains (parts false (names_in group)) part → part.around ≡ false → ArePartNamed eq types it.fields part
+    EachNamed = (part : GroupPart) → Contains (parts false (names_in group)) part → part.around ≡ false → ArePartNamed eq types it.fields part
 
     abbrev Found : List SourcePosition → Type 0
     Found = IsFoundOf eq types false it.fields

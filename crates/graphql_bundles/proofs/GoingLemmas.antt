@@ -9,7 +9,7 @@ use Rattle.graphql_schema.specs.declared.meta.MetaType.{MetaType}
 use Rattle.graphql_rule_errors.specs.Places.{Places}
 use Rattle.graphql_merging.specs.Done.{IsTold}
 use Rattle.graphql_merging.specs.Pieces.{Pieces}
-use Rattle.graphql_bundles.specs.Bundles.{Bundle, Group, IsGathered, IsGroupPassed, IsPassed}
+use Rattle.graphql_bundles.specs.Bundles.{Bundle, BundleGroup, IsGathered, IsGroupPassed, IsPassed}
 use Rattle.graphql_merging.proofs.Contracts.{done-meets}
 use Rattle.graphql_bundles.proofs.Bundled.{found-is-told, bundles-meet-contract}
 use Rattle.graphql_bundles.specs.Laws.{GoingMeetsContract}
@@ -28,7 +28,7 @@ module _ {S C : Type 0} (eq : S → S → Bool) (types : List (MetaType S C)) (t
     pub still : (b : Bundle) → Contains old.bundles b → Contains new.bundles b
     still b i = subst (λ bs. Contains bs b) (sym grows.bundles) (Contains-append_left old.bundles grows.more b i)
 
-    pub group-later : (x : Bool) (group : Group S C) → IsGroupPassed t eq types old.bundles old.told x group
+    pub group-later : (x : Bool) (group : BundleGroup S C) → IsGroupPassed t eq types old.bundles old.told x group
         → IsGroupPassed t eq types new.bundles new.told x group
     group-later x group p = record {
       begun = (λ part j. gathered-later old.bundles new.bundles part.around _ still (p.begun part j));

@@ -6,7 +6,7 @@ use Rattle.std.proofs.lemmas.List.Elements.{Contains-append_left, Contains-appen
 use Rattle.graphql_text.specs.declared.position.SourcePosition.{SourcePosition}
 use Rattle.graphql_merging.specs.Pieces.{Pieces, StandsIn}
 use Rattle.graphql_merging.proofs.Nested.{in-nothing}
-use Rattle.graphql_bundles.specs.Bundles.{Bundle, Holds, IsGathered}
+use Rattle.graphql_bundles.specs.Bundles.{Bundle, CoversPiece, IsGathered}
 use Rattle.graphql_bundles.specs.Closed.{AddsNumbers, AreThose, IsOpened}
 use Rattle.graphql_bundles.specs.Going.{Stage, Grows}
 use Rattle.graphql_bundles.specs.Held.{IsHeld, HoldsMore, HoldsEach}
@@ -20,11 +20,11 @@ Nothing e = ⊥
 
 module _ {S C : Type 0} (t : Pieces S C) where
   -- each set that the bundle of a closure holds
-  held-by : (all closed : List ℕ) (stage : Stage) → ((p : ℕ) → Contains all p → Holds t closed p)
+  held-by : (all closed : List ℕ) (stage : Stage) → ((p : ℕ) → Contains all p → CoversPiece t closed p)
       → (closed ≡ []) ⊎ Contains stage.bundles (record { sets = closed; around = false }) → (k : ℕ) → Contains all k → IsHeld t stage k
   held-by all closed stage holds (inl none) k i =
       inl (λ p e f s. let a = holds k i f (subst (λ q. StandsIn t q f) e s) in in-nothing a.0 (subst (λ ns. Contains ns a.0) none a.1))
-  held-by all closed stage holds (inr j) k i = inr (record { sets = closed; around = false }, j, refl, λ p e. subst (Holds t closed) (sym e) (holds k i))
+  held-by all closed stage holds (inr j) k i = inr (record { sets = closed; around = false }, j, refl, λ p e. subst (CoversPiece t closed) (sym e) (holds k i))
 
   pub goes-definition : (definition : ℕ) (all closed held more : List ℕ) (old mid new : Stage) → IsOpened t (definition ∷ []) all all
       → AreThose (λ p. t.direct p ≡ [] → ⊥) all closed → Grows Nothing (λ b. ⊥) old mid

@@ -12,12 +12,12 @@ use Rattle.graphql_tree.specs.declared.document.Fragment.{Fragment}
 use Rattle.graphql_merging.specs.Members.{Member, declared}
 use Rattle.graphql_merging.specs.Merging.{SameField, SameShapes}
 use Rattle.graphql_merging.specs.Pieces.{Pieces, PieceField}
-use Rattle.graphql_merging.specs.Selected.{seen}
+use Rattle.graphql_merging.specs.Selected.{member_of}
 use Rattle.graphql_merging.specs.Tables.{piece_field}
 use Rattle.graphql_merging.specs.declared.table.WrittenField.{WrittenField}
 use Rattle.graphql_merging.proofs.Nested.{one-only}
 use Rattle.graphql_merging.proofs.Standing.{arguments-self}
-use Rattle.graphql_bundles.specs.Bundles.{Bundle, Part, Group, every, one, parts, admits, in_part, HasShape, OwnOf, IsGathered, IsGroupPassed}
+use Rattle.graphql_bundles.specs.Bundles.{Bundle, GroupPart, BundleGroup, every, of_object, parts, admits, in_part, HasShape, OwnOf, IsGathered, IsGroupPassed}
 use Rattle.graphql_bundles.specs.Going.{Stage, GroupLeadsTo}
 use Rattle.graphql_bundles.specs.Steps.{Goes, HoldsSets, IsFoundOf}
 use Rattle.graphql_bundles.specs.Groups.{group_of, names_in}
@@ -29,31 +29,31 @@ abbrev own_names : Bool → Bytes → List Bytes
 own_names o n = if o then n ∷ [] else []
 
 -- the parts of one field all have the flag and the field
-part-has : (x o : Bool) (n : Bytes) (part : Part) → Contains (parts x (own_names o n)) part → (part.around ≡ x) × (admits part.of o n ≡ true)
+part-has : (x o : Bool) (n : Bytes) (part : GroupPart) → Contains (parts x (own_names o n)) part → (part.around ≡ x) × (admits part.of o n ≡ true)
 part-has true o n part i =
     let q = one-only (every true) part i in
-    (sym (ap (λ (p : Part). p.around) q), subst (λ (p : Part). admits p.of o n ≡ true) q refl)
+    (sym (ap (λ (p : GroupPart). p.around) q), subst (λ (p : GroupPart). admits p.of o n ≡ true) q refl)
 part-has false true n part i =
-    let q = one-only (one n) part i in
-    (sym (ap (λ (p : Part). p.around) q), subst (λ (p : Part). admits p.of true n ≡ true) q ((bytes_eq-Decides n n).1 refl))
+    let q = one-only (of_object n) part i in
+    (sym (ap (λ (p : GroupPart). p.around) q), subst (λ (p : GroupPart). admits p.of true n ≡ true) q ((bytes_eq-Decides n n).1 refl))
 part-has false false n part i =
     let q = one-only (every false) part i in
-    (sym (ap (λ (p : Part). p.around) q), subst (λ (p : Part). admits p.of false n ≡ true) q refl)
+    (sym (ap (λ (p : GroupPart). p.around) q), subst (λ (p : GroupPart). admits p.of false n ≡ true) q refl)
 
 -- and there is one
-a-part : (x o : Bool) (n : Bytes) → (part : Part) × Contains (parts x (own_names o n)) part
+a-part : (x o : Bool) (n : Bytes) → (part : GroupPart) × Contains (parts x (own_names o n)) part
 a-part true o n = (every true, here (every true) [])
-a-part false true n = (one n, here (one n) [])
+a-part false true n = (of_object n, here (of_object n) [])
 a-part false false n = (every false, here (every false) [])
 
 module _ {S C : Type 0} (eq : S → S → Bool) (types : List (MetaType S C)) (fragments : List (Fragment S)) (f : WrittenField S C) where
   abbrev member : Member S C
-  member = seen fragments f.selected
+  member = member_of fragments f.selected
 
   abbrev piece : PieceField S C
   piece = piece_field fragments f
 
-  abbrev it : Group S C
+  abbrev it : BundleGroup S C
   it = group_of fragments (f ∷ [])
 
   own-shape : (s : Option TypeOf) → declared member ≡ s → HasShape types s member
@@ -61,13 +61,13 @@ module _ {S C : Type 0} (eq : S → S → Bool) (types : List (MetaType S C)) (f
   own-shape (Some s) e = subst (λ o. SameShapes types o (Some s)) (sym e) (refl, λ _. refl)
 
   module _ (t : Pieces S C) (x : Bool) where
-    has : (part : Part) → Contains (parts x (names_in (f ∷ []))) part → (part.around ≡ x) × (in_part part member ≡ true)
+    has : (part : GroupPart) → Contains (parts x (names_in (f ∷ []))) part → (part.around ≡ x) × (in_part part member ≡ true)
     has part i = part-has x (is_object member.parent) (own_name member.parent) part i
 
-    own-of : (part : Part) → in_part part member ≡ true → (p : ℕ) → Contains (f.own ∷ []) p → OwnOf it part p
+    own-of : (part : GroupPart) → in_part part member ≡ true → (p : ℕ) → Contains (f.own ∷ []) p → OwnOf it part p
     own-of part is p i = (piece, here piece [], is, one-only f.own p i)
 
-    own-has : (part : Part) → (p : ℕ) → OwnOf it part p → Contains (f.own ∷ []) p
+    own-has : (part : GroupPart) → (p : ℕ) → OwnOf it part p → Contains (f.own ∷ []) p
     own-has part p h = subst (Contains (f.own ∷ [])) (ap (λ (g : PieceField S C). g.own) (one-only piece h.0 h.1) ∙ h.3) (here f.own [])
 
     abbrev Found : List SourcePosition → Type 0

@@ -4,7 +4,7 @@ use Rattle.std.specs.Str.{bytes_eq}
 use Rattle.std.proofs.lemmas.Slice.Eq.{bytes_eq-Decides}
 use Rattle.std.proofs.lemmas.Bool.{false≢true}
 use Rattle.graphql_names.specs.Names.{Bytes}
-use Rattle.graphql_bundles.specs.Bundles.{Part, every, one, parts, admits}
+use Rattle.graphql_bundles.specs.Bundles.{GroupPart, every, of_object, parts, admits}
 use Rattle.graphql_merging.proofs.DirectFields.{In}
 
 same : (n m : Bytes) → n ≡ m → bytes_eq n m ≡ true
@@ -13,12 +13,12 @@ same n m e = (bytes_eq-Decides n m).1 e
 equal : (n m : Bytes) → bytes_eq n m ≡ true → n ≡ m
 equal n m e = (bytes_eq-Decides n m).0 e
 
-pub map-In : (n : Bytes) (names : List Bytes) → In n names → In (one n) (map one names)
+pub map-In : (n : Bytes) (names : List Bytes) → In n names → In (of_object n) (map of_object names)
 map-In n [] i = absurd i
-map-In n (m ∷ names) (inl e) = inl (ap one e)
+map-In n (m ∷ names) (inl e) = inl (ap of_object e)
 map-In n (m ∷ names) (inr i) = inr (map-In n names i)
 
-In-map : (part : Part) (names : List Bytes) → In part (map one names) → (n : Bytes) × (part ≡ one n)
+In-map : (part : GroupPart) (names : List Bytes) → In part (map of_object names) → (n : Bytes) × (part ≡ of_object n)
 In-map part [] i = absurd i
 In-map part (m ∷ names) (inl e) = (m, e)
 In-map part (m ∷ names) (inr i) = In-map part names i
@@ -74,18 +74,18 @@ of-name k false n p m f g = refl
 of-name k true n false m f g = refl
 of-name k true n true m f g = ap not (same n m (equal n k f ∙ sym (equal m k g)))
 
-of-one : (part : Part) (k : Bytes) → part ≡ one k → (o : Bool) (n : Bytes) → admits part.of o n ≡ true → admits (Some k) o n ≡ true
+of-one : (part : GroupPart) (k : Bytes) → part ≡ of_object k → (o : Bool) (n : Bytes) → admits part.of o n ≡ true → admits (Some k) o n ≡ true
 of-one part k e o n h = (λ i. admits ((sym e i).of) o n) ∙ h
 
 -- in a part without the flag no two are apart, and fields around them are not
-pub never-apart : (x : Bool) (names : List Bytes) (part : Part) → In part (parts x names) → part.around ≡ false → (o : Bool) (n : Bytes) (p : Bool) (m : Bytes)
+pub never-apart : (x : Bool) (names : List Bytes) (part : GroupPart) → In part (parts x names) → part.around ≡ false → (o : Bool) (n : Bytes) (p : Bool) (m : Bytes)
     → (o ≡ true → In n names) → (p ≡ true → In m names) → admits part.of o n ≡ true → admits part.of p m ≡ true → (x ≡ false) × (Apart o n p m ≡ false)
-never-apart true names part (inl i) e o n p m f g u v = absurd (false≢true (sym e ∙ ap (λ (q : Part). q.around) i))
+never-apart true names part (inl i) e o n p m f g u v = absurd (false≢true (sym e ∙ ap (λ (q : GroupPart). q.around) i))
 never-apart true names part (inr i) e o n p m f g u v = absurd i
 never-apart false [] part i e false n p m f g u v = (refl, refl)
 never-apart false [] part i e true n p m f g u v = absurd (f refl)
 never-apart false (k ∷ []) part (inl i) e o n p m f g u v = (refl, of-name k o n p m (of-one part k i o n u) (of-one part k i p m v))
 never-apart false (k ∷ []) part (inr i) e o n p m f g u v = absurd i
-never-apart false (k ∷ l ∷ names) part (inl i) e o n p m f g u v = absurd (false≢true (sym e ∙ ap (λ (q : Part). q.around) i))
+never-apart false (k ∷ l ∷ names) part (inl i) e o n p m f g u v = absurd (false≢true (sym e ∙ ap (λ (q : GroupPart). q.around) i))
 never-apart false (k ∷ l ∷ names) part (inr i) e o n p m f g u v =
     let j = In-map part (k ∷ l ∷ names) i in (refl, of-name j.0 o n p m (of-one part j.0 j.1 o n u) (of-one part j.0 j.1 p m v))

@@ -16,7 +16,7 @@ use Rattle.graphql_merging.specs.Tables.{pieces_of, piece_field}
 use Rattle.graphql_merging.specs.declared.table.SetTable.{SetTable}
 use Rattle.graphql_merging.specs.declared.table.WrittenField.{WrittenField}
 use Rattle.graphql_merging.proofs.Nested.{one-only, in-nothing}
-use Rattle.graphql_bundles.specs.Bundles.{Bundle, Group, StandsAmong, IsGroupOf, IsGroupPassed, IsPassed, of_definition, of_part, IsFoundAmong}
+use Rattle.graphql_bundles.specs.Bundles.{Bundle, BundleGroup, StandsAmong, IsGroupOf, IsGroupPassed, IsPassed, of_definition, of_part, IsFoundAmong}
 use Rattle.graphql_bundles.specs.Going.{Stage, Grows, GroupLeadsTo, IsFoundIn, LeadsTo, IsGoing}
 use Rattle.graphql_bundles.specs.Steps.{Goes, IsFoundOf, FoundInGroups, GroupsLeadTo, GroupsPassed, OfDefinitions, KeepsTold}
 use Rattle.graphql_bundles.specs.Groups.{KeyGroup, IsGrouped, fields_in, key_at, group_of}
@@ -117,7 +117,7 @@ module _ {S C : Type 0} (eq : S → S → Bool) (types : List (MetaType S C)) (t
     }
 
     both-in : (f h : PieceField S C) → StandsAmong t b.sets f → StandsAmong t b.sets h → f.member.head.key ≡ h.member.head.key
-        → (group : Group S C) × Contains (map (λ (g : KeyGroup S C). group_of fragments g.1) groups) group × Contains group.fields f × Contains group.fields h
+        → (group : BundleGroup S C) × Contains (map (λ (g : KeyGroup S C). group_of fragments g.1) groups) group × Contains group.fields f × Contains group.fields h
     both-in f h s u key =
         let v = standing f s in
         let w = standing h u in

@@ -18,7 +18,7 @@ use Rattle.graphql_tree.specs.declared.document.Fragment.{Fragment}
 use Rattle.graphql_merging.specs.Members.{Member}
 use Rattle.graphql_merging.specs.Merging.{Agree}
 use Rattle.graphql_merging.specs.Pieces.{Pieces, PieceField, StandsIn, directly, in_fragment}
-use Rattle.graphql_merging.specs.Selected.{seen}
+use Rattle.graphql_merging.specs.Selected.{member_of}
 use Rattle.graphql_merging.specs.Told.{Names, later_pairs}
 use Rattle.graphql_merging.specs.Tables.{piece_field, pieces_of}
 use Rattle.graphql_merging.specs.declared.table.SetTable.{SetTable}
@@ -27,9 +27,9 @@ use Rattle.graphql_merging.specs.declared.table.WrittenSet.{WrittenSet}
 use Rattle.graphql_merging.proofs.Contracts.{any-among}
 use Rattle.graphql_merging.proofs.DirectFields.{In, to-In, from-In, later-In}
 use Rattle.graphql_merging.proofs.Nested.{one-only, in-nothing}
-use Rattle.graphql_bundles.specs.Bundles.{Bundle, Group, one, every, StandsAmong, IsReachedBundle, of_definition, of_part, IsFoundAmong}
+use Rattle.graphql_bundles.specs.Bundles.{Bundle, BundleGroup, of_object, every, StandsAmong, IsReachedBundle, of_definition, of_part, IsFoundAmong}
 use Rattle.graphql_bundles.specs.Closed.{AddsNumbers}
-use Rattle.graphql_bundles.specs.Direct.{IsVisited, by_definition, by_fragment, by_field, IsWalked, AreAlike, IsDirectFound, AreDirectTold, TellsDirect, TellsDirects, all_seen, DirectParts}
+use Rattle.graphql_bundles.specs.Direct.{IsVisited, by_definition, by_fragment, by_field, IsWalked, AgreeThrough, IsDirectFound, AreDirectTold, TellsDirect, TellsDirects, all_seen, DirectParts}
 use Rattle.graphql_bundles.specs.Groups.{KeyGroup, IsGrouped, key_at, under}
 use Rattle.graphql_bundles.proofs.ClosedLemmas.{adds-both}
 use Rattle.graphql_bundles.proofs.DirectClasses.{With, left-In, right-In, either-In}
@@ -144,14 +144,14 @@ module _ {S C : Type 0} (t : Pieces S C) (definitions : ℕ) where
           → ((f : PieceField S C) → StandsAmong t c.sets f → StandsIn t h.own f) → (o : Bool) → is_object h.member.parent ≡ o → IsReachedBundle t definitions c
       from-field p h i reached c flag only true e =
           let n = own_name h.member.parent in
-          let group : Group S C = record { fields = h ∷ []; names = n ∷ [] } in
-          of_part (single p) c group (one n) reached (record {
+          let group : BundleGroup S C = record { fields = h ∷ []; names = n ∷ [] } in
+          of_part (single p) c group (of_object n) reached (record {
             stand = (λ f j. (p, here p [], subst (Contains (t.direct p)) (one-only h f j) i));
             key = (λ f g j k. ap (λ (m : PieceField S C). m.member.head.key) (sym (one-only h f j) ∙ one-only h g k));
             named = (λ f j o. subst (λ (m : PieceField S C). Contains (n ∷ []) (own_name m.member.parent)) (one-only h f j) (here n []));
-          }) (here (one n) []) flag (λ f s. (h.own, (h, here h [], admitted (is_object h.member.parent) n, refl), only f s))
+          }) (here (of_object n) []) flag (λ f s. (h.own, (h, here h [], admitted (is_object h.member.parent) n, refl), only f s))
       from-field p h i reached c flag only false e =
-          let group : Group S C = record { fields = h ∷ []; names = [] } in
+          let group : BundleGroup S C = record { fields = h ∷ []; names = [] } in
           of_part (single p) c group (every false) reached (record {
             stand = (λ f j. (p, here p [], subst (Contains (t.direct p)) (one-only h f j) i));
             key = (λ f g j k. ap (λ (m : PieceField S C). m.member.head.key) (sym (one-only h f j) ∙ one-only h g k));
@@ -181,7 +181,7 @@ module _ {S C : Type 0} (t : Pieces S C) (definitions : ℕ) where
 -- pairs of the fields of a key
 module _ {S C : Type 0} (fragments : List (Fragment S)) (key : Bytes) where
   abbrev at : WrittenField S C → Member S C
-  at f = seen fragments f.selected
+  at f = member_of fragments f.selected
 
   abbrev of : WrittenField S C → Bool
   of f = bytes_eq key (key_at f)
@@ -221,7 +221,7 @@ module _ {S C : Type 0} (fragments : List (Fragment S)) (key : Bytes) where
 
 module _ {S C : Type 0} (eq : S → S → Bool) (types : List (MetaType S C)) (fragments : List (Fragment S)) where
   abbrev seen-at : WrittenField S C → Member S C
-  seen-at f = seen fragments f.selected
+  seen-at f = member_of fragments f.selected
 
   -- the groups of a set so far
   pub record GroupsTold (fields : List (WrittenField S C)) (groups : List (KeyGroup S C)) (old new : Places) : Type 0 where
@@ -229,7 +229,7 @@ module _ {S C : Type 0} (eq : S → S → Bool) (types : List (MetaType S C)) (f
     pub told : new ≡ old ++ errors
     pub found : (e : List SourcePosition) → Contains errors e → IsDirectFound eq types (map seen-at fields) e
     pub all : (g : KeyGroup S C) → Contains groups g → (a b : Member S C) → Contains (later_pairs (map seen-at g.1)) (a, b)
-        → AreAlike eq types (map seen-at g.1) a b ⊎ Any (λ e. Names e a b) new
+        → AgreeThrough eq types (map seen-at g.1) a b ⊎ Any (λ e. Names e a b) new
 
   pub groups-told-none : (fields : List (WrittenField S C)) (told : Places) → GroupsTold fields [] told told
   groups-told-none fields told =
@@ -253,7 +253,7 @@ module _ {S C : Type 0} (eq : S → S → Bool) (types : List (MetaType S C)) (f
         | inl alike ↦ inl alike
         | inr named ↦ inr (any-among (λ e. Names e a b) mid new (λ e n. subst (λ es. Contains es e) (sym p.told) (Contains-append_left mid p.errors e n)) named)
       ]
-      | inr e ↦ subst (λ (q : KeyGroup S C). Contains (later_pairs (map seen-at q.1)) (a, b) → AreAlike eq types (map seen-at q.1) a b ⊎ Any (λ e. Names e a b) new) e
+      | inr e ↦ subst (λ (q : KeyGroup S C). Contains (later_pairs (map seen-at q.1)) (a, b) → AgreeThrough eq types (map seen-at q.1) a b ⊎ Any (λ e. Names e a b) new) e
           (λ n. parts-turned eq types fragments g.1 mid new p a b n) l
     ]);
   }
@@ -284,7 +284,7 @@ module _ {S C : Type 0} (eq : S → S → Bool) (types : List (MetaType S C)) (f
       left-member : (fs : List (WrittenField S C)) (a b : Member S C) → Contains (later_pairs (map seen-at fs)) (a, b) → Contains (map seen-at fs) a
       left-member fs a b i = from-In a (map seen-at fs) ((later-In (map seen-at fs) a b (to-In {X = Member S C × Member S C} (a, b) (later_pairs (map seen-at fs)) i)).0)
 
-      wider : (g : KeyGroup S C) → Contains groups g → (a b : Member S C) (N : Type 0) → AreAlike eq types (map seen-at g.1) a b ⊎ N → AreAlike eq types (map seen-at fields) a b ⊎ N
+      wider : (g : KeyGroup S C) → Contains groups g → (a b : Member S C) (N : Type 0) → AgreeThrough eq types (map seen-at g.1) a b ⊎ N → AgreeThrough eq types (map seen-at fields) a b ⊎ N
       wider g i a b N (inl (inl agree)) = inl (inl agree)
       wider g i a b N (inl (inr third)) =
           let m = map_of seen-at g.1 third.0 third.1 in
@@ -347,7 +347,7 @@ module _ {S C : Type 0} (fragments : List (Fragment S)) (table : SetTable S C) (
 
   members-same : (fs : List (WrittenField S C)) → map (λ (f : PieceField S C). f.member) (map (piece_field fragments) fs) ≡ all_seen fragments fs
   members-same [] = refl
-  members-same (f ∷ fs) = ap (λ ms. seen fragments f.selected ∷ ms) (members-same fs)
+  members-same (f ∷ fs) = ap (λ ms. member_of fragments f.selected ∷ ms) (members-same fs)
 
   -- the sets of the fragments in it and the own sets of its fields are added
   pub adds-sets : (o : Option (WrittenSet S C)) (old mid new inner own : List ℕ) → slice_get table.sets p ≡ o → inner ≡ inner-of o → own ≡ map (λ (f : WrittenField S C). f.own) (fields-of o)

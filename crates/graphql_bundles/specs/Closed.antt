@@ -2,7 +2,7 @@
 use Rattle.std.specs.Prelude.{◌≡◌, ◌↔◌, ℕ, List, ◌++◌}
 use Rattle.std.specs.List.{Contains}
 use Rattle.graphql_merging.specs.Pieces.{Pieces, PieceField, StandsIn}
-use Rattle.graphql_bundles.specs.Bundles.{StandsAmong, Holds}
+use Rattle.graphql_bundles.specs.Bundles.{StandsAmong, CoversPiece}
 
 -- numbers are added at the end, those that were not there
 pub record AddsNumbers (old numbers new : List ℕ) : Type 0 where
@@ -24,7 +24,7 @@ module _ {S C : Type 0} (t : Pieces S C) (sets : List ℕ) where
 
   -- what stands in the sets stands directly in these, and nothing else
   pub record IsClosure (closed : List ℕ) : Type 0 where
-    pub holds : (p : ℕ) → Contains sets p → Holds t closed p
+    pub holds : (p : ℕ) → Contains sets p → CoversPiece t closed p
     pub only : (f : PieceField S C) → StandsAmong t closed f
         → (s : ℕ) × Contains sets s × StandsIn t s f
 

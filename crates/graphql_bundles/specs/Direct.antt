@@ -8,7 +8,7 @@ use Rattle.graphql_tree.specs.declared.document.Fragment.{Fragment}
 use Rattle.graphql_merging.specs.Members.{Member}
 use Rattle.graphql_merging.specs.Merging.{Agree}
 use Rattle.graphql_merging.specs.Pieces.{Pieces, PieceField}
-use Rattle.graphql_merging.specs.Selected.{seen}
+use Rattle.graphql_merging.specs.Selected.{member_of}
 use Rattle.graphql_merging.specs.Told.{Names, AddsErrors, later_pairs}
 use Rattle.graphql_merging.specs.declared.table.WrittenField.{WrittenField}
 use Rattle.graphql_bundles.specs.declared.direct.Split.{Split}
@@ -34,12 +34,12 @@ module _ {S C : Type 0} (t : Pieces S C) (definitions : ℕ) where
 module _ {S C : Type 0} (fragments : List (Fragment S)) where
   -- the fields, their fragments written out
   abbrev pub all_seen : List (WrittenField S C) → List (Member S C)
-  all_seen fields = map (λ f. seen fragments f.selected) fields
+  all_seen fields = map (λ f. member_of fragments f.selected) fields
 
 module _ {S C : Type 0} (eq : S → S → Bool) (types : List (MetaType S C)) where
   -- two fields agree, or both agree with a third of these
-  abbrev pub AreAlike : List (Member S C) → Member S C → Member S C → Type 0
-  AreAlike ms a b =
+  abbrev pub AgreeThrough : List (Member S C) → Member S C → Member S C → Type 0
+  AgreeThrough ms a b =
       Agree eq types false a b
       ⊎ ((h : Member S C) × Contains ms h × Agree eq types false h a × Agree eq types false h b)
 
@@ -53,7 +53,7 @@ module _ {S C : Type 0} (eq : S → S → Bool) (types : List (MetaType S C)) wh
   abbrev pub AreDirectTold : List (Member S C) → Places → Type 0
   AreDirectTold ms told =
       (a b : Member S C) → Contains (later_pairs ms) (a, b) → a.head.key ≡ b.head.key
-      → AreAlike ms a b ⊎ Any (λ e. Names e a b) told
+      → AgreeThrough ms a b ⊎ Any (λ e. Names e a b) told
 
   -- errors of these fields are told, and they are all told
   pub record TellsDirect (ms : List (Member S C)) (old new : Places) : Type 0 where
@@ -76,14 +76,14 @@ module _ {S C : Type 0} (eq : S → S → Bool) (types : List (MetaType S C)) wh
         → Type 0
     ComparesBefore earlier f =
         AddsErrors (Agree eq types false)
-        (map (λ a. (seen fragments f.selected, seen fragments a.selected)) earlier)
+        (map (λ a. (member_of fragments f.selected, member_of fragments a.selected)) earlier)
 
     -- a field that agrees with the head is put to those that do, and else to the others; it is
     -- compared with those of the other kind
     abbrev pub SortsOut : WrittenField S C → WrittenField S C → Split S C → Split S C → Places
         → Places → Type 0
     SortsOut head f old new told more =
-        (Agree eq types false (seen fragments head.selected) (seen fragments f.selected)
+        (Agree eq types false (member_of fragments head.selected) (member_of fragments f.selected)
         × (new.alike ≡ old.alike ++ f ∷ []) × (new.others ≡ old.others)
         × ComparesBefore old.others f told more)
         ⊎ ((new.alike ≡ old.alike) × (new.others ≡ old.others ++ f ∷ [])
@@ -97,8 +97,9 @@ module _ {S C : Type 0} (eq : S → S → Bool) (types : List (MetaType S C)) wh
       pub told : new ≡ old ++ errors
       pub found : (e : List SourcePosition) → Contains errors e
           → (f : WrittenField S C) × (g : WrittenField S C) × Contains fields f × Contains fields g
-          × (Agree eq types false (seen fragments f.selected) (seen fragments g.selected) → ⊥)
-          × Names e (seen fragments f.selected) (seen fragments g.selected)
+          × (Agree eq types false (member_of fragments f.selected) (member_of fragments g.selected)
+          → ⊥)
+          × Names e (member_of fragments f.selected) (member_of fragments g.selected)
       pub pairs : (a b : Member S C) → Contains (later_pairs (all_seen fragments fields)) (a, b)
-          → AreAlike (all_seen fragments fields) a b
+          → AgreeThrough (all_seen fragments fields) a b
           ⊎ (Any (λ e. Names e b a) new ⊎ Contains (later_pairs (all_seen fragments rest)) (a, b))

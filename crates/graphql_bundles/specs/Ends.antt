@@ -39,11 +39,11 @@ module _ {S C : Type 0} (t : Pieces S C) (eq : S → S → Bool) (types : List (
     pub directs : (errors ≡ [] → ⊥) → AreVisitedTold errors
 
   -- all bundles are gone through, or something is told; or nothing is decided
-  abbrev pub Ends : Outcome → Type 0
-  Ends (outcome.Told errors) =
+  abbrev pub AllGoneThrough : Outcome → Type 0
+  AllGoneThrough (outcome.Told errors) =
       (within : Bool) × IsEnd within (places errors)
       × ((within ≡ true) ⊎ (places errors ≡ [] → ⊥))
-  Ends outcome.Undecided = Unit {0}
+  AllGoneThrough outcome.Undecided = Unit {0}
 
 -- the fields that stand directly in a set, if there are any, are those of a set that is come to
 abbrev pub IsShown : {S C : Type 0} → Pieces S C → List (MetaType S C) → ℕ → Set S C → Type 0

@@ -8,7 +8,7 @@ use Rattle.graphql_bundles.specs.Conflicts.{places}
 use Rattle.graphql_merging.specs.Merging.{Agree}
 use Rattle.graphql_merging.specs.Pieces.{Pieces, PieceField, StandsIn}
 use Rattle.graphql_merging.specs.Told.{Names}
-use Rattle.graphql_bundles.specs.Bundles.{Bundle, Part, Group, parts, OwnOf, StandsAmong}
+use Rattle.graphql_bundles.specs.Bundles.{Bundle, GroupPart, BundleGroup, parts, OwnOf, StandsAmong}
 use Rattle.graphql_bundles.specs.Bundles.{IsGathered, IsGroupOf, IsPassed, IsReachedBundle}
 use Rattle.graphql_bundles.specs.Bundles.{IsFoundAmong}
 use Rattle.graphql_bundles.specs.declared.bundle.Progress.{Progress}
@@ -40,20 +40,20 @@ pub record Grows (Found : List SourcePosition → Type 0) (May : Bundle → Type
 
 module _ {S C : Type 0} (t : Pieces S C) where
   -- the fields of a bundle stand in the own sets of a part of a group
-  abbrev pub HoldsPart : Group S C → Part → Bundle → Type 0
+  abbrev pub HoldsPart : BundleGroup S C → GroupPart → Bundle → Type 0
   HoldsPart group part c =
       (c.around ≡ part.around)
       × ((f : PieceField S C) → StandsAmong t c.sets f
       → (p : ℕ) × OwnOf group part p × StandsIn t p f)
 
   -- a group leads to a bundle of one of its parts
-  abbrev pub GroupLeadsTo : Bool → Group S C → Bundle → Type 0
+  abbrev pub GroupLeadsTo : Bool → BundleGroup S C → Bundle → Type 0
   GroupLeadsTo x group c =
-      (part : Part) × Contains (parts x group.names) part × HoldsPart group part c
+      (part : GroupPart) × Contains (parts x group.names) part × HoldsPart group part c
 
   -- a bundle leads to another
   abbrev pub LeadsTo : Bundle → Bundle → Type 0
-  LeadsTo b c = (group : Group S C) × IsGroupOf t b group × GroupLeadsTo b.around group c
+  LeadsTo b c = (group : BundleGroup S C) × IsGroupOf t b group × GroupLeadsTo b.around group c
 
   module _ (eq : S → S → Bool) (types : List (MetaType S C)) where
     -- two fields of one response key in a bundle, which do not agree

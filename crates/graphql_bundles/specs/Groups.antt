@@ -13,7 +13,7 @@ use Rattle.graphql_merging.specs.Members.{declared_type}
 use Rattle.graphql_merging.specs.Tables.{piece_field}
 use Rattle.graphql_merging.specs.declared.table.SetTable.{SetTable}
 use Rattle.graphql_merging.specs.declared.table.WrittenField.{WrittenField}
-use Rattle.graphql_bundles.specs.Bundles.{Group, admits}
+use Rattle.graphql_bundles.specs.Bundles.{BundleGroup, admits}
 
 -- a response key, and fields that have it
 abbrev pub KeyGroup : Type 0 → Type 0 → Type 0
@@ -77,7 +77,7 @@ module _ {S C : Type 0} where
   is_declared f = is_some (declared_type f.selected.parent.now f.selected.field.now.item.name.item)
 
   -- fields of one response key as a group
-  abbrev pub group_of : List (Fragment S) → List (WrittenField S C) → Group S C
+  abbrev pub group_of : List (Fragment S) → List (WrittenField S C) → BundleGroup S C
   group_of fragments fields =
       record { fields = map (piece_field fragments) fields; names = names_in fields }
 

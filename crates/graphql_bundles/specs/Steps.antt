@@ -10,7 +10,7 @@ use Rattle.graphql_merging.specs.Members.{Member}
 use Rattle.graphql_merging.specs.Merging.{Agree, SameField}
 use Rattle.graphql_merging.specs.Pieces.{Pieces, PieceField, StandsIn}
 use Rattle.graphql_merging.specs.Told.{Names}
-use Rattle.graphql_bundles.specs.Bundles.{Bundle, Part, in_part, HasShape, StandsAmong}
+use Rattle.graphql_bundles.specs.Bundles.{Bundle, GroupPart, in_part, HasShape, StandsAmong}
 use Rattle.graphql_bundles.specs.Bundles.{IsGroupPassed}
 use Rattle.graphql_bundles.specs.Going.{Stage, Grows, GroupLeadsTo}
 use Rattle.graphql_bundles.specs.Groups.{KeyGroup, group_of}
@@ -52,7 +52,7 @@ module _ {S C : Type 0} (eq : S → S → Bool) (types : List (MetaType S C)) wh
       (g : KeyGroup S C) × Contains groups g × IsFoundOf x (group_of fragments g.1).fields e
 
   -- the fields of a part have the name and arguments of one, if there is any field
-  abbrev pub ArePartNamed : List (PieceField S C) → Part → Type 0
+  abbrev pub ArePartNamed : List (PieceField S C) → GroupPart → Type 0
   ArePartNamed fields part =
       (f : PieceField S C) → Contains fields f
       → (h : Member S C) × ((g : PieceField S C) → Contains fields g → in_part part g.member ≡ true

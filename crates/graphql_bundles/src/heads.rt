@@ -164,7 +164,7 @@ fn compare_part<S: Eq, C>(
     ensures told { OnOk result ((fragments : List (Fragment S)) →
         let fields = map (piece_field fragments) group.now in
         Compares (IsFoundOf S.eq schema.now.types false fields)
-        (ArePartNamed S.eq schema.now.types fields (bundles.one name.now))
+        (ArePartNamed S.eq schema.now.types fields (bundles.of_object name.now))
         (places told.old) (places told.new)) }
 {
     let fields = fields_in_part(alloc, group, Some(name))?;
@@ -191,7 +191,7 @@ fn compare_parts<S: Eq, C>(
         let fields = map (piece_field fragments) group.now in
         Compares (IsFoundOf S.eq schema.now.types false fields)
         ((name : List ℕ) → Contains names.now name
-        → ArePartNamed S.eq schema.now.types fields (bundles.one name))
+        → ArePartNamed S.eq schema.now.types fields (bundles.of_object name))
         (places told.old) (places told.new)) }
 {
     for name in names {
@@ -216,7 +216,7 @@ pub(crate) fn compare_names<S: Eq, C>(
     ensures told { OnOk result ((fragments : List (Fragment S)) →
         let fields = map (piece_field fragments) group.now in
         Compares (IsFoundOf S.eq schema.now.types false fields)
-        ((part : bundles.Part) → Contains (bundles.parts false names.now) part
+        ((part : bundles.GroupPart) → Contains (bundles.parts false names.now) part
         → part.around ≡ false → ArePartNamed S.eq schema.now.types fields part)
         (places told.old) (places told.new)) }
 {

@@ -6,7 +6,7 @@ ghost use Rattle.graphql_tree.specs.declared.document.Fragment.{Fragment};
 ghost use Rattle.graphql_merging.specs.FieldNodes.{fields_written};
 ghost use Rattle.graphql_merging.specs.Tables.{pieces_of};
 ghost use Rattle.graphql_bundles.specs.Counted.{direct_of};
-ghost use Rattle.graphql_bundles.specs.Ends.{Ends, TellsVisited};
+ghost use Rattle.graphql_bundles.specs.Ends.{AllGoneThrough, TellsVisited};
 
 use crate::bundle::Progress;
 use crate::conflict::Conflict;
@@ -69,7 +69,7 @@ pub fn told_by_bundles<S: Eq, C>(
         IfOk result (λ outcome. comparisons.new
         ≤ max comparisons.old most + direct_of outcome (all * all)) }
     ensures ends { IfOk result (λ outcome. (fragments : List (Fragment S)) →
-        Ends (pieces_of fragments table.now) S.eq schema.now.types definitions outcome) }
+        AllGoneThrough (pieces_of fragments table.now) S.eq schema.now.types definitions outcome) }
 {
     let mut progress = Progress {
         told: Items::new(alloc),

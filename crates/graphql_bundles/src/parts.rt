@@ -7,7 +7,7 @@ ghost use Rattle.std.specs.Option.{option_map};
 ghost use Rattle.graphql_schema.specs.declared.meta.MetaType.{MetaType};
 ghost use Rattle.graphql_tree.specs.declared.document.Fragment.{Fragment};
 ghost use Rattle.graphql_merging.specs.Tables.{pieces_of, piece_field};
-ghost use Rattle.graphql_bundles.specs.Bundles.{IsGathered, IsGroupPassed, OwnOf, Part};
+ghost use Rattle.graphql_bundles.specs.Bundles.{IsGathered, IsGroupPassed, OwnOf, GroupPart};
 ghost use Rattle.graphql_bundles.specs.Bundles as bundles;
 ghost use Rattle.graphql_bundles.specs.Going.{GroupLeadsTo, HoldsPart, stage_of};
 ghost use Rattle.graphql_bundles.specs.Steps.{Goes, HoldsSets, IsFoundOf};
@@ -74,7 +74,8 @@ fn begin_part<S, C>(
 ) -> Result<(), AllocError>
     ensures { OnOk result ((fragments : List (Fragment S)) →
         let t = pieces_of fragments table.now in
-        let part : Part = record { of = option_map (λ n. n.now) name.entry; around = around } in
+        let part : GroupPart =
+        record { of = option_map (λ n. n.now) name.entry; around = around } in
         Goes (λ e. ⊥) (HoldsPart t (group_of fragments group.now) part)
         (λ stage. IsGathered t stage.bundles around (OwnOf (group_of fragments group.now) part))
         (stage_of progress.old) (stage_of progress.new)) }
@@ -97,9 +98,10 @@ fn begin_each<S, C>(
         let t = pieces_of fragments table.now in
         let group = group_of fragments group.now in
         Goes (λ e. ⊥)
-        (λ c. (name : List ℕ) × Contains names.now name × HoldsPart t group (bundles.one name) c)
+        (λ c. (name : List ℕ) × Contains names.now name
+        × HoldsPart t group (bundles.of_object name) c)
         (λ stage. (name : List ℕ) → Contains names.now name
-        → IsGathered t stage.bundles false (OwnOf group (bundles.one name)))
+        → IsGathered t stage.bundles false (OwnOf group (bundles.of_object name)))
         (stage_of progress.old) (stage_of progress.new)) }
 {
     for name in names {
@@ -122,7 +124,7 @@ fn begin_parts<S, C>(
         let t = pieces_of fragments table.now in
         let group = group_of fragments group.now in
         Goes (λ e. ⊥) (GroupLeadsTo t false group)
-        (λ stage. (part : Part) → Contains (bundles.parts false group.names) part
+        (λ stage. (part : GroupPart) → Contains (bundles.parts false group.names) part
         → IsGathered t stage.bundles part.around (OwnOf group part))
         (stage_of progress.old) (stage_of progress.new)) }
 {

@@ -5,7 +5,7 @@ ghost use Rattle.std.specs.Prelude.{slice_get, OnOk};
 ghost use Rattle.graphql_bundles.specs.Conflicts.{AddsConflict, places};
 ghost use Rattle.graphql_tree.specs.declared.document.Fragment.{Fragment};
 ghost use Rattle.graphql_merging.specs.Merging.{Agree};
-ghost use Rattle.graphql_merging.specs.Selected.{seen};
+ghost use Rattle.graphql_merging.specs.Selected.{member_of};
 ghost use Rattle.graphql_merging.specs.Told.{AddsErrors, in_order};
 ghost use Rattle.graphql_merging.specs.declared.table.WrittenField.{WrittenField};
 ghost use Rattle.graphql_bundles.specs.Counted.{one_more};
@@ -106,7 +106,7 @@ pub(crate) fn compare<S: PartialEq, C>(
     ensures counted { comparisons.new ≡ one_more comparisons.old }
     ensures told { OnOk result ((fragments : List (Fragment S))
         → AddsErrors (Agree S.eq schema.now.types around)
-        ((seen fragments left.now.selected, seen fragments right.now.selected) ∷ [])
+        ((member_of fragments left.now.selected, member_of fragments right.now.selected) ∷ [])
         (places told.old) (places told.new)) }
 {
     count_comparison(comparisons);
@@ -139,7 +139,7 @@ fn compare_another<S: Eq, C>(
     ensures told { OnOk result ((fragments : List (Fragment S)) (left right : WrittenField S C)
         → slice_get group.now place ≡ Some left → slice_get group.now other ≡ Some right
         → AddsErrors (Agree S.eq schema.now.types around)
-        ((seen fragments left.selected, seen fragments right.selected) ∷ [])
+        ((member_of fragments left.selected, member_of fragments right.selected) ∷ [])
         (places told.old) (places told.new)) }
 {
     if place == other {
@@ -175,7 +175,7 @@ pub(crate) fn compare_with<S: Eq, C>(
     ensures told { OnOk result ((fragments : List (Fragment S)) (head : WrittenField S C)
         → slice_get group.now place ≡ Some head
         → AddsErrors (Agree S.eq schema.now.types around)
-        (map (λ f. (seen fragments head.selected, seen fragments f.selected)) group.now)
+        (map (λ f. (member_of fragments head.selected, member_of fragments f.selected)) group.now)
         (places told.old) (places told.new)) }
 {
     for other in 0..group.len() {

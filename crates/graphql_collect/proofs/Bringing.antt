@@ -11,14 +11,14 @@ use Rattle.graphql_collected.specs.declared.request.Request.{Request}
 use Rattle.graphql_written_out.specs.Trees.{Tree, height}
 use Rattle.graphql_names.specs.Names.{Bytes}
 use Rattle.graphql_written_out.specs.Written.{fragment_meant}
-use Rattle.graphql_written_out.specs.Written.{listed, one, written, Settled}
+use Rattle.graphql_written_out.specs.Written.{listed, written_selection, written, Settled}
 use Rattle.graphql_collected.specs.Requests.{drops_in, is_below_in, fragments_in, fields_in}
 use Rattle.graphql_written_out.proofs.Layers.{out-Spread, unknown-Spread, other-Spread, in-Spread, height-of-Spread}
 use Rattle.graphql_collect.specs.Collecting.{meaning_of, means_in, Entered, Stands, Enters}
 
 module _ {S C : Type 0} (answer : S → ScalarAnswer) (request : Request S C) (object : Bytes) where
   abbrev spread_one : Placed (FragmentSpread S) → Tree S
-  spread_one x = one (fragments_in request) (selection.FragmentSpread x)
+  spread_one x = written_selection (fragments_in request) (selection.FragmentSpread x)
 
   abbrev BringsNothing : List Bytes → Placed (FragmentSpread S) → Type 0
   BringsNothing visited x = (fields_in answer request object (spread_one x) ≡ []) ⊎ Entered answer request object visited (spread_one x)

@@ -10,17 +10,17 @@ use Rattle.graphql_collected.specs.declared.request.Request.{Request}
 use Rattle.graphql_collected.specs.declared.collected_field.CollectedField.{CollectedField}
 use Rattle.graphql_written_out.specs.Trees.{Directives, Tree, height}
 use Rattle.graphql_names.specs.Names.{Bytes}
-use Rattle.graphql_written_out.specs.Written.{one, written, write, spread_as, listed, fragment_meant}
+use Rattle.graphql_written_out.specs.Written.{written_selection, written, write, spread_as, listed, fragment_meant}
 use Rattle.graphql_written_out.proofs.Layers.{deep, deep-Field, deep-Spread, deep-Inline, written-cons, written-nil, fields-written, height-one}
 use Rattle.graphql_tree.specs.declared.document.Fragment.{Fragment}
 use Rattle.graphql_tree.proofs.SelectionInduction.{selection_ind}
 use Rattle.graphql_written_out.specs.Fields.{Found}
 use Rattle.graphql_collected.specs.Requests.{drops_in, is_below_in, fragments_in, fields_in, found_at, written_in}
 use Rattle.graphql_collect.specs.Grouped.{Lent, all_found}
-use Rattle.graphql_collect.specs.Walks.{Walk, with_field}
+use Rattle.graphql_collect.specs.Walks.{Walk, with_found}
 use Rattle.graphql_collect.specs.declared.open_set.OpenSet.{OpenSet}
 use Rattle.graphql_collect.specs.OpenSets.{Open, rest_of}
-use Rattle.graphql_collect.specs.Walked.{Ready, Walked, Leads}
+use Rattle.graphql_collect.specs.Walked.{Ready, Walked, WalksAll}
 use Rattle.graphql_collect.specs.Collecting.{means_in, state, trees_in, ReadyIn, CompleteIn, WalkedIn, LeadsIn, Steps, Entered, Stands, Enters, below_in}
 use Rattle.graphql_semantics.proofs.RepeatLemmas.{flat-last}
 use Rattle.graphql_collect.proofs.WalkLaws.{walked-none, walked-then, walked-field, walked-visited, complete-ready, complete-after}
@@ -46,7 +46,7 @@ module _ {S C : Type 0} (answer : S → ScalarAnswer) (request : Request S C) (o
   F = fields_in answer request object
 
   abbrev at : Selection S → List (Found S)
-  at x = F (one (fragments_in request) x)
+  at x = F (written_selection (fragments_in request) x)
 
   abbrev W : List (Found S) → Walk S → Walk S → Type 0
   W = Walked (drops_in answer request) (is_below_in request object) (means_in request)
@@ -73,14 +73,14 @@ module _ {S C : Type 0} (answer : S → ScalarAnswer) (request : Request S C) (o
       let there : all_found (fragments_in request) f2 ≡ all_found (fragments_in request) f ++ found_at request x ∷ [] =
       ap (all_found (fragments_in request)) grown ∙ map-append (λ (y : CollectedField S). found_at request y.field.now) f (o ∷ [])
       ∙ ap (λ y. all_found (fragments_in request) f ++ found_at request y ∷ []) same in
-      let kept_one : W (found_at request x ∷ []) (state request v f) (with_field (found_at request x) (state request v f)) =
-      walked-field (drops_in answer request) (is_below_in request object) (means_in request) (found_at request x) [] (state request v f) (with_field (found_at request x) (state request v f))
-      (walked-none (drops_in answer request) (is_below_in request object) (means_in request) (with_field (found_at request x) (state request v f))) in
+      let kept_one : W (found_at request x ∷ []) (state request v f) (with_found (found_at request x) (state request v f)) =
+      walked-field (drops_in answer request) (is_below_in request object) (means_in request) (found_at request x) [] (state request v f) (with_found (found_at request x) (state request v f))
+      (walked-none (drops_in answer request) (is_below_in request object) (means_in request) (with_found (found_at request x) (state request v f))) in
       subst (λ zs. W zs (state request v f) (state request v f2)) (sym is)
       (subst (λ (ys : List (Found S)). W (found_at request x ∷ []) (state request v f) (record { visited = v; found = ys })) (sym there) kept_one)
 
   abbrev Leading : List (Found S) → Walk S → List (Tree S) → Walk S → Type 0
-  Leading = Leads (drops_in answer request) (is_below_in request object) (means_in request)
+  Leading = WalksAll (drops_in answer request) (is_below_in request object) (means_in request)
 
   abbrev Goes : List (Tree S) → List Bytes → Lent S → List (Tree S) → List Bytes → Lent S → Type 0
   Goes = Steps answer request object
@@ -116,18 +116,18 @@ module _ {S C : Type 0} (answer : S → ScalarAnswer) (request : Request S C) (o
 
     -- the first of what is left of a set, before the others
     pub goes-on : (x : Selection S) (rest : List (Selection S)) (v : List Bytes) (f : Lent S) → rest ≡ x ∷ rest_of inner
-        → Goes (written_in request rest ∷ trees_in request sets) v f (one (fragments_in request) x ∷ trees_in request more_sets) v f
+        → Goes (written_in request rest ∷ trees_in request sets) v f (written_selection (fragments_in request) x ∷ trees_in request more_sets) v f
     goes-on x rest v f is = λ xs start l.
-        subst (λ ts. Leading xs start (one (fragments_in request) x ∷ ts) (state request v f)) (sym trees-push)
+        subst (λ ts. Leading xs start (written_selection (fragments_in request) x ∷ ts) (state request v f)) (sym trees-push)
         (leads-apart (drops_in answer request) (is_below_in request object) (means_in request) xs start (trees_in request sets) (state request v f)
-        (written_in request (x ∷ rest_of inner)) (one (fragments_in request) x) (written_in request (rest_of inner))
+        (written_in request (x ∷ rest_of inner)) (written_selection (fragments_in request) x) (written_in request (rest_of inner))
         (fields-apart x (rest_of inner)) (height-one (fragments_in request) (x ∷ rest_of inner) 0 x (omega arith)) (height-others (fragments_in request) x (rest_of inner))
         (subst (λ zs. Leading xs start (written_in request zs ∷ trees_in request sets) (state request v f)) is l))
       where
-        fields-apart : (y : Selection S) (ys : List (Selection S)) → F (written_in request (y ∷ ys)) ≡ F (one (fragments_in request) y) ++ F (written_in request ys)
+        fields-apart : (y : Selection S) (ys : List (Selection S)) → F (written_in request (y ∷ ys)) ≡ F (written_selection (fragments_in request) y) ++ F (written_in request ys)
         fields-apart y ys =
             fields-written (fragments_in request) (drops_in answer request) (is_below_in request object) (y ∷ ys)
-            ∙ ap (λ zs. F (one (fragments_in request) y) ++ zs) (sym (fields-written (fragments_in request) (drops_in answer request) (is_below_in request object) ys))
+            ∙ ap (λ zs. F (written_selection (fragments_in request) y) ++ zs) (sym (fields-written (fragments_in request) (drops_in answer request) (is_below_in request object) ys))
 
     -- a set that is gone into is the innermost
     pub goes-back : (xs : List (Found S)) (start : Walk S) (v : List Bytes) (f : Lent S) → LeadsIn answer request object xs start (trees_in request more_sets) v f

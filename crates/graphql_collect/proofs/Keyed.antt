@@ -15,7 +15,7 @@ use Rattle.graphql_tree.specs.declared.document.Fragment.{Fragment}
 use Rattle.graphql_names.specs.Names.{Bytes}
 use Rattle.graphql_written_out.specs.Fields.{Found}
 use Rattle.graphql_written_out.specs.Groups.{keys_after, keys, under, groups}
-use Rattle.graphql_collected.specs.Occurrences.{found}
+use Rattle.graphql_collected.specs.Occurrences.{found_field}
 use Rattle.graphql_collect.specs.Grouped.{Lent, Group, all_found, group_found, key_at, begun, takes, put}
 use Rattle.graphql_semantics.proofs.GroupRepeats.{any-more, any-last}
 
@@ -263,7 +263,7 @@ module _ {S : Type 0} (x : CollectedField S) where
 -- the same of what is found
 module _ {S : Type 0} (fragments : List (Fragment S)) (x : CollectedField S) where
   abbrev it : Found S
-  it = found fragments x.field.now
+  it = found_field fragments x.field.now
 
   opens-found : (gs : List (Group S)) → map (group_found fragments) (begun x gs) ≡ opened it (map (group_found fragments) gs)
   opens-found gs =
@@ -283,7 +283,7 @@ module _ {S : Type 0} (fragments : List (Fragment S)) (x : CollectedField S) whe
   joins-found (g ∷ gs) = λ j. one (bytes_eq (key_at x) g.0) j ∷ joins-found gs j
     where
       one : (q : Bool) → group_found fragments (cond q (g.0, g.1 ++ x ∷ []) g) ≡ cond q (g.0, all_found fragments g.1 ++ it ∷ []) (group_found fragments g)
-      one true = λ j. (g.0, map-append (λ (y : CollectedField S). found fragments y.field.now) g.1 (x ∷ []) j)
+      one true = λ j. (g.0, map-append (λ (y : CollectedField S). found_field fragments y.field.now) g.1 (x ∷ []) j)
       one false = refl
 
   -- one field more
@@ -292,4 +292,4 @@ module _ {S : Type 0} (fragments : List (Fragment S)) (x : CollectedField S) whe
   grouped-more xs i gs more within is h e =
       ap (map (group_found fragments)) e ∙ joins-found (begun x gs) ∙ ap (map (joins it)) (opens-found gs) ∙ ap (λ hs. map (joins it) (opened it hs)) h
       ∙ groups-last it (all_found fragments (take i xs))
-      ∙ ap groups (sym (ap (all_found fragments) (take_more xs i x within ∙ ap (λ z. take i xs ++ z ∷ []) (sym is)) ∙ map-append (λ (y : CollectedField S). found fragments y.field.now) (take i xs) (x ∷ [])))
+      ∙ ap groups (sym (ap (all_found fragments) (take_more xs i x within ∙ ap (λ z. take i xs ++ z ∷ []) (sym is)) ∙ map-append (λ (y : CollectedField S). found_field fragments y.field.now) (take i xs) (x ∷ [])))

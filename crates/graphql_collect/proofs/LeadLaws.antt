@@ -4,7 +4,7 @@ use Rattle.graphql_written_out.specs.Trees.{Directives, Tree, height}
 use Rattle.graphql_names.specs.Names.{Bytes}
 use Rattle.graphql_written_out.specs.Fields.{Found, fields}
 use Rattle.graphql_collect.specs.Walks.{Walk, Meanings, marked}
-use Rattle.graphql_collect.specs.Walked.{Ready, Walked, Leads}
+use Rattle.graphql_collect.specs.Walked.{Ready, Walked, WalksAll}
 use Rattle.graphql_collect.proofs.WalkLaws.{walked-none, walked-then, walked-inside, ready-after, ready-inside}
 
 module _ {S : Type 0} (drops : Directives S → Bool) (b : Bytes → Bool) (means : Meanings S) where
@@ -15,12 +15,12 @@ module _ {S : Type 0} (drops : Directives S → Bool) (b : Bytes → Bool) (mean
   W = Walked drops b means
 
   -- a set that is opened
-  pub leads-first : (t : Tree S) (s : Walk S) → Ready drops b means (height t) s → Leads drops b means (F t) s (t ∷ []) s
+  pub leads-first : (t : Tree S) (s : Walk S) → Ready drops b means (height t) s → WalksAll drops b means (F t) s (t ∷ []) s
   leads-first t s r = (r, λ m w. w)
 
   module _ (xs : List (Found S)) (start : Walk S) (ts : List (Tree S)) (s : Walk S) where
     abbrev L : List (Tree S) → Walk S → Type 0
-    L = Leads drops b means xs start
+    L = WalksAll drops b means xs start
 
     pub leads-walked : (t : Tree S) (m : Walk S) → W (F t) s m → L (t ∷ ts) s → L ts m
     leads-walked t m w l = l.1 m w

@@ -23,7 +23,7 @@ use Rattle.graphql_written_out.specs.Written.{Before, chain, listed, selection_l
 use Rattle.indexmap.specs.IndexSet.{insert_key}
 use Rattle.graphql_collect.specs.declared.open_set.OpenSet.{OpenSet}
 use Rattle.graphql_collect.specs.OpenSets.{Open, rest_of, rests}
-use Rattle.graphql_collect.specs.Sizes.{tree_size, bare, size, left_by, size_below, turns, selection_turns}
+use Rattle.graphql_collect.specs.Sizes.{tree_size, without_spreads, size, left_by, size_below, turns, selection_turns}
 use Rattle.graphql_collected.specs.declared.collected_field.CollectedField.{CollectedField}
 use Rattle.graphql_collect.specs.Grouped.{Lent}
 use Rattle.graphql_semantics.proofs.GroupRepeats.{any-more, any-last}
@@ -47,24 +47,24 @@ module _ {S : Type 0} where
   abbrev skip : FragmentSpread S → Before S
   skip x rest = rest
 
-  bare-Field : (x : Placed (Field S)) (rest : Tree S) → tree_size (bare (selection.Field x) rest) ≡ 1 + tree_size rest
-  unfolding bare
+  bare-Field : (x : Placed (Field S)) (rest : Tree S) → tree_size (without_spreads (selection.Field x) rest) ≡ 1 + tree_size rest
+  unfolding without_spreads
   bare-Field x rest =
       ap (λ (f : Before S). tree_size (f rest)) (fold_field (selection_layer skip) (field_layer skip) (inline_layer skip) x)
       ∙ ap (λ f. tree_size (f x.span.start rest)) (fold_in_field (selection_layer skip) (field_layer skip) (inline_layer skip) x.item)
 
-  bare-Spread : (x : Placed (FragmentSpread S)) (rest : Tree S) → tree_size (bare (selection.FragmentSpread x) rest) ≡ tree_size rest
-  unfolding bare
+  bare-Spread : (x : Placed (FragmentSpread S)) (rest : Tree S) → tree_size (without_spreads (selection.FragmentSpread x) rest) ≡ tree_size rest
+  unfolding without_spreads
   bare-Spread x rest = ap (λ (f : Before S). tree_size (f rest)) (fold_spread (selection_layer skip) (field_layer skip) (inline_layer skip) x)
 
-  bare-Inline : (x : Placed (InlineFragment S)) (rest : Tree S) → tree_size (bare (selection.InlineFragment x) rest) ≡ size x.item.selection_set + tree_size rest
-  unfolding bare size
+  bare-Inline : (x : Placed (InlineFragment S)) (rest : Tree S) → tree_size (without_spreads (selection.InlineFragment x) rest) ≡ size x.item.selection_set + tree_size rest
+  unfolding without_spreads size
   bare-Inline x rest =
       ap (λ (f : Before S). tree_size (f rest)) (fold_inline (selection_layer skip) (field_layer skip) (inline_layer skip) x)
       ∙ ap (λ (f : Before S). tree_size (f rest)) (fold_in_inline (selection_layer skip) (field_layer skip) (inline_layer skip) x.item)
 
   abbrev Sums : Selection S → Type 0
-  Sums x = (rest : Tree S) → tree_size (bare x rest) ≡ tree_size (bare x none) + tree_size rest
+  Sums x = (rest : Tree S) → tree_size (without_spreads x rest) ≡ tree_size (without_spreads x none) + tree_size rest
 
   bare-sums : (x : Selection S) → Sums x
   bare-sums = selection_ind Sums
@@ -74,7 +74,7 @@ module _ {S : Type 0} where
 
   pub size-cons : (x : Selection S) (xs : List (Selection S)) → size (x ∷ xs) ≡ size (x ∷ []) + size xs
   unfolding size
-  size-cons x xs = bare-sums x (chain (map bare xs) none)
+  size-cons x xs = bare-sums x (chain (map without_spreads xs) none)
 
   pub size-Field : (x : Placed (Field S)) → 1 ≤ size (selection.Field x ∷ [])
   unfolding size

@@ -7,7 +7,7 @@ use Rattle.graphql_written_out.specs.Trees.{Directives, height}
 use Rattle.graphql_names.specs.Names.{Bytes}
 use Rattle.graphql_written_out.specs.Fields.{Found, fields}
 use Rattle.graphql_written_out.specs.Repeats.{nothing, kept}
-use Rattle.graphql_collect.specs.Walks.{Walk, Meanings, is_visited, marked, with_field}
+use Rattle.graphql_collect.specs.Walks.{Walk, Meanings, is_visited, marked, with_found}
 use Rattle.graphql_collect.specs.Walked.{Ready, Complete, Walked}
 use Rattle.graphql_semantics.proofs.RepeatLemmas.{adds-old, adds-new, adds-append, adds-none}
 use Rattle.graphql_collected.proofs.NamesBehind.{last-cases}
@@ -28,7 +28,7 @@ module _ {S : Type 0} (drops : Directives S → Bool) (b : Bytes → Bool) (mean
       (λ before. ⊎_elim (λ above. inl (omega arith)) (λ c. inr (λ x d. adds-old x w.adds (c x d))) (r n before a))
       (λ c. inr c) (w.grew n is a)
 
-  pub walked-field : (x : Found S) (xs : List (Found S)) (s t : Walk S) → Walked drops b means xs (with_field x s) t → Walked drops b means (x ∷ xs) s t
+  pub walked-field : (x : Found S) (xs : List (Found S)) (s t : Walk S) → Walked drops b means xs (with_found x s) t → Walked drops b means (x ∷ xs) s t
   walked-field x xs s t w = record { adds = kept x w.adds; grew = w.grew }
 
   -- a fragment that was entered brings nothing more

@@ -19,7 +19,7 @@ use Rattle.graphql_collect.specs.Grouped.{Lent, all_found}
 use Rattle.graphql_collect.specs.declared.collecting.Brought.{Brought}
 use Rattle.graphql_collect.specs.declared.collecting.Brought.TheVariants as brought
 use Rattle.graphql_collect.specs.Walks.{Walk, Meanings}
-use Rattle.graphql_collect.specs.Walked.{Ready, Complete, Walked, Leads}
+use Rattle.graphql_collect.specs.Walked.{Ready, Complete, Walked, WalksAll}
 use Rattle.graphql_collect.specs.OpenSets.{Open, rests}
 
 -- a field that is brought is the selection itself
@@ -65,7 +65,8 @@ module _ {S C : Type 0} where
         (state request visited found) (state request visited_then found_then)
 
     abbrev pub LeadsIn : List (Found S) → Walk S → List (Tree S) → List Bytes → Lent S → Type 0
-    LeadsIn xs start ts visited found = Leads (drops_in answer request) (is_below_in request object)
+    LeadsIn xs start ts visited found = WalksAll (drops_in answer request)
+        (is_below_in request object)
         (means_in request) xs start ts (state request visited found)
 
     -- a step: whatever the walk of these sets led to, that of those does

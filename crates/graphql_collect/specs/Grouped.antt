@@ -7,7 +7,7 @@ use Rattle.graphql_collected.specs.declared.collected_field.CollectedField.{Coll
 use Rattle.graphql_names.specs.Names.{Bytes}
 use Rattle.graphql_written_out.specs.Written.{response_key}
 use Rattle.graphql_written_out.specs.Fields.{Found}
-use Rattle.graphql_collected.specs.Occurrences.{found}
+use Rattle.graphql_collected.specs.Occurrences.{found_field}
 use Rattle.graphql_written_out.specs.Groups.{groups}
 
 -- fields of a document, lent
@@ -21,7 +21,7 @@ Group S = Bytes × Lent S
 module _ {S : Type 0} where
   -- the fields of a group, their sets written out
   abbrev pub all_found : List (Fragment S) → Lent S → List (Found S)
-  all_found fragments = map (λ x. found fragments x.field.now)
+  all_found fragments = map (λ x. found_field fragments x.field.now)
 
   -- a group, the sets of its fields written out
   abbrev pub group_found : List (Fragment S) → Group S → Bytes × List (Found S)

@@ -21,12 +21,12 @@ module _ {S : Type 0} where
   tree_size (inline on directives below rest) = tree_size below + tree_size rest
 
   -- a selection whose spreads are left out
-  unfoldable pub bare : Selection S → Before S
-  bare = write_with (λ x rest. rest)
+  unfoldable pub without_spreads : Selection S → Before S
+  without_spreads = write_with (λ x rest. rest)
 
   -- how many fields a set has of its own, its spreads left out
   unfoldable pub size : List (Selection S) → ℕ
-  size set = tree_size (chain (map bare set) none)
+  size set = tree_size (chain (map without_spreads set) none)
 
   -- the turns through a selection, at most
   abbrev pub selection_turns : Selection S → ℕ

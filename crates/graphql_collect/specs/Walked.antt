@@ -4,7 +4,7 @@ use Rattle.std.specs.List.{Contains}
 use Rattle.graphql_written_out.specs.Trees.{Directives, Tree, height}
 use Rattle.graphql_names.specs.Names.{Bytes}
 use Rattle.graphql_written_out.specs.Fields.{Found, fields}
-use Rattle.graphql_written_out.specs.Repeats.{Adds}
+use Rattle.graphql_written_out.specs.Repeats.{AddsButRepeats}
 use Rattle.graphql_collect.specs.Walks.{Walk, Meanings, is_visited}
 
 module _ {S : Type 0} (drops : Directives S → Bool) (is_below : Bytes → Bool)
@@ -26,13 +26,13 @@ module _ {S : Type 0} (drops : Directives S → Bool) (is_below : Bytes → Bool
 
   -- fields are added but for repeats; the fragments that came in are covered
   pub record Walked (xs : List (Found S)) (s t : Walk S) : Type 0 where
-    pub adds : Adds (Found S) s.found xs t.found
+    pub adds : AddsButRepeats (Found S) s.found xs t.found
     pub grew : (name : Bytes) → is_visited t name ≡ true → is_below (means name).0 ≡ true
         → (is_visited s name ≡ true) ⊎ Covered name t.found
 
   -- once what is left of open sets is walked, the innermost first, these fields are walked from the
   -- start
-  abbrev pub Leads : List (Found S) → Walk S → List (Tree S) → Walk S → Type 0
-  Leads xs start [] s = Walked xs start s
-  Leads xs start (t ∷ ts) s = Ready (height t) s
-      × ((m : Walk S) → Walked (fields drops is_below t) s m → Leads xs start ts m)
+  abbrev pub WalksAll : List (Found S) → Walk S → List (Tree S) → Walk S → Type 0
+  WalksAll xs start [] s = Walked xs start s
+  WalksAll xs start (t ∷ ts) s = Ready (height t) s
+      × ((m : Walk S) → Walked (fields drops is_below t) s m → WalksAll xs start ts m)

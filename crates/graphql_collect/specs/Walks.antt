@@ -18,8 +18,8 @@ is_visited s name = list_any (bytes_eq name) s.visited
 abbrev pub marked : {S : Type 0} → Bytes → Walk S → Walk S
 marked name s = record { visited = s.visited ++ name ∷ []; found = s.found }
 
-abbrev pub with_field : {S : Type 0} → Found S → Walk S → Walk S
-with_field x s = record { visited = s.visited; found = s.found ++ x ∷ [] }
+abbrev pub with_found : {S : Type 0} → Found S → Walk S → Walk S
+with_found x s = record { visited = s.visited; found = s.found ++ x ∷ [] }
 
 -- what a name stands for: a type and a set
 abbrev pub Meanings : Type 0 → Type 0

@@ -6,7 +6,7 @@ ghost use Rattle.std.specs.Option.{option_map, option_map_or};
 ghost use Rattle.std.specs.List.{flat_map, list_any};
 ghost use Rattle.std.specs.Str.{bytes_eq};
 ghost use Rattle.graphql_tree.specs.declared.selection.Selection.TheVariants as selection;
-ghost use Rattle.graphql_written_out.specs.Written.{listed, one, Settled};
+ghost use Rattle.graphql_written_out.specs.Written.{listed, written_selection, Settled};
 ghost use Rattle.graphql_written_out.specs.Trees.{height};
 ghost use Rattle.graphql_collected.specs.Requests.{is_below_in, fields_in, written_in};
 ghost use Rattle.graphql_collected.specs.Requests.{fragments_in};
@@ -78,7 +78,8 @@ fn bring_field<'d, 'a, S: SchemaScalar>(
 ) -> Brought<'d, 'a, S>
     ensures brings { (object : List ℕ) (visited : List (List ℕ))
         → Brings S.answer request.now
-        object visited (one (fragments_in request.now) (selection.Field field.now)) result }
+        object visited
+        (written_selection (fragments_in request.now) (selection.Field field.now)) result }
     ensures itself { IsItself (selection.Field field.now) result }
     ensures sized { (visited : List (List ℕ))
         → IsSized (fragments_in request.now) visited (selection.Field field.now) result }
@@ -97,7 +98,8 @@ fn bring_inline<'d, 'a, S: SchemaScalar>(
 ) -> Brought<'d, 'a, S>
     ensures brings { (visited : List (List ℕ))
         → Brings S.answer request.now object.now visited
-        (one (fragments_in request.now) (selection.InlineFragment inline.now)) result }
+        (written_selection (fragments_in request.now) (selection.InlineFragment inline.now))
+        result }
     ensures itself { IsItself (selection.InlineFragment inline.now) result }
     ensures sized { (visited : List (List ℕ))
         → IsSized (fragments_in request.now) visited (selection.InlineFragment inline.now) result }
@@ -121,7 +123,8 @@ fn bring_fragment<'d, 'a, S: SchemaScalar>(
 ) -> Brought<'d, 'a, S>
     requires { Settled (fragments_in request.now) }
     ensures brings { Brings S.answer request.now object.now visited.now.keys
-        (one (fragments_in request.now) (selection.FragmentSpread spread.now)) result }
+        (written_selection (fragments_in request.now) (selection.FragmentSpread spread.now))
+        result }
     ensures itself { IsItself (selection.FragmentSpread spread.now) result }
     ensures sized { IsSized (fragments_in request.now) visited.now.keys
         (selection.FragmentSpread spread.now) result }
@@ -152,7 +155,7 @@ fn bring<'d, 'a, S: SchemaScalar>(
 ) -> Brought<'d, 'a, S>
     requires { Settled (fragments_in request.now) }
     ensures brings { Brings S.answer request.now object.now visited.now.keys
-        (one (fragments_in request.now) selection.now) result }
+        (written_selection (fragments_in request.now) selection.now) result }
     ensures itself { IsItself selection.now result }
     ensures sized { IsSized (fragments_in request.now) visited.now.keys selection.now result }
 {
@@ -177,7 +180,7 @@ fn enter<'d, 'a, S: SchemaScalar>(
     requires settled { Settled (fragments_in request.now) }
     requires stands { slice_get set.now.among.now set.now.next ≡ Some selection.now }
     ensures steps { OnOk result (Steps S.answer request.now object.now
-        (one (fragments_in request.now) selection.now ∷ trees_in request.now sets.old)
+        (written_selection (fragments_in request.now) selection.now ∷ trees_in request.now sets.old)
         visited.old.keys found.old
         (trees_in request.now sets.new) visited.new.keys found.new) }
     ensures sized { OnOk result (

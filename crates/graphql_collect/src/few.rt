@@ -30,13 +30,13 @@ enum Held<T> {
 impl<T> Model for Few<T> {
     ghost use Rattle.std.specs.Prelude.{List};
     ghost use Rattle.std.specs.Coded.{coded_list};
-    ghost use Rattle.graphql_collect.specs.Few.{items_of};
+    ghost use Rattle.graphql_collect.specs.Few.{held_items};
 
     ghost Value = { List T };
 
     ghost coded = { coded_list T.code };
 
-    ghost view = { λ few. items_of few.held };
+    ghost view = { λ few. held_items few.held };
 }
 
 impl<T> Few<T> {

@@ -7,6 +7,6 @@ use Rattle.graphql_written_out.specs.Fields.{Found}
 use Rattle.graphql_written_out.specs.Written.{written, head_of, listed}
 
 -- the field that stands at a place, its set with its fragments written out
-abbrev pub found : {S : Type 0} → List (Fragment S) → Placed (Field S) → Found S
-found fragments x =
+abbrev pub found_field : {S : Type 0} → List (Fragment S) → Placed (Field S) → Found S
+found_field fragments x =
     record { head = head_of x; below = written fragments (listed x.item.selection_set) }

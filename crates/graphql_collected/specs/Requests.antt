@@ -14,7 +14,7 @@ use Rattle.graphql_written_out.specs.Conditions.{left_out}
 use Rattle.graphql_tree.specs.Definitions.{fragments_listed}
 use Rattle.graphql_written_out.specs.Written.{written}
 use Rattle.graphql_written_out.specs.Fields.{Found, fields}
-use Rattle.graphql_collected.specs.Occurrences.{found}
+use Rattle.graphql_collected.specs.Occurrences.{found_field}
 
 module _ {S C : Type 0} where
   -- which directives leave a selection out, over the final variables
@@ -38,4 +38,4 @@ module _ {S C : Type 0} where
   written_in request = written (fragments_in request)
 
   abbrev pub found_at : Request S C → Placed (Field S) → Found S
-  found_at request = found (fragments_in request)
+  found_at request = found_field (fragments_in request)

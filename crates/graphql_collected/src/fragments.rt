@@ -2,7 +2,7 @@
 
 ghost use Rattle.std.specs.Prelude.{◌≡◌, ℕ, List};
 ghost use Rattle.graphql_written_out.specs.Written.{fragment_meant};
-ghost use Rattle.graphql_rule_errors.specs.Found.{found};
+ghost use Rattle.graphql_rule_errors.specs.Found.{item_named};
 ghost use Rattle.graphql_tree.specs.Definitions.{fragments_listed};
 
 mod lookups;
@@ -21,5 +21,5 @@ pub struct Fragments<'d, 'a, S> {
     pub(crate) first: HashMap<&'d str, &'d Fragment<'a, S>>,
 
     ghost firsts: { (name : List ℕ)
-        → found first name ≡ fragment_meant (fragments_listed document.now) name },
+        → item_named first name ≡ fragment_meant (fragments_listed document.now) name },
 }

@@ -3,7 +3,7 @@ use Rattle.std.proofs.Common.{◌≡◌, ℕ, ◌+◌, ◌<◌, List, [], ◌∷
 use Rattle.std.proofs.lemmas.List.{at_drop_more, map-append}
 use Rattle.serde_json.specs.View.{view, items_view}
 use Rattle.serde_json.specs.declared.value.Value.{Value}
-use Rattle.graphql_json.specs.Parts.{◌>>=◌, each}
+use Rattle.graphql_json.specs.Parts.{◌>>=◌, each_read}
 use Rattle.graphql_json.proofs.EachTurns.{each_turn, from}
 use Rattle.graphql_names.specs.Names.{Bytes}
 use Rattle.graphql_records.specs.Tables.{Entries}
@@ -15,8 +15,8 @@ use Rattle.graphql_data_files.proofs.ValueTurns.{behind}
 
 pub draft_turn : (whole : Option (List Draft)) (items : List Value) (i : ℕ) (this : Value) (x : LentDraft) (found new : List LentDraft)
     → i < length items → get_or items i this ≡ this → draft_of (view this) ≡ Some (draft_told x) → new ≡ found ++ x ∷ []
-    → whole ≡ from (map draft_told found) (each draft_of (items_view (drop i items)))
-    → whole ≡ from (map draft_told new) (each draft_of (items_view (drop (i + 1) items)))
+    → whole ≡ from (map draft_told found) (each_read draft_of (items_view (drop i items)))
+    → whole ≡ from (map draft_told new) (each_read draft_of (items_view (drop (i + 1) items)))
 draft_turn whole items i this x found new inside here means pushed so_far =
     let told = ap (map draft_told) pushed ∙ map-append draft_told found (x ∷ []) in
     each_turn draft_of whole items i this (draft_told x) (map draft_told found) (map draft_told new) inside here means told so_far

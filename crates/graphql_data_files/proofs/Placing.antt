@@ -14,7 +14,7 @@ use Rattle.graphql_records.specs.declared.table_type.TableType.{TableType}
 use Rattle.graphql_data_files.specs.DataFiles.{ids_repeat}
 use Rattle.graphql_data_files.specs.Drafts.{Drafts, file_of}
 use Rattle.graphql_data_files.specs.LentDrafts.{draft_told}
-use Rattle.graphql_data_files.specs.RecordPlaces.{IsPlace, IsPlaceIn, IsPlaceOf, bad_link, dead_link, field_of, place_of_drafts}
+use Rattle.graphql_data_files.specs.RecordPlaces.{IsPlace, IsPlaceIn, IsPlaceOf, bad_link, dead_link, field_place, place_of_drafts}
 use Rattle.graphql_data_files.specs.declared.data_file_error.DataFileError.{DataFileError}
 use Rattle.graphql_data_files.specs.declared.data_file_error.DataFileError.TheVariants as fault
 use Rattle.graphql_data_files.specs.declared.drafts.Draft.{Draft as LentDraft}
@@ -35,15 +35,15 @@ find_map {A} f test (x ∷ xs) = step (test (f x)) (find_map f test xs)
 -- of the first item that a test finds, a field of its id
 module _ {R : Type 0} (id_of : R → Bytes) (field_in : R → Option Bytes) (test : R → Bool) (records : List R) where
   abbrev pub placed_by : Option RecordPlace
-  placed_by = find test records >>= λ r. field_of (id_of r) (field_in r)
+  placed_by = find test records >>= λ r. field_place (id_of r) (field_in r)
 
   pub placed : (result : Result (Option RecordPlace) AllocError) (r : R) (id : Bytes) (field : Option Bytes) → find test records ≡ Some r → id ≡ id_of r → field ≡ field_in r
-      → Gives result (field_of id field) → Gives result placed_by
+      → Gives result (field_place id field) → Gives result placed_by
   placed result r id field found same named given =
-      subst (Gives result) (ap (λ i. field_of i field) same ∙ ap (field_of (id_of r)) named ∙ sym (ap (λ o. o >>= λ r. field_of (id_of r) (field_in r)) found)) given
+      subst (Gives result) (ap (λ i. field_place i field) same ∙ ap (field_place (id_of r)) named ∙ sym (ap (λ o. o >>= λ r. field_place (id_of r) (field_in r)) found)) given
 
   pub placed_nowhere : find test records ≡ None → None ≡ placed_by
-  placed_nowhere found = sym (ap (λ o. o >>= λ r. field_of (id_of r) (field_in r)) found)
+  placed_nowhere found = sym (ap (λ o. o >>= λ r. field_place (id_of r) (field_in r)) found)
 
 -- the ids of drafts that are lent
 pub ids_told : (drafts : List LentDraft) → map (λ d. d.id) (map draft_told drafts) ≡ map (λ d. d.id) drafts

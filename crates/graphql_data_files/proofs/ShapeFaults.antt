@@ -6,12 +6,12 @@ use Rattle.serde_json.specs.Data.{Data, null, boolean, number, string, array, ob
 use Rattle.serde_json.specs.Find.{as_array, as_object, get}
 use Rattle.serde_json.specs.View.{view, items_view}
 use Rattle.serde_json.specs.declared.value.Value.{Value}
-use Rattle.graphql_json.specs.Parts.{◌>>=◌, each, list_of, text_at}
+use Rattle.graphql_json.specs.Parts.{◌>>=◌, each_read, list_read, text_at, unless}
 use Rattle.graphql_names.specs.Names.{Bytes}
 use Rattle.std.specs.Prelude.{codes}
-use Rattle.graphql_data_files.specs.Drafts.{Draft, Drafts, draft_of, drafts_in, fields_in, file_of, root_in}
+use Rattle.graphql_data_files.specs.Drafts.{Draft, Drafts, draft_of, drafts_in, fields_member, file_of, root_in}
 use Rattle.graphql_data_files.specs.FileValues.{fields_have_shape, has_shape}
-use Rattle.graphql_data_files.specs.RecordShapes.{fields_fault, file_fault, first_fault, items_fault, misshapen, record_fault, roots_fault, unless}
+use Rattle.graphql_data_files.specs.RecordShapes.{fields_fault, file_fault, first_fault, items_fault, misshapen, record_fault, roots_fault}
 use Rattle.graphql_data_files.specs.declared.data_file_error.DataFileError.{DataFileError}
 use Rattle.graphql_data_files.specs.declared.data_file_error.DataFileError.TheVariants as fault
 use Rattle.graphql_data_files.specs.declared.shape_place.ShapePlace.{ShapePlace}
@@ -85,22 +85,22 @@ record_so at (object ms) =
     let type_name = unless (is_some (text_at (codes "type") d)) (place.Type at) in
     let fields = fields_fault at (get (codes "fields") d >>= as_object) in
     let so : Opposed (option_or id (option_or type_name fields)) (draft_of d) =
-    both id (option_or type_name fields) (text_at (codes "id") d) (λ i. text_at (codes "type") d >>= λ t. fields_in d >>= λ fs. Some (draft_made i t fs)) (unless_so (text_at (codes "id") d) (place.Id at))
-    (λ i. both type_name fields (text_at (codes "type") d) (λ t. fields_in d >>= λ fs. Some (draft_made i t fs)) (unless_so (text_at (codes "type") d) (place.Type at))
-    (λ t. last fields (fields_in d) (draft_made i t) (fields_so at (get (codes "fields") d)))) in
+    both id (option_or type_name fields) (text_at (codes "id") d) (λ i. text_at (codes "type") d >>= λ t. fields_member d >>= λ fs. Some (draft_made i t fs)) (unless_so (text_at (codes "id") d) (place.Id at))
+    (λ i. both type_name fields (text_at (codes "type") d) (λ t. fields_member d >>= λ fs. Some (draft_made i t fs)) (unless_so (text_at (codes "type") d) (place.Type at))
+    (λ t. last fields (fields_member d) (draft_made i t) (fields_so at (get (codes "fields") d)))) in
     ap is_none (in_turn id type_name fields) ∙ so
 
-each_so : (i : ℕ) (ds : Items) → Opposed (first_fault i ds) (each draft_of ds)
+each_so : (i : ℕ) (ds : Items) → Opposed (first_fault i ds) (each_read draft_of ds)
 each_so i no_items = refl
 each_so i (item d ds) =
-    both (record_fault i d) (first_fault (i + 1) ds) (draft_of d) (λ x. each draft_of ds >>= λ xs. Some (x ∷ xs)) (record_so i d)
-    (λ x. last (first_fault (i + 1) ds) (each draft_of ds) (λ xs. x ∷ xs) (each_so (i + 1) ds))
+    both (record_fault i d) (first_fault (i + 1) ds) (draft_of d) (λ x. each_read draft_of ds >>= λ xs. Some (x ∷ xs)) (record_so i d)
+    (λ x. last (first_fault (i + 1) ds) (each_read draft_of ds) (λ xs. x ∷ xs) (each_so (i + 1) ds))
 
-items_so : (o : Option Items) → Opposed (items_fault o) (o >>= each draft_of)
+items_so : (o : Option Items) → Opposed (items_fault o) (o >>= each_read draft_of)
 items_so None = refl
 items_so (Some ds) = each_so 0 ds
 
-list_so : (o : Option Data) → Opposed (items_fault (o >>= as_array)) (o >>= list_of draft_of)
+list_so : (o : Option Data) → Opposed (items_fault (o >>= as_array)) (o >>= list_read draft_of)
 list_so None = refl
 list_so (Some v) = items_so (as_array v)
 

@@ -12,7 +12,7 @@ use Rattle.graphql_records.specs.declared.table_type.TableType.{TableType}
 use Rattle.graphql_data_files.specs.DataFiles.{described, drafted, has_field, has_fields, ids_repeat, is_of_object_type, judged, linked, rooted}
 use Rattle.graphql_data_files.specs.Drafts.{Drafts, file_of, records_of}
 use Rattle.graphql_data_files.specs.Laws.{ToldFaultsHavePlaces}
-use Rattle.graphql_data_files.specs.Links.{all_lead, field_leads, root_of}
+use Rattle.graphql_data_files.specs.Links.{all_lead, field_leads, query_root}
 use Rattle.graphql_data_files.specs.RecordPlaces.{IsPlaceIn, IsPlaceOf, IsRepeat, dead_link, place_among}
 use Rattle.graphql_data_files.specs.RecordShapes.{fault_in, file_fault}
 use Rattle.graphql_data_files.specs.declared.data_file_error.DataFileError.{DataFileError}
@@ -102,7 +102,7 @@ module _ (types : List TableType) (query : Bytes) where
       by_root (Some n) given = absurd (true≢false (ap is_ok given))
 
       by_links : ids_repeat records ≡ false → (b : Bool) → all_lead records types ≡ b → (if b then rooted query file.root records else Err fault.BadLink) ≡ Err e → Placed file e
-      by_links differ true led given = by_root (root_of records query file.root) given
+      by_links differ true led given = by_root (query_root records query file.root) given
       by_links differ false led given = placed_as file fault.BadLink e given (stray_placed differ led)
 
       by_fields : ids_repeat records ≡ false → (b : Bool) → known ≡ b → after false true b ≡ Err e → Placed file e

@@ -12,7 +12,7 @@ use Rattle.graphql_records.specs.declared.field_value.FieldValue.{FieldValue}
 use Rattle.graphql_records.specs.declared.record.Record.{Record}
 use Rattle.graphql_records.specs.declared.table_type.TableType.{TableType}
 use Rattle.graphql_data_files.specs.Drafts.{Drafts, file_of, records_of}
-use Rattle.graphql_data_files.specs.Links.{all_lead, root_of}
+use Rattle.graphql_data_files.specs.Links.{all_lead, query_root}
 use Rattle.graphql_data_files.specs.declared.data_file_error.DataFileError.{DataFileError}
 use Rattle.graphql_data_files.specs.declared.data_file_error.DataFileError.TheVariants.{
   NotJson,
@@ -34,7 +34,7 @@ module _ (query : Bytes) where
   -- the table of records, queries starting from the record of an id
   abbrev pub rooted : Bytes → Entries → Result Table DataFileError
   rooted id records = do
-    place ← ok_or (root_of records query id) BadRoot
+    place ← ok_or (query_root records query id) BadRoot
     Ok (record { entries = records; root = place })
 
 -- `types`: what the table knows of the schema's types

@@ -6,7 +6,7 @@ use Rattle.graphql_json.specs.Parts.{◌>>=◌, list_at, text_at}
 use Rattle.graphql_names.specs.Names.{Bytes}
 use Rattle.graphql_records.specs.Tables.{Entries}
 use Rattle.graphql_records.specs.declared.record.Record.{Record}
-use Rattle.graphql_data_files.specs.FileValues.{fields_have_shape, fields_of}
+use Rattle.graphql_data_files.specs.FileValues.{fields_have_shape, file_fields}
 
 -- a record: its id, the name of its type, its fields as they stand in the file
 pub record Draft : Type 0 where
@@ -20,8 +20,8 @@ pub record Drafts : Type 0 where
   pub records : List Draft
 
 -- the object `fields` of values
-abbrev pub fields_in : Data → Option Members
-fields_in d = do
+abbrev pub fields_member : Data → Option Members
+fields_member d = do
   value ← get (codes "fields") d
   members ← as_object value
   if fields_have_shape members then Some members else None
@@ -31,7 +31,7 @@ abbrev pub draft_of : Data → Option Draft
 draft_of d = do
   id ← text_at (codes "id") d
   type_name ← text_at (codes "type") d
-  fields ← fields_in d
+  fields ← fields_member d
   Some (record { id = id; type_name = type_name; fields = fields })
 
 -- the text `query` in the object `roots`
@@ -53,7 +53,7 @@ file_of d = do
 -- the record of a draft, with its id; none where a number in it is no whole one of 32 bits
 abbrev pub record_of : Draft → Option (Bytes × Record)
 record_of draft = do
-  fields ← fields_of draft.fields
+  fields ← file_fields draft.fields
   Some (draft.id, record { type_name = draft.type_name; fields = fields })
 
 -- the records of a file, or nothing where one is none

@@ -32,25 +32,25 @@ fields_have_shape (member k d ms) = has_shape d && fields_have_shape ms
 -- the value of a field; none where a number in it is no whole one of 32 bits, or it has not the
 -- shape
 abbrev mutual
-  pub value_of : Data → Option FieldValue
-  value_of null = Some value.Null
-  value_of (boolean b) = Some (value.Scalar (scalar.Boolean b))
-  value_of (number n) = option_map (λ z. value.Scalar (scalar.Int z)) (whole_of n)
-  value_of (string s) = Some (value.Scalar (scalar.String s))
-  value_of (array ds) = option_map value.List (values_of ds)
-  value_of (object ms) = None
+  pub file_value : Data → Option FieldValue
+  file_value null = Some value.Null
+  file_value (boolean b) = Some (value.Scalar (scalar.Boolean b))
+  file_value (number n) = option_map (λ z. value.Scalar (scalar.Int z)) (whole_of n)
+  file_value (string s) = Some (value.Scalar (scalar.String s))
+  file_value (array ds) = option_map value.List (file_values ds)
+  file_value (object ms) = None
 
-  pub values_of : Items → Option (List FieldValue)
-  values_of no_items = Some []
-  values_of (item d ds) = do
-    v ← value_of d
-    vs ← values_of ds
+  pub file_values : Items → Option (List FieldValue)
+  file_values no_items = Some []
+  file_values (item d ds) = do
+    v ← file_value d
+    vs ← file_values ds
     Some (v ∷ vs)
 
 -- the fields, by their names; none where the value of one is none
-abbrev pub fields_of : Members → Option Fields
-fields_of no_members = Some []
-fields_of (member k d ms) = do
-  v ← value_of d
-  fs ← fields_of ms
+abbrev pub file_fields : Members → Option Fields
+file_fields no_members = Some []
+file_fields (member k d ms) = do
+  v ← file_value d
+  fs ← file_fields ms
   Some ((k, v) ∷ fs)

@@ -9,7 +9,7 @@ use Rattle.graphql_names.specs.Names.{Bytes, passes}
 use Rattle.graphql_scalars.specs.declared.default_scalar.DefaultScalarValue.{DefaultScalarValue}
 use Rattle.graphql_scalars.specs.declared.default_scalar.DefaultScalarValue.TheVariants as scalar
 use Rattle.graphql_records.specs.Answers.{known_field}
-use Rattle.graphql_records.specs.Tables.{Entries, place_of}
+use Rattle.graphql_records.specs.Tables.{Entries, record_index}
 use Rattle.graphql_records.specs.declared.field_value.FieldValue.{FieldValue, fold-FieldValue}
 use Rattle.graphql_records.specs.declared.field_value.FieldValue.TheOpen.{FieldValue-F}
 use Rattle.graphql_records.specs.declared.record.Record.{Record}
@@ -18,7 +18,7 @@ use Rattle.graphql_records.specs.declared.table_type.TableType.{TableType}
 module _ (records : Entries) where
   -- a text leads to the record of its id
   abbrev pub scalar_leads : DefaultScalarValue → Bool
-  scalar_leads (scalar.String id) = is_some (place_of records id)
+  scalar_leads (scalar.String id) = is_some (record_index records id)
   scalar_leads (scalar.Int z) = true
   scalar_leads (scalar.Boolean b) = true
 
@@ -37,9 +37,9 @@ module _ (records : Entries) where
   is_query query place = passes (λ r. bytes_eq query r.1.type_name) (slice_get records place)
 
   -- the place of the record of an id, if it is of the query type
-  abbrev pub root_of : Bytes → Bytes → Option ℕ
-  root_of query id = do
-    place ← place_of records id
+  abbrev pub query_root : Bytes → Bytes → Option ℕ
+  query_root query id = do
+    place ← record_index records id
     if is_query query place then Some place else None
 
   -- `types`: what the table knows of the schema's types

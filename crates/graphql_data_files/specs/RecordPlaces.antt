@@ -41,14 +41,14 @@ misnumbered no_members = None
 misnumbered (member k d ms) = if is_whole d then misnumbered ms else Some k
 
 -- a field of the record of an id
-abbrev pub field_of : Bytes → Option Bytes → Option RecordPlace
-field_of id field = option_map (place.Field id) field
+abbrev pub field_place : Bytes → Option Bytes → Option RecordPlace
+field_place id field = option_map (place.Field id) field
 
 -- the first field with such a number, of the first record that has one
 abbrev pub bad_number : List Draft → Option RecordPlace
 bad_number drafts = do
   draft ← find (λ d. is_some (misnumbered d.fields)) drafts
-  field_of draft.id (misnumbered draft.fields)
+  field_place draft.id (misnumbered draft.fields)
 
 -- a record whose id another one has, or none where the ids differ
 abbrev pub IsRepeat : List Bytes → Option RecordPlace → Type 0
@@ -71,7 +71,7 @@ module _ (types : List TableType) where
   abbrev pub unknown_field : Entries → Option RecordPlace
   unknown_field records = do
     r ← find (λ r. not (has_fields types r)) records
-    field_of r.0 (option_map (λ f. f.0) (lacked_field r.1))
+    field_place r.0 (option_map (λ f. f.0) (lacked_field r.1))
 
   -- a record's first field with a link that leads to none of the records
   abbrev pub stray_field : Entries → Record → Option (Bytes × FieldValue)
@@ -81,7 +81,7 @@ module _ (types : List TableType) where
   abbrev pub dead_link : Entries → Option RecordPlace
   dead_link records = do
     r ← find (λ r. not (record_leads records types r.1)) records
-    field_of r.0 (option_map (λ f. f.0) (stray_field records r.1))
+    field_place r.0 (option_map (λ f. f.0) (stray_field records r.1))
 
   -- where two records have one id no link is looked for
   abbrev pub bad_link : Entries → Option RecordPlace

@@ -1,26 +1,16 @@
 -- Which member of a file of records has not its shape. Of an object the members are looked at in
 -- the order in which the shape names them, the fields of a record and the items of a list in
 -- theirs.
-use Rattle.std.specs.Prelude.{◌+◌, ℕ, Bool, Option, Some, None, is_some, option_map, codes}
+use Rattle.std.specs.Prelude.{◌+◌, ℕ, Option, Some, None, is_some, option_map, codes}
 use Rattle.std.specs.Prelude.{if◌then◌else◌}
-use Rattle.std.specs.Option.{option_or}
 use Rattle.serde_json.specs.Data.{Data, Items, no_items, item, Members, no_members, member}
 use Rattle.serde_json.specs.Find.{as_object, get}
-use Rattle.graphql_json.specs.Parts.{◌>>=◌, array_at, text_at}
+use Rattle.graphql_json.specs.Parts.{◌>>=◌, array_at, text_at, ◌or_else◌, unless}
 use Rattle.graphql_lines.specs.Request.{data_of}
 use Rattle.graphql_names.specs.Names.{Bytes}
 use Rattle.graphql_data_files.specs.FileValues.{has_shape}
 use Rattle.graphql_data_files.specs.declared.shape_place.ShapePlace.{ShapePlace}
 use Rattle.graphql_data_files.specs.declared.shape_place.ShapePlace.TheVariants as place
-
--- the first of two steps that finds something
-infixr 10 ◌or_else◌
-abbrev pub ◌or_else◌ : {A : Type 0} → Option A → Option A → Option A
-first or_else second = option_or first second
-
--- the fault, where the shape is not right
-abbrev pub unless : Bool → ShapePlace → Option ShapePlace
-unless right fault = if right then None else Some fault
 
 -- ---- a record
 

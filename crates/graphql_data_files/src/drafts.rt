@@ -3,7 +3,7 @@
 ghost use Rattle.std.specs.Prelude.{◌≡◌, map, option_map};
 ghost use Rattle.graphql_text.specs.Memory.{Gives, GivesBy};
 ghost use Rattle.serde_json.specs.View.{items_view, members_view, view};
-ghost use Rattle.graphql_json.specs.Parts.{each};
+ghost use Rattle.graphql_json.specs.Parts.{each_read};
 ghost use Rattle.graphql_data_files.specs.Drafts as spec;
 ghost use Rattle.graphql_data_files.specs.LentDrafts.{draft_told, file_told};
 
@@ -50,7 +50,7 @@ pub(crate) struct Drafts<'a> {
 /// The members of the object `fields`, if each is a value of a field.
 fn fields_in(json: &Value) -> Option<&Map<String, Value>>
     ensures { let told = option_map (λ members. members_view members.now.entries) result in
-        told ≡ spec.fields_in (view json.now) }
+        told ≡ spec.fields_member (view json.now) }
 {
     let members = json.get("fields")?.as_object()?;
     if fields_have_shape(members) {
@@ -77,7 +77,7 @@ fn draft_of<'a>(json: &'a Value) -> Option<Draft<'a>>
 /// The records that these describe, if each has the shape of one. An error is want of memory.
 fn drafts_of<'a>(alloc: Global, items: &'a [Value]) -> Result<Option<Items<Draft<'a>>>, AllocError>
     ensures { GivesBy (option_map (map draft_told)) result
-        (each spec.draft_of (items_view items.now)) }
+        (each_read spec.draft_of (items_view items.now)) }
 {
     let mut drafts = Items::with_capacity(alloc, items.len())?;
     'items: for item in items {

@@ -4,6 +4,7 @@ ghost use Rattle.std.specs.Prelude.{◌≡◌, option_map};
 ghost use Rattle.std.specs.Option.{option_copied};
 ghost use Rattle.graphql_text.specs.Memory.{Gives};
 ghost use Rattle.serde_json.specs.View.{items_view, members_view, view};
+ghost use Rattle.graphql_json.specs.Parts.{unless};
 ghost use Rattle.graphql_data_files.specs.RecordShapes as spec;
 
 use crate::data_file_error::DataFileError;
@@ -17,7 +18,7 @@ use std::alloc::{AllocError, Global};
 
 /// The fault, where the shape is not right.
 fn unless(right: bool, place: ShapePlace) -> Option<ShapePlace>
-    ensures { result ≡ spec.unless right place }
+    ensures { result ≡ unless right place }
 {
     if right { None } else { Some(place) }
 }

@@ -85,7 +85,7 @@ fn misnumbered_record<'s, 'a>(drafts: &'s [Draft<'a>]) -> Option<&'s Draft<'a>>
 
 /// The field of a record, if one is to blame. An error is want of memory.
 fn at_field(alloc: Global, id: &str, field: Option<&str>) -> Result<Option<RecordPlace>, AllocError>
-    ensures { Gives result (spec.field_of id.now (option_copied field.entry)) }
+    ensures { Gives result (spec.field_place id.now (option_copied field.entry)) }
 {
     match field {
         Some(field) => {

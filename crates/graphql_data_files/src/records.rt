@@ -73,7 +73,7 @@ fn is_query(records: &Records, query: &str, place: usize) -> bool
 
 /// The place of the record of an id, if it is of the query type.
 fn root_of(records: &Records, query: &str, id: &Text) -> Option<usize>
-    ensures { result ≡ link.root_of records.now.entries query.now id.now }
+    ensures { result ≡ link.query_root records.now.entries query.now id.now }
 {
     let place = records.place_of(id)?;
     if is_query(records, query, place) {

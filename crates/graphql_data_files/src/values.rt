@@ -59,7 +59,7 @@ pub(crate) fn fields_have_shape(members: &Map<String, Value>) -> bool
 /// at most. An error is want of memory.
 #[cycle(values)]
 fn value_of(alloc: Global, json: &Value) -> Result<Option<FieldValue>, AllocError>
-    ensures { Gives result (spec.value_of (view json.now)) }
+    ensures { Gives result (spec.file_value (view json.now)) }
 {
     match json {
         Value::Null => Ok(Some(FieldValue::Null)),
@@ -80,7 +80,7 @@ fn value_of(alloc: Global, json: &Value) -> Result<Option<FieldValue>, AllocErro
 /// The list of the values that these are; `None` where one is none. An error is want of memory.
 #[cycle(values)]
 fn list_of(alloc: Global, items: &[Value]) -> Result<Option<FieldValue>, AllocError>
-    ensures { Gives result (option_map value.List (spec.values_of (items_view items.now))) }
+    ensures { Gives result (option_map value.List (spec.file_values (items_view items.now))) }
 {
     let mut found = Items::with_capacity(alloc, items.len())?;
     'items: for item in items {
@@ -98,7 +98,7 @@ pub(crate) fn fields_of(
     alloc: Global,
     members: &Map<String, Value>,
 ) -> Result<Option<Fields>, AllocError>
-    ensures { Gives result (spec.fields_of (members_view members.now.entries)) }
+    ensures { Gives result (spec.file_fields (members_view members.now.entries)) }
 {
     let mut found = Items::with_capacity(alloc, members.len())?;
     'members: for (key, member) in members.iter() {

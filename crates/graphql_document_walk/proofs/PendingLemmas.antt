@@ -4,22 +4,22 @@ use Rattle.std.proofs.lemmas.Result.{on_ok_weaker}
 use Rattle.std.specs.List.{flat_map}
 use Rattle.graphql_schema.specs.Declarations.{Declarations}
 use Rattle.graphql_occurrences.specs.Nodes.{Around, Seen, Node, Enter, Leave}
-use Rattle.graphql_occurrences.specs.Events.{Within, seen, through}
+use Rattle.graphql_occurrences.specs.Events.{Within, seen_event, through}
 use Rattle.graphql_occurrences.specs.Lent.{around_of, node_of}
-use Rattle.graphql_document_walk.specs.Pending.{Adds, EventOnTop, Opens, OpensAny, part_after, part_events, parts_after, parts_on_top, pending, task_events, told}
+use Rattle.graphql_document_walk.specs.Pending.{PutsFirst, EventOnTop, OpensEvents, OpensAny, part_after, part_events, parts_after, parts_on_top, pending_events, task_events, side_event}
 use Rattle.graphql_document_walk.specs.declared.walk.tasks.Task.{Task}
 use Rattle.graphql_document_walk.specs.declared.walk.tasks.Work.TheVariants as work
 
 module _ {S C : Type 0} (schema : Declarations S C) where
-  pub pending_push : (ts : List (Task S C)) (t : Task S C) → pending schema (ts ++ t ∷ []) ≡ task_events schema t ++ pending schema ts
+  pub pending_push : (ts : List (Task S C)) (t : Task S C) → pending_events schema (ts ++ t ∷ []) ≡ task_events schema t ++ pending_events schema ts
   pending_push [] t = sym (append-nil (task_events schema t))
-  pending_push (u ∷ ts) t = ap (λ es. es ++ task_events schema u) (pending_push ts t) ∙ append_assoc (task_events schema t) (pending schema ts) (task_events schema u)
+  pending_push (u ∷ ts) t = ap (λ es. es ++ task_events schema u) (pending_push ts t) ∙ append_assoc (task_events schema t) (pending_events schema ts) (task_events schema u)
 
-  pub pending_with : (ts new : List (Task S C)) (t : Task S C) → new ≡ ts ++ t ∷ [] → pending schema new ≡ task_events schema t ++ pending schema ts
-  pending_with ts new t is = ap (pending schema) is ∙ pending_push ts t
+  pub pending_with : (ts new : List (Task S C)) (t : Task S C) → new ≡ ts ++ t ∷ [] → pending_events schema new ≡ task_events schema t ++ pending_events schema ts
+  pending_with ts new t is = ap (pending_events schema) is ∙ pending_push ts t
 
   -- an event is on top, so these events are opened, whether or not there are any
-  pub opens_any : {A E : Type 0} (r : Result A E) (es : List (Seen S C)) (old new : List (Task S C)) → OnOk r (Opens schema es old new) → OnOk r (OpensAny schema es old new)
+  pub opens_any : {A E : Type 0} (r : Result A E) (es : List (Seen S C)) (old new : List (Task S C)) → OnOk r (OpensEvents schema es old new) → OnOk r (OpensAny schema es old new)
   opens_any r es old new = on_ok_weaker r (λ opened. (opened.0, inl opened.1))
 
 module _ {S C : Type 0} where
@@ -48,26 +48,26 @@ module _ {X : Type 0} where
 module _ {S C : Type 0} where
   -- a node's end is added, then what is within it, then its start
   pub adds_node : (node : Node S) (inner : Within S C) (r s : Around S C) (p0 p1 p2 p3 : List (Seen S C)) →
-      r ≡ s → p1 ≡ (seen r (Leave node) ∷ []) ++ p0 → p2 ≡ inner r ++ p1 → p3 ≡ (seen r (Enter node) ∷ []) ++ p2 → p3 ≡ through node (inner s) s ++ p0
+      r ≡ s → p1 ≡ (seen_event r (Leave node) ∷ []) ++ p0 → p2 ≡ inner r ++ p1 → p3 ≡ (seen_event r (Enter node) ∷ []) ++ p2 → p3 ≡ through node (inner s) s ++ p0
   adds_node node inner r s p0 p1 p2 p3 same e1 e2 e3 =
       e3
-      ∙ ap (λ es. seen r (Enter node) ∷ es) (e2 ∙ ap (λ es. inner r ++ es) e1 ∙ sym (append_assoc (inner r) (seen r (Leave node) ∷ []) p0))
+      ∙ ap (λ es. seen_event r (Enter node) ∷ es) (e2 ∙ ap (λ es. inner r ++ es) e1 ∙ sym (append_assoc (inner r) (seen_event r (Leave node) ∷ []) p0))
       ∙ ap (λ t. through node (inner t) t ++ p0) same
 
 module _ {S C A E : Type 0} (schema : Declarations S C) (result : Result A E) where
   -- the same, in the words of the tasks
   pub opens_node : (node : Node S) (inner : Within S C) (r s : Around S C) (old within new : List (Task S C)) (p1 : List (Seen S C)) →
-      r ≡ s → p1 ≡ (seen r (Leave node) ∷ []) ++ pending schema old → pending schema within ≡ inner r ++ p1 → OnOk result (Opens schema (seen r (Enter node) ∷ []) within new) →
-      OnOk result (Opens schema (through node (inner s) s) old new)
+      r ≡ s → p1 ≡ (seen_event r (Leave node) ∷ []) ++ pending_events schema old → pending_events schema within ≡ inner r ++ p1 → OnOk result (OpensEvents schema (seen_event r (Enter node) ∷ []) within new) →
+      OnOk result (OpensEvents schema (through node (inner s) s) old new)
   opens_node node inner r s old within new p1 same left filled =
-      let opens : Opens schema (seen r (Enter node) ∷ []) within new → Opens schema (through node (inner s) s) old new =
-      λ entered. (adds_node node inner r s (pending schema old) p1 (pending schema within) (pending schema new) same left filled entered.0, entered.1) in
+      let opens : OpensEvents schema (seen_event r (Enter node) ∷ []) within new → OpensEvents schema (through node (inner s) s) old new =
+      λ entered. (adds_node node inner r s (pending_events schema old) p1 (pending_events schema within) (pending_events schema new) same left filled entered.0, entered.1) in
       on_ok_weaker result opens
 
-  pub opens_first : {B : Type 0} (f : B → List (Seen S C)) (xs rest : List B) (x : B) (old below new : List (Task S C)) → xs ≡ x ∷ rest → Adds schema (flat_map f rest) old below → OnOk result (Opens schema (f x) below new) → OnOk result (OpensAny schema (flat_map f xs) old new)
+  pub opens_first : {B : Type 0} (f : B → List (Seen S C)) (xs rest : List B) (x : B) (old below new : List (Task S C)) → xs ≡ x ∷ rest → PutsFirst schema (flat_map f rest) old below → OnOk result (OpensEvents schema (f x) below new) → OnOk result (OpensAny schema (flat_map f xs) old new)
   opens_first f xs rest x old below new is added =
-      let opens : Opens schema (f x) below new → OpensAny schema (flat_map f xs) old new =
-      λ opened. (adds_first f xs rest x (pending schema old) (pending schema below) (pending schema new) is added opened.0, inl opened.1) in
+      let opens : OpensEvents schema (f x) below new → OpensAny schema (flat_map f xs) old new =
+      λ opened. (adds_first f xs rest x (pending_events schema old) (pending_events schema below) (pending_events schema new) is added opened.0, inl opened.1) in
       on_ok_weaker result opens
 
 module _ {S C : Type 0} (schema : Declarations S C) where

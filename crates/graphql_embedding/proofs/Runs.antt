@@ -10,7 +10,7 @@ use Rattle.graphql_schema_rows.specs.declared.type_row.CheckedRow.{CheckedRow}
 use Rattle.graphql_service.specs.Answers.{Answerer}
 use Rattle.graphql_service.specs.Made.{Scalars}
 use Rattle.graphql_service.specs.declared.service.Service.{Service}
-use Rattle.graphql_embedding.specs.Services.{Declare, IsServiceOf, IsServiceOfRows, Judged, Ran, RowsDue, TypesDue}
+use Rattle.graphql_embedding.specs.Services.{Declare, IsServiceOf, IsServiceOfRows, DefaultsJudged, Ran, RowsDue, TypesDue}
 use Rattle.graphql_embedding.specs.declared.fault.ServeRowsFault.{ServeRowsFault}
 use Rattle.graphql_embedding.specs.declared.fault.ServeRowsFault.TheVariants as fault
 
@@ -62,7 +62,7 @@ module _ {S C R X : Type 0} (s : Scalars S C) (roots : Roots) (by : R) (over : X
 module _ {S C R X N : Type 0} (s : Scalars S C) (roots : Roots) (names : List Bytes) (by : R) (over : X) (types : List (MetaType S C))
     (schema : SchemaType S C) (made : Makes s.of_text types roots (Ok schema)) (answerer : Service S R X C → Answerer S C N X)
     (failed : Type 0) (left old : Option Bytes) where
-  pub refused_defaults : (e : ServeRowsFault) → Judged s schema names (Err e)
+  pub refused_defaults : (e : ServeRowsFault) → DefaultsJudged s schema names (Err e)
       → Ran answerer (IsServiceOf s roots names by over types) (TypesDue s roots names by over types) failed left left old old (Err e)
   refused_defaults (fault.BadDefault name) told = ((schema, made, told), (refl, refl))
   refused_defaults fault.Memory told = (refl, refl)

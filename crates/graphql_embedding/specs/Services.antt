@@ -80,13 +80,13 @@ module _ {S C R X : Type 0} (s : Scalars S C) (roots : Roots) (names : List Byte
   TypesDue types fault.Memory = ⊥
 
 -- what is told of the defaults of the types of these names
-abbrev pub Judged : {S C : Type 0} → Scalars S C → SchemaType S C → List Bytes
+abbrev pub DefaultsJudged : {S C : Type 0} → Scalars S C → SchemaType S C → List Bytes
     → Result (Unit {0}) ServeRowsFault → Type 0
-Judged s schema names (Ok x) = All (HasFitDefaults s schema) names
-Judged s schema names (Err (fault.BadDefault name)) =
+DefaultsJudged s schema names (Ok x) = All (HasFitDefaults s schema) names
+DefaultsJudged s schema names (Err (fault.BadDefault name)) =
     IsFirstWithout (HasFitDefaults s schema) names name
-Judged s schema names (Err fault.Memory) = Unit {0}
-Judged s schema names (Err _) = ⊥
+DefaultsJudged s schema names (Err fault.Memory) = Unit {0}
+DefaultsJudged s schema names (Err _) = ⊥
 
 -- ---- of rows
 

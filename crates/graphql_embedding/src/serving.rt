@@ -79,7 +79,7 @@ fn judge_defaults(
     schema: &SchemaType<DefaultScalarValue>,
     names: &[&str],
 ) -> Result<(), ServeRowsFault>
-    ensures { spec.Judged ⟦<DefaultScalarValue as Meaning>⟧.meaning schema.now
+    ensures { spec.DefaultsJudged ⟦<DefaultScalarValue as Meaning>⟧.meaning schema.now
         (map (λ name. name.now) names.now) result }
 {
     match first_with_bad_default(alloc, schema, names)? {

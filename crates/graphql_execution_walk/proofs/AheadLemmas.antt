@@ -18,7 +18,7 @@ use Rattle.graphql_tree.specs.declared.selection.Selection.TheVariants as select
 use Rattle.graphql_written_out.specs.Written.{head_of}
 use Rattle.graphql_look_ahead.specs.Children.{Ahead, Opened}
 use Rattle.graphql_look_ahead.specs.Selections.{field_or_key, first_of_key, none_or, opened_of_key, selections_of}
-use Rattle.graphql_look_ahead.specs.Told.{looked_at, told, within}
+use Rattle.graphql_look_ahead.specs.Told.{looked_at, document_field, with_request}
 use Rattle.graphql_look_ahead.specs.declared.selection.LookAheadSelection.{LookAheadSelection}
 use Rattle.graphql_execution_walk.proofs.KeyLemmas.{contains-at}
 use Rattle.graphql_execution_walk.specs.declared.executor.Executor.{Executor}
@@ -92,15 +92,15 @@ module _ {S : Type 0} (key : Bytes) where
   finds (y ∷ ys) (suc k) f at same = finds-behind y ys (opened_of_key key (out-Selection S y)) refl (finds ys k f at same)
 
 module _ {S C Context : Type 0} (executor : Executor Context S C) where
-  pub ahead-told : (key : Bytes) (s : LookAheadSelection S C) → own_key executor.path ≡ Some key → told s ≡ ahead_of executor key
+  pub ahead-told : (key : Bytes) (s : LookAheadSelection S C) → own_key executor.path ≡ Some key → document_field s ≡ ahead_of executor key
       → s.request.now ≡ executor.request.now → option_map looked_at (Some s) ≡ looked_ahead executor
   ahead-told key s is tells of =
-      (λ i. Some (tells i, of i)) ∙ ap (option_map (λ (k : Bytes). within executor.request.now (ahead_of executor k))) (sym is)
+      (λ i. Some (tells i, of i)) ∙ ap (option_map (λ (k : Bytes). with_request executor.request.now (ahead_of executor k))) (sym is)
 
   pub ahead-none : own_key executor.path ≡ None → option_map looked_at None ≡ looked_ahead executor
-  ahead-none is = ap (option_map (λ (k : Bytes). within executor.request.now (ahead_of executor k))) (sym is)
+  ahead-none is = ap (option_map (λ (k : Bytes). with_request executor.request.now (ahead_of executor k))) (sym is)
 
-  told-of : (o : Option (LookAheadSelection S C)) → option_map told o ≡ option_map (λ p. p.0) (option_map looked_at o)
+  told-of : (o : Option (LookAheadSelection S C)) → option_map document_field o ≡ option_map (λ p. p.0) (option_map looked_at o)
   told-of None = refl
   told-of (Some s) = refl
 
@@ -114,7 +114,7 @@ module _ {S C Context : Type 0} (executor : Executor Context S C) where
       record {
         first = found.0;
         is = told-of o ∙ ap (option_map (λ (p : Ahead S × _). p.0)) is
-            ∙ ap (λ k. option_map (λ (p : Ahead S × _). p.0) (option_map (λ (k : Bytes). within executor.request.now (ahead_of executor k)) k)) last
+            ∙ ap (λ k. option_map (λ (p : Ahead S × _). p.0) (option_map (λ (k : Bytes). with_request executor.request.now (ahead_of executor k)) k)) last
             ∙ ap (λ x. Some (field_or_key x key (selections_of executor.selected))) found.1;
         keyed = found.2;
         stands = found.3;

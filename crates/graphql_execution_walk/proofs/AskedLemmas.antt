@@ -8,8 +8,8 @@ use Rattle.graphql_names.specs.Names.{Bytes}
 use Rattle.graphql_scalars.specs.ScalarAnswers.{ScalarAnswer}
 use Rattle.graphql_arguments.specs.ArgumentValues.{Given}
 use Rattle.graphql_schema.specs.declared.schema.SchemaType.{SchemaType}
-use Rattle.graphql_introspection.specs.Answers.{answer_of}
-use Rattle.graphql_introspection.specs.Nodes.{Answer}
+use Rattle.graphql_introspection.specs.Answers.{part_answer}
+use Rattle.graphql_introspection.specs.Nodes.{PartAnswer}
 use Rattle.graphql_introspection.specs.declared.part.SchemaPart.{SchemaPart}
 use Rattle.graphql_execution_walk.specs.Asked.{AskedAnswer, Resolves, asked_answer, asked_type, map_layer, map_nodes, or_asked, own_answer, told_of_itself}
 use Rattle.graphql_execution_walk.specs.Standing.{IsTypeOf}
@@ -50,7 +50,7 @@ own-typed {S} {N} {C} query root node type_of from object is (inr (of_query, sam
 
 -- over the same schema, name and argument values, what was found that an object tells of itself
 module _ {S C N : Type 0} (of_text : Bytes → S) (of_bool : Bool → S) (answer : S → ScalarAnswer) (over schema : SchemaType S C)
-    (resolves : Resolves S N) (node : Asked S N C) (object named name : Bytes) (values given : Given S) (found : Option (Answer S C))
+    (resolves : Resolves S N) (node : Asked S N C) (object named name : Bytes) (values given : Given S) (found : Option (PartAnswer S C))
     (same : over ≡ schema) (is : named ≡ name) (are : values ≡ given) (finds : found ≡ told_of_itself of_text answer over object named values) where
   abbrev own : AskedAnswer S N C
   own = own_answer of_text of_bool answer schema resolves node name given
@@ -59,16 +59,16 @@ module _ {S C N : Type 0} (of_text : Bytes → S) (of_bool : Bool → S) (answer
   finds-here = finds ∙ (λ i. told_of_itself of_text answer (same i) object (is i) (are i))
 
   -- is the answer
-  pub told-answers : (told : Answer S C) (result : Resolved S (Asked S N C)) → found ≡ Some told → result ≡ map_nodes asked.Part told
+  pub told-answers : (told : PartAnswer S C) (result : Resolved S (Asked S N C)) → found ≡ Some told → result ≡ map_nodes asked.Part told
       → asked_answer of_text of_bool answer schema resolves node object name given ≡ Ok result
   told-answers told result some gives = ap (λ o. or_asked o own) (sym finds-here ∙ some) ∙ ap Ok (sym gives)
 
   -- where that is nothing, a part of the schema answers
-  pub part-answers : (part : SchemaPart S C) (a : Answer S C) (result : Resolved S (Asked S N C)) → found ≡ None → node ≡ asked.Part part
-      → a ≡ answer_of of_text of_bool answer over part named values → result ≡ map_nodes asked.Part a
+  pub part-answers : (part : SchemaPart S C) (a : PartAnswer S C) (result : Resolved S (Asked S N C)) → found ≡ None → node ≡ asked.Part part
+      → a ≡ part_answer of_text of_bool answer over part named values → result ≡ map_nodes asked.Part a
       → asked_answer of_text of_bool answer schema resolves node object name given ≡ Ok result
   part-answers part a result none at answers gives =
-      let here : a ≡ answer_of of_text of_bool answer schema part name given =
-      answers ∙ (λ i. answer_of of_text of_bool answer (same i) part (is i) (are i)) in
+      let here : a ≡ part_answer of_text of_bool answer schema part name given =
+      answers ∙ (λ i. part_answer of_text of_bool answer (same i) part (is i) (are i)) in
       ap (λ o. or_asked o own) (sym finds-here ∙ none) ∙ ap (λ n. own_answer of_text of_bool answer schema resolves n name given) at
       ∙ ap (λ x. Ok (map_nodes asked.Part x)) (sym here) ∙ ap Ok (sym gives)

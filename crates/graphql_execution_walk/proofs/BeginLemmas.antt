@@ -20,9 +20,9 @@ use Rattle.graphql_semantics.specs.Turns.{all_turns, turns_at_required}
 use Rattle.graphql_execution_walk.specs.declared.frames.Begun.{Begun}
 use Rattle.graphql_execution_walk.specs.declared.frames.Begun.TheVariants as begun
 use Rattle.graphql_execution_walk.specs.declared.report.Report.{Report}
-use Rattle.graphql_execution_walk.specs.Begins.{Begins, HasBegun, IsTold, outcome_at, own_error_at, turns_of_answer}
+use Rattle.graphql_execution_walk.specs.Begins.{BeginsOrErrs, HasBegun, BeginsOrTells, outcome_at, own_error_at, turns_of_answer}
 use Rattle.graphql_execution_walk.specs.Evaluations.{Evaluation}
-use Rattle.graphql_execution_walk.specs.Frames.{FineBegun, Leads, comes_to, known_of}
+use Rattle.graphql_execution_walk.specs.Frames.{FineBegun, TellsFirst, comes_to, known_of}
 use Rattle.graphql_execution_walk.specs.FrameTurns.{begun_turns}
 use Rattle.graphql_execution_walk.specs.OwnErrors.{own_at_required}
 use Rattle.graphql_execution_walk.specs.Parts.{null_at, null_here}
@@ -33,7 +33,7 @@ use Rattle.graphql_execution_walk.proofs.OwnErrorLaws.{own-fails, own-turns}
 module _ {S N : Type 0} (here : Evaluation S N) (sets : List (Tree S)) (name : Bytes) (location : SourcePosition) (wraps : List TypeModifier) (answer : Result (Resolved S N) (FieldError S)) where
   -- a report that stands at a place gets what the place itself tells
   pub record BegunAt (old : Report S) (now : Begun S N) (new : Report S) : Type 0 where
-    pub leads : Leads (outcome_at here.engine sets name location wraps answer old.path) old (comes_to here now old.path) new
+    pub leads : TellsFirst (outcome_at here.engine sets name location wraps answer old.path) old (comes_to here now old.path) new
     pub path : new.path ≡ old.path
     pub turns : begun_turns here now ≡ turns_of_answer here.engine sets name wraps answer
     pub fine : FineBegun here now
@@ -68,7 +68,7 @@ module _ {S N : Type 0} (here : Evaluation S N) (sets : List (Tree S)) (name : B
     known = tt;
   }
 
-  pub told-begins : (r : Result (Begun S N) (FieldFault S)) (old : Report S) (now : Begun S N) (new : Report S) → Begins here sets name location wraps answer r → IsTold location r old now new → BegunAt old now new
+  pub told-begins : (r : Result (Begun S N) (FieldFault S)) (old : Report S) (now : Begun S N) (new : Report S) → BeginsOrErrs here sets name location wraps answer r → BeginsOrTells location r old now new → BegunAt old now new
   told-begins (Ok b) old now new h t = subst (λ n. BegunAt old n new) (sym t.0) (begun-well b old new h t.1 t.2)
   told-begins (Err (fault.Error x)) old now new h t = subst (λ n. BegunAt old n new) (sym t.0) (begun-ill x old new h t.1 t.2)
   told-begins (Err fault.Memory) old now new h t = absurd t
@@ -104,7 +104,7 @@ module _ {S N : Type 0} (here : Evaluation S N) (sets : List (Tree S)) (name : B
   own-within : own_error_at here.engine name (modifier.NonNull ∷ wraps) (Ok r) ≡ own_error_at here.engine name wraps (Ok r)
   own-within = own-required name (here.engine.is_leaf name) may_stand (own_error_at here.engine name wraps (Ok r)) (out-Resolved S N r) some
 
-  pub required-begins : (begins : Result (Begun S N) (FieldFault S)) → Begins here sets name location wraps (Ok r) begins → Begins here sets name location (modifier.NonNull ∷ wraps) (Ok r) begins
+  pub required-begins : (begins : Result (Begun S N) (FieldFault S)) → BeginsOrErrs here sets name location wraps (Ok r) begins → BeginsOrErrs here sets name location (modifier.NonNull ∷ wraps) (Ok r) begins
   required-begins (Ok b) h = record {
     own = own-within ∙ h.own;
     gives = λ path. outcome-required (λ m. evaluate here.engine path (here.engine.concrete m) m sets) (blame_at path location) name (here.engine.is_leaf name) may_stand (within path) (out-Resolved S N r) some ∙ h.gives path;

@@ -35,7 +35,7 @@ use Rattle.graphql_semantics.specs.Completion.{Members, blame_at, complete_resul
 use Rattle.graphql_semantics.specs.Evaluation.{evaluate, found_in, group, keyed, sets_below}
 use Rattle.graphql_written_out.specs.Repeats.{Repeats}
 use Rattle.graphql_execution_walk.specs.Completed.{completed}
-use Rattle.graphql_execution_walk.specs.Frames.{after, shows, more, groups_left, item_at, rest, close_group, close, down_group, down, resume, path_of, Leads, Steps, Fine, AllFine}
+use Rattle.graphql_execution_walk.specs.Frames.{after, shows, more, groups_left, item_at, rest, close_group, close, down_group, down, resume, path_of, TellsFirst, TakesTurn, Fine, AllFine}
 use Rattle.graphql_execution_walk.specs.GivesOutcome.{GivesOutcome}
 use Rattle.graphql_semantics.specs.Outcomes.{Outcome, no_value, gives, both, together, outcome_map, show_place, shown}
 use Rattle.graphql_execution_walk.specs.Paths.{up}
@@ -84,21 +84,21 @@ drop-end (y ∷ ys) zero p = (let q : Some y ≡ None = p in cc)
 drop-end (y ∷ ys) (suc i) p = drop-end ys i p
 
 module _ {S A : Type 0} where
-  pub leads-now : (o : Outcome S A) (old : Report S) → Leads o old o old
+  pub leads-now : (o : Outcome S A) (old : Report S) → TellsFirst o old o old
   leads-now o old = record { told = []; is = refl; errors = sym (append-nil old.errors) }
 
-  pub leads-value : (o : Outcome S A) (v : Option A) (old new : Report S) → GivesOutcome o old v new → Leads o old (shows v) new
+  pub leads-value : (o : Outcome S A) (v : Option A) (old new : Report S) → GivesOutcome o old v new → TellsFirst o old (shows v) new
   leads-value o v old new g = record { told = o.failures; is = λ i. record { value = sym g.is i; failures = sym (append-nil o.failures) i }; errors = g.errors }
 
   -- at the end
-  pub leads-end : (o : Outcome S A) (v : Option A) (old new : Report S) → new.path ≡ old.path → Leads o old (shows v) new → GivesOutcome o old v new
+  pub leads-end : (o : Outcome S A) (v : Option A) (old new : Report S) → new.path ≡ old.path → TellsFirst o old (shows v) new → GivesOutcome o old v new
   leads-end o v old new p l = record {
     is = sym (ap (λ (q : Outcome S A). q.value) l.is);
     path = p;
     errors = l.errors ∙ ap (λ es. old.errors ++ es) (sym (ap (λ (q : Outcome S A). q.failures) l.is ∙ append-nil l.told));
   }
 
-  pub leads-then : (o p q : Outcome S A) (old mid new : Report S) → Leads o old p mid → Leads p mid q new → Leads o old q new
+  pub leads-then : (o p q : Outcome S A) (old mid new : Report S) → TellsFirst o old p mid → TellsFirst p mid q new → TellsFirst o old q new
   leads-then o p q old mid new l k = record {
     told = l.told ++ k.told;
     is = l.is ∙ ap (after l.told) k.is ∙ after-after l.told k.told q;
@@ -232,12 +232,12 @@ outer-wraps ws rest m p = ap reverse p ∙ reverse-append rest (m ∷ [])
 
 module _ {S A : Type 0} where
   -- nothing is told, and the rest is the same
-  pub leads-same : (o p : Outcome S A) (old new : Report S) → o ≡ p → new.errors ≡ old.errors → Leads o old p new
+  pub leads-same : (o p : Outcome S A) (old new : Report S) → o ≡ p → new.errors ≡ old.errors → TellsFirst o old p new
   leads-same o p old new q same = record { told = []; is = q; errors = same ∙ sym (append-nil old.errors) }
 
 module _ {S N : Type 0} (fragments : List (Fragment S)) (e : Engine S N) (path : List Bytes) (object : Bytes) (node : N) (key : Bytes) (fields : Lent S) where
   pub none-leads : (old new : Report S) → None ≡ slice_get fields 0 → new.errors ≡ old.errors
-      → Leads (group e (evaluate e) path object node key (all_found fragments fields)) old (show_place true (shows {S = S} None)) new
+      → TellsFirst (group e (evaluate e) path object node key (all_found fragments fields)) old (show_place true (shows {S = S} None)) new
   none-leads old new p same = rw (nothing_first fields p) (leads-same no_value (shows None) old new refl same)
 
   module _ (x : CollectedField S) (first : Some x ≡ slice_get fields 0) where
@@ -251,13 +251,13 @@ module _ {S N : Type 0} (fragments : List (Fragment S)) (e : Engine S N) (path :
     below_here m = evaluate e here (e.concrete m) m (sets_below (all_found fragments fields))
 
     pub undeclared-leads : (old new : Report S) → e.declared object head.name ≡ None → new.errors ≡ old.errors
-        → Leads (group e (evaluate e) path object node key (all_found fragments fields)) old (show_place false (shows {S = S} (Some value.Null))) new
+        → TellsFirst (group e (evaluate e) path object node key (all_found fragments fields)) old (show_place false (shows {S = S} (Some value.Null))) new
     undeclared-leads old new p same = rw (group-is fragments e (evaluate e) path object node key fields x first, p) (leads-same (gives value.Null) (shows (Some value.Null)) old new refl same)
 
     pub group-leads : (type : TypeOf) (answer : Result (Resolved S N) (FieldError S)) (old mid new : Report S) (p : Outcome S (Value S)) → e.declared object head.name ≡ Some type
         → e.answer node object head.name (e.arguments object head) ≡ answer → mid.errors ≡ old.errors
-        → Leads (complete_result below_here (blame_at here head.place) type.name (e.is_leaf type.name) (λ m. e.is_possible type.name (e.concrete m)) (reverse type.modifiers) answer) mid p new
-        → Leads (group e (evaluate e) path object node key (all_found fragments fields)) old (show_place (is_required (reverse type.modifiers)) p) new
+        → TellsFirst (complete_result below_here (blame_at here head.place) type.name (e.is_leaf type.name) (λ m. e.is_possible type.name (e.concrete m)) (reverse type.modifiers) answer) mid p new
+        → TellsFirst (group e (evaluate e) path object node key (all_found fragments fields)) old (show_place (is_required (reverse type.modifiers)) p) new
     group-leads type answer old mid new p d a same l =
         rw (group-is fragments e (evaluate e) path object node key fields x first, d, a)
         (record { told = l.told; is = ap (show_place (is_required (reverse type.modifiers))) l.is; errors = l.errors ∙ ap (λ es. es ++ l.told) same })
@@ -271,23 +271,23 @@ distinct-begins fragments xs gs is = subst (IsDistinct bytes_eq) (sym (ap (λ (h
 
 module _ {S N : Type 0} (here : Evaluation S N) where
   pub step-in_place : (path : List Bytes) (fs : List (FrameIn S N)) (o p : List Bytes → Outcome S (Value S)) (old new : Report S) → new.path ≡ path_of path fs
-      → Leads (o (path_of path fs)) old (p (path_of path fs)) new → Steps here path (resume here path fs o) old fs p new
+      → TellsFirst (o (path_of path fs)) old (p (path_of path fs)) new → TakesTurn here path (resume here path fs o) old fs p new
   step-in_place path fs o p old new at l = record { leads = record { told = l.told; is = in-place here path fs l.told o p l.is; errors = l.errors }; stands = at }
 
   pub step-pushed : (path : List Bytes) (fs : List (FrameIn S N)) (f : FrameIn S N) (o p : List Bytes → Outcome S (Value S)) (old new : Report S) → new.path ≡ down (path_of path fs) f
-      → Leads (o (path_of path fs)) old (close here (path_of path fs) f (p (down (path_of path fs) f))) new → Steps here path (resume here path fs o) old (fs ++ f ∷ []) p new
+      → TellsFirst (o (path_of path fs)) old (close here (path_of path fs) f (p (down (path_of path fs) f))) new → TakesTurn here path (resume here path fs o) old (fs ++ f ∷ []) p new
   step-pushed path fs f o p old new at l =
       record { leads = record { told = l.told; is = pushed here path fs f l.told o p l.is; errors = l.errors }; stands = at ∙ sym (path-last path fs f) }
 
   pub step-popped : (path : List Bytes) (fs : List (FrameIn S N)) (f : FrameIn S N) (v : Option (Value S)) (p : List Bytes → Outcome S (Value S)) (old new : Report S) → old.path ≡ path_of path (fs ++ f ∷ [])
       → ((q : List Bytes) → close here q f (shows v) ≡ p q) → ((q : List Bytes) → old.path ≡ down q f → new.path ≡ q) → new.errors ≡ old.errors
-      → Steps here path (resume here path (fs ++ f ∷ []) (λ q. shows v)) old fs p new
+      → TakesTurn here path (resume here path (fs ++ f ∷ []) (λ q. shows v)) old fs p new
   step-popped path fs f v p old new at given up same =
       record { leads = leads-same _ _ old new (popped here path fs f v p given) same; stands = up (path_of path fs) (at ∙ path-last path fs f) }
 
   -- a step after those before it
   pub step-then : (path : List Bytes) (o : Outcome S (Value S)) (fs gs : List (FrameIn S N)) (p q : List Bytes → Outcome S (Value S)) (old mid new : Report S)
-      → Steps here path o old fs p mid → Steps here path (resume here path fs p) mid gs q new → Steps here path o old gs q new
+      → TakesTurn here path o old fs p mid → TakesTurn here path (resume here path fs p) mid gs q new → TakesTurn here path o old gs q new
   step-then path o fs gs p q old mid new l k =
       record { leads = leads-then o (resume here path fs p) (resume here path gs q) old mid new l.leads k.leads; stands = k.stands }
 
@@ -299,8 +299,8 @@ module _ {S N : Type 0} (here : Evaluation S N) where
 
   -- a list's next item
   pub item-starts : (path : List Bytes) (f : ListFrameIn S N) (items : List (Resolved S N)) (x : Resolved S N) (o : Outcome S (Value S)) (old new : Report S) → f.items ≡ items ++ x ∷ []
-      → Leads (completed here.engine (λ m. evaluate here.engine path (here.engine.concrete m) m (kept_sets here.fragments f.selected)) (blame_at path f.location) f.name (reverse f.wraps.now) x) old o new
-      → Leads (rest here path (frame.List f)) old (close here path (frame.List (keeps f items)) o) new
+      → TellsFirst (completed here.engine (λ m. evaluate here.engine path (here.engine.concrete m) m (kept_sets here.fragments f.selected)) (blame_at path f.location) f.name (reverse f.wraps.now) x) old o new
+      → TellsFirst (rest here path (frame.List f)) old (close here path (frame.List (keeps f items)) o) new
   item-starts path f items x o old new p l =
       let needed = is_required (reverse f.wraps.now) in
       let left = map (item_at here path f) (reverse items) in
@@ -343,7 +343,7 @@ pub taught-news : {S : Type 0} (old new : List (KnownIn S)) (k : KnownIn S) (mor
 taught-news old new k more (inl none) put = cc
 taught-news old new k more (inr news) put = subst (λ m. IsTaught old m new) news (λ object. inr (put object))
 
-pub answer-gives : {S : Type 0} (key : Bytes) (needed : Bool) (o q : Outcome S (Value S)) (old mid below new : Report S) (v : Option (Value S)) → Leads o old (show_place needed q) mid → GivesOutcome q mid v below
+pub answer-gives : {S : Type 0} (key : Bytes) (needed : Bool) (o q : Outcome S (Value S)) (old mid below new : Report S) (v : Option (Value S)) → TellsFirst o old (show_place needed q) mid → GivesOutcome q mid v below
     → mid.path ≡ old.path ++ key ∷ [] → new.path ≡ up below.path → new.errors ≡ below.errors → GivesOutcome o old (shown needed v) new
 answer-gives key needed o q old mid below new v l g at back kept = record {
   is = ap (shown needed) g.is ∙ sym (ap (λ (r : Outcome _ (Value _)). r.value) l.is);

@@ -12,7 +12,7 @@ use Rattle.graphql_collected.specs.declared.request.Request.{Request}
 use Rattle.graphql_occurrences.specs.DeclaredLent.{literal_of}
 use Rattle.graphql_written_out.specs.Trees.{Head}
 use Rattle.graphql_written_out.specs.Written.{head_of}
-use Rattle.graphql_execution_walk.specs.Engines.{arguments_in}
+use Rattle.graphql_execution_walk.specs.Engines.{arguments_given}
 use Rattle.graphql_execution_walk.specs.FieldDeclarations.{declared_type, is_leaf_named}
 use Rattle.graphql_execution_walk.specs.Prepared.{ArePrepared, IsPrepared, Prepares, asked_in, prepared_at}
 use Rattle.graphql_execution_walk.specs.declared.prepared.Prepared.{Prepared}
@@ -76,6 +76,6 @@ module _ {S C : Type 0} (request : Request S C) (object : Bytes) where
 
   -- whether none of its arguments has a value
   pub bare-known : (head : Head S) (known : Option (Bor Prepared)) → IfSome known (λ p. Prepares (asked_in request) object head p.now) → option_map_or (λ (p : Bor Prepared). p.now.is_bare) known false ≡ true
-      → arguments_in request object head ≡ []
+      → arguments_given request object head ≡ []
   bare-known head None is told = (let q : false ≡ true = told in cc)
   bare-known head (Some p) is told = is.bare told

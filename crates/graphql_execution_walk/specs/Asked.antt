@@ -10,8 +10,8 @@ use Rattle.graphql_field_results.specs.declared.field_error.FieldError.{FieldErr
 use Rattle.graphql_field_results.specs.declared.resolved.Resolved.{Resolved, fold-Resolved}
 use Rattle.graphql_field_results.specs.declared.resolved.Resolved.TheOpen.{Resolved-F}
 use Rattle.graphql_field_results.specs.declared.resolved.Resolved.TheVariants as resolved
-use Rattle.graphql_introspection.specs.Answers.{answer_of, type_asked}
-use Rattle.graphql_introspection.specs.Nodes.{Answer}
+use Rattle.graphql_introspection.specs.Answers.{part_answer, type_asked}
+use Rattle.graphql_introspection.specs.Nodes.{PartAnswer}
 use Rattle.graphql_introspection.specs.Parts.{part_type_name}
 use Rattle.graphql_introspection.specs.declared.part.SchemaPart.TheVariants as part
 use Rattle.graphql_execution_walk.specs.declared.asked.Asked.{Asked}
@@ -51,7 +51,7 @@ module _ {S C : Type 0} (of_text : Bytes → S) (answer : S → ScalarAnswer)
     (schema : SchemaType S C) where
   -- what each object of a type tells of itself, the name of its type (4.1 Type Name Introspection);
   -- one of the type from which queries start also tells the schema (4.2 Schema Introspection)
-  abbrev pub told_of_itself : Bytes → Bytes → Given S → Option (Answer S C)
+  abbrev pub told_of_itself : Bytes → Bytes → Given S → Option (PartAnswer S C)
   told_of_itself object name given =
       if bytes_eq name (codes "__typename") then Some (resolved.Scalar (of_text object)) else
       if bytes_eq name (codes "__schema") && bytes_eq object schema.query
@@ -60,7 +60,8 @@ module _ {S C : Type 0} (of_text : Bytes → S) (answer : S → ScalarAnswer)
       then Some (type_asked answer schema.types given) else None
 
 -- of what an object tells of itself nothing else is asked
-abbrev pub or_asked : {S N C : Type 0} → Option (Answer S C) → AskedAnswer S N C → AskedAnswer S N C
+abbrev pub or_asked : {S N C : Type 0} → Option (PartAnswer S C) → AskedAnswer S N C
+    → AskedAnswer S N C
 or_asked (Some told) answer = Ok (map_nodes asked.Part told)
 or_asked None answer = answer
 
@@ -71,7 +72,7 @@ module _ {S C N : Type 0} (of_text : Bytes → S) (of_bool : Bool → S) (answer
   abbrev pub own_answer : Asked S N C → Bytes → Given S → AskedAnswer S N C
   own_answer (asked.Own n) name given = map_answer asked.Own (resolves n name given)
   own_answer (asked.Part p) name given =
-      Ok (map_nodes asked.Part (answer_of of_text of_bool answer schema p name given))
+      Ok (map_nodes asked.Part (part_answer of_text of_bool answer schema p name given))
 
   -- what is answered for a field of an object type, by its argument values
   abbrev pub asked_answer : Asked S N C → Bytes → Bytes → Given S → AskedAnswer S N C

@@ -60,19 +60,21 @@ module _ {S N : Type 0} (here : Evaluation S N) (sets : List (Tree S)) (name : B
     pub known : IfSome (known_of b) (λ k. IsKnown here name sets k.object k)
 
   -- what has begun, or the error of the place itself, unless memory runs out
-  abbrev pub Begins : Result (Begun S N) (FieldFault S) → Type 0
-  Begins (Ok b) = HasBegun b
-  Begins (Err (fault.Error x)) = own_error_at here.engine name wraps answer ≡ Some x
-  Begins (Err fault.Memory) = Unit {0}
+  abbrev pub BeginsOrErrs : Result (Begun S N) (FieldFault S) → Type 0
+  BeginsOrErrs (Ok b) = HasBegun b
+  BeginsOrErrs (Err (fault.Error x)) = own_error_at here.engine name wraps answer ≡ Some x
+  BeginsOrErrs (Err fault.Memory) = Unit {0}
 
 -- what has begun at a place, or nothing where the place itself fails, which is told
-abbrev pub IsTold : {S N : Type 0} → SourcePosition → Result (Begun S N) (FieldFault S) → Report S
+abbrev pub BeginsOrTells : {S N : Type 0} → SourcePosition → Result (Begun S N) (FieldFault S)
+    → Report S
     → Begun S N → Report S → Type 0
-IsTold location (Ok b) old now new = (now ≡ b) × (new.path ≡ old.path) × (new.errors ≡ old.errors)
-IsTold location (Err (fault.Error x)) old now new = (now ≡ begun.Value None)
+BeginsOrTells location (Ok b) old now new = (now ≡ b) × (new.path ≡ old.path)
+    × (new.errors ≡ old.errors)
+BeginsOrTells location (Err (fault.Error x)) old now new = (now ≡ begun.Value None)
     × (new.path ≡ old.path)
     × (new.errors ≡ old.errors ++ blame_at old.path location x ∷ [])
-IsTold location (Err fault.Memory) old now new = ⊥
+BeginsOrTells location (Err fault.Memory) old now new = ⊥
 
 -- the value of an outcome, if it has one, with its failures told; the error of the place itself, if
 -- there is one, in place of both; want of memory tells nothing

@@ -6,7 +6,7 @@ use Rattle.graphql_field_results.specs.declared.resolved.Resolved.{Resolved}
 use Rattle.graphql_semantics.specs.Engines.{Engine}
 use Rattle.graphql_semantics.specs.Outcomes.{Outcome}
 use Rattle.graphql_execution_walk.specs.Begins.{outcome_at, own_error_at}
-use Rattle.graphql_execution_walk.specs.FieldPaths.{keys_of, place_of}
+use Rattle.graphql_execution_walk.specs.FieldPaths.{keys_of, start_of_path}
 use Rattle.graphql_execution_walk.specs.Sets.{sets_in}
 use Rattle.graphql_execution_walk.specs.declared.executor.Executor.{Executor}
 
@@ -21,5 +21,5 @@ module _ {S N Context C : Type 0} (e : Engine S N) (executor : Executor Context 
   -- below
   abbrev pub outcome_here : Outcome S (Value S)
   outcome_here = outcome_at e (sets_in executor.request.now executor.selected)
-      executor.current_type.name.now (place_of executor.path)
+      executor.current_type.name.now (start_of_path executor.path)
       (reverse executor.current_type.modifiers.now) (Ok answer) (keys_of executor.path)

@@ -25,8 +25,8 @@ module _ {S C : Type 0} where
   arguments_over types given object head =
       argument_values given (declared_arguments types object head.name) head.arguments
 
-  abbrev pub arguments_in : Request S C → Bytes → Head S → Given S
-  arguments_in request = arguments_over request.schema.now.types (value_in request.variables)
+  abbrev pub arguments_given : Request S C → Bytes → Head S → Given S
+  arguments_given request = arguments_over request.schema.now.types (value_in request.variables)
 
 module _ {S C N : Type 0} where
   -- `of_text`, `of_bool`, `answer`: of the scalars; `given`: the final values of variables;

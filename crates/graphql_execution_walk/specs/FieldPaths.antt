@@ -14,8 +14,8 @@ place_layer (FieldPath-F.Field key place above) = place
 place_layer (FieldPath-F.Keys keys place) = place
 
 -- where the field starts in the request's text
-abbrev pub place_of : FieldPath → SourcePosition
-place_of path = place_layer (out-FieldPath path)
+abbrev pub start_of_path : FieldPath → SourcePosition
+start_of_path path = place_layer (out-FieldPath path)
 
 abbrev pub keys_layer : FieldPath-F (List Bytes) → List Bytes
 keys_layer (FieldPath-F.Root place) = []

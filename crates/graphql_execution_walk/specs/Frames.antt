@@ -60,7 +60,7 @@ module _ {S : Type 0} where
 
 -- a step: what it tells is part of what the old outcome tells, and the new one is what is left of
 -- it
-pub record Leads {S A : Type 0} (before : Outcome S A) (old : Report S) (then : Outcome S A)
+pub record TellsFirst {S A : Type 0} (before : Outcome S A) (old : Report S) (then : Outcome S A)
     (new : Report S) : Type 0 where
   pub told : List (ExecutionError S)
   pub is : before ≡ after told then
@@ -188,14 +188,14 @@ FineTurned here (turned.Open b) waiting = AllFine here waiting × FineBegun here
 
 module _ {S N : Type 0} (here : Evaluation S N) where
   -- a step: what is told is part of what was left to tell; the report stands at the innermost place
-  pub record Steps (path : List Bytes) (before : Outcome S (Value S)) (old : Report S)
+  pub record TakesTurn (path : List Bytes) (before : Outcome S (Value S)) (old : Report S)
       (waiting : List (FrameIn S N)) (now : List Bytes → Outcome S (Value S)) (new : Report S)
       : Type 0 where
-    pub leads : Leads before old (resume here path waiting now) new
+    pub leads : TellsFirst before old (resume here path waiting now) new
     pub stands : new.path ≡ path_of path waiting
 
   -- a step from what the innermost place gives before these frames, wherever the outermost stands
   abbrev pub Advances : List (FrameIn S N) → (List Bytes → Outcome S (Value S)) → Report S
       → List (FrameIn S N) → (List Bytes → Outcome S (Value S)) → Report S → Type 0
   Advances waited before old waiting now new = (path : List Bytes) → old.path ≡ path_of path waited
-      → Steps path (resume here path waited before) old waiting now new
+      → TakesTurn path (resume here path waited before) old waiting now new

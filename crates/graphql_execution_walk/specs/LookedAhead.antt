@@ -11,7 +11,7 @@ use Rattle.graphql_written_out.specs.Written.{head_of}
 use Rattle.graphql_collected.specs.declared.request.Request.{Request}
 use Rattle.graphql_look_ahead.specs.Children.{Ahead, a_field}
 use Rattle.graphql_look_ahead.specs.Selections.{field_or_key, first_of_key, none_or, selections_of}
-use Rattle.graphql_look_ahead.specs.Told.{told, within}
+use Rattle.graphql_look_ahead.specs.Told.{document_field, with_request}
 use Rattle.graphql_look_ahead.specs.declared.selection.LookAheadSelection.{LookAheadSelection}
 use Rattle.graphql_execution_walk.specs.declared.executor.Executor.{Executor}
 use Rattle.graphql_execution_walk.specs.FieldPaths.{own_key}
@@ -26,17 +26,17 @@ module _ {S C Context : Type 0} (executor : Executor Context S C) where
 
   abbrev pub looked_ahead : Option (Ahead S × Request S C)
   looked_ahead =
-      option_map (λ key. within executor.request.now (ahead_of key)) (own_key executor.path)
+      option_map (λ key. with_request executor.request.now (ahead_of key)) (own_key executor.path)
 
   -- where the executor stands at a field of an object type, a field of its response key is found
   -- that stands in the same list
-  pub record IsFound (field : Placed (Field S))
+  pub record IsFieldFound (field : Placed (Field S))
       (found : Option (LookAheadSelection S C)) : Type 0 where
     pub first : Placed (Field S)
-    pub is : option_map told found ≡ Some (a_field first None)
+    pub is : option_map document_field found ≡ Some (a_field first None)
     pub keyed : (head_of first).key ≡ (head_of field).key
     pub stands : Contains (none_or executor.among) (selection.Field first)
 
   abbrev pub FindsField : Option (LookAheadSelection S C) → Type 0
   FindsField found = (object : Bytes) (field : Placed (Field S)) → StandsAt executor object field
-      → IsFound field found
+      → IsFieldFound field found

@@ -11,7 +11,7 @@ use Rattle.graphql_occurrences.specs.DeclaredLent.{literal_of}
 use Rattle.graphql_semantics.specs.Engines.{Engine}
 use Rattle.graphql_written_out.specs.Trees.{Head}
 use Rattle.graphql_written_out.specs.Written.{head_of}
-use Rattle.graphql_execution_walk.specs.Engines.{arguments_in}
+use Rattle.graphql_execution_walk.specs.Engines.{arguments_given}
 use Rattle.graphql_execution_walk.specs.FieldDeclarations.{declared_type, is_leaf_named}
 use Rattle.graphql_execution_walk.specs.declared.prepared.Prepared.{Prepared}
 
@@ -28,7 +28,7 @@ asked_in request =
     record {
       declared = declared_type request.schema.now.types;
       is_leaf = is_leaf_named request.schema.now.types;
-      arguments = arguments_in request;
+      arguments = arguments_given request;
     }
 
 abbrev pub asked_by : {S N : Type 0} → Engine S N → FieldsAsked S

@@ -11,7 +11,7 @@ use Rattle.graphql_field_results.specs.declared.field_fault.FieldFault.{FieldFau
 use Rattle.graphql_field_results.specs.declared.resolved.Resolved.{Resolved}
 use Rattle.graphql_execution_walk.specs.declared.frames.Begun.{Begun}
 use Rattle.graphql_execution_walk.specs.declared.beginning.Spot.{Spot}
-use Rattle.graphql_execution_walk.specs.Begins.{Begins}
+use Rattle.graphql_execution_walk.specs.Begins.{BeginsOrErrs}
 use Rattle.graphql_execution_walk.specs.Evaluations.{Evaluation}
 use Rattle.graphql_execution_walk.specs.FieldDeclarations.{is_leaf_named}
 use Rattle.graphql_execution_walk.specs.KnownTypes.{AreKnown, IsKnown, KnownIn, known_at}
@@ -51,5 +51,5 @@ module _ {S N : Type 0} (here : Evaluation S N) (spot : Spot S) where
   -- what has begun there, by the wraps of the type, the outermost first
   abbrev pub BeginsAt : List TypeModifier → Result (Resolved S N) (FieldError S)
       → Result (Begun S N) (FieldFault S) → Type 0
-  BeginsAt wraps answer = Begins here (sets_of here.fragments spot.selected) spot.name.now
+  BeginsAt wraps answer = BeginsOrErrs here (sets_of here.fragments spot.selected) spot.name.now
       spot.location wraps answer

@@ -15,15 +15,15 @@ use Rattle.graphql_written_out.specs.Fields.{Found}
 use Rattle.graphql_written_out.specs.Trees.{Tree}
 use Rattle.graphql_written_out.specs.Written.{Settled, head_of}
 use Rattle.graphql_collected.specs.declared.request.Request.{Request}
-use Rattle.graphql_collected.specs.Occurrences.{found}
+use Rattle.graphql_collected.specs.Occurrences.{found_field}
 use Rattle.graphql_collected.specs.Requests.{fragments_in}
 use Rattle.graphql_semantics.specs.Evaluation.{sets_below}
 use Rattle.graphql_look_ahead.specs.Selections.{none_or}
 use Rattle.graphql_execution_walk.specs.declared.executor.Executor.{Executor}
-use Rattle.graphql_execution_walk.specs.Engines.{arguments_in}
+use Rattle.graphql_execution_walk.specs.Engines.{arguments_given}
 use Rattle.graphql_execution_walk.specs.Evaluations.{Evaluation}
 use Rattle.graphql_execution_walk.specs.FieldDeclarations.{declared_type}
-use Rattle.graphql_execution_walk.specs.FieldPaths.{keys_of, place_of}
+use Rattle.graphql_execution_walk.specs.FieldPaths.{keys_of, start_of_path}
 use Rattle.graphql_execution_walk.specs.Sets.{sets_in}
 
 -- the object type of a node: its own, or of the root that from which queries start (6.2.1 Query)
@@ -36,7 +36,7 @@ abbrev pub IsTyped : {S N : Type 0} → Evaluation S N → N → Bytes → Type 
 IsTyped here = IsTypeOf here.query here.root here.type_of
 
 -- the place of a field of an object type, which is the first of its response key
-pub record IsPlaceOf {S C : Type 0} (request : Request S C) (object : Bytes)
+pub record IsFieldPlace {S C : Type 0} (request : Request S C) (object : Bytes)
     (field : Placed (Field S))
     (among : List (Selection S)) (type : TypeOf) (start : SourcePosition) (path : List Bytes)
     (sets : List (Tree S)) : Type 0 where
@@ -52,7 +52,7 @@ pub record IsPlaceOf {S C : Type 0} (request : Request S C) (object : Bytes)
   -- the selection sets of all fields of its key, its own the first
   pub others : List (Found S)
   pub alike : All (λ (other : Found S). other.head.key ≡ (head_of field).key) others
-  pub selects : sets ≡ sets_below (found (fragments_in request) field ∷ others)
+  pub selects : sets ≡ sets_below (found_field (fragments_in request) field ∷ others)
 
 module _ {S C Context : Type 0} (executor : Executor Context S C) where
   -- the fragments of its request are without a cycle (5.5.2.2 Fragment Spreads Must Not Form
@@ -63,8 +63,8 @@ module _ {S C Context : Type 0} (executor : Executor Context S C) where
   -- the executor stands at a field of an object type
   abbrev pub StandsAt : Bytes → Placed (Field S) → Type 0
   StandsAt object field =
-      IsPlaceOf executor.request.now object field (none_or executor.among)
-      (literal_of executor.current_type) (place_of executor.path) (keys_of executor.path)
+      IsFieldPlace executor.request.now object field (none_or executor.among)
+      (literal_of executor.current_type) (start_of_path executor.path) (keys_of executor.path)
       (sets_in executor.request.now executor.selected)
 
   -- where the executor stands at a field of a node, that field is asked for, by its name and the
@@ -76,4 +76,4 @@ module _ {S C Context : Type 0} (executor : Executor Context S C) where
     pub field : Placed (Field S)
     pub stands : StandsAt object field
     pub named : name ≡ (head_of field).name
-    pub values : given ≡ arguments_in executor.request.now object (head_of field)
+    pub values : given ≡ arguments_given executor.request.now object (head_of field)

@@ -6,7 +6,7 @@ ghost use Rattle.graphql_arguments.specs.GivenValues.{arguments_told};
 ghost use Rattle.graphql_written_out.specs.Written.{head_of};
 ghost use Rattle.graphql_execution_walk.specs.Answered.{Answered};
 ghost use Rattle.graphql_execution_walk.specs.Asked.{told_of_itself};
-ghost use Rattle.graphql_execution_walk.specs.Engines.{arguments_in as values_in};
+ghost use Rattle.graphql_execution_walk.specs.Engines.{arguments_given as values_in};
 ghost use Rattle.graphql_execution_walk.specs.Evaluations.{answer_for};
 ghost use Rattle.graphql_execution_walk.specs.Prepared.{Prepares, asked_in};
 ghost use Rattle.graphql_execution_walk.specs.Standing.{IsSettled, IsTyped, StandsAt};

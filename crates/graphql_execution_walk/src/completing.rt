@@ -4,10 +4,10 @@ ghost use Rattle.std.specs.Prelude.{◌≡◌, ◌++◌, IfOk, Ok, OnErr, OnOk, 
 ghost use Rattle.graphql_output_values.specs.declared.value.Value.TheVariants as value;
 ghost use Rattle.graphql_execution_walk.specs.Asked.{map_nodes};
 ghost use Rattle.graphql_execution_walk.specs.declared.asked.Asked.TheVariants as asked;
-ghost use Rattle.graphql_execution_walk.specs.Begins.{Begins, Completes};
+ghost use Rattle.graphql_execution_walk.specs.Begins.{BeginsOrErrs, Completes};
 ghost use Rattle.graphql_execution_walk.specs.Completions.{own_error_here, outcome_here};
 ghost use Rattle.graphql_execution_walk.specs.Engines.{engine_of};
-ghost use Rattle.graphql_execution_walk.specs.FieldPaths.{place_of};
+ghost use Rattle.graphql_execution_walk.specs.FieldPaths.{start_of_path};
 ghost use Rattle.graphql_execution_walk.specs.Sets.{sets_of};
 ghost use Rattle.graphql_execution_walk.specs.Standing.{IsSettled};
 
@@ -35,8 +35,8 @@ fn begin_here<'d, 'a, S: SchemaScalar + Drop, R: GraphQLValue<S>>(
 ) -> FieldResult<Begun<'d, 'a, S, Asked<'d, S, R::Node>>, S>
     requires { IsSettled executor.now }
     ensures { let here = ⟦<R as Evaluating<S>>⟧.here resolver.now executor.now in
-        Begins here (sets_of here.fragments executor.now.selected)
-        executor.now.current_type.name.now (place_of executor.now.path)
+        BeginsOrErrs here (sets_of here.fragments executor.now.selected)
+        executor.now.current_type.name.now (start_of_path executor.now.path)
         (reverse executor.now.current_type.modifiers.now) (Ok answer.entry) result }
 {
     let name = TextRef::new(executor.current_type.name);

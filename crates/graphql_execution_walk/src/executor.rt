@@ -6,10 +6,10 @@ ghost use Rattle.graphql_collected.specs.Requests.{fragments_in, written_in};
 ghost use Rattle.graphql_occurrences.specs.DeclaredLent.{literal_of};
 ghost use Rattle.graphql_text.specs.Memory.{Gives};
 ghost use Rattle.graphql_look_ahead.specs.Selections.{none_or};
-ghost use Rattle.graphql_look_ahead.specs.Told.{IsOf, looked_at};
+ghost use Rattle.graphql_look_ahead.specs.Told.{IsOfRequest, looked_at};
 ghost use Rattle.graphql_written_out.specs.Written.{fragment_meant};
 ghost use Rattle.graphql_execution_walk.specs.FieldDeclarations.{declared_type};
-ghost use Rattle.graphql_execution_walk.specs.FieldPaths.{error_at, keys_of, place_of};
+ghost use Rattle.graphql_execution_walk.specs.FieldPaths.{error_at, keys_of, start_of_path};
 ghost use Rattle.graphql_execution_walk.specs.LookedAhead.{FindsField, looked_ahead};
 ghost use Rattle.graphql_execution_walk.specs.Sets.{set_given, sets_in, type_given};
 
@@ -68,7 +68,7 @@ impl<'c, 'd, 'a, Context, S, C> Executor<'c, 'd, 'a, Context, S, C> {
     ) -> Executor<'c, 'd, 'a, Context, S, C>
         ensures request { result.request.now ≡ request.now }
         ensures context { result.context.now ≡ context.now }
-        ensures location { place_of result.path ≡ start }
+        ensures location { start_of_path result.path ≡ start }
         ensures path { keys_of result.path ≡ [] }
         ensures current_type { literal_of result.current_type
             ≡ record { name = object.now; modifiers = [] } }
@@ -103,7 +103,7 @@ impl<'c, 'd, 'a, Context, S, C> Executor<'c, 'd, 'a, Context, S, C> {
     ) -> Executor<'c, 'p, 'a, Context, S, C>
         ensures request { result.request.now ≡ self.now.request.now }
         ensures context { result.context.now ≡ self.now.context.now }
-        ensures location { place_of result.path ≡ start }
+        ensures location { start_of_path result.path ≡ start }
         ensures path { keys_of result.path ≡ keys.now }
         ensures current_type { result.current_type ≡ declared.entry }
         ensures selected { result.selected ≡ selected.entry }
@@ -136,7 +136,7 @@ impl<'c, 'd, 'a, Context, S, C> Executor<'c, 'd, 'a, Context, S, C> {
             self.now.current_type.name.now name.now) }
         ensures request { result.request.now ≡ self.now.request.now }
         ensures context { result.context.now ≡ self.now.context.now }
-        ensures location { place_of result.path ≡ location }
+        ensures location { start_of_path result.path ≡ location }
         ensures path { keys_of result.path ≡ keys.now }
         ensures current_type { Some (literal_of result.current_type)
             ≡ declared_type self.now.request.now.schema.now.types self.now.current_type.name.now
@@ -227,7 +227,7 @@ impl<'c, 'd, 'a, Context, S, C> Executor<'c, 'd, 'a, Context, S, C> {
     pub fn look_ahead(&self) -> Option<LookAheadSelection<'d, 'a, S, C>>
         ensures told { option_map looked_at result ≡ looked_ahead self.now }
         ensures found { FindsField self.now result }
-        ensures request { IfSome result (IsOf self.now.request.now) }
+        ensures request { IfSome result (IsOfRequest self.now.request.now) }
     {
         let Some(key) = self.path.key() else {
             return None;
@@ -280,7 +280,7 @@ impl<'c, 'd, 'a, Context, S, C> Executor<'c, 'd, 'a, Context, S, C> {
 
     /// Where the field starts that is answered; at the root where the operation does.
     pub fn location(&self) -> &SourcePosition
-        ensures { result.now ≡ place_of self.now.path }
+        ensures { result.now ≡ start_of_path self.now.path }
     {
         self.path.location()
     }
@@ -290,7 +290,7 @@ impl<'c, 'd, 'a, Context, S, C> Executor<'c, 'd, 'a, Context, S, C> {
     pub fn new_error(&self, error: FieldError<S>) -> Result<ExecutionError<S>, AllocError>
     where
         S: Drop,
-        ensures { Gives result (error_at (place_of self.now.path) self.now.path error) }
+        ensures { Gives result (error_at (start_of_path self.now.path) self.now.path error) }
     {
         self.error_at(error, *self.location())
     }
@@ -320,7 +320,7 @@ impl<'c, 'd, 'a, Context, S, C> Executor<'c, 'd, 'a, Context, S, C> {
         S: Drop,
         ensures told { OnOk result (errors.new
             ≡ errors.old
-            ++ error_at (place_of self.now.path) self.now.path error ∷ []) }
+            ++ error_at (start_of_path self.now.path) self.now.path error ∷ []) }
         ensures kept { OnErr result (errors.new ≡ errors.old) }
     {
         self.push_error_at(error, *self.location(), errors)

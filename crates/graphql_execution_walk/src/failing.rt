@@ -2,9 +2,9 @@
 
 ghost use Rattle.std.specs.Prelude.{◌++◌, IfOk, codes, reverse};
 ghost use Rattle.graphql_text.specs.Memory.{Gives};
-ghost use Rattle.graphql_names.specs.TypeReference.{written};
+ghost use Rattle.graphql_names.specs.TypeReference.{written_type};
 ghost use Rattle.graphql_semantics.specs.Completion.{misfit_error, own_null};
-ghost use Rattle.graphql_execution_walk.specs.Begins.{IsTold};
+ghost use Rattle.graphql_execution_walk.specs.Begins.{BeginsOrTells};
 
 use crate::frames::Begun;
 use crate::report::Report;
@@ -36,7 +36,7 @@ pub(crate) fn misfit<S>(
 
 /// Why an answer does not fit. An error is want of memory.
 fn misfit_message(alloc: Global, name: &str, wraps: &[TypeModifier]) -> Result<Text, AllocError>
-    ensures { Gives result (codes "Answer does not fit type " ++ written name.now wraps.now) }
+    ensures { Gives result (codes "Answer does not fit type " ++ written_type name.now wraps.now) }
 {
     let wanted: BorrowedType<'_> = Type {
         name: TextRef::new(name),
@@ -54,7 +54,8 @@ pub(crate) fn begun_or_told<'d, 'a, S: Drop, N>(
     begins: FieldResult<Begun<'d, 'a, S, N>, S>,
     report: &mut Report<'d, S>,
 ) -> Result<Begun<'d, 'a, S, N>, AllocError>
-    ensures { IfOk result (λ begun. IsTold location begins.entry report.old begun report.new) }
+    ensures { IfOk result
+        (λ begun. BeginsOrTells location begins.entry report.old begun report.new) }
 {
     match begins {
         Ok(begun) => Ok(begun),

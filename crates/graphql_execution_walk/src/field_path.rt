@@ -3,7 +3,7 @@
 ghost use Rattle.std.specs.Prelude.{◌≡◌};
 ghost use Rattle.std.specs.Option.{option_copied};
 ghost use Rattle.graphql_text.specs.Memory.{Gives};
-ghost use Rattle.graphql_execution_walk.specs.FieldPaths.{keys_of, own_key, place_of};
+ghost use Rattle.graphql_execution_walk.specs.FieldPaths.{keys_of, own_key, start_of_path};
 
 use graphql_text::{Items, SourcePosition, Text, TextRef};
 use std::alloc::{AllocError, Global};
@@ -26,7 +26,7 @@ pub enum FieldPath<'p> {
 impl<'p> FieldPath<'p> {
     /// Where the field starts.
     pub fn location(&self) -> &SourcePosition
-        ensures { result.now ≡ place_of self.now }
+        ensures { result.now ≡ start_of_path self.now }
     {
         match self {
             FieldPath::Root(place) => place,

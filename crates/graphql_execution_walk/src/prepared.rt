@@ -6,7 +6,7 @@ ghost use Rattle.graphql_arguments.specs.GivenValues.{arguments_told};
 ghost use Rattle.graphql_occurrences.specs.DeclaredLent.{literal_of};
 ghost use Rattle.graphql_text.specs.Memory.{Gives, GivesBy};
 ghost use Rattle.graphql_written_out.specs.Written.{head_of};
-ghost use Rattle.graphql_execution_walk.specs.Engines.{arguments_in};
+ghost use Rattle.graphql_execution_walk.specs.Engines.{arguments_given};
 ghost use Rattle.graphql_execution_walk.specs.FieldDeclarations as spec;
 ghost use Rattle.graphql_execution_walk.specs.Prepared.{ArePrepared, IsPrepared, Prepares};
 ghost use Rattle.graphql_execution_walk.specs.Prepared.{asked_in, prepared_at};
@@ -145,7 +145,7 @@ pub(crate) fn arguments_at<'p, 'a, S: SchemaScalar + Drop>(
     requires { IfSome prepared
         (λ known. Prepares (asked_in request.now) object.now (head_of field.now) known.now) }
     ensures { GivesBy arguments_told result
-        (arguments_in request.now object.now (head_of field.now)) }
+        (arguments_given request.now object.now (head_of field.now)) }
 {
     if is_bare(prepared) {
         return Arguments::new(alloc, &[], &[], &request.variables);

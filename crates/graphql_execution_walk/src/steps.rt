@@ -9,14 +9,14 @@ ghost use Rattle.graphql_semantics.specs.Evaluation.{sets_below};
 ghost use Rattle.graphql_semantics.specs.Outcomes.{show_place};
 ghost use Rattle.graphql_semantics.specs.Turns.{all_turns, turns_of_group};
 ghost use Rattle.graphql_execution_walk.specs.declared.frames.Frame.TheVariants as frame;
-ghost use Rattle.graphql_execution_walk.specs.Begins.{Begins};
+ghost use Rattle.graphql_execution_walk.specs.Begins.{BeginsOrErrs};
 ghost use Rattle.graphql_execution_walk.specs.Evaluations.{Evaluation, answer_for};
 ghost use Rattle.graphql_execution_walk.specs.FrameTurns.{begun_turns, rest_turns, waiting_turns};
-ghost use Rattle.graphql_execution_walk.specs.Frames.{Fine, FineBegun, Leads, close, comes_to};
+ghost use Rattle.graphql_execution_walk.specs.Frames.{Fine, FineBegun, TellsFirst, close, comes_to};
 ghost use Rattle.graphql_execution_walk.specs.Frames.{down, group_outcome, rest, shows};
 ghost use Rattle.graphql_execution_walk.specs.Prepared.{IsPrepared, Prepares, asked_in};
 ghost use Rattle.graphql_execution_walk.specs.Sets.{HasKey};
-ghost use Rattle.graphql_execution_walk.specs.Standing.{IsPlaceOf, IsSettled, IsTyped};
+ghost use Rattle.graphql_execution_walk.specs.Standing.{IsFieldPlace, IsSettled, IsTyped};
 
 use crate::asked::Asked;
 use crate::asking::ask;
@@ -60,14 +60,14 @@ fn begin_field<'p, 'd, 'a, S: SchemaScalar + Drop, R: GraphQLValue<S>>(
     requires typed { let here = ⟦<R as Evaluating<S>>⟧.here resolver.now executor.now in
         IsTyped here node.now object.now }
     requires place { let here = ⟦<R as Evaluating<S>>⟧.here resolver.now executor.now in
-        IsPlaceOf executor.now.request.now object.now first.now.field.now
+        IsFieldPlace executor.now.request.now object.now first.now.field.now
         first.now.among.now (literal_of declared) first.now.field.now.span.start keys.now
         (sets_below (all_found here.fragments fields.now)) }
     requires prepared { IfSome prepared (λ known.
         Prepares (asked_in executor.now.request.now) object.now
         (head_of first.now.field.now) known.now) }
     ensures { let here = ⟦<R as Evaluating<S>>⟧.here resolver.now executor.now in
-        Begins here (sets_below (all_found here.fragments fields.now)) declared.entry.name.now
+        BeginsOrErrs here (sets_below (all_found here.fragments fields.now)) declared.entry.name.now
         first.now.field.now.span.start (reverse declared.entry.modifiers.now)
         (answer_for here node.now object.now (head_of first.now.field.now)) result }
 {
@@ -115,7 +115,7 @@ pub(crate) fn start<'d, 'a, S: SchemaScalar + Drop, R: GraphQLValue<S>>(
         (λ known.
         IsPrepared (asked_in executor.now.request.now) object.now these.now known.now) }
     ensures leads { let here = ⟦<R as Evaluating<S>>⟧.here resolver.now executor.now in
-        IfOk result (λ s. Leads
+        IfOk result (λ s. TellsFirst
         (group_outcome here report.old.path object.now node.now these.now) report.old
         (show_place s.is_needed (comes_to here s.begun (report.old.path ++ these.now.0 ∷ [])))
         report.new) }

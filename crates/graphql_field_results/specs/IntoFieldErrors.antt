@@ -15,8 +15,8 @@ use Rattle.graphql_field_results.specs.declared.field_fault.FieldFault.{FieldFau
 use Rattle.graphql_field_results.specs.declared.field_fault.FieldFault.TheVariants as fault
 
 -- this reason, with nothing told beside it
-abbrev pub told : {S : Type 0} → List ℕ → FieldError S
-told message = record { message = message; extensions = value.Null }
+abbrev pub only_reason : {S : Type 0} → List ℕ → FieldError S
+only_reason message = record { message = message; extensions = value.Null }
 
 -- the fault is this error; want of memory tells nothing
 abbrev pub IsFaultOf : {S : Type 0} → FieldError S → FieldFault S → Type 0
@@ -35,20 +35,22 @@ wrong_count actual expected =
 
 -- what is wrong with a value is the reason; want of memory stays so
 abbrev pub check_fault : {S : Type 0} → CheckError → FieldFault S
-check_fault (check.Message text) = fault.Error (told text)
+check_fault (check.Message text) = fault.Error (only_reason text)
 check_fault check.Memory = fault.Memory
 
 module _ {F S T E : Type 0} (becomes : E → FieldError F) where
   -- an item's error is the list's, as it stands
   abbrev pub of_list_error : FromInputValueVecError T S E → FieldError F
-  of_list_error vec_error.Null = told (codes "Failed to convert into `Vec`: Value cannot be `null`")
+  of_list_error vec_error.Null = only_reason
+      (codes "Failed to convert into `Vec`: Value cannot be `null`")
   of_list_error (vec_error.Item e) = becomes e
-  of_list_error vec_error.Memory = told (codes "Out of memory")
+  of_list_error vec_error.Memory = only_reason (codes "Out of memory")
 
   -- the same of a list of one length
   abbrev pub of_array_error : FromInputValueArrayError T S E → FieldError F
   of_array_error array_error.Null =
-      told (codes "Failed to convert into exact-size array: Value cannot be `null`")
-  of_array_error (array_error.WrongCount actual expected) = told (wrong_count actual expected)
+      only_reason (codes "Failed to convert into exact-size array: Value cannot be `null`")
+  of_array_error (array_error.WrongCount actual expected) = only_reason
+      (wrong_count actual expected)
   of_array_error (array_error.Item e) = becomes e
-  of_array_error array_error.Memory = told (codes "Out of memory")
+  of_array_error array_error.Memory = only_reason (codes "Out of memory")

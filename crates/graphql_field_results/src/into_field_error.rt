@@ -12,7 +12,7 @@ ghost use Rattle.graphql_field_results.specs.IntoFieldErrors.{
   check_fault,
   of_array_error,
   of_list_error,
-  told,
+  only_reason,
   wrong_count,
 };
 ghost use Rattle.graphql_field_results.specs.declared.field_error.FieldError.{FieldError};
@@ -50,7 +50,7 @@ impl<S> IntoFieldError<S> for FieldError<S> {
 
 /// The text is the reason.
 impl<S> IntoFieldError<S> for &str {
-    ghost becomes = { λ text. told text.now };
+    ghost becomes = { λ text. only_reason text.now };
 
     fn into_field_error(self, alloc: Global) -> FieldFault<S> {
         match Text::from_str(alloc, self) {
@@ -62,10 +62,10 @@ impl<S> IntoFieldError<S> for &str {
 
 /// The text is the reason. Takes no memory.
 impl<S> IntoFieldError<S> for String {
-    ghost becomes = { λ text. told (string_bytes text) };
+    ghost becomes = { λ text. only_reason (string_bytes text) };
 
     fn into_field_error(self, _alloc: Global) -> FieldFault<S>
-        ensures { result ≡ fault.Error (told (string_bytes self)) }
+        ensures { result ≡ fault.Error (only_reason (string_bytes self)) }
     {
         FieldFault::Error(FieldError::of(Text::from_string(self)))
     }
@@ -73,7 +73,7 @@ impl<S> IntoFieldError<S> for String {
 
 /// The text is the reason. Takes memory only for a text that is lent.
 impl<S> IntoFieldError<S> for CowStr<'_> {
-    ghost becomes = { λ text. told (cow_str_bytes text) };
+    ghost becomes = { λ text. only_reason (cow_str_bytes text) };
 
     fn into_field_error(self, alloc: Global) -> FieldFault<S> {
         match self.into_owned(alloc) {
@@ -85,10 +85,10 @@ impl<S> IntoFieldError<S> for CowStr<'_> {
 
 /// The text is the reason. Takes no memory.
 impl<S> IntoFieldError<S> for BoxedStr {
-    ghost becomes = { λ text. told (boxed_str_bytes text) };
+    ghost becomes = { λ text. only_reason (boxed_str_bytes text) };
 
     fn into_field_error(self, _alloc: Global) -> FieldFault<S>
-        ensures { result ≡ fault.Error (told (boxed_str_bytes self)) }
+        ensures { result ≡ fault.Error (only_reason (boxed_str_bytes self)) }
     {
         FieldFault::Error(FieldError::of(Text::from_string(self.into_string())))
     }
@@ -96,10 +96,10 @@ impl<S> IntoFieldError<S> for BoxedStr {
 
 /// The text is the reason. Takes no memory.
 impl<S> IntoFieldError<S> for Text {
-    ghost becomes = { told };
+    ghost becomes = { only_reason };
 
     fn into_field_error(self, _alloc: Global) -> FieldFault<S>
-        ensures { result ≡ fault.Error (told self) }
+        ensures { result ≡ fault.Error (only_reason self) }
     {
         FieldFault::Error(FieldError::of(self))
     }
@@ -108,7 +108,7 @@ impl<S> IntoFieldError<S> for Text {
 /// What is wrong with the value is the reason. Want of memory stays want of memory. Takes no
 /// memory.
 impl<S> IntoFieldError<S> for CheckError {
-    ghost becomes = { λ error. told (error_text error) };
+    ghost becomes = { λ error. only_reason (error_text error) };
 
     fn into_field_error(self, _alloc: Global) -> FieldFault<S>
         ensures { result ≡ check_fault self }
@@ -123,7 +123,7 @@ impl<S> IntoFieldError<S> for CheckError {
 /// The reason tells which type was expected, and which scalar was found.
 impl<'a, S: ScalarValue, T> IntoFieldError<T> for WrongInputScalarTypeError<'a, S> {
     ghost becomes = { λ error.
-        told (wrong_type error.type_name (scalar_text (S.answer error.input))) };
+        only_reason (wrong_type error.type_name (scalar_text (S.answer error.input))) };
 
     fn into_field_error(self, alloc: Global) -> FieldFault<T> {
         match self.to_string(alloc) {
@@ -156,7 +156,7 @@ where
 
 /// How many items were found in place of how many, or want of memory.
 fn count_told<S>(alloc: Global, actual: usize, expected: usize) -> FieldFault<S>
-    ensures { IsFaultOf (told (wrong_count actual expected)) result }
+    ensures { IsFaultOf (only_reason (wrong_count actual expected)) result }
 {
     let written = format!(in alloc;
         "Failed to convert into exact-size array: wrong elements count: {actual} instead of {expected}"

@@ -58,8 +58,8 @@ module _ {C : Type 0} (answerer : TableService C → Answerer DefaultScalarValue
   failed = HasRisen bytes.faults bytes.faults_after
 
   -- each line was answered, or why no more lines were; the records that the lines left
-  abbrev pub Answered : TableService C → Table → Result (Unit {0}) ServeError → Type 0
-  Answered service after =
+  abbrev pub LinesAnswered : TableService C → Table → Result (Unit {0}) ServeError → Type 0
+  LinesAnswered service after =
       Ended (ServedAll (AnswersLine (answerer service)) service.context bytes.left bytes.rest
       bytes.old bytes.new after)
       (λ e. Ends (AnswersLine (answerer service)) (BreaksAtLine (answerer service)) failed e
@@ -77,7 +77,7 @@ module _ {C : Type 0} (answerer : TableService C → Answerer DefaultScalarValue
   -- the lines were asked for plain texts, which change nothing, or for answers
   abbrev pub Served : Bool → TableService C → Table → Result (Unit {0}) ServeError → Type 0
   Served true service after ended = ToldPlain service ended × (after ≡ service.context)
-  Served false service after ended = Answered service after ended
+  Served false service after ended = LinesAnswered service after ended
 
 -- by what a service answers, and by what the two files describe
 module _ {C : Type 0} (answerer : TableService C → Answerer DefaultScalarValue C TableNode Table)
@@ -88,8 +88,8 @@ module _ {C : Type 0} (answerer : TableService C → Answerer DefaultScalarValue
   IsUntouched = (bytes.rest ≡ bytes.left) × (bytes.new ≡ bytes.old)
 
   -- the first fault of the files, before a line was read
-  abbrev pub IsRefused : RunFault → Type 0
-  IsRefused e = Due e × IsUntouched
+  abbrev pub RefusesRun : RunFault → Type 0
+  RefusesRun e = Due e × IsUntouched
 
   -- so it was by the service over the files
   pub record Serves (ended : Result (Unit {0}) ServeError) (after : Table) : Type 0 where
@@ -100,9 +100,9 @@ module _ {C : Type 0} (answerer : TableService C → Answerer DefaultScalarValue
   -- what became of the run
   abbrev pub Ran : Result (Unit {0}) RunFault → Type 0
   Ran (Ok x) = (after : Table) × Serves (Ok x) after
-  Ran (Err (fault.Schema e)) = IsRefused (fault.Schema e)
-  Ran (Err fault.NotExecutable) = IsRefused fault.NotExecutable
-  Ran (Err (fault.Data e)) = IsRefused (fault.Data e)
-  Ran (Err fault.OtherBoolean) = IsRefused fault.OtherBoolean
+  Ran (Err (fault.Schema e)) = RefusesRun (fault.Schema e)
+  Ran (Err fault.NotExecutable) = RefusesRun fault.NotExecutable
+  Ran (Err (fault.Data e)) = RefusesRun (fault.Data e)
+  Ran (Err fault.OtherBoolean) = RefusesRun fault.OtherBoolean
   Ran (Err (fault.Serve e)) = (after : Table) × Serves (Err e) after
   Ran (Err fault.Memory) = IsUntouched

@@ -11,7 +11,7 @@ use Rattle.graphql_grammar.specs.declared.kind.Kind.{Kind}
 use Rattle.graphql_grammar.specs.declared.kind.Kind.TheVariants as k
 use Rattle.graphql_grammar.specs.Kinds.{Kinds, kind, only}
 use Rattle.graphql_grammar.specs.Input.{Input, Located, Parser, Outcome, first, and_then, ◌>>=◌, pure, unexpected, refuse, refusal, peek, peek_kind, next, left}
-use Rattle.graphql_grammar.specs.Steps.{sees, when, token, scalar, scalar_by, read_by, located, optional, all, all_from, until, until_from, between, some_between, finished}
+use Rattle.graphql_grammar.specs.Steps.{sees, when, token, any_scalar, scalar_by, read_by, located, optional, all, all_from, until, until_from, items_between, some_between, finished}
 use Rattle.graphql_grammar.specs.Alike.{tokens_of, SameTokens, SameOutcome}
 
 -- what stands next, and what is left behind it
@@ -123,8 +123,8 @@ module _ {S B : Type 0} (reads : ScalarToken → Result S ParseError) where
   scalar_outcome see (t.Scalar s) i j h = read_outcome see (reads s) i j h
   scalar_outcome see _ i j h = (even_refuse {see = see}).at i j h
 
-  pub even_scalar : {see : S → B} → Even see (scalar reads) (scalar reads)
-  unfolding scalar
+  pub even_scalar : {see : S → B} → Even see (any_scalar reads) (any_scalar reads)
+  unfolding any_scalar
   even_scalar {see = see} = record { at = λ i j h. subst (λ x. SameOutcome see (scalar_by reads (peek i).item i) (scalar_by reads x j)) (same_peek i j h) (scalar_outcome see (peek i).item i j h) }
 
 -- ---- loops
@@ -152,7 +152,7 @@ module _ {A B : Type 0} {see : A → B} {p q : Parser A} (one : Even see p q) wh
     even_until : (xs ys : List A) → map see xs ≡ map see ys → Even (map see) (until close p xs) (until close q ys)
     even_until xs ys h = record { at = λ i j s. subst (λ n. SameOutcome (map see) (until close p xs i) (until_from close q n ys j)) (same_length i.ahead j.ahead s) ((even_until_from (left i) xs ys h).at i j s) }
 
-    pub even_between : (w : Kind) → Even (map see) (between w close p) (between w close q)
+    pub even_between : (w : Kind) → Even (map see) (items_between w close p) (items_between w close q)
     even_between w = even_bind {see = λ u. u} (even_token (only w) (λ x. tt {0})) (λ u v e. even_until [] [] refl)
 
     pub even_some_between : (w : Kind) → Even (map see) (some_between w close p) (some_between w close q)

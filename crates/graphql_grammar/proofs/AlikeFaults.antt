@@ -6,7 +6,7 @@ use Rattle.graphql_text.specs.declared.position.SourcePosition.{SourcePosition}
 use Rattle.graphql_text.specs.declared.token.Token.TheVariants as t
 use Rattle.graphql_grammar.specs.Input.{Located, Fault, first, unexpected}
 use Rattle.graphql_grammar.specs.Ahead.{mk}
-use Rattle.graphql_grammar.specs.Faults.{Reading, IsScalar, BadScalar, Begins, TakesScalar, FaultOf, unexpected_token, refused_scalar, FirstFaultyToken}
+use Rattle.graphql_grammar.specs.Faults.{Reading, IsScalarToken, BadScalar, Begins, TakesScalar, FaultOf, unexpected_token, refused_scalar, FirstFaultyToken}
 use Rattle.graphql_grammar.specs.Alike.{tokens_of, SameTokens, Corresponding}
 use Rattle.graphql_grammar.proofs.Alike.{same_first}
 use Rattle.graphql_grammar.proofs.FirstFaults.{fault_span}
@@ -66,8 +66,8 @@ module _ {S A : Type 0} (reads : Reading S) (Tree : Reading S → List Located �
   abbrev moved : Span → List Located → Fault → Fault
   moved g r e = record { item = e.item; span = (first g r).span }
 
-  none_again : (before l rest r : List Located) → SameTokens before l → SameTokens rest r → ((a : Located) (more : List Located) → rest ≡ a ∷ more → IsScalar a → TakesScalar Tree before → ⊥)
-      → (a : Located) (more : List Located) → r ≡ a ∷ more → IsScalar a → TakesScalar Tree l → ⊥
+  none_again : (before l rest r : List Located) → SameTokens before l → SameTokens rest r → ((a : Located) (more : List Located) → rest ≡ a ∷ more → IsScalarToken a → TakesScalar Tree before → ⊥)
+      → (a : Located) (more : List Located) → r ≡ a ∷ more → IsScalarToken a → TakesScalar Tree l → ⊥
   none_again before l [] r h u none a more at s takes = absurd (cc)
   none_again before l (x ∷ rest) r h u none a more at s takes =
       none x rest refl (record { token = s.token; is = same_head x a rest more (u ∙ ap tokens_of at) ∙ s.is }) (takes_again l before (sym h) takes)

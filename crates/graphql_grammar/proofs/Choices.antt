@@ -10,9 +10,9 @@ use Rattle.graphql_text.specs.declared.token.ScalarToken.TheVariants as st
 use Rattle.graphql_text.specs.declared.parse_error.ParseError.{ParseError}
 use Rattle.graphql_grammar.specs.declared.kind.Kind.{Kind}
 use Rattle.graphql_grammar.specs.declared.kind.Kind.TheVariants as k
-use Rattle.graphql_grammar.specs.Kinds.{Kinds, kind, names, only, either, no_kind, apart, within}
+use Rattle.graphql_grammar.specs.Kinds.{Kinds, kind, names, only, either, no_kind, apart, are_among}
 use Rattle.graphql_grammar.specs.Input.{At, Input, Located, Fault, Parser, Outcome, and_then, ◌>>=◌, pure, refuse, refusal, peek, peek_kind, next}
-use Rattle.graphql_grammar.specs.Steps.{sees, when, token, expect, scalar, scalar_by, read_by, placed, located, optional}
+use Rattle.graphql_grammar.specs.Steps.{sees, when, token, expect, any_scalar, scalar_by, read_by, with_place, located, optional}
 use Rattle.graphql_grammar.specs.Ahead.{mk, In, Free, Like, kind_ahead, refused_at}
 use Rattle.graphql_grammar.specs.Relations.{end_of, span_of, TokenOf, Nothing, Made, Placed, OptionOf, absent, present, EitherOf}
 use Rattle.graphql_grammar.specs.Faults.{BadScalar, GoodScalar, ScalarOf}
@@ -140,15 +140,15 @@ module _ (Bad : Located → Fault → Type 0) (Good : Located → Type 0) where
 -- ---- a scalar
 
 module _ {S : Type 0} (reads : ScalarToken → Result S ParseError) where
-  scalar_at : (a : Located) (zs : List Located) (f : Span) (e : SourcePosition) (s : ScalarToken) → a.item ≡ t.Scalar s → scalar reads (mk (a ∷ zs) f e) ≡ read_by reads (reads s) (mk (a ∷ zs) f e)
-  unfolding scalar peek
+  scalar_at : (a : Located) (zs : List Located) (f : Span) (e : SourcePosition) (s : ScalarToken) → a.item ≡ t.Scalar s → any_scalar reads (mk (a ∷ zs) f e) ≡ read_by reads (reads s) (mk (a ∷ zs) f e)
+  unfolding any_scalar peek
   scalar_at a zs f e s is = ap (λ x. scalar_by reads x (mk (a ∷ zs) f e)) is
 
-  scalar_reads : (a : Located) (zs : List Located) (f : Span) (e : SourcePosition) (s : ScalarToken) (x : S) → a.item ≡ t.Scalar s → reads s ≡ Ok x → scalar reads (mk (a ∷ zs) f e) ≡ Ok (x, mk zs f a.span.end)
+  scalar_reads : (a : Located) (zs : List Located) (f : Span) (e : SourcePosition) (s : ScalarToken) (x : S) → a.item ≡ t.Scalar s → reads s ≡ Ok x → any_scalar reads (mk (a ∷ zs) f e) ≡ Ok (x, mk zs f a.span.end)
   unfolding next
   scalar_reads a zs f e s x is means = scalar_at a zs f e s is ∙ ap (λ r. read_by reads r (mk (a ∷ zs) f e)) means
 
-  scalar_faults : (a : Located) (zs : List Located) (f : Span) (e : SourcePosition) (s : ScalarToken) (x : ParseError) → a.item ≡ t.Scalar s → reads s ≡ Err x → scalar reads (mk (a ∷ zs) f e) ≡ Err (record { item = x; span = a.span })
+  scalar_faults : (a : Located) (zs : List Located) (f : Span) (e : SourcePosition) (s : ScalarToken) (x : ParseError) → a.item ≡ t.Scalar s → reads s ≡ Err x → any_scalar reads (mk (a ∷ zs) f e) ≡ Err (record { item = x; span = a.span })
   unfolding peek
   scalar_faults a zs f e s x is means = scalar_at a zs f e s is ∙ ap (λ r. read_by reads r (mk (a ∷ zs) f e)) means
 
@@ -173,7 +173,7 @@ scalar_token t.EndOfFile h = cc
 -- ---- a choice by the next token
 
 module _ (Bad : Located → Fault → Type 0) (Good : Located → Type 0) {A : Type 0} {b : Bool} {n : ℕ} {starts1 stops1 starts2 stops2 : Kinds} {P Q : List Located → A → Type 0} {p q : Parser A} (c : Kinds)
-    (inside : within starts1 c ≡ true) (outside : apart starts2 c ≡ true) (one : Law Bad Good true starts1 stops1 P n p) (two : Law Bad Good b starts2 stops2 Q n q) where
+    (inside : are_among starts1 c ≡ true) (outside : apart starts2 c ≡ true) (one : Law Bad Good true starts1 stops1 P n p) (two : Law Bad Good b starts2 stops2 Q n q) where
   abbrev stops_both : Kinds
   stops_both = either stops1 (stops_of b c stops2)
 
@@ -248,7 +248,7 @@ module _ (Bad : Located → Fault → Type 0) (Good : Located → Type 0) {A : T
 module _ {S : Type 0} (reads : ScalarToken → Result S ParseError) {A : Type 0} {n : ℕ} {starts stops : Kinds} {Q : List Located → A → Type 0} {q : Parser A} (make : S → A)
     (outside : apart starts (only k.Scalar) ≡ true) (two : Law (BadScalar reads) (GoodScalar reads) true starts stops Q n q) where
   abbrev read_scalar : Parser A
-  read_scalar = scalar reads >>= (λ s. pure (make s))
+  read_scalar = any_scalar reads >>= (λ s. pure (make s))
 
   abbrev both : Parser A
   both = when (only k.Scalar) read_scalar q
@@ -314,7 +314,7 @@ module _ {S : Type 0} (reads : ScalarToken → Result S ParseError) {A : Type 0}
 -- ---- a part that may be absent
 
 module _ (Bad : Located → Fault → Type 0) (Good : Located → Type 0) {A : Type 0} {n : ℕ} {starts stops : Kinds} {P : List Located → A → Type 0} {p : Parser A} (c : Kinds)
-    (inside : within starts c ≡ true) (one : Law Bad Good true starts stops P n p) where
+    (inside : are_among starts c ≡ true) (one : Law Bad Good true starts stops P n p) where
   option_of : (ts : List Located) (x : Option A) → EitherOf (Made Some P) (Nothing None) ts x → OptionOf P ts x
   option_of ts x (inl r) = subst (λ o. OptionOf P ts o) (sym r.is) (present ts r.part r.spells)
   option_of ts x (inr r) = subst (λ us. OptionOf P us x) (sym r.empty) (subst (λ o. OptionOf P [] o) (sym r.is) absent)
@@ -336,7 +336,7 @@ module _ (Bad : Located → Fault → Type 0) (Good : Located → Type 0) {A : T
     more = c.more;
     tree = record { item = c.tree; span = record { start = a.span.start; end = c.last } };
     last = c.last;
-    reads_on = λ zs h. ap (λ o. and_then o (placed (mk (a ∷ (ts ++ (c.more ++ zs))) f e))) (c.reads_on zs h);
+    reads_on = λ zs h. ap (λ o. and_then o (with_place (mk (a ∷ (ts ++ (c.more ++ zs))) f e))) (c.reads_on zs h);
   }
 
   sentence_by : (f : Span) (e : SourcePosition) (more : List Located) (x : A) (last : SourcePosition) → ((zs : List Located) → Free stops zs → p (mk (more ++ zs) f e) ≡ Ok (x, mk zs f last)) → Continues (Free stops) (located p) f e []
@@ -346,7 +346,7 @@ module _ (Bad : Located → Fault → Type 0) (Good : Located → Type 0) {A : T
     more = a ∷ ts;
     tree = record { item = x; span = record { start = a.span.start; end = last } };
     last = last;
-    reads_on = λ zs h. ap (λ o. and_then o (placed (mk (a ∷ (ts ++ zs)) f e))) (reads zs h);
+    reads_on = λ zs h. ap (λ o. and_then o (with_place (mk (a ∷ (ts ++ zs)) f e))) (reads zs h);
   }
 
   located_sentence : Sentence Bad Good (Free stops) (located p)
@@ -361,15 +361,15 @@ module _ (Bad : Located → Fault → Type 0) (Good : Located → Type 0) {A : T
   located_stop f e xs (done [] rest x is many r reads) = absurd (omega arith)
   located_stop f e xs (done (a ∷ ts) rest x is many r reads) =
       done (a ∷ ts) rest (record { item = x; span = span_of a ts }) is many (record { head = a; tail = ts; is = refl; spells = r; stands = refl })
-      (λ zs h. ap (λ o. and_then o (placed (mk (a ∷ (ts ++ zs)) f e))) (reads zs h))
+      (λ zs h. ap (λ o. and_then o (with_place (mk (a ∷ (ts ++ zs)) f e))) (reads zs h))
   located_stop f e xs (refused seen rest is reads on) =
-      refused seen rest is (λ zs h. ap (λ o. and_then o (placed (mk (seen ++ zs) f e))) (reads zs h)) (located_on f e seen on)
+      refused seen rest is (λ zs h. ap (λ o. and_then o (with_place (mk (seen ++ zs) f e))) (reads zs h)) (located_on f e seen on)
   located_stop f e xs (unread seen rest a err is bad reads good on) =
-      unread seen rest a err is bad (λ zs. ap (λ o. and_then o (placed (mk (seen ++ a ∷ zs) f e))) (reads zs)) (λ b g. located_on f e (seen ++ b ∷ []) (good b g)) (located_on f e seen on)
+      unread seen rest a err is bad (λ zs. ap (λ o. and_then o (with_place (mk (seen ++ a ∷ zs) f e))) (reads zs)) (λ b g. located_on f e (seen ++ b ∷ []) (good b g)) (located_on f e seen on)
 
   reads_placed : (a : Located) (ts zs : List Located) (x : A) → ReadsAs p (a ∷ ts) x zs → ReadsAs (located p) (a ∷ ts) (record { item = x; span = span_of a ts }) zs
   unfolding peek
-  reads_placed a ts zs x r f e = ap (λ o. and_then o (placed (mk (a ∷ (ts ++ zs)) f e))) (r f e)
+  reads_placed a ts zs x r f e = ap (λ o. and_then o (with_place (mk (a ∷ (ts ++ zs)) f e))) (r f e)
 
   located_reads : (ts : List Located) (y : At A) → Placed P ts y → length ts < n → (zs : List Located) → Free stops zs → ReadsAs (located p) ts y zs
   located_reads ts y r below zs c =
@@ -379,7 +379,7 @@ module _ (Bad : Located → Fault → Type 0) (Good : Located → Type 0) {A : T
       subst (λ us. ReadsAs (located p) us y zs) (sym r.is) (subst (λ s. ReadsAs (located p) (r.head ∷ r.tail) (W s) zs) (sym r.stands) (reads_placed r.head r.tail zs y.item here))
 
   located_begins : (i j : Input) (y : At A) → located p i ≡ Ok (y, j) → In starts i.ahead
-  located_begins i j y r = let u = ran_before (p i) (placed i) (y, j) r in one.begins i u.0.1 u.0.0 u.1
+  located_begins i j y r = let u = ran_before (p i) (with_place i) (y, j) r in one.begins i u.0.1 u.0.0 u.1
 
   pub law_located : Law Bad Good true starts stops (Placed P) n (located p)
   law_located = record {

@@ -12,7 +12,7 @@ use Rattle.graphql_grammar.specs.Kinds.{Kinds, kind}
 use Rattle.graphql_grammar.specs.Input.{Input, Located, Fault, Parser, Outcome, left, first, peek, unexpected, refusal}
 use Rattle.graphql_grammar.specs.Ahead.{mk, Free, Like, kind_ahead, refused_at}
 use Rattle.graphql_grammar.specs.Relations.{end_of}
-use Rattle.graphql_grammar.specs.Faults.{Reading, TakesScalar, IsScalar, BadScalar, GoodScalar, Begins, FaultOf, unexpected_token, refused_scalar, FirstFaultyToken, Spelled, OnlyTree, Longest, Sought, Found}
+use Rattle.graphql_grammar.specs.Faults.{Reading, TakesScalar, IsScalarToken, BadScalar, GoodScalar, Begins, FaultOf, unexpected_token, refused_scalar, FirstFaultyToken, Spelled, OnlyTree, Longest, Sought, SoughtAlone}
 use Rattle.graphql_grammar.specs.Leaves.{LeftAt}
 use Rattle.graphql_grammar.proofs.Stops.{Stop, done, refused, unread, Continues}
 use Rattle.graphql_grammar.proofs.Law.{Law, least}
@@ -20,7 +20,7 @@ use Rattle.graphql_grammar.proofs.Fronts.{Fronts, fronts, begins_before}
 use Rattle.graphql_grammar.proofs.Readings.{OneRefuses, the_first, the_second, Twin, both_read, both_refused, parted, Twins}
 use Rattle.graphql_grammar.proofs.Marks.{told, is_told, told_is, unexpected_is, same_told, marked, marked_refuses, marked_refused, opened, other, opened_self, opened_other, opened_refused}
 
-both_scalars : (a b : Located) (xs ys : List Located) → IsScalar a → IsScalar b → Like (a ∷ xs) (b ∷ ys)
+both_scalars : (a b : Located) (xs ys : List Located) → IsScalarToken a → IsScalarToken b → Like (a ∷ xs) (b ∷ ys)
 both_scalars a b xs ys s u = ap kind s.is ∙ sym (ap kind u.is)
 
 got : {A : Type 0} → A × Input → Outcome A → A × Input
@@ -213,7 +213,7 @@ module _ {S A : Type 0} (Tree : Reading S → List Located → A → Type 0) (p 
 
     -- where no scalar is read, none can
     takes_none : (f : Span) (e : SourcePosition) (seen rest : List Located) → ((zs : List Located) → Like rest zs → p (marked r) (mk (seen ++ zs) f e) ≡ Err (refused_at f zs))
-        → (a : Located) (more : List Located) → rest ≡ a ∷ more → IsScalar a → TakesScalar Tree seen → ⊥
+        → (a : Located) (more : List Located) → rest ≡ a ∷ more → IsScalarToken a → TakesScalar Tree seen → ⊥
     takes_none f e seen rest halts a more at is takes =
         let g = takes.reading in
         let u = begun g (Tree g) (p g) (law g) free f e seen takes.at takes.begins in
@@ -254,7 +254,7 @@ module _ {S A : Type 0} (Tree : Reading S → List Located → A → Type 0) (p 
       abbrev another : Located
       another = record { item = t.Scalar (other token); span = f }
 
-      takes_there : (b : Located) → IsScalar b → Begins wider (Tree wider) (seen ++ b ∷ []) → TakesScalar Tree seen
+      takes_there : (b : Located) → IsScalarToken b → Begins wider (Tree wider) (seen ++ b ∷ []) → TakesScalar Tree seen
       takes_there b scalar begins = record { reading = wider; at = b; scalar = scalar; begins = begins }
 
       takes_by : Stop (BadScalar wider) (GoodScalar wider) (least solid) (Free stops) (Tree wider) (p wider) f e (seen ++ a ∷ rest) → p wider (mk (seen ++ a ∷ rest) f e) ≡ Err (record { item = told token; span = a.span }) → TakesScalar Tree seen
@@ -328,7 +328,7 @@ module _ {S A : Type 0} (Tree : Reading S → List Located → A → Type 0) (p 
     sought i (Ok q) h = (spelled r (Tree r) (p r) (law r) free i q.0 q.1 h, longest r (Tree r) (p r) (law r) free i q.0 q.1 h)
     sought i (Err e) h = first_fault i e h
 
-    pub found : ((zs : List Located) → Free stops zs) → (i : Input) (o : Outcome A) → p r i ≡ o → Found r Tree i o
+    pub found : ((zs : List Located) → Free stops zs) → (i : Input) (o : Outcome A) → p r i ≡ o → SoughtAlone r Tree i o
     found always i (Ok q) h = (spelled r (Tree r) (p r) (law r) free i q.0 q.1 h, only_tree r (Tree r) (p r) (law r) free always i q.0 q.1 h)
     found always i (Err e) h = first_fault i e h
 

@@ -3,7 +3,7 @@ use Rattle.std.proofs.Common.{◌≡◌, ℕ, ◌+◌, ◌-◌, ◌<◌, ◌≤�
 use Rattle.std.proofs.lemmas.List.{append-nil}
 use Rattle.graphql_text.specs.declared.position.Span.{Span}
 use Rattle.graphql_text.specs.declared.position.SourcePosition.{SourcePosition}
-use Rattle.graphql_grammar.specs.Kinds.{Kinds, either, no_kind, apart, within}
+use Rattle.graphql_grammar.specs.Kinds.{Kinds, either, no_kind, apart, are_among}
 use Rattle.graphql_grammar.specs.Input.{Input, Located, Fault, Parser, and_then, ◌>>=◌, pure}
 use Rattle.graphql_grammar.specs.Ahead.{mk, In, Free, kind_ahead}
 use Rattle.graphql_grammar.specs.Relations.{end_of, Nothing, Then, Made}
@@ -218,10 +218,10 @@ module _ (Bad : Located → Fault → Type 0) (Good : Located → Type 0) where
     begins = begins;
   }
 
-  free_of : (s u : Kinds) → within s u ≡ true → (xs : List Located) (b : Bool) → s (kind_ahead xs) ≡ b → Free u xs → Free s xs
+  free_of : (s u : Kinds) → are_among s u ≡ true → (xs : List Located) (b : Bool) → s (kind_ahead xs) ≡ b → Free u xs → Free s xs
   free_of s u h xs false is c = is
   free_of s u h xs true is c = absurd (let q = sym (within_is s u h (kind_ahead xs) is) ∙ c in cc)
 
   -- by larger sets
-  pub law_wider : {A : Type 0} {a : Bool} {n : ℕ} {starts stops : Kinds} {P : List Located → A → Type 0} {p : Parser A} (s u : Kinds) → within starts s ≡ true → within stops u ≡ true → Law a starts stops P n p → Law a s u P n p
+  pub law_wider : {A : Type 0} {a : Bool} {n : ℕ} {starts stops : Kinds} {P : List Located → A → Type 0} {p : Parser A} (s u : Kinds) → are_among starts s ≡ true → are_among stops u ≡ true → Law a starts stops P n p → Law a s u P n p
   law_wider {starts = starts} {stops = stops} s u h w l = law_starts (λ xs is. within_is starts s h (kind_ahead xs) is) (law_narrow (λ xs c. free_of stops u w xs (stops (kind_ahead xs)) refl c) l)

@@ -5,11 +5,11 @@ use Rattle.graphql_text.specs.declared.position.Span.{Span}
 use Rattle.graphql_text.specs.declared.position.SourcePosition.{SourcePosition}
 use Rattle.graphql_grammar.specs.declared.kind.Kind.{Kind}
 use Rattle.graphql_grammar.specs.declared.kind.Kind.TheVariants as k
-use Rattle.graphql_grammar.specs.Kinds.{Kinds, only, either, no_kind, apart, within}
+use Rattle.graphql_grammar.specs.Kinds.{Kinds, only, either, no_kind, apart, are_among}
 use Rattle.graphql_grammar.specs.Input.{Input, Located, Fault, Parser, Outcome, and_then, ◌>>=◌, pure, refuse, next, left}
-use Rattle.graphql_grammar.specs.Steps.{sees, when, token, until, until_from, all, all_from, between, some_between}
+use Rattle.graphql_grammar.specs.Steps.{sees, when, token, until, until_from, all, all_from, items_between, some_between}
 use Rattle.graphql_grammar.specs.Ahead.{mk, In, Free, kind_ahead, refused_at}
-use Rattle.graphql_grammar.specs.Relations.{TokenOf, Nothing, Then, Ended, AllFrom, none_more, one_more, AllOf, SomeOf, Between, EitherOf}
+use Rattle.graphql_grammar.specs.Relations.{TokenOf, Nothing, Then, ThenCloses, AllFrom, none_more, one_more, AllOf, SomeOf, Between, EitherOf}
 use Rattle.graphql_grammar.proofs.Sets.{or_right, in_left, in_right}
 use Rattle.graphql_grammar.proofs.Stops.{Sentence, ran_before, same_state}
 use Rattle.graphql_grammar.proofs.Law.{Law, law_bind, law_pure, law_is, law_fewer, law_narrow, law_starts, law_same, law_zero}
@@ -77,7 +77,7 @@ module _ {A : Type 0} (close : Kind) (item : Parser A) (not_end : only close k.E
   module _ (Bad : Located → Fault → Type 0) (Good : Located → Type 0) (starts stops : Kinds) (R : List Located → A → Type 0)
       (others : apart starts (only close) ≡ true) (again : apart (either (only close) starts) stops ≡ true) where
     abbrev UntilLaw : ℕ → List A → Type 0
-    UntilLaw n found = Law Bad Good true (either (only close) starts) no_kind (Ended (AllFrom R found) close) n (until close item found)
+    UntilLaw n found = Law Bad Good true (either (only close) starts) no_kind (ThenCloses (AllFrom R found) close) n (until close item found)
 
     until_sentence : (found : List A) → Sentence Bad Good (Free no_kind) (until close item found)
     until_sentence found f e = let a : Located = record { item = sample close; span = f } in record {
@@ -96,9 +96,9 @@ module _ {A : Type 0} (close : Kind) (item : Parser A) (not_end : only close k.E
         in_right (only close (kind_ahead i.ahead)) (starts (kind_ahead i.ahead)) (l.begins i u.0.1 u.0.0 u.1)
 
     Turn : List A → List Located → List A → Type 0
-    Turn found = EitherOf (TokenOf (only close) (λ x. found)) (Then R (λ x. Ended (AllFrom R (found ++ x ∷ [])) close))
+    Turn found = EitherOf (TokenOf (only close) (λ x. found)) (Then R (λ x. ThenCloses (AllFrom R (found ++ x ∷ [])) close))
 
-    turn_ended : (found : List A) (ts : List Located) (xs : List A) → Turn found ts xs → Ended (AllFrom R found) close ts xs
+    turn_ended : (found : List A) (ts : List Located) (xs : List A) → Turn found ts xs → ThenCloses (AllFrom R found) close ts xs
     unfolding Turn
     turn_ended found ts xs (inl r) = record { inside = []; last = r.at; is = r.alone; closes = r.of_kind; spells = subst (λ ys. AllFrom R found [] ys) (sym r.means) none_more }
     turn_ended found ts xs (inr r) = let m = r.ends in record {
@@ -117,7 +117,7 @@ module _ {A : Type 0} (close : Kind) (item : Parser A) (not_end : only close k.E
       | inr h ↦ inr (record { front = h.front; back = h.back ++ us; is = ap (λ ws. ws ++ us) h.is ∙ append_assoc h.front h.back us; part = h.part; begins = h.begins; ends = one_more h.back us xs x h.ends r })
     ]
 
-    ended_turn : (found : List A) (ts : List Located) (xs : List A) → Ended (AllFrom R found) close ts xs → Turn found ts xs
+    ended_turn : (found : List A) (ts : List Located) (xs : List A) → ThenCloses (AllFrom R found) close ts xs → Turn found ts xs
     unfolding Turn
     ended_turn found ts xs r = elim (first_turn found r.inside xs r.spells) [
       | inl h ↦ inl (record { at = r.last; alone = r.is ∙ ap (λ ws. ws ++ r.last ∷ []) h.0; of_kind = r.closes; means = h.1 })
@@ -132,7 +132,7 @@ module _ {A : Type 0} (close : Kind) (item : Parser A) (not_end : only close k.E
     ]
 
     -- a loop begins with the token that closes it, or as its items do
-    pub law_until : within (only close) (only close) ≡ true → (n : ℕ) → Law Bad Good true starts stops R n item → (found : List A) → UntilLaw n found
+    pub law_until : are_among (only close) (only close) ≡ true → (n : ℕ) → Law Bad Good true starts stops R n item → (found : List A) → UntilLaw n found
     unfolding Turn
     law_until self zero l found = law_zero Bad Good (until_sentence found) (λ i j xs r. until_begins_by zero l found i j xs (only close (kind_ahead i.ahead)) refl r)
     law_until self (suc n) l found = law_is Bad Good (turn_ended found) (ended_turn found) (law_same Bad Good (until_unfolds found)
@@ -141,12 +141,12 @@ module _ {A : Type 0} (close : Kind) (item : Parser A) (not_end : only close k.E
 
     -- ---- between two tokens
 
-    module _ (w : Kind) (opens : only w k.EndOfFile ≡ false) (self : within (only close) (only close) ≡ true) (free : apart (either (only close) starts) no_kind ≡ true) where
-      between_of : (M : List Located → List A → Type 0) (ts : List Located) (xs : List A) → Then (TokenOf {A = Unit {0}} (only w) (λ v. tt {0})) (λ u. Ended M close) ts xs → Between M w close ts xs
+    module _ (w : Kind) (opens : only w k.EndOfFile ≡ false) (self : are_among (only close) (only close) ≡ true) (free : apart (either (only close) starts) no_kind ≡ true) where
+      between_of : (M : List Located → List A → Type 0) (ts : List Located) (xs : List A) → Then (TokenOf {A = Unit {0}} (only w) (λ v. tt {0})) (λ u. ThenCloses M close) ts xs → Between M w close ts xs
       between_of M ts xs r = let o = r.begins in let m = r.ends in
           record { first = o.at; inside = m.inside; last = m.last; is = r.is ∙ ap (λ us. us ++ r.back) o.alone ∙ ap (λ us. o.at ∷ us) m.is; opens = o.of_kind; closes = m.closes; spells = m.spells }
 
-      of_between : (M : List Located → List A → Type 0) (ts : List Located) (xs : List A) → Between M w close ts xs → Then (TokenOf {A = Unit {0}} (only w) (λ v. tt {0})) (λ u. Ended M close) ts xs
+      of_between : (M : List Located → List A → Type 0) (ts : List Located) (xs : List A) → Between M w close ts xs → Then (TokenOf {A = Unit {0}} (only w) (λ v. tt {0})) (λ u. ThenCloses M close) ts xs
       of_between M ts xs r = record {
         front = r.first ∷ [];
         back = r.inside ++ r.last ∷ [];
@@ -157,10 +157,10 @@ module _ {A : Type 0} (close : Kind) (item : Parser A) (not_end : only close k.E
       }
 
       -- any number of items
-      pub law_between : (n : ℕ) → Law Bad Good true starts stops R (n - 1) item → Law Bad Good true (only w) no_kind (Between (AllOf R) w close) n (between w close item)
+      pub law_between : (n : ℕ) → Law Bad Good true starts stops R (n - 1) item → Law Bad Good true (only w) no_kind (Between (AllOf R) w close) n (items_between w close item)
       law_between n l = law_is Bad Good (between_of (AllOf R)) (of_between (AllOf R)) (law_bind Bad Good free (law_expect Bad Good w opens) (λ u. law_until self (n - 1) l []))
 
-      some_ended : (ts : List Located) (xs : List A) → Then R (λ x. Ended (AllFrom R (x ∷ [])) close) ts xs → Ended (SomeOf R) close ts xs
+      some_ended : (ts : List Located) (xs : List A) → Then R (λ x. ThenCloses (AllFrom R (x ∷ [])) close) ts xs → ThenCloses (SomeOf R) close ts xs
       some_ended ts xs r = let m = r.ends in record {
         inside = r.front ++ m.inside;
         last = m.last;
@@ -169,7 +169,7 @@ module _ {A : Type 0} (close : Kind) (item : Parser A) (not_end : only close k.E
         spells = record { front = r.front; back = m.inside; is = refl; part = r.part; begins = r.begins; ends = m.spells };
       }
 
-      ended_some : (ts : List Located) (xs : List A) → Ended (SomeOf R) close ts xs → Then R (λ x. Ended (AllFrom R (x ∷ [])) close) ts xs
+      ended_some : (ts : List Located) (xs : List A) → ThenCloses (SomeOf R) close ts xs → Then R (λ x. ThenCloses (AllFrom R (x ∷ [])) close) ts xs
       ended_some ts xs r = let m = r.spells in record {
         front = m.front;
         back = m.back ++ r.last ∷ [];
@@ -215,7 +215,7 @@ module _ {A : Type 0} (kinds : Kinds) (item : Parser A) (not_end : kinds k.EndOf
   pub all_unfolds : (found : List A) (i : Input) → all kinds item found i ≡ when kinds (item >>= (λ x. all kinds item (found ++ x ∷ []))) (pure found) i
   all_unfolds found i = all_unfolds_in found i.ahead i.finish i.end
 
-  module _ (Bad : Located → Fault → Type 0) (Good : Located → Type 0) (starts stops : Kinds) (R : List Located → A → Type 0) (inside : within starts kinds ≡ true) (again : apart starts stops ≡ true) where
+  module _ (Bad : Located → Fault → Type 0) (Good : Located → Type 0) (starts stops : Kinds) (R : List Located → A → Type 0) (inside : are_among starts kinds ≡ true) (again : apart starts stops ≡ true) where
     abbrev AllLaw : ℕ → List A → Type 0
     AllLaw n found = Law Bad Good false starts (either stops kinds) (AllFrom R found) n (all kinds item found)
 

@@ -5,7 +5,7 @@ use Rattle.graphql_text.specs.declared.position.SourcePosition.{SourcePosition}
 use Rattle.graphql_text.specs.declared.parse_error.ParseError.TheVariants.{Memory}
 use Rattle.graphql_grammar.specs.Kinds.{Kinds}
 use Rattle.graphql_grammar.specs.Input.{At, Input, Fault, Parser, Outcome, Reads, and_then, ◌>>=◌, pure, peek}
-use Rattle.graphql_grammar.specs.Steps.{sees, when, placed, located, optional}
+use Rattle.graphql_grammar.specs.Steps.{sees, when, with_place, located, optional}
 
 -- ---- the exit of a `?`
 
@@ -50,9 +50,9 @@ optional_refused kinds p {i} {f} e refused = when_yes kinds (p >>= (λ y. pure (
 pub located_read : {A : Type 0} (p : Parser A) {i j : Input} {x : A} {y : At A} {start : SourcePosition} → p i ≡ Ok (x, j)
     → start ≡ (peek i).span.start → y ≡ record { item = x; span = record { start = start; end = j.end } } → located p i ≡ Ok (y, j)
 located_read {A} p {i} {j} {x} {y} {start} read begins is =
-    ap (λ (o : Outcome A). and_then o (placed i)) read
+    ap (λ (o : Outcome A). and_then o (with_place i)) read
     ∙ ap (λ (s : SourcePosition). Ok (record { item = x; span = record { start = s; end = j.end } }, j)) (sym begins)
     ∙ ap (λ (z : At A). Ok (z, j)) (sym is)
 
 pub located_refused : {A : Type 0} (p : Parser A) {i : Input} {e : Fault} → p i ≡ Err e → located p i ≡ Err e
-located_refused {A} p {i} {e} refused = ap (λ (o : Outcome A). and_then o (placed i)) refused
+located_refused {A} p {i} {e} refused = ap (λ (o : Outcome A). and_then o (with_place i)) refused

@@ -9,7 +9,7 @@ use Rattle.graphql_grammar.specs.declared.kind.Kind.{Kind}
 use Rattle.graphql_grammar.specs.declared.kind.Kind.TheVariants as k
 use Rattle.graphql_grammar.specs.Kinds.{Kinds, only}
 use Rattle.graphql_grammar.specs.Input.{Input, Parser, Outcome, and_then, ◌>>=◌, pure, refuse, refusal, peek, next, left}
-use Rattle.graphql_grammar.specs.Steps.{sees, when, token, expect, scalar, scalar_by, read_by, placed, located, optional, all, all_from, until, until_from, between, some_between, finished}
+use Rattle.graphql_grammar.specs.Steps.{sees, when, token, expect, any_scalar, scalar_by, read_by, with_place, located, optional, all, all_from, until, until_from, items_between, some_between, finished}
 
 module _ {S : Type 0} (q r : ScalarToken → Result S ParseError) where
   -- one of them refuses this token
@@ -53,7 +53,7 @@ module _ {S : Type 0} (q r : ScalarToken → Result S ParseError) where
   twins_made make again one = twins_bind one (λ x y. twins_pure (make x) (again y))
 
   pub twins_located : {A : Type 0} {p w : Parser A} → Twins p w → Twins (located p) (located w)
-  twins_located {p = p} {w = w} one = record { at = λ i. twin_then (p i) (w i) (placed i) (placed i) (one.at i) (λ x y. record { at = λ j. both_read _ _ j refl refl }) }
+  twins_located {p = p} {w = w} one = record { at = λ i. twin_then (p i) (w i) (with_place i) (with_place i) (one.at i) (λ x y. record { at = λ j. both_read _ _ j refl refl }) }
 
   -- ---- choices and tokens
 
@@ -88,8 +88,8 @@ module _ {S : Type 0} (q r : ScalarToken → Result S ParseError) where
   twin_scalar (t.Scalar x) i = twin_read x i (q x) (r x) refl refl
   twin_scalar _ i = both_refused i refl refl
 
-  pub twins_scalar : Twins (scalar q) (scalar r)
-  unfolding scalar
+  pub twins_scalar : Twins (any_scalar q) (any_scalar r)
+  unfolding any_scalar
   twins_scalar = record { at = λ i. twin_scalar (peek i).item i }
 
   -- ---- loops
@@ -112,7 +112,7 @@ module _ {S : Type 0} (q r : ScalarToken → Result S ParseError) where
       twins_until : (xs ys : List A) → Twins (until close p xs) (until close w ys)
       twins_until xs ys = record { at = λ i. (twins_until_from (left i) xs ys).at i }
 
-      pub twins_between : (v : Kind) → Twins (between v close p) (between v close w)
+      pub twins_between : (v : Kind) → Twins (items_between v close p) (items_between v close w)
       twins_between v = twins_bind (twins_expect v) (λ u z. twins_until [] [])
 
       pub twins_some_between : (v : Kind) → Twins (some_between v close p) (some_between v close w)

@@ -7,7 +7,7 @@ use Rattle.graphql_grammar.specs.declared.kind.Kind.{Kind}
 use Rattle.graphql_grammar.specs.declared.kind.Kind.TheVariants as k
 use Rattle.graphql_grammar.specs.Kinds.{Kinds, only}
 use Rattle.graphql_grammar.specs.Input.{Input, Located, Fault, Parser, Outcome, and_then, ◌>>=◌, pure, refusal, next, left}
-use Rattle.graphql_grammar.specs.Steps.{sees, when, token, located, placed, optional, until, until_from, between, some_between}
+use Rattle.graphql_grammar.specs.Steps.{sees, when, token, located, with_place, optional, until, until_from, items_between, some_between}
 use Rattle.graphql_grammar.specs.Ahead.{mk, Free, kind_ahead}
 use Rattle.graphql_grammar.specs.Relations.{end_of}
 use Rattle.graphql_grammar.proofs.Stops.{Stop, done, refused, unread, ran_before, same_state}
@@ -68,8 +68,8 @@ agree_made {a = a} {p = p} make one = record {
 
 pub agree_located : {A : Type 0} {a : Bool} {n : ℕ} {p q : Parser A} → Agree a n p q → Agree a n (located p) (located q)
 agree_located {a = a} {p = p} one = record {
-  uses = λ i y j r. let u = ran_before (p i) (placed i) (y, j) r in let l : left u.0.1 ≡ left j = ap left (same_state _ y u.0.1 j u.2) in let few = one.uses i u.0.0 u.0.1 u.1 in omega arith;
-  same = λ i fewer. ap (λ o. and_then o (placed i)) (one.same i fewer);
+  uses = λ i y j r. let u = ran_before (p i) (with_place i) (y, j) r in let l : left u.0.1 ≡ left j = ap left (same_state _ y u.0.1 j u.2) in let few = one.uses i u.0.0 u.0.1 u.1 in omega arith;
+  same = λ i fewer. ap (λ o. and_then o (with_place i)) (one.same i fewer);
 }
 
 uses_when : {A : Type 0} (a b : Bool) (c : Kinds) (p q : Parser A) (v : Bool) (i : Input) (x : A) (j : Input) → Uses a p → Uses b q → (if v then p i else q i) ≡ Ok (x, j) → left j + least (a && b) ≤ left i
@@ -150,7 +150,7 @@ module _ {A : Type 0} {n : ℕ} {p q : Parser A} (one : Agree true n p q) where
 
   -- items between two tokens
   module _ (w close : Kind) (opens : only w k.EndOfFile ≡ false) (plain : only close k.EndOfFile ≡ false) where
-    pub agree_between : Agree true (suc n) (between w close p) (between w close q)
+    pub agree_between : Agree true (suc n) (items_between w close p) (items_between w close q)
     agree_between = agree_bind (agree_token (only w) (λ v. tt {0}) opens) (λ u. agree_fewer (omega arith) (agree_until close plain []))
 
     pub agree_some_between : Agree true (suc n) (some_between w close p) (some_between w close q)

@@ -4,7 +4,7 @@ use denote.Enum.Bare.{same_true}
 use Rattle.graphql_grammar.specs.declared.kind.Kind.{Kind}
 use Rattle.graphql_grammar.specs.declared.kind.Kind.TheVariants as k
 use Rattle.graphql_grammar.specs.contracts.kind.Kind.{the_type}
-use Rattle.graphql_grammar.specs.Kinds.{Kinds, same_kind, all_kinds, each, every, apart, within}
+use Rattle.graphql_grammar.specs.Kinds.{Kinds, same_kind, all_kinds, all_of, every, apart, are_among}
 
 pub and_left : (a b : Bool) → (a && b) ≡ true → a ≡ true
 and_left true b h = refl
@@ -41,10 +41,10 @@ of_each_by : (s : Kinds) (v w : Kind) (ws : List Kind) (b : Bool) → ((is_in v 
 of_each_by s v w ws true others holds same h = ap s (is_kind v w same) ∙ holds
 of_each_by s v w ws false others holds same h = others h
 
-of_each : (s : Kinds) (v : Kind) (ws : List Kind) → each s ws ≡ true → is_in v ws ≡ true → s v ≡ true
+of_each : (s : Kinds) (v : Kind) (ws : List Kind) → all_of s ws ≡ true → is_in v ws ≡ true → s v ≡ true
 unfolding is_in
 of_each s v [] h m = absurd (cc)
-of_each s v (w ∷ ws) h m = of_each_by s v w ws (same_kind v w) (of_each s v ws (and_right (s w) (each s ws) h)) (and_left (s w) (each s ws) h) refl m
+of_each s v (w ∷ ws) h m = of_each_by s v w ws (same_kind v w) (of_each s v ws (and_right (s w) (all_of s ws) h)) (and_left (s w) (all_of s ws) h) refl m
 
 listed : (v : Kind) → is_in v all_kinds ≡ true
 unfolding is_in
@@ -90,5 +90,5 @@ or_else false b h is = absurd (cc)
 pub apart_is : (s u : Kinds) → apart s u ≡ true → (v : Kind) → s v ≡ true → u v ≡ false
 apart_is s u h v is = not_both (s v) (u v) (of_every (λ w. not (s w && u w)) h v) is
 
-pub within_is : (s u : Kinds) → within s u ≡ true → (v : Kind) → s v ≡ true → u v ≡ true
+pub within_is : (s u : Kinds) → are_among s u ≡ true → (v : Kind) → s v ≡ true → u v ≡ true
 within_is s u h v is = or_else (s v) (u v) (of_every (λ w. not (s w) || u w) h v) is

@@ -9,7 +9,7 @@ use Rattle.graphql_grammar.specs.Ahead.{refused_at, mk}
 use Rattle.graphql_grammar.specs.Relations.{end_of}
 
 -- a token whose meaning the scalar type decides
-pub record IsScalar (a : Located) : Type 0 where
+pub record IsScalarToken (a : Located) : Type 0 where
   pub token : ScalarToken
   pub is : a.item ≡ t.Scalar token
 
@@ -70,7 +70,7 @@ pub record TakesScalar {S A : Type 0} (Tree : Reading S → List Located → A �
     (ts : List Located) : Type 0 where
   pub reading : Reading S
   pub at : Located
-  pub scalar : IsScalar at
+  pub scalar : IsScalarToken at
   pub begins : Begins reading (Tree reading) (ts ++ at ∷ [])
 
 module _ {S A : Type 0} (reads : Reading S) (Tree : Reading S → List Located → A → Type 0) where
@@ -79,7 +79,7 @@ module _ {S A : Type 0} (reads : Reading S) (Tree : Reading S → List Located �
     -- No scalar can stand there, or none stands there: the token's source text, or the end of the
     -- text.
     unexpected_token : e ≡ refused_at f rest → ((a : Located) (more : List Located)
-        → rest ≡ a ∷ more → IsScalar a → TakesScalar Tree before → ⊥) → FaultOf f before rest e
+        → rest ≡ a ∷ more → IsScalarToken a → TakesScalar Tree before → ⊥) → FaultOf f before rest e
     -- A scalar can stand there, and the type refuses this one: the type's own fault.
     refused_scalar : (a : Located) (more : List Located) → rest ≡ a ∷ more → BadScalar reads a e
         → TakesScalar Tree before → FaultOf f before rest e
@@ -103,6 +103,6 @@ module _ {S A : Type 0} (reads : Reading S) (Tree : Reading S → List Located �
   Sought i (Err e) = FirstFaultyToken i e
 
   -- the same where no other tree is spelled in front
-  abbrev pub Found : Input → Outcome A → Type 0
-  Found i (Ok p) = Spelled reads (Tree reads) i p.0 p.1 × OnlyTree reads (Tree reads) i p.0
-  Found i (Err e) = FirstFaultyToken i e
+  abbrev pub SoughtAlone : Input → Outcome A → Type 0
+  SoughtAlone i (Ok p) = Spelled reads (Tree reads) i p.0 p.1 × OnlyTree reads (Tree reads) i p.0
+  SoughtAlone i (Err e) = FirstFaultyToken i e

@@ -93,18 +93,18 @@ all_kinds = k.Name ∷ k.On ∷ k.Query ∷ k.Mutation ∷ k.Subscription ∷ k.
     ∷ k.BracketOpen ∷ k.BracketClose ∷ k.CurlyOpen ∷ k.CurlyClose ∷ k.Ellipsis ∷ k.Colon ∷ k.Equals
     ∷ k.At ∷ k.Pipe ∷ k.EndOfFile ∷ []
 
-abbrev pub each : Kinds → List Kind → Bool
-each s [] = true
-each s (v ∷ vs) = s v && each s vs
+abbrev pub all_of : Kinds → List Kind → Bool
+all_of s [] = true
+all_of s (v ∷ vs) = s v && all_of s vs
 
 -- it holds of each kind
 abbrev pub every : Kinds → Bool
-every s = each s all_kinds
+every s = all_of s all_kinds
 
 -- no kind is in both
 abbrev pub apart : Kinds → Kinds → Bool
 apart s u = every (λ v. not (s v && u v))
 
 -- each kind of the first is in the second
-abbrev pub within : Kinds → Kinds → Bool
-within s u = every (λ v. not (s v) || u v)
+abbrev pub are_among : Kinds → Kinds → Bool
+are_among s u = every (λ v. not (s v) || u v)

@@ -81,7 +81,8 @@ abbrev pub SomeOf : {A : Type 0} → Rel A → Rel (List A)
 SomeOf P = Then P (λ x. AllFrom P (x ∷ []))
 
 -- and then the token that closes
-pub record Ended {A : Type 0} (P : Rel A) (close : Kind) (ts : List Located) (x : A) : Type 0 where
+pub record ThenCloses {A : Type 0} (P : Rel A) (close : Kind) (ts : List Located)
+    (x : A) : Type 0 where
   pub inside : List Located
   pub last : Located
   pub is : ts ≡ inside ++ last ∷ []

@@ -50,17 +50,17 @@ module _ {S : Type 0} (reads : ScalarToken → Result S ParseError) where
   scalar_by x = refuse
 
   -- a scalar, by what its type reads
-  unfoldable pub scalar : Parser S
-  scalar = λ i. scalar_by (peek i).item i
+  unfoldable pub any_scalar : Parser S
+  any_scalar = λ i. scalar_by (peek i).item i
 
 -- with the place from its first token to its last
-abbrev pub placed : {A : Type 0} → Input → A → Parser (At A)
-placed i x =
+abbrev pub with_place : {A : Type 0} → Input → A → Parser (At A)
+with_place i x =
     λ j. Ok (record { item = x; span = record { start = (peek i).span.start; end = j.end } }, j)
 
 -- what a parser reads, with its place
 abbrev pub located : {A : Type 0} → Parser A → Parser (At A)
-located p = λ i. and_then (p i) (placed i)
+located p = λ i. and_then (p i) (with_place i)
 
 -- what begins with one of these kinds, if it stands next
 abbrev pub optional : {A : Type 0} → Kinds → Parser A → Parser (Option A)
@@ -88,8 +88,8 @@ abbrev pub until : {A : Type 0} → Kind → Parser A → List A → Parser (Lis
 until close item found = λ i. until_from close item (left i) found i
 
 -- items between two tokens
-abbrev pub between : {A : Type 0} → Kind → Kind → Parser A → Parser (List A)
-between w close item = expect w >>= (λ u. until close item [])
+abbrev pub items_between : {A : Type 0} → Kind → Kind → Parser A → Parser (List A)
+items_between w close item = expect w >>= (λ u. until close item [])
 
 -- items between two tokens, one at least
 abbrev pub some_between : {A : Type 0} → Kind → Kind → Parser A → Parser (List A)

@@ -7,22 +7,22 @@ use Rattle.graphql_schema.specs.declared.directive_location.DirectiveLocation.{D
 use Rattle.graphql_schema.specs.declared.meta.type_kind.TypeKind.{TypeKind}
 use Rattle.graphql_field_results.specs.declared.resolved.Resolved.TheVariants as resolved
 use Rattle.graphql_introspection.specs.Names.{kind_name, location_name}
-use Rattle.graphql_introspection.specs.Nodes.{Answer}
+use Rattle.graphql_introspection.specs.Nodes.{PartAnswer}
 
 -- `of_text`: the scalar of a text
 module _ {S C : Type 0} (of_text : Bytes → S) where
-  abbrev pub text : Bytes → Answer S C
+  abbrev pub text : Bytes → PartAnswer S C
   text t = resolved.Scalar (of_text t)
 
-  abbrev pub text_or_null : Option Bytes → Answer S C
+  abbrev pub text_or_null : Option Bytes → PartAnswer S C
   text_or_null t = option_map_or text t resolved.Null
 
-  abbrev pub kind_or_null : Option TypeKind → Answer S C
+  abbrev pub kind_or_null : Option TypeKind → PartAnswer S C
   kind_or_null k = text_or_null (option_map kind_name k)
 
-  abbrev pub locations : List DirectiveLocation → Answer S C
+  abbrev pub locations : List DirectiveLocation → PartAnswer S C
   locations places = resolved.List (map (λ place. text (location_name place)) places)
 
 -- `of_bool`: the scalar of a truth value
-abbrev pub truth : {S C : Type 0} → (Bool → S) → Bool → Answer S C
+abbrev pub truth : {S C : Type 0} → (Bool → S) → Bool → PartAnswer S C
 truth of_bool b = resolved.Scalar (of_bool b)

@@ -18,18 +18,18 @@ use Rattle.graphql_schema.specs.Types.{arguments_of}
 use Rattle.graphql_schema.specs.Directives.{is_place}
 use Rattle.graphql_field_results.specs.declared.resolved.Resolved.TheVariants as resolved
 use Rattle.graphql_introspection.specs.Leaves.{locations, text, text_or_null, truth}
-use Rattle.graphql_introspection.specs.Nodes.{Answer, arguments, referred}
+use Rattle.graphql_introspection.specs.Nodes.{PartAnswer, argument_nodes, referred}
 use Rattle.graphql_introspection.specs.Told.{is_deprecated}
 
 -- `of_text`, `of_bool`: the scalar of a text, of a truth value; `types`: those of the schema
 module _ {S C : Type 0} (of_text : Bytes → S) (of_bool : Bool → S)
     (types : List (MetaType S C)) where
   -- 4.2.3 The __Field Type
-  abbrev pub of_field : Field S → Bytes → Answer S C
+  abbrev pub of_field : Field S → Bytes → PartAnswer S C
   of_field f field =
       if bytes_eq field (codes "name") then text of_text f.name else
       if bytes_eq field (codes "description") then text_or_null of_text f.description else
-      if bytes_eq field (codes "args") then arguments (arguments_of f) else
+      if bytes_eq field (codes "args") then argument_nodes (arguments_of f) else
       if bytes_eq field (codes "type") then referred types f.field_type else
       if bytes_eq field (codes "isDeprecated")
       then truth of_bool (is_deprecated f.deprecation_status) else
@@ -41,7 +41,7 @@ module _ {S C : Type 0} (of_text : Bytes → S) (of_bool : Bool → S)
 module _ {S C : Type 0} (of_text : Bytes → S) (answer : S → ScalarAnswer)
     (types : List (MetaType S C)) where
   -- 4.2.4 The __InputValue Type
-  abbrev pub of_input_value : Argument S → Bytes → Answer S C
+  abbrev pub of_input_value : Argument S → Bytes → PartAnswer S C
   of_input_value a field =
       if bytes_eq field (codes "name") then text of_text a.name else
       if bytes_eq field (codes "description") then text_or_null of_text a.description else
@@ -58,7 +58,7 @@ is_on_fragment d =
 
 module _ {S C : Type 0} (of_text : Bytes → S) (of_bool : Bool → S) where
   -- 4.2.5 The __EnumValue Type
-  abbrev pub of_enum_value : EnumValue → Bytes → Answer S C
+  abbrev pub of_enum_value : EnumValue → Bytes → PartAnswer S C
   of_enum_value v field =
       if bytes_eq field (codes "name") then text of_text v.name else
       if bytes_eq field (codes "description") then text_or_null of_text v.description else
@@ -69,12 +69,12 @@ module _ {S C : Type 0} (of_text : Bytes → S) (of_bool : Bool → S) where
       else resolved.Null
 
   -- 4.2.6 The __Directive Type
-  abbrev pub of_directive : DirectiveType S → Bytes → Answer S C
+  abbrev pub of_directive : DirectiveType S → Bytes → PartAnswer S C
   of_directive d field =
       if bytes_eq field (codes "name") then text of_text d.name else
       if bytes_eq field (codes "description") then text_or_null of_text d.description else
       if bytes_eq field (codes "locations") then locations of_text d.locations else
-      if bytes_eq field (codes "args") then arguments d.arguments else
+      if bytes_eq field (codes "args") then argument_nodes d.arguments else
       if bytes_eq field (codes "isRepeatable") then truth of_bool d.is_repeatable else
       if bytes_eq field (codes "onOperation")
       then truth of_bool (is_place d.locations location.Query) else

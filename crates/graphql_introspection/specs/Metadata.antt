@@ -37,8 +37,8 @@ Row = Bytes × Bytes × Wraps × FieldForm
 abbrev pub row : Bor Bytes × Bor Bytes × Bor Wraps × FieldForm → Row
 row lent = (lent.0.now, lent.1.now, lent.2.now, lent.3)
 
-abbrev pub nullable : Wraps
-nullable = []
+abbrev pub no_wraps : Wraps
+no_wraps = []
 
 abbrev pub non_null : Wraps
 non_null = modifier.NonNull ∷ []
@@ -52,64 +52,64 @@ non_null_list = modifier.NonNull ∷ modifier.List None ∷ modifier.NonNull ∷
 -- 4.2.1 The __Schema Type
 abbrev pub schema : List Row
 schema =
-    (codes "description", codes "String", nullable, form.Plain)
+    (codes "description", codes "String", no_wraps, form.Plain)
     ∷ (codes "types", codes "__Type", non_null_list, form.Plain)
     ∷ (codes "queryType", codes "__Type", non_null, form.Plain)
-    ∷ (codes "mutationType", codes "__Type", nullable, form.Plain)
-    ∷ (codes "subscriptionType", codes "__Type", nullable, form.Plain)
+    ∷ (codes "mutationType", codes "__Type", no_wraps, form.Plain)
+    ∷ (codes "subscriptionType", codes "__Type", no_wraps, form.Plain)
     ∷ (codes "directives", codes "__Directive", non_null_list, form.Plain)
     ∷ []
 
 -- 4.2.2 The __Type Type, with `isOneOf` of September 2025
 abbrev pub of_type : List Row
 of_type =
-    (codes "name", codes "String", nullable, form.Plain)
-    ∷ (codes "description", codes "String", nullable, form.Plain)
-    ∷ (codes "specifiedByUrl", codes "String", nullable, form.Plain)
+    (codes "name", codes "String", no_wraps, form.Plain)
+    ∷ (codes "description", codes "String", no_wraps, form.Plain)
+    ∷ (codes "specifiedByUrl", codes "String", no_wraps, form.Plain)
     ∷ (codes "kind", codes "__TypeKind", non_null, form.Plain)
     ∷ (codes "fields", codes "__Field", list, form.Including)
-    ∷ (codes "ofType", codes "__Type", nullable, form.Plain)
+    ∷ (codes "ofType", codes "__Type", no_wraps, form.Plain)
     ∷ (codes "inputFields", codes "__InputValue", list, form.Plain)
     ∷ (codes "interfaces", codes "__Type", list, form.Plain)
     ∷ (codes "possibleTypes", codes "__Type", list, form.Plain)
     ∷ (codes "enumValues", codes "__EnumValue", list, form.Including)
-    ∷ (codes "isOneOf", codes "Boolean", nullable, form.Plain)
+    ∷ (codes "isOneOf", codes "Boolean", no_wraps, form.Plain)
     ∷ []
 
 -- 4.2.3 The __Field Type
-abbrev pub field : List Row
-field =
+abbrev pub field_rows : List Row
+field_rows =
     (codes "name", codes "String", non_null, form.Plain)
-    ∷ (codes "description", codes "String", nullable, form.Plain)
+    ∷ (codes "description", codes "String", no_wraps, form.Plain)
     ∷ (codes "args", codes "__InputValue", non_null_list, form.Plain)
     ∷ (codes "type", codes "__Type", non_null, form.Plain)
     ∷ (codes "isDeprecated", codes "Boolean", non_null, form.Plain)
-    ∷ (codes "deprecationReason", codes "String", nullable, form.Plain)
+    ∷ (codes "deprecationReason", codes "String", no_wraps, form.Plain)
     ∷ []
 
 -- 4.2.4 The __InputValue Type
 abbrev pub input_value : List Row
 input_value =
     (codes "name", codes "String", non_null, form.Plain)
-    ∷ (codes "description", codes "String", nullable, form.Plain)
+    ∷ (codes "description", codes "String", no_wraps, form.Plain)
     ∷ (codes "type", codes "__Type", non_null, form.Plain)
-    ∷ (codes "defaultValue", codes "String", nullable, form.Plain)
+    ∷ (codes "defaultValue", codes "String", no_wraps, form.Plain)
     ∷ []
 
 -- 4.2.5 The __EnumValue Type
 abbrev pub enum_value : List Row
 enum_value =
     (codes "name", codes "String", non_null, form.Plain)
-    ∷ (codes "description", codes "String", nullable, form.Plain)
+    ∷ (codes "description", codes "String", no_wraps, form.Plain)
     ∷ (codes "isDeprecated", codes "Boolean", non_null, form.Plain)
-    ∷ (codes "deprecationReason", codes "String", nullable, form.Plain)
+    ∷ (codes "deprecationReason", codes "String", no_wraps, form.Plain)
     ∷ []
 
 -- 4.2.6 The __Directive Type, with three fields that are deprecated
-abbrev pub directive : List Row
-directive =
+abbrev pub directive_rows : List Row
+directive_rows =
     (codes "name", codes "String", non_null, form.Plain)
-    ∷ (codes "description", codes "String", nullable, form.Plain)
+    ∷ (codes "description", codes "String", no_wraps, form.Plain)
     ∷ (codes "locations", codes "__DirectiveLocation", non_null_list, form.Plain)
     ∷ (codes "isRepeatable", codes "Boolean", non_null, form.Plain)
     ∷ (codes "args", codes "__InputValue", non_null_list, form.Plain)
@@ -121,10 +121,10 @@ directive =
 abbrev pub rows_of : PartKind → List Row
 rows_of object.Schema = schema
 rows_of object.Type = of_type
-rows_of object.Field = field
+rows_of object.Field = field_rows
 rows_of object.InputValue = input_value
 rows_of object.EnumValue = enum_value
-rows_of object.Directive = directive
+rows_of object.Directive = directive_rows
 
 abbrev pub objects : List PartKind
 objects =
@@ -138,26 +138,26 @@ kinds =
     ∷ kind.List ∷ kind.NonNull ∷ []
 
 -- the values of `__DirectiveLocation`
-abbrev pub places : List DirectiveLocation
-places =
+abbrev pub location_values : List DirectiveLocation
+location_values =
     location.Query ∷ location.Mutation ∷ location.Subscription ∷ location.Field
     ∷ location.FragmentDefinition ∷ location.FragmentSpread ∷ location.InlineFragment
     ∷ location.VariableDefinition ∷ location.Scalar ∷ location.FieldDefinition
     ∷ location.EnumValue ∷ []
 
-abbrev pub value_of : Bytes → EnumValue
-value_of name = record { name = name; description = None; deprecation_status = status.Current }
+abbrev pub enum_value_of : Bytes → EnumValue
+enum_value_of name = record { name = name; description = None; deprecation_status = status.Current }
 
 abbrev pub kind_value : TypeKind → EnumValue
-kind_value k = value_of (kind_name k)
+kind_value k = enum_value_of (kind_name k)
 
 abbrev pub location_value : DirectiveLocation → EnumValue
-location_value place = value_of (location_name place)
+location_value place = enum_value_of (location_name place)
 
-abbrev pub status_of : FieldForm → DeprecationStatus
-status_of form.Deprecated = status.Deprecated (Some (codes "Use the locations array instead"))
-status_of form.Plain = status.Current
-status_of form.Including = status.Current
+abbrev pub form_status : FieldForm → DeprecationStatus
+form_status form.Deprecated = status.Deprecated (Some (codes "Use the locations array instead"))
+form_status form.Plain = status.Current
+form_status form.Including = status.Current
 
 -- `of_bool`: the scalar of a truth value
 module _ {S : Type 0} (of_bool : Bool → S) where
@@ -171,20 +171,20 @@ module _ {S : Type 0} (of_bool : Bool → S) where
         default_value = Some (value.Scalar (of_bool false));
       }
 
-  abbrev pub arguments_of : FieldForm → List (Argument S)
-  arguments_of form.Including = include_deprecated ∷ []
-  arguments_of form.Plain = []
-  arguments_of form.Deprecated = []
+  abbrev pub form_arguments : FieldForm → List (Argument S)
+  form_arguments form.Including = include_deprecated ∷ []
+  form_arguments form.Plain = []
+  form_arguments form.Deprecated = []
 
   -- the field of a row
-  abbrev pub field_of : Row → Field S
-  field_of row =
+  abbrev pub row_field : Row → Field S
+  row_field row =
       record {
         name = row.0;
         description = None;
-        arguments = Some (arguments_of row.3);
+        arguments = Some (form_arguments row.3);
         field_type = record { name = row.1; modifiers = row.2 };
-        deprecation_status = status_of row.3;
+        deprecation_status = form_status row.3;
       }
 
 module _ {S C : Type 0} where
@@ -193,7 +193,7 @@ module _ {S C : Type 0} where
       meta.Object (record {
         name = name_of_kind kind;
         description = None;
-        fields = map (field_of of_bool) (rows_of kind);
+        fields = map (row_field of_bool) (rows_of kind);
         interface_names = [];
       })
 
@@ -206,6 +206,6 @@ module _ {S C : Type 0} where
   introspection_types of_bool checks =
       map (object_of of_bool) objects
       ++ enumeration (codes "__TypeKind") (map kind_value kinds) checks.type_kind
-      ∷ enumeration (codes "__DirectiveLocation") (map location_value places)
+      ∷ enumeration (codes "__DirectiveLocation") (map location_value location_values)
       checks.directive_location
       ∷ []

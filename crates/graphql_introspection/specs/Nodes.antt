@@ -16,42 +16,42 @@ use Rattle.graphql_field_results.specs.declared.resolved.Resolved.TheVariants as
 use Rattle.graphql_introspection.specs.declared.part.SchemaPart.{SchemaPart}
 use Rattle.graphql_introspection.specs.declared.part.SchemaPart.TheVariants as part
 
-abbrev pub Answer : Type 0 → Type 0 → Type 0
-Answer S C = Resolved S (SchemaPart S C)
+abbrev pub PartAnswer : Type 0 → Type 0 → Type 0
+PartAnswer S C = Resolved S (SchemaPart S C)
 
 module _ {S C : Type 0} where
   -- a type within wraps, the innermost first
-  abbrev pub wrapped : List TypeModifier → MetaType S C → Answer S C
+  abbrev pub wrapped : List TypeModifier → MetaType S C → PartAnswer S C
   wrapped wraps m = resolved.Node (part.Type m wraps)
 
   -- a type without wraps: null is among its values
-  abbrev pub bare : MetaType S C → Answer S C
-  bare m = wrapped [] m
+  abbrev pub bare_type : MetaType S C → PartAnswer S C
+  bare_type m = wrapped [] m
 
-  abbrev pub bare_or_null : Option (MetaType S C) → Answer S C
-  bare_or_null m = option_map_or bare m resolved.Null
+  abbrev pub bare_or_null : Option (MetaType S C) → PartAnswer S C
+  bare_or_null m = option_map_or bare_type m resolved.Null
 
-  abbrev pub bare_types : List (MetaType S C) → Answer S C
-  bare_types ms = resolved.List (map bare ms)
+  abbrev pub bare_types : List (MetaType S C) → PartAnswer S C
+  bare_types ms = resolved.List (map bare_type ms)
 
-  abbrev pub arguments : List (Argument S) → Answer S C
-  arguments xs = resolved.List (map (λ a. resolved.Node (part.InputValue a)) xs)
+  abbrev pub argument_nodes : List (Argument S) → PartAnswer S C
+  argument_nodes xs = resolved.List (map (λ a. resolved.Node (part.InputValue a)) xs)
 
-  abbrev pub fields : List (Field S) → Answer S C
-  fields xs = resolved.List (map (λ f. resolved.Node (part.Field f)) xs)
+  abbrev pub field_nodes : List (Field S) → PartAnswer S C
+  field_nodes xs = resolved.List (map (λ f. resolved.Node (part.Field f)) xs)
 
-  abbrev pub enum_values : List EnumValue → Answer S C
+  abbrev pub enum_values : List EnumValue → PartAnswer S C
   enum_values xs = resolved.List (map (λ v. resolved.Node (part.EnumValue v)) xs)
 
-  abbrev pub directives : List (DirectiveType S) → Answer S C
+  abbrev pub directives : List (DirectiveType S) → PartAnswer S C
   directives xs = resolved.List (map (λ d. resolved.Node (part.Directive d)) xs)
 
 -- `types`: those of the schema
 module _ {S C : Type 0} (types : List (MetaType S C)) where
   -- the type that a reference means, within its wraps
-  abbrev pub referred : TypeOf → Answer S C
+  abbrev pub referred : TypeOf → PartAnswer S C
   referred t = option_map_or (wrapped t.modifiers) (type_named types t.name) resolved.Null
 
   -- the types of these names
-  abbrev pub named_types : List Bytes → Answer S C
+  abbrev pub named_types : List Bytes → PartAnswer S C
   named_types names = bare_types (filter_map (type_named types) names)

@@ -35,7 +35,7 @@ pub fn answer_of<'s, S: SchemaScalar + Drop>(
     field: &str,
     arguments: &Arguments<'_, S>,
 ) -> Result<SchemaAnswer<'s, S>, AllocError>
-    ensures { Gives result (spec.answer_of S.of_text S.of_bool S.answer schema.now part.now
+    ensures { Gives result (spec.part_answer S.of_text S.of_bool S.answer schema.now part.now
         field.now (arguments_told arguments.now)) }
 {
     match part {

@@ -48,7 +48,7 @@ fn arguments<S: ScalarValue + Drop>(
     alloc: Global,
     form: FieldForm,
 ) -> Result<NamedItems<Argument<S>>, AllocError>
-    ensures { Gives result (spec.arguments_of S.of_bool form) }
+    ensures { Gives result (spec.form_arguments S.of_bool form) }
 {
     let mut list = NamedItems::new(alloc);
     if let FieldForm::Including = form {
@@ -59,7 +59,7 @@ fn arguments<S: ScalarValue + Drop>(
 
 /// Whether a field of this form is deprecated. An error is want of memory.
 fn status(alloc: Global, form: FieldForm) -> Result<DeprecationStatus, AllocError>
-    ensures { Gives result (spec.status_of form) }
+    ensures { Gives result (spec.form_status form) }
 {
     match form {
         FieldForm::Deprecated => {
@@ -72,7 +72,7 @@ fn status(alloc: Global, form: FieldForm) -> Result<DeprecationStatus, AllocErro
 
 /// The field of this row. An error is want of memory.
 fn field<S: ScalarValue + Drop>(alloc: Global, row: FieldRow) -> Result<Field<S>, AllocError>
-    ensures { Gives result (spec.field_of S.of_bool (spec.row row.entry)) }
+    ensures { Gives result (spec.row_field S.of_bool (spec.row row.entry)) }
 {
     Ok(Field {
         name: Text::from_str(alloc, row.0)?,
@@ -88,7 +88,7 @@ fn fields<S: ScalarValue + Drop>(
     alloc: Global,
     rows: &[FieldRow],
 ) -> Result<NamedItems<Field<S>>, AllocError>
-    ensures { Gives result (map (spec.field_of S.of_bool) (map spec.row rows.now)) }
+    ensures { Gives result (map (spec.row_field S.of_bool) (map spec.row rows.now)) }
 {
     let mut items = Items::new(alloc);
     'rows: for row in rows {
@@ -122,7 +122,7 @@ fn objects<S: SchemaScalar + Drop>(
 
 /// The enum value of this name. An error is want of memory.
 fn value(alloc: Global, name: &str) -> Result<EnumValue, AllocError>
-    ensures { Gives result (spec.value_of name.now) }
+    ensures { Gives result (spec.enum_value_of name.now) }
 {
     Ok(EnumValue::new(Text::from_str(alloc, name)?))
 }

@@ -32,7 +32,7 @@ pub fn wrapped<'s, S: SchemaScalar>(
 
 /// A type without wraps: `null` is among its values.
 pub fn bare<'s, S: SchemaScalar>(meta: &'s MetaType<S>) -> SchemaAnswer<'s, S>
-    ensures { result ≡ spec.bare meta.now }
+    ensures { result ≡ spec.bare_type meta.now }
 {
     wrapped(meta, &[])
 }
@@ -79,7 +79,7 @@ pub fn arguments<'s, S: SchemaScalar + Drop>(
     alloc: Global,
     arguments: &'s [Argument<S>],
 ) -> Result<SchemaAnswer<'s, S>, AllocError>
-    ensures { Gives result (spec.arguments arguments.now) }
+    ensures { Gives result (spec.argument_nodes arguments.now) }
 {
     let mut list = Items::with_capacity(alloc, arguments.len())?;
     'arguments: for argument in arguments {
@@ -94,7 +94,7 @@ pub fn fields<'s, S: SchemaScalar + Drop>(
     include: bool,
     fields: &'s [Field<S>],
 ) -> Result<SchemaAnswer<'s, S>, AllocError>
-    ensures { Gives result (spec.fields (told_fields include fields.now)) }
+    ensures { Gives result (spec.field_nodes (told_fields include fields.now)) }
 {
     let mut list = Items::new(alloc);
     'fields: for field in fields {

@@ -24,7 +24,7 @@ fn fields_of<'s, S: SchemaScalar + Drop>(
     include: bool,
     meta: &'s MetaType<S>,
 ) -> Result<SchemaAnswer<'s, S>, AllocError>
-    ensures { Gives result (spec.fields_of include meta.now) }
+    ensures { Gives result (spec.fields_answer include meta.now) }
 {
     match meta {
         MetaType::Object(object) => fields(alloc, include, object.fields.as_slice()),
@@ -62,7 +62,7 @@ fn values_of<'s, S: SchemaScalar + Drop>(
     include: bool,
     meta: &'s MetaType<S>,
 ) -> Result<SchemaAnswer<'s, S>, AllocError>
-    ensures { Gives result (spec.values_of include meta.now) }
+    ensures { Gives result (spec.values_answer include meta.now) }
 {
     match meta {
         MetaType::Enum(declared) => enum_values(alloc, include, declared.values.as_slice()),

@@ -16,10 +16,10 @@ use Rattle.graphql_arguments.specs.SameArguments.{SameArguments, SameGiven}
 use Rattle.graphql_schema.specs.declared.meta.MetaType.{MetaType}
 use Rattle.graphql_schema.specs.declared.schema.SchemaType.{SchemaType}
 use Rattle.graphql_field_results.specs.declared.resolved.Resolved.TheVariants as resolved
-use Rattle.graphql_introspection.specs.Answers.{answer_of, found}
+use Rattle.graphql_introspection.specs.Answers.{part_answer, type_found}
 use Rattle.graphql_introspection.specs.Given.{includes_deprecated, is_true, name_asked, or_false, text_layer, text_of}
 use Rattle.graphql_introspection.specs.Given.{truth_layer}
-use Rattle.graphql_introspection.specs.TypeAnswers.{Unwrapped, apart, of_apart}
+use Rattle.graphql_introspection.specs.TypeAnswers.{Unwrapped, outermost_off, of_apart}
 use Rattle.graphql_introspection.specs.declared.part.SchemaPart.{SchemaPart}
 use Rattle.graphql_introspection.specs.declared.part.SchemaPart.TheVariants as part
 use Rattle.graphql_execution_walk.specs.Asked.{Resolves, asked_answer, map_answer, map_nodes, or_asked, own_answer}
@@ -82,7 +82,7 @@ module _ {S C : Type 0} (of_text : Bytes → S) (of_bool : Bool → S) (answer :
       (cond (bytes_eq name (codes "__schema") && bytes_eq object schema.query)
       (Some (resolved.Node part.Schema))
       (cond (bytes_eq name (codes "__type") && bytes_eq object schema.query)
-      (Some (found schema.types (name-same eq answer answers_alike a b same i))) None))
+      (Some (type_found schema.types (name-same eq answer answers_alike a b same i))) None))
 
   apart-same : (m : MetaType S C) (wraps : Option Unwrapped) (field : Bytes)
       → of_apart of_text of_bool answer schema.types m wraps field a ≡ of_apart of_text of_bool answer schema.types m wraps field b
@@ -90,9 +90,9 @@ module _ {S C : Type 0} (of_text : Bytes → S) (of_bool : Bool → S) (answer :
   apart-same m (Some wraps) field = refl
 
   part-same : (p : SchemaPart S C) (field : Bytes)
-      → answer_of of_text of_bool answer schema p field a ≡ answer_of of_text of_bool answer schema p field b
+      → part_answer of_text of_bool answer schema p field a ≡ part_answer of_text of_bool answer schema p field b
   part-same part.Schema field = refl
-  part-same (part.Type m wraps) field = apart-same m (apart wraps) field
+  part-same (part.Type m wraps) field = apart-same m (outermost_off wraps) field
   part-same (part.Field f) field = refl
   part-same (part.InputValue v) field = refl
   part-same (part.EnumValue v) field = refl

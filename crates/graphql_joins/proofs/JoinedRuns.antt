@@ -24,10 +24,10 @@ use Rattle.graphql_merging.proofs.OneObject.{one-field, own-sets-merge, under-ha
 use Rattle.graphql_semantics.specs.Engines.{Engine}
 use Rattle.graphql_semantics.specs.Outcomes.{Outcome, together}
 use Rattle.graphql_semantics.specs.Completion.{Members, blame_at, is_required}
-use Rattle.graphql_semantics.specs.Evaluation.{Runs, sets_below, at_declared, group, keyed, found_in, run, highest}
+use Rattle.graphql_semantics.specs.Evaluation.{RunOfSets, sets_below, at_declared, group, keyed, found_in, run, highest}
 use Rattle.graphql_semantics.specs.Evaluation.{evaluate}
 use Rattle.graphql_semantics.proofs.Depths.{evaluate-run}
-use Rattle.graphql_joins.specs.Laws.{trees, FitTogether, IsSound, OutcomesJoin, OwnSetsFitTogether, SetsJoin}
+use Rattle.graphql_joins.specs.Laws.{trees, FitTogether, KeepsSchema, OutcomesJoin, OwnSetsFitTogether, SetsJoin}
 use Rattle.graphql_joins.specs.Joins.{both_there, new_keys}
 use Rattle.graphql_joins.specs.Typed.{HasDistinctArguments}
 use Rattle.graphql_joins.proofs.JoinedAnswers.{ValuesJoin, ObjectsJoin, place-joined, null-joined}
@@ -45,7 +45,7 @@ module _ {S C : Type 0} where
       [ true ↦ ap (λ xs. found_of m ∷ xs) (found-under ms key) | false ↦ found-under ms key ]
 
 module _ {S C N : Type 0} (eq : S → S → Bool) (types : List (MetaType S C)) (e : Engine S N)
-    (sound : IsSound eq types e) where
+    (sound : KeepsSchema eq types e) where
   abbrev Ms : Type 0
   Ms = List (Member S C)
 
@@ -62,13 +62,13 @@ module _ {S C N : Type 0} (eq : S → S → Bool) (types : List (MetaType S C)) 
   Good xs = (x : Member S C) → Contains xs x → HasDistinctArguments x.head
 
   -- what sets give on each node that a field of an object type can be
-  abbrev BelowFrom : Runs S N → List Bytes → Bytes → Bytes → List (Tree S) → List (Tree S) → List (Tree S) → Type 0
+  abbrev BelowFrom : RunOfSets S N → List Bytes → Bytes → Bytes → List (Tree S) → List (Tree S) → List (Tree S) → Type 0
   BelowFrom r here object name ss ts us =
       (type : TypeOf) → e.declared object name ≡ Some type → (m : N) → e.is_possible type.name (e.concrete m) ≡ true
       → ObjectsJoin (r here (e.concrete m) m ss).value (r here (e.concrete m) m ts).value
       (r here (e.concrete m) m us).value
 
-  group-joined : (r : Runs S N) (path : List Bytes) (object : Bytes) (node : N) (key : Bytes) (x y : Member S C)
+  group-joined : (r : RunOfSets S N) (path : List Bytes) (object : Bytes) (node : N) (key : Bytes) (x y : Member S C)
       (xs ys : Ms) → HasDistinctArguments x.head → HasDistinctArguments y.head → SameField eq types x y
       → BelowFrom r (path ++ key ∷ []) object x.head.name (sets_below (map found_of (x ∷ xs)))
       (sets_below (map found_of (y ∷ ys))) (sets_below (map found_of (x ∷ xs) ++ map found_of (y ∷ ys)))
@@ -105,12 +105,12 @@ module _ {S C N : Type 0} (eq : S → S → Bool) (types : List (MetaType S C)) 
           (blame_at here x.head.place) type.name (e.is_leaf type.name) (λ m. e.is_possible type.name (e.concrete m))
           (h type refl) (is_required (reverse type.modifiers)) (reverse type.modifiers) a
 
-  abbrev Below : Runs S N → List Bytes → Bytes → Bytes → Ms → Ms → Type 0
+  abbrev Below : RunOfSets S N → List Bytes → Bytes → Bytes → Ms → Ms → Type 0
   Below r path object key xs ys = (x : Member S C) → Contains xs x
       → BelowFrom r (path ++ key ∷ []) object x.head.name (sets_below (map found_of xs)) (sets_below (map found_of ys))
       (sets_below (map found_of xs ++ map found_of ys))
 
-  key-joined : (r : Runs S N) (path : List Bytes) (object : Bytes) (node : N) (key : Bytes) (xs ys : Ms)
+  key-joined : (r : RunOfSets S N) (path : List Bytes) (object : Bytes) (node : N) (key : Bytes) (xs ys : Ms)
       → some_in (map found_of xs) ≡ true → some_in (map found_of ys) ≡ true → Good xs → Good ys
       → ((x y : Member S C) → Contains xs x → Contains ys y → SameField eq types x y) → Below r path object key xs ys
       → ValuesJoin (group e r path object node key (map found_of xs)).value
@@ -122,19 +122,19 @@ module _ {S C N : Type 0} (eq : S → S → Bool) (types : List (MetaType S C)) 
       group-joined r path object node key x y xs ys (gx x (0, omega arith, refl)) (gy y (0, omega arith, refl))
       (f x y (0, omega arith, refl) (0, omega arith, refl)) (b x (0, omega arith, refl))
 
-  first-alone : (r : Runs S N) (path : List Bytes) (object : Bytes) (node : N) (key : Bytes) (xs ys : List (Found S))
+  first-alone : (r : RunOfSets S N) (path : List Bytes) (object : Bytes) (node : N) (key : Bytes) (xs ys : List (Found S))
       → some_in ys ≡ false
       → (group e r path object node key (xs ++ ys)).value ≡ (group e r path object node key xs).value
   first-alone r path object node key xs [] h = ap (λ zs. (group e r path object node key zs).value) (append-nil xs)
   first-alone r path object node key xs (y ∷ ys) h = cc
 
-  second-alone : (r : Runs S N) (path : List Bytes) (object : Bytes) (node : N) (key : Bytes) (xs ys : List (Found S))
+  second-alone : (r : RunOfSets S N) (path : List Bytes) (object : Bytes) (node : N) (key : Bytes) (xs ys : List (Found S))
       → some_in xs ≡ false
       → (group e r path object node key (xs ++ ys)).value ≡ (group e r path object node key ys).value
   second-alone r path object node key [] ys h = refl
   second-alone r path object node key (x ∷ xs) ys h = cc
 
-  seq-together : (r : Runs S N) (path : List Bytes) (object : Bytes) (node : N) (fs : List (Found S)) (ks : List Bytes)
+  seq-together : (r : RunOfSets S N) (path : List Bytes) (object : Bytes) (node : N) (fs : List (Found S)) (ks : List Bytes)
       → (together (map (keyed e r path object node) (map (λ key. (key, under fs key)) ks))).value
       ≡ seq (λ key. (group e r path object node key (under fs key)).value) ks
   seq-together r path object node fs [] = refl
@@ -182,13 +182,13 @@ module _ {S C N : Type 0} (eq : S → S → Bool) (types : List (MetaType S C)) 
               (sound.one_object object) fit.above fit.merging;
         }
 
-  abbrev Joined : Runs S N → Type 0
+  abbrev Joined : RunOfSets S N → Type 0
   Joined r =
       (path : List Bytes) (object : Bytes) (node : N) (ss ts : List (Set S C)) → Fit object (ss ++ ts)
       → OutcomesJoin (r path object node (trees ss)) (r path object node (trees ts))
       (r path object node (trees (ss ++ ts)))
 
-  module _ (r : Runs S N) (ih : Joined r) (path : List Bytes) (object : Bytes) (node : N) (ss ts : List (Set S C))
+  module _ (r : RunOfSets S N) (ih : Joined r) (path : List Bytes) (object : Bytes) (node : N) (ss ts : List (Set S C))
       (fit : Fit object (ss ++ ts)) where
     abbrev all : Ms
     all = chosen_of_all types e.drops (e.is_below object) (ss ++ ts)

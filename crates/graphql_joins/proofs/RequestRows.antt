@@ -10,7 +10,7 @@ use Rattle.graphql_scalars.specs.ScalarAnswers.{ScalarAnswer, as_text, text}
 use Rattle.graphql_values.specs.InputValues.{Placed, unplaced}
 use Rattle.graphql_values.specs.SameValue.{same_scalar}
 use Rattle.graphql_values.specs.declared.input_value.InputValue.TheVariants as value
-use Rattle.graphql_arguments.specs.ArgumentValues.{Given, Value}
+use Rattle.graphql_arguments.specs.ArgumentValues.{Given, NamedValue}
 use Rattle.graphql_arguments.specs.SameArguments.{SameArguments, SameGiven}
 use Rattle.graphql_introspection.specs.Given.{name_asked, text_layer}
 use Rattle.graphql_tree.specs.declared.document.Definition.{Definition}
@@ -73,7 +73,7 @@ abbrev told : ℕ → ScalarAnswer
 told n = text (cond (nat_eq n 0) (codes "Query") (codes "Nope"))
 
 -- `(name: ..)`
-abbrev name_value : ℕ → Value ℕ
+abbrev name_value : ℕ → NamedValue ℕ
 name_value n = (codes "name", unplaced (value.Scalar n))
 
 abbrev by_name : ℕ → Given ℕ

@@ -14,7 +14,7 @@ use Rattle.graphql_values.specs.declared.input_value.InputValue.{InputValue}
 use Rattle.graphql_tree.specs.Arguments.{Argument}
 use Rattle.graphql_written_out.specs.Filled.{filled}
 use Rattle.graphql_schema.specs.declared.meta.argument.Argument.{Argument as Declared}
-use Rattle.graphql_arguments.specs.ArgumentValues.{Given, Value, absent_defaults, argument_values, has_value}
+use Rattle.graphql_arguments.specs.ArgumentValues.{Given, NamedValue, absent_defaults, argument_values, has_value}
 use Rattle.graphql_arguments.specs.ArgumentValues.{value_named, written_values}
 use Rattle.graphql_arguments.specs.SameArguments.{SameArguments as SameUnderNames, SameGiven}
 use Rattle.graphql_merging.specs.Merging.{SameArguments, IsAmong}
@@ -106,7 +106,7 @@ module _ {S : Type 0} where
       at (bytes_eq u.0 name) (find (λ p. bytes_eq p.0 name) (us ++ vs)) (find (λ p. bytes_eq p.0 name) us)
       (named-append us vs name)
     where
-      at : (q : Bool) (o p : Option (Value S))
+      at : (q : Bool) (o p : Option (NamedValue S))
           → option_map (λ w. w.1.item) o ≡ or_else (option_map (λ w. w.1.item) p) (value_named vs name)
           → option_map (λ w. w.1.item) (cond q (Some u) o)
           ≡ or_else (option_map (λ w. w.1.item) (cond q (Some u) p)) (value_named vs name)
@@ -118,7 +118,7 @@ module _ {S : Type 0} where
   has-named (u ∷ us) name =
       at (bytes_eq u.0 name) (has_value us name) (find (λ p. bytes_eq p.0 name) us) (has-named us name)
     where
-      at : (q r : Bool) (o : Option (Value S)) → r ≡ is_some (option_map (λ w. w.1.item) o)
+      at : (q r : Bool) (o : Option (NamedValue S)) → r ≡ is_some (option_map (λ w. w.1.item) o)
           → (q || r) ≡ is_some (option_map (λ w. w.1.item) (cond q (Some u) o))
       at true r o e = refl
       at false r o e = e
@@ -135,10 +135,10 @@ module _ {S : Type 0} (eq : S → S → Bool) (laws : IsEquivalence eq) (given :
   abbrev value_in : Option (Argument S) → Option (InputValue S)
   value_in o = option_and_then (λ v. filled given v.item) (option_map (λ a. a.1) o)
 
-  abbrev named_if : Bool → Value S → Given S → Bytes → Option (InputValue S)
+  abbrev named_if : Bool → NamedValue S → Given S → Bytes → Option (InputValue S)
   named_if q u us name = option_map (λ w. w.1.item) (cond q (Some u) (find (λ p. bytes_eq p.0 name) us))
 
-  abbrev value_at : Argument S → Option (InputValue S) → Option (Value S)
+  abbrev value_at : Argument S → Option (InputValue S) → Option (NamedValue S)
   value_at x = option_map (λ v. (x.0.item, record { item = v; span = x.1.span }))
 
   -- the value of a written argument, where names are distinct

@@ -8,7 +8,7 @@ use Rattle.std.specs.Str.{bytes_eq}
 use Rattle.graphql_names.specs.Names.{Bytes}
 use Rattle.graphql_values.specs.InputValues.{Placed, Pair}
 use Rattle.graphql_values.specs.SameValue.{SameValue, same_null, same_scalar, same_enum, same_variable, same_list}
-use Rattle.graphql_values.specs.SameValue.{same_object, SameItems, no_items, more_items, under}
+use Rattle.graphql_values.specs.SameValue.{same_object, SameItems, no_items, more_items, values_named}
 use Rattle.graphql_values.specs.Variables.{given_pair}
 use Rattle.graphql_values.specs.declared.input_value.InputValue.{InputValue}
 use Rattle.graphql_values.specs.declared.input_value.InputValue.TheVariants as value
@@ -46,8 +46,8 @@ module _ {S : Type 0} (eq : S → S → Bool) (laws : IsEquivalence eq) (given :
 
   field-under : (p : Pair (InputValue S)) (name : Bytes) (q : Bool) → bytes_eq p.0.item name ≡ q
       → (o : Option (InputValue S)) → filled given p.1.item ≡ o → (rest ps : List (Pair (InputValue S)))
-      → under name rest ≡ filter_map filled_placed (map (λ r. r.1) ps)
-      → under name (cons_option (given_pair (p.0, record { item = o; span = p.1.span })) rest)
+      → values_named name rest ≡ filter_map filled_placed (map (λ r. r.1) ps)
+      → values_named name (cons_option (given_pair (p.0, record { item = o; span = p.1.span })) rest)
       ≡ filter_map filled_placed (named_if q p ps)
   field-under p name true e None f rest ps ih =
       ih ∙ sym (ap (λ z. cons_option (at_place p.1 z) (filter_map filled_placed (map (λ r. r.1) ps))) f)
@@ -61,7 +61,7 @@ module _ {S : Type 0} (eq : S → S → Bool) (laws : IsEquivalence eq) (given :
       ∙ ih
 
   fields-under : (name : Bytes) (ps : List (Pair (InputValue S)))
-      → under name (filter_map (filled_pair given) ps) ≡ filter_map filled_placed (under name ps)
+      → values_named name (filter_map (filled_pair given) ps) ≡ filter_map filled_placed (values_named name ps)
   fields-under name [] = refl
   fields-under name (p ∷ ps) =
       field-under p name (bytes_eq p.0.item name) refl (filled given p.1.item) refl (filter_map (filled_pair given) ps)
@@ -102,10 +102,10 @@ module _ {S : Type 0} (eq : S → S → Bool) (laws : IsEquivalence eq) (given :
         by-both _ _ (Some (value.Object (filter_map (filled_pair given) ps)))
         (Some (value.Object (filter_map (filled_pair given) qs))) (filled_object given ps) (filled_object given qs)
         (same_object (filter_map (filled_pair given) ps) (filter_map (filled_pair given) qs)
-        (λ name. subst (λ us. SameItems S eq us (under name (filter_map (filled_pair given) qs)))
+        (λ name. subst (λ us. SameItems S eq us (values_named name (filter_map (filled_pair given) qs)))
         (sym (fields-under name ps))
-        (subst (λ vs. SameItems S eq (filter_map filled_placed (under name ps)) vs) (sym (fields-under name qs))
-        (placed-same (under name ps) (under name qs) (h name)))))
+        (subst (λ vs. SameItems S eq (filter_map filled_placed (values_named name ps)) vs) (sym (fields-under name qs))
+        (placed-same (values_named name ps) (values_named name qs) (h name)))))
 
     items-same : (xs ys : List (Placed (InputValue S))) → SameItems S eq xs ys
         → SameItems S eq (map (filled_item given) xs) (map (filled_item given) ys)

@@ -13,7 +13,7 @@ use Rattle.graphql_written_out.specs.Trees.{Directives, Tree}
 use Rattle.graphql_written_out.specs.Trees as tree
 use Rattle.graphql_written_out.specs.Fields.{fields}
 use Rattle.graphql_written_out.specs.Groups.{groups}
-use Rattle.graphql_written_out.specs.Written.{fragment_meant, listed, one, spread_as, write, written}
+use Rattle.graphql_written_out.specs.Written.{fragment_meant, listed, written_selection, spread_as, write, written}
 use Rattle.graphql_written_out.proofs.Layers.{deep, deep-Field, deep-Spread, deep-Inline, written-cons, written-nil}
 use Rattle.graphql_written_out.proofs.Layers.{one-deep, fields-written}
 use Rattle.graphql_merging.specs.Members.{Member, Scope, members}
@@ -50,7 +50,7 @@ module _ {S C : Type 0} (types : List (MetaType S C)) (fragments : List (Fragmen
       (λ x h scope rest. rw (deep-Inline fragments x rest, deep-Inline fragments x tree.none, append-nil) refl)
 
   members-written : (scope : Scope S C) (xs : List (Selection S))
-      → members types scope (written fragments xs) ≡ flat_map (λ x. members types scope (one fragments x)) xs
+      → members types scope (written fragments xs) ≡ flat_map (λ x. members types scope (written_selection fragments x)) xs
   members-written scope [] = ap (members types scope) (written-nil fragments)
   members-written scope (x ∷ xs) =
       ap (members types scope) (written-cons fragments x xs) ∙ members-deep x scope (written fragments xs)
@@ -60,7 +60,7 @@ module _ {S C : Type 0} (types : List (MetaType S C)) (fragments : List (Fragmen
       → members types scope (written fragments (xs ++ ys))
       ≡ members types scope (written fragments xs) ++ members types scope (written fragments ys)
   members-both scope xs ys =
-      members-written scope (xs ++ ys) ∙ flat_map-append (λ x. members types scope (one fragments x)) xs ys
+      members-written scope (xs ++ ys) ∙ flat_map-append (λ x. members types scope (written_selection fragments x)) xs ys
       ∙ (λ i. sym (members-written scope xs) i ++ sym (members-written scope ys) i)
 
   -- ---- what is typed one behind the other is typed apart
@@ -110,7 +110,7 @@ module _ {S N : Type 0} (e : Engine S N) (fragments : List (Fragment S)) where
       let d = e.drops in
       let b = e.is_below object in
       ap (λ zs. zs ++ []) (fields-written fragments d b (xs ++ ys)
-      ∙ flat_map-append (λ x. fields d b (one fragments x)) xs ys
+      ∙ flat_map-append (λ x. fields d b (written_selection fragments x)) xs ys
       ∙ (λ i. sym (fields-written fragments d b xs) i ++ sym (fields-written fragments d b ys) i))
       ∙ append_assoc (fields d b (written fragments xs)) (fields d b (written fragments ys)) []
 

@@ -25,7 +25,7 @@ use Rattle.graphql_execution_walk.specs.Engines.{arguments_over, engine_over}
 use Rattle.graphql_execution_walk.specs.FieldDeclarations.{are_possible, declared_arguments, declared_type}
 use Rattle.graphql_execution_walk.specs.FieldDeclarations.{is_possible_named}
 use Rattle.graphql_execution_walk.specs.declared.asked.Asked.{Asked}
-use Rattle.graphql_joins.specs.Laws.{IsSound}
+use Rattle.graphql_joins.specs.Laws.{KeepsSchema}
 use Rattle.graphql_joins.specs.RequestLaws.{EqualsAnswerAlike, RespectsArguments}
 use Rattle.graphql_joins.specs.Typed.{HasDistinctArguments}
 use Rattle.graphql_joins.proofs.Covariance.{covariant, possible-below}
@@ -83,7 +83,7 @@ module _ {S C : Type 0} (schema : SchemaType S C)
         ∙ (λ i. asked_answer of_text of_bool answer schema resolves node object (name i)
         (argument_values given (declared_arguments types object (name i)) y.arguments))
 
-    pub sound-engine : IsSound eq types (engine_over of_text of_bool answer schema given type_of resolves)
+    pub sound-engine : KeepsSchema eq types (engine_over of_text of_bool answer schema given type_of resolves)
     unfolding engine_over
     sound-engine = record {
       one_object = one-object types;

@@ -22,7 +22,7 @@ use Rattle.graphql_schema.specs.Declarations.{Declarations}
 use Rattle.graphql_occurrences.specs.DeclaredLookups.{field_in, field_type, known, referred}
 use Rattle.graphql_occurrences.specs.Lookups.{argument_place, field_arguments}
 use Rattle.graphql_occurrences.specs.Occurrences.{directives_parts, placed_parts, selection_parts, set_parts}
-use Rattle.graphql_occurrences.specs.Occurrences.{type_inside, under}
+use Rattle.graphql_occurrences.specs.Occurrences.{type_inside, parts_under}
 use Rattle.graphql_occurrences.specs.Parts.{Part, AField, AnInline, Condition, FieldPart, Given, GivenPart, InlinePart}
 use Rattle.graphql_occurrences.proofs.OccurrenceEquations.{parts_field, parts_inline}
 use Rattle.graphql_written_out.specs.Trees.{Directives, Tree, none}
@@ -79,7 +79,7 @@ module _ {S C : Type 0} (schema : Declarations S C) (closed : FieldTypesAreKnown
 
     in-option : (s : Option (MetaType S C)) (m : MetaType S C) → s ≡ Some m → Contains schema.types m
         → (o : Option (List (Selection S))) → IfSome o (All Of)
-        → Fine (under schema s (unwrap_or (option_map (map (selection_parts schema)) o) []))
+        → Fine (parts_under schema s (unwrap_or (option_map (map (selection_parts schema)) o) []))
         → IsTyped schema.types s (chain (map w (listed o)) none)
     in-option s m e i None h fine = subst (λ (t : Option (MetaType S C)). IsTyped schema.types t none) (sym e) tt
     in-option s m e i (Some xs) h fine = in-known s m e i xs h fine
@@ -103,7 +103,7 @@ module _ {S C : Type 0} (schema : Declarations S C) (closed : FieldTypesAreKnown
         (arguments_in x.item.arguments) in
         let directives = directives_parts schema location.Field x.item.directives in
         let below =
-        under schema (referred schema (field_type declared))
+        parts_under schema (referred schema (field_type declared))
         (unwrap_or (option_map (map (selection_parts schema)) x.item.selection_set) []) in
         let parts : Fine (AField here ∷ (Given given ∷ ((values ++ directives) ++ below))) =
         subst Fine (parts_field schema x parent) fine in
@@ -130,7 +130,7 @@ module _ {S C : Type 0} (schema : Declarations S C) (closed : FieldTypesAreKnown
         let here : InlinePart S C = record { condition = c; place = x.span.start; parent = parent } in
         let conditions = map Condition (option_to_list c) in
         let directives = directives_parts schema location.InlineFragment x.item.directives in
-        let below = under schema (type_inside schema parent c) (map (selection_parts schema) x.item.selection_set) in
+        let below = parts_under schema (type_inside schema parent c) (map (selection_parts schema) x.item.selection_set) in
         let parts : Fine (AnInline here ∷ ((conditions ++ directives) ++ below)) =
         subst Fine (parts_inline schema x parent) fine in
         let after = fine-right (AnInline here ∷ []) ((conditions ++ directives) ++ below) parts in
@@ -141,7 +141,7 @@ module _ {S C : Type 0} (schema : Declarations S C) (closed : FieldTypesAreKnown
         )
       where
         by-condition : (c : Option (Placed Bytes)) → Fine (map Condition (option_to_list c))
-            → Fine (under schema (type_inside schema parent c) (map (selection_parts schema) x.item.selection_set))
+            → Fine (parts_under schema (type_inside schema parent c) (map (selection_parts schema) x.item.selection_set))
             → IsTyped schema.types (inside schema.types (Some parent) (option_map (λ n. n.item) c))
             (chain (map w x.item.selection_set) none)
         by-condition None k fine = in-set parent i x.item.selection_set h fine

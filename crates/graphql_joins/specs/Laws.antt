@@ -43,7 +43,7 @@ abbrev pub OutcomesJoin : {S : Type 0}
 OutcomesJoin first second both = JoinsIfThere MembersJoin first.value second.value both.value
 
 -- what is asked of an engine; `eq`: which scalars are the same
-pub record IsSound {S C N : Type 0} (eq : S → S → Bool) (types : List (MetaType S C))
+pub record KeepsSchema {S C N : Type 0} (eq : S → S → Bool) (types : List (MetaType S C))
     (e : Engine S N) : Type 0 where
   -- an object type is below no other object type
   pub one_object : (object : Bytes) → OneObject types (e.is_below object) object
@@ -75,7 +75,7 @@ module _ (S C N : Type 0) (eq : S → S → Bool) where
   -- such sets give together the join of what each part gives
   abbrev pub SetsJoin : Type 0
   SetsJoin =
-      (types : List (MetaType S C)) (e : Engine S N) → IsSound eq types e
+      (types : List (MetaType S C)) (e : Engine S N) → KeepsSchema eq types e
       → (path : List Bytes) (object : Bytes) (node : N) (ss ts : List (Set S C))
       → FitTogether eq types (e.is_below object) (ss ++ ts)
       → (let gives : List (Set S C) → Outcome S (Members S) =
@@ -86,7 +86,7 @@ module _ (S C N : Type 0) (eq : S → S → Bool) where
   -- what the fields declare
   abbrev pub OwnSetsFitTogether : Type 0
   OwnSetsFitTogether =
-      (types : List (MetaType S C)) (e : Engine S N) → IsSound eq types e
+      (types : List (MetaType S C)) (e : Engine S N) → KeepsSchema eq types e
       → (object key concrete : Bytes) (sets : List (Set S C))
       → FitTogether eq types (e.is_below object) sets
       → let fields = under_key key (chosen_of_all types e.drops (e.is_below object) sets) in
@@ -98,7 +98,7 @@ module _ (S C N : Type 0) (eq : S → S → Bool) where
   -- give the join of what each part gives
   abbrev pub SelectionsJoin : Type 0
   SelectionsJoin =
-      (types : List (MetaType S C)) (e : Engine S N) → IsSound eq types e
+      (types : List (MetaType S C)) (e : Engine S N) → KeepsSchema eq types e
       → (fragments : List (Fragment S)) (first second : List (Selection S)) (parent : MetaType S C)
       (path : List Bytes) (object : Bytes) (node : N)
       → IsTypeAbove types (e.is_below object) parent

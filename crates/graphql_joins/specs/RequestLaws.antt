@@ -36,7 +36,7 @@ use Rattle.graphql_execution_walk.specs.Engines.{engine_over}
 use Rattle.graphql_execution_walk.specs.FieldDeclarations.{is_possible_named}
 use Rattle.graphql_execution_walk.specs.declared.asked.Asked.{Asked}
 use Rattle.graphql_validation.specs.AllRules.{IsValid}
-use Rattle.graphql_joins.specs.Laws.{FitTogether, IsSound, OutcomesJoin}
+use Rattle.graphql_joins.specs.Laws.{FitTogether, KeepsSchema, OutcomesJoin}
 
 -- a selection set stands in a document and selects from this type: that of an operation, of a
 -- fragment, and in such a set that of a field and of an inline fragment (2.4 Selection Sets)
@@ -87,7 +87,8 @@ module _ {S : Type 0} (of_text : Bytes → S) (of_bool : Bool → S) (answer : S
       → EqualsAnswerAlike eq answer
       → (given : Bytes → Option (InputValue S)) (type_of : N → Bytes) (resolves : Resolves S N)
       → RespectsArguments eq resolves
-      → IsSound eq schema.types (engine_over of_text of_bool answer schema given type_of resolves)
+      → KeepsSchema eq schema.types
+      (engine_over of_text of_bool answer schema given type_of resolves)
 
 -- `accepts`: what the check of a type accepts
 module _ {S C : Type 0} (eq : S → S → Bool) (answer : S → ScalarAnswer)

@@ -16,7 +16,7 @@ use Rattle.serde_json.specs.Written.{comma_if}
 use Rattle.serde_json.proofs.Numbers.{number_of-decimal, number_of-negative}
 use Rattle.graphql_output_values.specs.Objects.{Pair}
 use Rattle.graphql_output_values.specs.ValueEquations.{on_value}
-use Rattle.graphql_json.specs.Json.{joined, json_text, member_json, text_or_null, bool_or, int_or, scalar_json}
+use Rattle.graphql_json.specs.Json.{joined, json_text, member_json, json_text_or_null, bool_or, int_or, scalar_json}
 use Rattle.graphql_json.specs.Numbers.{has_32_bits}
 use Rattle.serde_json.specs.View.{items_of}
 use Rattle.graphql_json.specs.Laws.{with_fields, greatest, data_of_scalar}
@@ -56,7 +56,7 @@ printed_text text false ts = ap (λ s. s ++ print_from true ts) (sym (same_text 
 
 module _ {S : Type 0} (answer : S → ScalarAnswer) where
   abbrev text_by : Option ℤ → Option Bool → Option (List ℕ) → List ℕ
-  text_by i b t = int_or answer i (bool_or answer b (text_or_null answer t))
+  text_by i b t = int_or answer i (bool_or answer b (json_text_or_null answer t))
 
   printed_scalar : (i : Option ℤ) (b : Option Bool) (t : Option (List ℕ)) (later : Bool) (ts : List Token)
       → print_from later (json_tokens (scalar_tree i b t) ++ ts) ≡ comma_if later ++ (text_by i b t ++ print_from true ts)

@@ -39,9 +39,9 @@ abbrev pub member_json : List ℕ × List ℕ → List ℕ
 member_json p = json_text p.0 ++ 58 ∷ p.1
 
 module _ {S : Type 0} (answer : S → ScalarAnswer) where
-  abbrev pub text_or_null : Option (List ℕ) → List ℕ
-  text_or_null (Some text) = json_text text
-  text_or_null None = codes "null"
+  abbrev pub json_text_or_null : Option (List ℕ) → List ℕ
+  json_text_or_null (Some text) = json_text text
+  json_text_or_null None = codes "null"
 
   abbrev pub bool_or : Option Bool → List ℕ → List ℕ
   bool_or (Some true) other = codes "true"
@@ -55,7 +55,8 @@ module _ {S : Type 0} (answer : S → ScalarAnswer) where
   -- a scalar is asked for an integer, then for a boolean, then for a text
   abbrev pub scalar_json : S → List ℕ
   scalar_json s =
-      int_or (as_int (answer s)) (bool_or (as_bool (answer s)) (text_or_null (as_text (answer s))))
+      int_or (as_int (answer s))
+      (bool_or (as_bool (answer s)) (json_text_or_null (as_text (answer s))))
 
   -- one layer, the JSON of whose parts stands
   abbrev pub json_layer : Value-F S (List ℕ) (List ℕ) → List ℕ

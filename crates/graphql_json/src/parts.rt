@@ -55,7 +55,7 @@ pub fn list_at<'a>(json: &'a Value, key: &str) -> Option<&'a Vec<Value>>
 
 /// The texts that these are, if each is one. An error is want of memory.
 fn texts_of<'a>(alloc: Global, items: &'a [Value]) -> Result<Option<Items<TextRef<'a>>>, AllocError>
-    ensures { Gives result (spec.each spec.text_of (items_view items.now)) }
+    ensures { Gives result (spec.each_read spec.text_of (items_view items.now)) }
 {
     let mut texts = Items::with_capacity(alloc, items.len())?;
     'items: for item in items {

@@ -5,7 +5,7 @@ ghost use Rattle.std.specs.Prelude.{◌≡◌, ◌<◌, ◌≤◌, false, [], �
 ghost use Rattle.std.specs.List.{flat_map};
 ghost use Rattle.graphql_json.specs.Json as spec;
 ghost use Rattle.graphql_json.specs.Writing.{KeepsFront};
-ghost use Rattle.graphql_output_values.specs.Pending.{ahead, told};
+ghost use Rattle.graphql_output_values.specs.Pending.{steps_ahead, told_step};
 
 use graphql_output_values::{Step, Value, Walk};
 use graphql_scalars::ScalarValue;
@@ -108,7 +108,7 @@ fn scalar_to_json<S: ScalarValue>(out: &mut Vec<u8>, scalar: &S) -> Result<(), A
 /// Writes what a walk tells next.
 fn step_to_json<S: ScalarValue>(out: &mut Vec<u8>, step: Step<'_, S>) -> Result<(), AllocError>
     ensures written { OnOk result
-        (out.new.items ≡ out.old.items ++ spec.step_json S.answer (told step.entry)) }
+        (out.new.items ≡ out.old.items ++ spec.step_json S.answer (told_step step.entry)) }
     ensures front { KeepsFront out.old.items out.new.items }
 {
     match step {
@@ -129,7 +129,8 @@ fn step_to_json<S: ScalarValue>(out: &mut Vec<u8>, step: Step<'_, S>) -> Result<
 /// Writes what a walk has yet to tell.
 fn steps_to_json<S: ScalarValue>(out: &mut Vec<u8>, walk: Walk<'_, S>) -> Result<(), AllocError>
     ensures written { OnOk result
-        (out.new.items ≡ out.old.items ++ flat_map (spec.step_json S.answer) (ahead walk.entry)) }
+        (out.new.items ≡ out.old.items
+        ++ flat_map (spec.step_json S.answer) (steps_ahead walk.entry)) }
     ensures front { KeepsFront out.old.items out.new.items }
 {
     let mut walk = walk;

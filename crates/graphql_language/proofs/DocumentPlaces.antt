@@ -14,7 +14,7 @@ use Rattle.graphql_tree.specs.declared.directive.Directive.{Directive}
 use Rattle.graphql_tree.specs.declared.selection.Selection.{Selection}
 use Rattle.graphql_tree.specs.declared.selection.Selection.TheVariants as s
 use Rattle.graphql_tree.specs.declared.document.Definition.TheVariants as d
-use Rattle.graphql_language.specs.ReadSelections.{Names, field_names, type_condition, Spread, spreads, inlines, made_spread, selection_of, fragment_spread, made_field, selection_set, inline_fragment, spread, field, selection_layer, selection_from, selection}
+use Rattle.graphql_language.specs.ReadSelections.{AliasedName, field_names, type_condition, Spread, spreads, inlines, made_spread, selection_of, fragment_spread, made_field, selection_set, inline_fragment, spread, field, selection_layer, selection_from, selection}
 use Rattle.graphql_language.specs.ReadDocuments.{operation_words, operation_type_of, definition_kinds, query_of, set, full_operation, operation, fragment, definition, document}
 use Rattle.graphql_tree.specs.Unlocated.{without_place, unlocated_name, unlocated_arguments, unlocated_directives, unlocated_spread, unlocated_selection, unlocated_field, unlocated_inline, unlocated_operation, unlocated_fragment, unlocated_definition, unlocated_document}
 use Rattle.graphql_tree.proofs.UnlocatedEquations.{unlocated_selection_field, unlocated_selection_spread, unlocated_selection_inline, unlocated_in_field, unlocated_in_inline}
@@ -22,7 +22,7 @@ use Rattle.graphql_value_syntax.proofs.Places.{even_placed, even_expect, even_na
 
 -- ---- names of fields and fragments
 
-abbrev unlocated_names : Names → Names
+abbrev unlocated_names : AliasedName → AliasedName
 unlocated_names ns = (option_map unlocated_name ns.0, unlocated_name ns.1)
 
 even_field_names : Even unlocated_names field_names field_names
@@ -57,10 +57,10 @@ module _ {S : Type 0} where
       → unlocated_inline (record { type_condition = c; directives = ds; selection_set = xs }) ≡ unlocated_inline (record { type_condition = e; directives = es; selection_set = ys })
   same_inline c e ds es xs ys h l r = unlocated_in_inline (record { type_condition = c; directives = ds; selection_set = xs }) ∙ (cc) ∙ sym (unlocated_in_inline (record { type_condition = e; directives = es; selection_set = ys }))
 
-  same_field : (ns ms : Names) (args more : Option (At (Arguments S))) (ds es : Option (List (At (Directive S)))) (xs ys : Option (List (Selection S))) → unlocated_names ns ≡ unlocated_names ms
+  same_field : (ns ms : AliasedName) (args more : Option (At (Arguments S))) (ds es : Option (List (At (Directive S)))) (xs ys : Option (List (Selection S))) → unlocated_names ns ≡ unlocated_names ms
       → option_map (without_place unlocated_arguments) args ≡ option_map (without_place unlocated_arguments) more → unlocated_directives ds ≡ unlocated_directives es
       → option_map (map unlocated_selection) xs ≡ option_map (map unlocated_selection) ys → unlocated_field (made_field ns args ds xs) ≡ unlocated_field (made_field ms more es ys)
-  same_field ns ms args more ds es xs ys h g l r = let alias = ap (λ (z : Names). z.0) h in let own = ap (λ (z : Names). z.1) h in
+  same_field ns ms args more ds es xs ys h g l r = let alias = ap (λ (z : AliasedName). z.0) h in let own = ap (λ (z : AliasedName). z.1) h in
       unlocated_in_field (made_field ns args ds xs) ∙ (cc) ∙ sym (unlocated_in_field (made_field ms more es ys))
 
 module _ {S : Type 0} (reads : ScalarToken → Result S ParseError) (of_bool : Bool → S) where

@@ -7,7 +7,7 @@ use Rattle.graphql_grammar.specs.Leaves.{Behind}
 use Rattle.graphql_grammar.proofs.Leaves.{behind_same, behind_then}
 use Rattle.graphql_language.specs.Parser.{State, Rule, CallsFresh, Calls, RefusesAgain, ThisToken, MaybeToken, KeepsRefusal}
 use Rattle.graphql_language.specs.Lists.{Call, Function, Item, Full, Until, closed, unclosed, refused, more, full, SomeItems, first as first_item, no_first, no_room, Delimited, unopened, unlisted, listed, AnyItems}
-use Rattle.graphql_language.specs.Leaves.{Stops, Leaves, LeavesRest, ListsLeaveRest, SomeListsLeaveRest}
+use Rattle.graphql_language.specs.Leaves.{Stops, LeavesBehind, LeavesRest, ListsLeaveRest, SomeListsLeaveRest}
 use Rattle.graphql_language.proofs.NextTokens.{TokenRead, opened, last_read}
 
 -- ---- behind some tokens
@@ -15,7 +15,7 @@ use Rattle.graphql_language.proofs.NextTokens.{TokenRead, opened, last_read}
 pub behind_token : {wanted : Token} {i : Input} {token : Located} {j : Input} → TokenRead wanted i token j → Behind i j
 behind_token {token = token} read = record { tokens = token ∷ []; front = read.front; after = read.after }
 
-leaves_then : {A : Type 0} (i : Input) (m t : State) (r : Result A Fault) → Behind i m.input → Leaves m.input r t → Leaves i r t
+leaves_then : {A : Type 0} (i : Input) (m t : State) (r : Result A Fault) → Behind i m.input → LeavesBehind m.input r t → LeavesBehind i r t
 leaves_then i m t (Ok x) before left = (behind_then before left.0, left.1)
 leaves_then i m t (Err e) before left = λ told. let b = left told in (behind_then before b.0, b.1)
 
@@ -38,10 +38,10 @@ stopped rule s t e stays fresh calls = λ told.
 
 -- ---- items
 
-kept_leaves : {A : Type 0} (i : Input) (answer r : Result A Fault) (after t : State) → KeepsRefusal answer after r t → Leaves i answer after → Leaves i r t
+kept_leaves : {A : Type 0} (i : Input) (answer r : Result A Fault) (after t : State) → KeepsRefusal answer after r t → LeavesBehind i answer after → LeavesBehind i r t
 kept_leaves {A} i (Ok y) r after t (same, stays) left =
-    let P : Result A Fault → Type 0 = λ z. Leaves i z t in
-    let Q : State → Type 0 = λ z. Leaves i (Ok y) z in
+    let P : Result A Fault → Type 0 = λ z. LeavesBehind i z t in
+    let Q : State → Type 0 = λ z. LeavesBehind i (Ok y) z in
     subst P (sym same) (subst Q (sym stays) left)
 kept_leaves i (Err e) (Ok x) after t (again, failed) left = absurd again
 kept_leaves i (Err e) (Err f) after t (again, failed) left = λ told.
@@ -54,17 +54,17 @@ full_stops : (i : Input) (n t : State) (e : Fault) → Full n e t → Stops i e 
 full_stops i n t e h = λ told. absurd (not_memory h.fault e (h.keeps.0 told) told h.memory)
 
 module _ {F A : Type 0} (function : Function F A) (f : F) (leaves : LeavesRest function f) where
-  item_leaves : (s t : State) (r : Result A Fault) → s.refused ≡ None → Item function f s r t → Leaves s.input r t
+  item_leaves : (s t : State) (r : Result A Fault) → s.refused ≡ None → Item function f s r t → LeavesBehind s.input r t
   item_leaves s t r fresh item =
       let left = leaves item.shown item.after item.answer (ap (λ (z : State). z.refused) item.shows ∙ fresh) item.met in
-      let P : State → Type 0 = λ z. Leaves z.input item.answer item.after.now in
+      let P : State → Type 0 = λ z. LeavesBehind z.input item.answer item.after.now in
       kept_leaves s.input item.answer r item.after.now t item.keeps (subst P item.shows left)
 
   module _ (closing : Token) where
     abbrev ListLeaves : Call (List A × Located) → Type 0
-    ListLeaves items = (s t : State) (r : Result (List A × Located) Fault) → items s r t → s.refused ≡ None → Leaves s.input r t
+    ListLeaves items = (s t : State) (r : Result (List A × Located) Fault) → items s r t → s.refused ≡ None → LeavesBehind s.input r t
 
-    until_leaves : (found : List A) → (s t : State) (r : Result (List A × Located) Fault) → Until closing (Item function f) found s r t → s.refused ≡ None → Leaves s.input r t
+    until_leaves : (found : List A) → (s t : State) (r : Result (List A × Located) Fault) → Until closing (Item function f) found s r t → s.refused ≡ None → LeavesBehind s.input r t
     until_leaves _ _ _ _ (closed found s t last calls) fresh = (behind_token (last_read closing s t last calls), (fresh_call (MaybeToken closing) s t (Ok (Some last)) fresh calls).1)
     until_leaves _ _ _ _ (unclosed found s t e calls) fresh = stopped (MaybeToken closing) s t e (λ g h. h.2) fresh calls
     until_leaves _ _ _ _ (refused found s m t e none item) fresh =
@@ -76,14 +76,14 @@ module _ {F A : Type 0} (function : Function F A) (f : F) (leaves : LeavesRest f
         leaves_then s.input n t r (behind_then (behind_same skipped.0.2) left.0) (until_leaves (found ++ x ∷ []) n t r rest left.1)
     until_leaves _ _ _ _ (full found s m n t x e none item memory) fresh = full_stops s.input n t e memory
 
-    some_leaves : (s t : State) (r : Result (List A × Located) Fault) → SomeItems closing (Item function f) s r t → s.refused ≡ None → Leaves s.input r t
+    some_leaves : (s t : State) (r : Result (List A × Located) Fault) → SomeItems closing (Item function f) s r t → s.refused ≡ None → LeavesBehind s.input r t
     some_leaves _ _ _ (first_item s m t x r item rest) fresh =
         let left = item_leaves s m (Ok x) fresh item in
         leaves_then s.input m t r left.0 (until_leaves (x ∷ []) m t r rest left.1)
     some_leaves _ _ _ (no_first s t e item) fresh = item_leaves s t (Err e) fresh item
     some_leaves _ _ _ (no_room s m t x e item memory) fresh = full_stops s.input m t e memory
 
-    delimited_leaves : (opening : Token) (items : Call (List A × Located)) → ListLeaves items → (s t : State) (r : Result (At (List A)) Fault) → Delimited opening items s r t → s.refused ≡ None → Leaves s.input r t
+    delimited_leaves : (opening : Token) (items : Call (List A × Located)) → ListLeaves items → (s t : State) (r : Result (At (List A)) Fault) → Delimited opening items s r t → s.refused ≡ None → LeavesBehind s.input r t
     delimited_leaves opening items leave _ _ _ (unopened s t e calls) fresh = stopped (ThisToken opening) s t e (λ g h. h.2) fresh calls
     delimited_leaves opening items leave _ _ _ (unlisted s m t token e calls item) fresh =
         leaves_then {A = List A × Located} s.input m t (Err e) (behind_token (opened opening s m token calls)) (leave m t (Err e) item (fresh_call (ThisToken opening) s m (Ok token) fresh calls).1)

@@ -8,14 +8,14 @@ use Rattle.graphql_values.specs.declared.input_value.InputValue.{InputValue}
 use Rattle.graphql_grammar.specs.Input.{At, Input, Located, Fault, Parser, Outcome, Reads, StandsAt, left}
 use Rattle.graphql_grammar.specs.Ahead.{mk}
 use Rattle.graphql_grammar.specs.Relations.{Rel}
-use Rattle.graphql_grammar.specs.Faults.{Reading, BadScalar, GoodScalar, Found, Sought}
+use Rattle.graphql_grammar.specs.Faults.{Reading, BadScalar, GoodScalar, SoughtAlone, Sought}
 use Rattle.graphql_grammar.specs.Leaves.{Behind, LeftAt}
 use Rattle.graphql_grammar.proofs.FirstFaults.{found, sought, fault_left}
 use Rattle.graphql_grammar.proofs.OneFault.{one_first_fault}
 use Rattle.graphql_value_syntax.proofs.Readings.{twins_value, twins_type}
 use Rattle.graphql_language.specs.Parser.{State, Rule, Calls, ReadsBy}
 use Rattle.graphql_language.proofs.NextTokens.{answered}
-use Rattle.graphql_language.specs.Literals.{Values, Types, NoneInFront, NextValue, NextType, NeverBoth, ReadOrRefused, OneRefusal}
+use Rattle.graphql_language.specs.Literals.{LiteralOf, Types, NoneInFront, NextValue, NextType, NeverBoth, ReadOrRefused, OneRefusal}
 use Rattle.graphql_value_syntax.specs.ReadValues.{value}
 use Rattle.graphql_value_syntax.specs.ReadTypes.{TypeRef, type_ref}
 use Rattle.graphql_value_syntax.specs.Values.{ValueOf}
@@ -64,8 +64,8 @@ module _ {S : Type 0} (reads : ScalarToken → Result S ParseError) (of_bool : B
   abbrev Of : Rel (At (InputValue S))
   Of = ValueOf S reads of_bool c
 
-  value_found : (i : Input) (o : Outcome (At (InputValue S))) → value reads of_bool c i ≡ o → Found reads (Values of_bool c) i o
-  value_found = found (Values of_bool c) (λ q. value q of_bool c) (λ q. law_value q of_bool c) refl (λ p q. twins_value p q of_bool c) (of_bool true) reads (λ zs. refl)
+  value_found : (i : Input) (o : Outcome (At (InputValue S))) → value reads of_bool c i ≡ o → SoughtAlone reads (LiteralOf of_bool c) i o
+  value_found = found (LiteralOf of_bool c) (λ q. value q of_bool c) (λ q. law_value q of_bool c) refl (λ p q. twins_value p q of_bool c) (of_bool true) reads (λ zs. refl)
 
   value_whole : (ts : List Located) (x : At (InputValue S)) → Of ts x → (zs : List Located) (f : Span) (e : SourcePosition) → (q : At (InputValue S) × Input) × (value reads of_bool c (mk (ts ++ zs) f e) ≡ Ok q)
   value_whole ts x d zs f e = (_, (law_value reads of_bool c (suc (length ts))).reads ts x d (omega arith) zs refl f e)
@@ -74,10 +74,10 @@ module _ {S : Type 0} (reads : ScalarToken → Result S ParseError) (of_bool : B
   value_read i j x h = value_found i (Ok (x, j)) h
 
   value_missing : (i j : Input) (e : Fault) → LeftAt i e j → value reads of_bool c i ≡ Err e → NextValue S reads of_bool c i (Err e) j
-  value_missing i j e left h = (value_found i (Err e) h, none_in_front reads (Values of_bool c) (value reads of_bool c) value_whole i e h, left)
+  value_missing i j e left h = (value_found i (Err e) h, none_in_front reads (LiteralOf of_bool c) (value reads of_bool c) value_whole i e h, left)
 
   value_stops : (i : Input) (e : Fault) → value reads of_bool c i ≡ Err e → (j : Input) × LeftAt i e j
-  value_stops i e h = fault_left reads (Values of_bool c) i e (value_found i (Err e) h)
+  value_stops i e h = fault_left reads (LiteralOf of_bool c) i e (value_found i (Err e) h)
 
   pub reads_by_value : (i j : Input) (r : Result (At (InputValue S)) Fault) → Reads (value reads of_bool c i) r j → Behind i j → StandsAt r j → ReadsBy (NextValue S reads of_bool c) i r j
   reads_by_value i j r read behind stands = reads_by (NextValue S reads of_bool c) (value reads of_bool c) value_read value_missing value_stops i j r read behind stands
@@ -90,7 +90,7 @@ module _ {S : Type 0} (reads : ScalarToken → Result S ParseError) (of_bool : B
   value_never_both i j k x e found missing = missing.1 x j found.0
 
   pub value_one_fault : OneRefusal (NextValue S reads of_bool c)
-  value_one_fault i j k e f one other = one_first_fault reads (Values of_bool c) i e f one.0 other.0
+  value_one_fault i j k e f one other = one_first_fault reads (LiteralOf of_bool c) i e f one.0 other.0
 
   pub value_or_refused : ReadOrRefused (NextValue S reads of_bool c)
   value_or_refused = either_way (NextValue S reads of_bool c) (value reads of_bool c) value_read value_missing value_stops

@@ -15,7 +15,7 @@ use Rattle.graphql_grammar.proofs.Loops.{until_unfolds}
 use Rattle.graphql_grammar.proofs.Parts.{then_read, then_refused, when_yes, when_no}
 use Rattle.graphql_language.specs.ReadSelections.{selection_set, selection}
 use Rattle.graphql_language.specs.declared.parse.selection.Begun.TheVariants as how
-use Rattle.graphql_language.specs.ReadHeads.{completed, ending, begun}
+use Rattle.graphql_language.specs.ReadHeads.{selection_with, ending, selection_start}
 use Rattle.graphql_language.proofs.SelectionDepth.{takes_selection, selection_at_end}
 use Rattle.graphql_language.proofs.SelectionLevels.{selection_refused, selection_whole, selection_inside_refused, selection_opens}
 use Rattle.graphql_value_syntax.proofs.ValueDepth.{value_uses}
@@ -34,7 +34,7 @@ module _ {S : Type 0} (reads : ScalarToken → Result S ParseError) (of_bool : B
 
   -- the rest of the set around one that was read
   abbrev pub rest_around : Open S → List (Selection S) → Parser (List (Selection S))
-  rest_around o ss = λ i. rest_of_set (o.around ++ completed o.head ss i.end ∷ []) i
+  rest_around o ss = λ i. rest_of_set (o.around ++ selection_with o.head ss i.end ∷ []) i
 
   -- what the outermost set gives, of what the innermost gives; the outermost of those that are open is the first
   abbrev pub finishes : List (Open S) → Outcome (List (Selection S)) → Outcome (List (Selection S))
@@ -73,7 +73,7 @@ module _ {S : Type 0} (reads : ScalarToken → Result S ParseError) (of_bool : B
       ∙ when_no (only k.CurlyClose) (token (only k.CurlyClose) (λ u. x ∷ xs)) (Item >>= (λ y. until k.CurlyClose Item ((x ∷ xs) ++ y ∷ []))) i is
 
   -- a selection's own set is open in it
-  inner : (x : Open S) (o : Outcome (List (Selection S))) → and_then (and_then o (λ ss. ending (completed x.head ss))) (λ y. rest_of_set (x.around ++ y ∷ [])) ≡ and_then o (rest_around x)
+  inner : (x : Open S) (o : Outcome (List (Selection S))) → and_then (and_then o (λ ss. ending (selection_with x.head ss))) (λ y. rest_of_set (x.around ++ y ∷ [])) ≡ and_then o (rest_around x)
   inner x (Ok p) = refl
   inner x (Err e) = refl
 
@@ -97,10 +97,10 @@ module _ {S : Type 0} (reads : ScalarToken → Result S ParseError) (of_bool : B
 
     -- the innermost set ends, and the selection that it is of
     pub set_ends : {j : Input} (x : Open S) {left : List (Open S)} {more : List (Selection S)} {e : SourcePosition} → found ≢ [] → sees (only k.CurlyClose) i ≡ true → j ≡ next i → outer ≡ left ++ x ∷ [] → e ≡ j.end
-        → more ≡ x.around ++ completed x.head found e ∷ [] → SetsLeft o left more j
+        → more ≡ x.around ++ selection_with x.head found e ∷ [] → SetsLeft o left more j
     set_ends {j} x {left} {more} {e} some is moved last ends kept =
         let read = set_closes found i some is ∙ ap (λ (z : Input). Ok (found, z)) (sym moved) in
-        let made = kept ∙ ap (λ (p : SourcePosition). x.around ++ completed x.head found p ∷ []) ends in
+        let made = kept ∙ ap (λ (p : SourcePosition). x.around ++ selection_with x.head found p ∷ []) ends in
         record {
           gives = l.gives ∙ ap (λ (xs : List (Open S)). finishes xs (rest_of_set found i)) last ∙ finishes_more left x (rest_of_set found i)
               ∙ ap (λ (r : Outcome (List (Selection S))). finishes left (and_then r (rest_around x))) read ∙ ap (λ (xs : List (Selection S)). finishes left (rest_of_set xs j)) (sym made);
@@ -114,18 +114,18 @@ module _ {S : Type 0} (reads : ScalarToken → Result S ParseError) (of_bool : B
       item_refused {e} refused = item_next ∙ ap (λ (r : Outcome (Selection S)). finishes outer (and_then r (λ x. rest_of_set (found ++ x ∷ [])))) refused ∙ finishes_refused outer e
 
       -- a selection was refused before its set
-      pub sets_refused : {e : Fault} → begun reads of_bool i ≡ Err e → o ≡ Err e
+      pub sets_refused : {e : Fault} → selection_start reads of_bool i ≡ Err e → o ≡ Err e
       sets_refused refused = item_refused (selection_refused reads of_bool i refused)
 
       -- a selection without a set was read
-      pub sets_more : {j : Input} {x : Selection S} {more : List (Selection S)} → begun reads of_bool i ≡ Ok (how.Whole x, j) → more ≡ found ++ x ∷ [] → SetsLeft o outer more j
+      pub sets_more : {j : Input} {x : Selection S} {more : List (Selection S)} → selection_start reads of_bool i ≡ Ok (how.Whole x, j) → more ≡ found ++ x ∷ [] → SetsLeft o outer more j
       sets_more {j} {x} {more} read kept =
           record {
             gives = item_next ∙ ap (λ (r : Outcome (Selection S)). finishes outer (and_then r (λ x. rest_of_set (found ++ x ∷ [])))) (selection_whole reads of_bool i read)
                 ∙ ap (λ (xs : List (Selection S)). finishes outer (rest_of_set xs j)) (sym kept);
           }
 
-      module _ {x : Head S} {j : Input} (read : begun reads of_bool i ≡ Ok (how.Opens x, j)) where
+      module _ {x : Head S} {j : Input} (read : selection_start reads of_bool i ≡ Ok (how.Opens x, j)) where
         -- no set stands behind a selection that must have one
         pub sets_unopened : {e : Fault} → expect k.CurlyOpen j ≡ Err e → o ≡ Err e
         unfolding selection_set
@@ -137,7 +137,7 @@ module _ {S : Type 0} (reads : ScalarToken → Result S ParseError) (of_bool : B
         sets_open {m} {u} {more} {none} opening kept empty =
             let open_one : Open S = record { head = x; around = found } in
             let inside : Set j ≡ rest_of_set [] m = then_read (expect k.CurlyOpen) (λ u. Item >>= (λ x. until k.CurlyClose Item (x ∷ []))) opening in
-            let item = selection_opens reads of_bool i read ∙ ap (λ (r : Outcome (List (Selection S))). and_then r (λ ss. ending (completed x ss))) inside in
+            let item = selection_opens reads of_bool i read ∙ ap (λ (r : Outcome (List (Selection S))). and_then r (λ ss. ending (selection_with x ss))) inside in
             record {
               gives = item_next ∙ ap (λ (r : Outcome (Selection S)). finishes outer (and_then r (λ y. rest_of_set (found ++ y ∷ [])))) item
                   ∙ ap (finishes outer) (inner open_one (rest_of_set [] m)) ∙ sym (finishes_more outer open_one (rest_of_set [] m))

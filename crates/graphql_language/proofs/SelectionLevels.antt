@@ -14,19 +14,19 @@ use Rattle.graphql_language.specs.declared.parse.selection.Head.TheVariants as h
 use Rattle.graphql_grammar.specs.declared.kind.Kind.TheVariants as k
 use Rattle.graphql_grammar.specs.Kinds.{only, fragment_names}
 use Rattle.graphql_grammar.specs.Input.{At, Input, Fault, Outcome, Parser, and_then, ◌>>=◌, pure, peek}
-use Rattle.graphql_grammar.specs.Steps.{sees, when, until, expect, name_in, placed, located, optional}
+use Rattle.graphql_grammar.specs.Steps.{sees, when, until, expect, name_in, with_place, located, optional}
 use Rattle.graphql_grammar.proofs.Parts.{then_refused}
 use Rattle.graphql_value_syntax.specs.ReadDirectives.{arguments, directives}
-use Rattle.graphql_language.specs.ReadSelections.{Names, field_names, type_condition, Spread, spreads, inlines, selection_of, made_field, fragment_spread, selection_set, inline_fragment, spread, field, selection_layer, selection}
+use Rattle.graphql_language.specs.ReadSelections.{AliasedName, field_names, type_condition, Spread, spreads, inlines, selection_of, made_field, fragment_spread, selection_set, inline_fragment, spread, field, selection_layer, selection}
 use Rattle.graphql_language.specs.declared.parse.selection.Begun.{Begun}
 use Rattle.graphql_language.specs.declared.parse.selection.Begun.TheVariants as how
-use Rattle.graphql_language.specs.ReadHeads.{head_of, field_with, inline_with, spread_of, completed, ending, whole_ending, field_parts, field_head, spread_parts, inline_head, spread_begun, field_begun, begun, rest_of}
+use Rattle.graphql_language.specs.ReadHeads.{head_with, field_with, inline_with, spread_of, selection_with, ending, whole_ending, field_parts, field_head, spread_parts, inline_head, spread_begun, field_begun, selection_start, rest_read}
 use Rattle.graphql_value_syntax.proofs.ValueDepth.{value_uses}
 use Rattle.graphql_language.proofs.SelectionDepth.{selection_unfolds}
 
 module _ {S : Type 0} (reads : ScalarToken → Result S ParseError) (of_bool : Bool → S) (p : Parser (Selection S)) where
   abbrev Rest : Begun S → Parser (Selection S)
-  Rest = rest_of reads of_bool p
+  Rest = rest_read reads of_bool p
 
   abbrev Set : Parser (List (Selection S))
   Set = selection_set reads of_bool p
@@ -39,17 +39,17 @@ module _ {S : Type 0} (reads : ScalarToken → Result S ParseError) (of_bool : B
 
   -- ---- fields
 
-  module _ (i : Input) (ns : Names) (args : Option (At (Arguments S))) (ds : Option (List (At (Directive S)))) (j : Input) where
+  module _ (i : Input) (ns : AliasedName) (args : Option (At (Arguments S))) (ds : Option (List (At (Directive S)))) (j : Input) where
     abbrev start : SourcePosition
     start = (peek i).span.start
 
-    some_set : (o : Outcome (List (Selection S))) → and_then (and_then (and_then (and_then o (λ x. pure (Some x))) (λ ss. pure (made_field ns args ds ss))) (placed i)) as_field
-        ≡ and_then o (λ ss. ending (field_with (head_of start ns args ds) (Some ss)))
+    some_set : (o : Outcome (List (Selection S))) → and_then (and_then (and_then (and_then o (λ x. pure (Some x))) (λ ss. pure (made_field ns args ds ss))) (with_place i)) as_field
+        ≡ and_then o (λ ss. ending (field_with (head_with start ns args ds) (Some ss)))
     some_set (Ok q) = refl
     some_set (Err e) = refl
 
-    field_set : (b : Bool) → and_then (and_then (and_then (if b then and_then (Set j) (λ x. pure (Some x)) else Ok (None, j)) (λ ss. pure (made_field ns args ds ss))) (placed i)) as_field
-        ≡ and_then (if b then Ok (how.Opens (h.Field (head_of start ns args ds)), j) else Ok (how.Whole (field_with (head_of start ns args ds) None j.end), j)) Rest
+    field_set : (b : Bool) → and_then (and_then (and_then (if b then and_then (Set j) (λ x. pure (Some x)) else Ok (None, j)) (λ ss. pure (made_field ns args ds ss))) (with_place i)) as_field
+        ≡ and_then (if b then Ok (how.Opens (h.Field (head_with start ns args ds)), j) else Ok (how.Whole (field_with (head_with start ns args ds) None j.end), j)) Rest
     field_set true = some_set (Set j)
     field_set false = refl
 
@@ -58,26 +58,26 @@ module _ {S : Type 0} (reads : ScalarToken → Result S ParseError) (of_bool : B
     begin_at = field_parts reads of_bool (peek i).span.start >>= (λ x. when (only k.CurlyOpen) (pure (how.Opens (h.Field x))) (whole_ending (field_with x None)))
 
     abbrev on_field : Field S → Parser (At (Field S))
-    on_field = placed i
+    on_field = with_place i
 
     abbrev on_head : FieldHead S → Parser (Begun S)
     on_head x = when (only k.CurlyOpen) (pure (how.Opens (h.Field x))) (whole_ending (field_with x None))
 
-    field_directives : (ns : Names) (args : Option (At (Arguments S))) (o : Outcome (Option (List (At (Directive S)))))
+    field_directives : (ns : AliasedName) (args : Option (At (Arguments S))) (o : Outcome (Option (List (At (Directive S)))))
         → and_then (and_then (and_then o (λ ds. optional (only k.CurlyOpen) Set >>= (λ ss. pure (made_field ns args ds ss)))) on_field) as_field
-        ≡ and_then (and_then (and_then o (λ ds. pure (head_of (peek i).span.start ns args ds))) on_head) Rest
+        ≡ and_then (and_then (and_then o (λ ds. pure (head_with (peek i).span.start ns args ds))) on_head) Rest
     field_directives ns args (Ok q) = field_set i ns args q.0 q.1 (sees (only k.CurlyOpen) q.1)
     field_directives ns args (Err e) = refl
 
-    field_arguments : (ns : Names) (o : Outcome (Option (At (Arguments S))))
+    field_arguments : (ns : AliasedName) (o : Outcome (Option (At (Arguments S))))
         → and_then (and_then (and_then o (λ args. directives reads of_bool false >>= (λ ds. optional (only k.CurlyOpen) Set >>= (λ ss. pure (made_field ns args ds ss))))) on_field) as_field
-        ≡ and_then (and_then (and_then o (λ args. directives reads of_bool false >>= (λ ds. pure (head_of (peek i).span.start ns args ds)))) on_head) Rest
+        ≡ and_then (and_then (and_then o (λ args. directives reads of_bool false >>= (λ ds. pure (head_with (peek i).span.start ns args ds)))) on_head) Rest
     field_arguments ns (Ok q) = field_directives ns q.0 (directives reads of_bool false q.1)
     field_arguments ns (Err e) = refl
 
-    field_named : (o : Outcome Names)
+    field_named : (o : Outcome AliasedName)
         → and_then (and_then (and_then o (λ ns. optional (only k.ParenOpen) (arguments reads of_bool false) >>= (λ args. directives reads of_bool false >>= (λ ds. optional (only k.CurlyOpen) Set >>= (λ ss. pure (made_field ns args ds ss)))))) on_field) as_field
-        ≡ and_then (and_then (and_then o (λ ns. optional (only k.ParenOpen) (arguments reads of_bool false) >>= (λ args. directives reads of_bool false >>= (λ ds. pure (head_of (peek i).span.start ns args ds))))) on_head) Rest
+        ≡ and_then (and_then (and_then o (λ ns. optional (only k.ParenOpen) (arguments reads of_bool false) >>= (λ args. directives reads of_bool false >>= (λ ds. pure (head_with (peek i).span.start ns args ds))))) on_head) Rest
     field_named (Ok q) = field_arguments q.0 (optional (only k.ParenOpen) (arguments reads of_bool false) q.1)
     field_named (Err e) = refl
 
@@ -92,7 +92,7 @@ module _ {S : Type 0} (reads : ScalarToken → Result S ParseError) (of_bool : B
     at = (peek i).span.start
 
     abbrev on_spread : Spread S → Parser (At (Spread S))
-    on_spread = placed i
+    on_spread = with_place i
 
     spread_directives : (n : At (List ℕ)) (o : Outcome (Option (List (At (Directive S)))))
         → and_then (and_then (and_then o (λ ds. pure (spreads (record { name = n; directives = ds })))) on_spread) as_selection
@@ -146,12 +146,12 @@ module _ {S : Type 0} (reads : ScalarToken → Result S ParseError) (of_bool : B
   level_by i true = spread_level i
   level_by i false = field_level i
 
-  pub level_is : (i : Input) → selection_layer reads of_bool p i ≡ and_then (begun reads of_bool i) (rest_of reads of_bool p)
-  unfolding selection_layer begun
+  pub level_is : (i : Input) → selection_layer reads of_bool p i ≡ and_then (selection_start reads of_bool i) (rest_read reads of_bool p)
+  unfolding selection_layer selection_start
   level_is i = level_by i (sees (only k.Ellipsis) i)
 
 module _ {S : Type 0} (reads : ScalarToken → Result S ParseError) (of_bool : Bool → S) where
-  pub selection_begins : (i : Input) → selection reads of_bool i ≡ and_then (begun reads of_bool i) (rest_of reads of_bool (selection reads of_bool))
+  pub selection_begins : (i : Input) → selection reads of_bool i ≡ and_then (selection_start reads of_bool i) (rest_read reads of_bool (selection reads of_bool))
   selection_begins i = selection_unfolds reads of_bool (value_uses reads of_bool) i ∙ level_is reads of_bool (selection reads of_bool) i
 
   abbrev Selected : Parser (Selection S)
@@ -160,19 +160,19 @@ module _ {S : Type 0} (reads : ScalarToken → Result S ParseError) (of_bool : B
   abbrev Inside : Parser (List (Selection S))
   Inside = selection_set reads of_bool Selected
 
-  pub selection_refused : (i : Input) {e : Fault} → begun reads of_bool i ≡ Err e → selection reads of_bool i ≡ Err e
-  selection_refused i refused = selection_begins i ∙ ap (λ (o : Outcome (Begun S)). and_then o (rest_of reads of_bool Selected)) refused
+  pub selection_refused : (i : Input) {e : Fault} → selection_start reads of_bool i ≡ Err e → selection reads of_bool i ≡ Err e
+  selection_refused i refused = selection_begins i ∙ ap (λ (o : Outcome (Begun S)). and_then o (rest_read reads of_bool Selected)) refused
 
   module _ (i : Input) {j : Input} where
-    pub selection_whole : {x : Selection S} → begun reads of_bool i ≡ Ok (how.Whole x, j) → selection reads of_bool i ≡ Ok (x, j)
-    selection_whole read = selection_begins i ∙ ap (λ (o : Outcome (Begun S)). and_then o (rest_of reads of_bool Selected)) read
+    pub selection_whole : {x : Selection S} → selection_start reads of_bool i ≡ Ok (how.Whole x, j) → selection reads of_bool i ≡ Ok (x, j)
+    selection_whole read = selection_begins i ∙ ap (λ (o : Outcome (Begun S)). and_then o (rest_read reads of_bool Selected)) read
 
-    module _ {x : Head S} (read : begun reads of_bool i ≡ Ok (how.Opens x, j)) where
-      pub selection_opens : selection reads of_bool i ≡ and_then (selection_set reads of_bool (selection reads of_bool) j) (λ ss. ending (completed x ss))
-      selection_opens = selection_begins i ∙ ap (λ (o : Outcome (Begun S)). and_then o (rest_of reads of_bool Selected)) read
+    module _ {x : Head S} (read : selection_start reads of_bool i ≡ Ok (how.Opens x, j)) where
+      pub selection_opens : selection reads of_bool i ≡ and_then (selection_set reads of_bool (selection reads of_bool) j) (λ ss. ending (selection_with x ss))
+      selection_opens = selection_begins i ∙ ap (λ (o : Outcome (Begun S)). and_then o (rest_read reads of_bool Selected)) read
 
       pub selection_inside_refused : {e : Fault} → selection_set reads of_bool (selection reads of_bool) j ≡ Err e → selection reads of_bool i ≡ Err e
-      selection_inside_refused refused = selection_opens ∙ ap (λ (o : Outcome (List (Selection S))). and_then o (λ ss. ending (completed x ss))) refused
+      selection_inside_refused refused = selection_opens ∙ ap (λ (o : Outcome (List (Selection S))). and_then o (λ ss. ending (selection_with x ss))) refused
 
   -- ---- a selection set
 

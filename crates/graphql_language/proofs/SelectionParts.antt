@@ -19,10 +19,10 @@ use Rattle.graphql_grammar.specs.Cursor.{after}
 use Rattle.graphql_grammar.proofs.Cursors.{token_yes, after_yes, after_no}
 use Rattle.graphql_grammar.proofs.Parts.{then_read, then_refused, when_yes, when_no}
 use Rattle.graphql_value_syntax.specs.ReadDirectives.{arguments, directives}
-use Rattle.graphql_language.specs.ReadSelections.{Names, field_names, type_condition}
+use Rattle.graphql_language.specs.ReadSelections.{AliasedName, field_names, type_condition}
 use Rattle.graphql_language.specs.declared.parse.selection.Begun.{Begun}
 use Rattle.graphql_language.specs.declared.parse.selection.Begun.TheVariants as how
-use Rattle.graphql_language.specs.ReadHeads.{head_of, field_with, spread_of, whole_ending, field_parts, field_head, spread_parts, inline_head, spread_begun, field_begun, begun}
+use Rattle.graphql_language.specs.ReadHeads.{head_with, field_with, spread_of, whole_ending, field_parts, field_head, spread_parts, inline_head, spread_begun, field_begun, selection_start}
 
 -- parsers that answer the same
 pub reads_same : {A : Type 0} {o p : Outcome A} (r : Result A Fault) (j : Input) → o ≡ p → Reads p r j → Reads o r j
@@ -33,7 +33,7 @@ eaten w i m is moved = token_yes (only w) (λ x. tt {0}) i is ∙ ap (λ (z : In
 
 -- ---- the names of a field
 
-abbrev behind : At (List ℕ) → Parser Names
+abbrev behind : At (List ℕ) → Parser AliasedName
 behind a = when (only k.Colon) (expect k.Colon >>= (λ u. located name >>= (λ b. pure (Some a, b)))) (pure (None, a))
 
 module _ (i : Input) where
@@ -82,17 +82,17 @@ module _ {S : Type 0} (reads : ScalarToken → Result S ParseError) (of_bool : B
     abbrev place : SourcePosition
     place = (peek i).span.start
 
-    abbrev on_args : Names → Option (At (Arguments S)) → Parser (FieldHead S)
-    on_args ns args = Dirs >>= (λ ds. pure (head_of place ns args ds))
+    abbrev on_args : AliasedName → Option (At (Arguments S)) → Parser (FieldHead S)
+    on_args ns args = Dirs >>= (λ ds. pure (head_with place ns args ds))
 
-    abbrev on_names : Names → Parser (FieldHead S)
+    abbrev on_names : AliasedName → Parser (FieldHead S)
     on_names ns = Args >>= on_args ns
 
     pub head_names_refused : {e : Fault} → field_names i ≡ Err e → field_head reads of_bool i ≡ Err e
     unfolding field_head field_parts
     head_names_refused refused = then_refused field_names on_names refused
 
-    module _ {ns : Names} {j : Input} (names_are : field_names i ≡ Ok (ns, j)) where
+    module _ {ns : AliasedName} {j : Input} (names_are : field_names i ≡ Ok (ns, j)) where
       pub head_arguments_refused : {e : Fault} → Args j ≡ Err e → field_head reads of_bool i ≡ Err e
       unfolding field_head field_parts
       head_arguments_refused refused = then_read field_names on_names names_are ∙ then_refused Args (on_args ns) refused
@@ -100,12 +100,12 @@ module _ {S : Type 0} (reads : ScalarToken → Result S ParseError) (of_bool : B
       module _ {args : Option (At (Arguments S))} {m : Input} (args_are : Args j ≡ Ok (args, m)) where
         pub head_directives_refused : {e : Fault} → Dirs m ≡ Err e → field_head reads of_bool i ≡ Err e
         unfolding field_head field_parts
-        head_directives_refused refused = then_read field_names on_names names_are ∙ then_read Args (on_args ns) args_are ∙ then_refused Dirs (λ ds. pure (head_of place ns args ds)) refused
+        head_directives_refused refused = then_read field_names on_names names_are ∙ then_read Args (on_args ns) args_are ∙ then_refused Dirs (λ ds. pure (head_with place ns args ds)) refused
 
-        pub head_read : {ds : Option (List (At (Directive S)))} {n : Input} {start : SourcePosition} → Dirs m ≡ Ok (ds, n) → start ≡ (peek i).span.start → field_head reads of_bool i ≡ Ok (head_of start ns args ds, n)
+        pub head_read : {ds : Option (List (At (Directive S)))} {n : Input} {start : SourcePosition} → Dirs m ≡ Ok (ds, n) → start ≡ (peek i).span.start → field_head reads of_bool i ≡ Ok (head_with start ns args ds, n)
         unfolding field_head field_parts
-        head_read {ds} {n} read begins = then_read field_names on_names names_are ∙ then_read Args (on_args ns) args_are ∙ then_read Dirs (λ ds. pure (head_of place ns args ds)) read
-            ∙ ap (λ (p : SourcePosition). Ok (head_of p ns args ds, n)) (sym begins)
+        head_read {ds} {n} read begins = then_read field_names on_names names_are ∙ then_read Args (on_args ns) args_are ∙ then_read Dirs (λ ds. pure (head_with place ns args ds)) read
+            ∙ ap (λ (p : SourcePosition). Ok (head_with p ns args ds, n)) (sym begins)
 
   -- ---- a spread
 
@@ -206,10 +206,10 @@ module _ {S : Type 0} (reads : ScalarToken → Result S ParseError) (of_bool : B
 
   -- ---- how a selection begins
 
-  pub begun_at_points : (i : Input) → sees (only k.Ellipsis) i ≡ true → begun reads of_bool i ≡ spread_begun reads of_bool (peek i).span.start i
-  unfolding begun
+  pub begun_at_points : (i : Input) → sees (only k.Ellipsis) i ≡ true → selection_start reads of_bool i ≡ spread_begun reads of_bool (peek i).span.start i
+  unfolding selection_start
   begun_at_points i is = when_yes (only k.Ellipsis) (λ i. spread_begun reads of_bool (peek i).span.start i) (field_begun reads of_bool) i is
 
-  pub begun_at_name : (i : Input) → sees (only k.Ellipsis) i ≡ false → begun reads of_bool i ≡ field_begun reads of_bool i
-  unfolding begun
+  pub begun_at_name : (i : Input) → sees (only k.Ellipsis) i ≡ false → selection_start reads of_bool i ≡ field_begun reads of_bool i
+  unfolding selection_start
   begun_at_name i is = when_no (only k.Ellipsis) (λ i. spread_begun reads of_bool (peek i).span.start i) (field_begun reads of_bool) i is

@@ -4,7 +4,7 @@ use Rattle.std.specs.Prelude.{◌≡◌, ◌⊎◌, Bool, Ok, Err}
 use Rattle.graphql_values.specs.declared.input_value.InputValue.{InputValue}
 use Rattle.graphql_grammar.specs.Input.{At, Input, Fault}
 use Rattle.graphql_grammar.specs.Relations.{Rel}
-use Rattle.graphql_grammar.specs.Faults.{Reading, Spelled, FirstFaultyToken, Found, Sought}
+use Rattle.graphql_grammar.specs.Faults.{Reading, Spelled, FirstFaultyToken, SoughtAlone, Sought}
 use Rattle.graphql_grammar.specs.Leaves.{LeftAt}
 use Rattle.graphql_value_syntax.specs.ReadTypes.{TypeRef}
 use Rattle.graphql_value_syntax.specs.Types.{TypeOf, no_scalar}
@@ -22,8 +22,8 @@ module _ {S A : Type 0} (reads : Reading S) (Tree : Reading S → Rel A) where
   Missing i e j = FirstFaultyToken reads Tree i e × NoneInFront i × LeftAt i e j
 
 -- which tokens spell which value, by what scalars mean
-abbrev pub Values : {S : Type 0} → (Bool → S) → Bool → Reading S → Rel (At (InputValue S))
-Values {S} of_bool is_const reading = ValueOf S reading of_bool is_const
+abbrev pub LiteralOf : {S : Type 0} → (Bool → S) → Bool → Reading S → Rel (At (InputValue S))
+LiteralOf {S} of_bool is_const reading = ValueOf S reading of_bool is_const
 
 -- no scalar stands in a type reference
 abbrev pub Types : Reading (Unit {0}) → Rel (At TypeRef)
@@ -31,8 +31,9 @@ Types reading = TypeOf
 
 -- the value that stands next; no other stands there
 abbrev pub NextValue : (S : Type 0) → Reading S → (Bool → S) → Bool → Rule (At (InputValue S))
-NextValue S reads of_bool is_const i (Ok x) j = Found reads (Values of_bool is_const) i (Ok (x, j))
-NextValue S reads of_bool is_const i (Err e) j = Missing reads (Values of_bool is_const) i e j
+NextValue S reads of_bool is_const i (Ok x) j = SoughtAlone reads (LiteralOf of_bool is_const) i
+    (Ok (x, j))
+NextValue S reads of_bool is_const i (Err e) j = Missing reads (LiteralOf of_bool is_const) i e j
 
 -- the longest type reference that stands next
 abbrev pub NextType : Rule (At TypeRef)

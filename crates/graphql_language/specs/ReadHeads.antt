@@ -20,13 +20,14 @@ use Rattle.graphql_grammar.specs.Kinds.{only, fragment_names}
 use Rattle.graphql_grammar.specs.Input.{At, Parser, ◌>>=◌, ◌>>◌, pure, peek}
 use Rattle.graphql_grammar.specs.Steps.{when, expect, name_in, located, optional}
 use Rattle.graphql_value_syntax.specs.ReadDirectives.{arguments, directives}
-use Rattle.graphql_language.specs.ReadSelections.{Names, field_names, type_condition, made_field}
+use Rattle.graphql_language.specs.ReadSelections.{AliasedName, field_names, type_condition}
+use Rattle.graphql_language.specs.ReadSelections.{made_field}
 use Rattle.graphql_language.specs.ReadSelections.{selection_set}
 
 module _ {S : Type 0} where
-  abbrev pub head_of : SourcePosition → Names → Option (At (Arguments S))
+  abbrev pub head_with : SourcePosition → AliasedName → Option (At (Arguments S))
       → Option (List (At (Directive S))) → FieldHead S
-  head_of p ns args ds =
+  head_with p ns args ds =
       record { start = p; alias = ns.0; name = ns.1; arguments = args; directives = ds }
 
   -- a field that ends there
@@ -51,9 +52,9 @@ module _ {S : Type 0} where
   spread_of x p e = s.FragmentSpread (record { item = x; span = record { start = p; end = e } })
 
   -- the selection that begins so, with this selection set, which ends there
-  abbrev pub completed : Head S → List (Selection S) → SourcePosition → Selection S
-  completed (h.Field x) ss e = field_with x (Some ss) e
-  completed (h.InlineFragment x) ss e = inline_with x ss e
+  abbrev pub selection_with : Head S → List (Selection S) → SourcePosition → Selection S
+  selection_with (h.Field x) ss e = field_with x (Some ss) e
+  selection_with (h.InlineFragment x) ss e = inline_with x ss e
 
   abbrev pub ending : (SourcePosition → Selection S) → Parser (Selection S)
   ending make = λ i. Ok (make i.end, i)
@@ -67,7 +68,7 @@ module _ {S : Type 0} (reads : ScalarToken → Result S ParseError) (of_bool : B
     ns ← field_names
     args ← optional (only k.ParenOpen) (arguments reads of_bool false)
     ds ← directives reads of_bool false
-    pure (head_of p ns args ds)
+    pure (head_with p ns args ds)
 
   unfoldable pub field_head : Parser (FieldHead S)
   field_head = λ i. field_parts (peek i).span.start i
@@ -96,12 +97,12 @@ module _ {S : Type 0} (reads : ScalarToken → Result S ParseError) (of_bool : B
     x ← field_head
     when (only k.CurlyOpen) (pure (how.Opens (h.Field x))) (whole_ending (field_with x None))
 
-  unfoldable pub begun : Parser (Begun S)
-  begun = when (only k.Ellipsis) (λ i. spread_begun (peek i).span.start i) field_begun
+  unfoldable pub selection_start : Parser (Begun S)
+  selection_start = when (only k.Ellipsis) (λ i. spread_begun (peek i).span.start i) field_begun
 
   -- the rest of a selection
-  abbrev pub rest_of : Parser (Selection S) → Begun S → Parser (Selection S)
-  rest_of inner (how.Whole x) = pure x
-  rest_of inner (how.Opens x) = do
+  abbrev pub rest_read : Parser (Selection S) → Begun S → Parser (Selection S)
+  rest_read inner (how.Whole x) = pure x
+  rest_read inner (how.Opens x) = do
     ss ← selection_set reads of_bool inner
-    ending (completed x ss)
+    ending (selection_with x ss)

@@ -17,11 +17,11 @@ use Rattle.graphql_grammar.specs.Steps.{some_between}
 use Rattle.graphql_value_syntax.specs.ReadDirectives.{arguments, directives}
 
 -- an alias and a name, or a name alone
-abbrev pub Names : Type 0
-Names = Option (At (List ℕ)) × At (List ℕ)
+abbrev pub AliasedName : Type 0
+AliasedName = Option (At (List ℕ)) × At (List ℕ)
 
 -- an alias and a name, or a name
-unfoldable pub field_names : Parser Names
+unfoldable pub field_names : Parser AliasedName
 field_names = do
   a ← located name
   when (only k.Colon) (do expect k.Colon; b ← located name; pure (Some a, b)) (pure (None, a))
@@ -47,7 +47,7 @@ module _ {S : Type 0} where
   selection_of at = made_spread at.item at
 
   -- a field of its parts
-  abbrev pub made_field : Names → Option (At (Arguments S)) → Option (List (At (Directive S)))
+  abbrev pub made_field : AliasedName → Option (At (Arguments S)) → Option (List (At (Directive S)))
       → Option (List (Selection S)) → Field S
   made_field ns args ds ss =
       record { alias = ns.0; name = ns.1; arguments = args; directives = ds; selection_set = ss }

@@ -15,7 +15,7 @@ use Rattle.graphql_grammar.specs.Input.{At, Located}
 use Rattle.graphql_grammar.specs.Steps.{name_of}
 use Rattle.graphql_grammar.specs.Relations.{span_of, TokenOf, Nothing, Then, Made, Placed, OptionOf}
 use Rattle.graphql_grammar.specs.Relations.{EitherOf}
-use Rattle.graphql_language.specs.ReadSelections.{Names}
+use Rattle.graphql_language.specs.ReadSelections.{AliasedName}
 use Rattle.graphql_value_syntax.specs.Values.{Is}
 use Rattle.graphql_value_syntax.specs.Directives.{Sign, Named, ArgumentsOf, DirectivesOf}
 
@@ -28,7 +28,7 @@ abbrev pub TypeConditionOf : List Located → At (List ℕ) → Type 0
 TypeConditionOf = Then (Sign k.On) (λ u. Named)
 
 -- Alias? Name, with Alias : Name `:`
-abbrev pub NamesOf : List Located → Names → Type 0
+abbrev pub NamesOf : List Located → AliasedName → Type 0
 NamesOf = Then Named
     (λ a. EitherOf (Then (Sign k.Colon) (λ u. Made (λ b. (Some a, b)) Named)) (Nothing (None, a)))
 

@@ -5,7 +5,7 @@ use Rattle.std.specs.Str.{chars}
 use Rattle.graphql_scalars.specs.Laws.{HasFirstBadEscape}
 use Rattle.graphql_scalars.specs.StringValue.{escape}
 use Rattle.graphql_text.specs.Grammar.{ArePieces, IsName, Piece, character, code, escaped, spellings}
-use Rattle.graphql_law_rows.specs.SampleScalars.{written, bad, told}
+use Rattle.graphql_law_rows.specs.SampleScalars.{written, bad, unknown_escape}
 
 pub id_is_a_name : IsName (codes "_id")
 id_is_a_name = (refl, (refl, (refl, tt)))
@@ -27,7 +27,7 @@ bad_characters : chars bad ≡ bad
 unfolding chars
 bad_characters = refl
 
-pub q_is_no_escape : HasFirstBadEscape (chars bad) told
+pub q_is_no_escape : HasFirstBadEscape (chars bad) unknown_escape
 unfolding escape encode
 q_is_no_escape =
     record { front = escaped 110 ∷ []; behind = 113 ∷ []; have = (refl, tt); is = bad_characters; bad = refl }

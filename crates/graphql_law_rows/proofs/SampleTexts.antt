@@ -18,7 +18,7 @@ use Rattle.graphql_language.specs.ReadDocuments.{query_of}
 use Rattle.graphql_language.specs.Selections.{NamesOf, SelectionOf, SetOf, no_set, of_field, of_parts, of_set, one_selection}
 use Rattle.graphql_language.specs.Texts.{Documents}
 use Rattle.graphql_law_rows.specs.SampleTexts.{blank, fault, field_a, nothing, tree}
-use Rattle.graphql_law_rows.specs.SampleTokens.{at, before_end, closed, located, named, opened, span}
+use Rattle.graphql_law_rows.specs.SampleTokens.{at, before_end, closed, token_at, name_token, opened, span}
 use Rattle.graphql_law_rows.proofs.SampleTokens.{stands}
 use lib.Utf8.{encode}
 
@@ -26,13 +26,13 @@ use lib.Utf8.{encode}
 
 -- the end alone
 abbrev pub only_end : SourcePosition → List Located
-only_end place = located EndOfFile place place ∷ []
+only_end place = token_at EndOfFile place place ∷ []
 
 pub nothing_is_read : Tokens nothing (only_end (at 0 0 0))
 unfolding cut token ahead name_from between encode
 nothing_is_read = record {
   front = [];
-  last = located EndOfFile (at 0 0 0) (at 0 0 0);
+  last = token_at EndOfFile (at 0 0 0) (at 0 0 0);
   is = refl;
   before = stands (at 0 0 0) [];
   after = stands (at 0 0 0) [];
@@ -45,7 +45,7 @@ pub blank_is_read : Tokens blank (only_end (at 1 0 1))
 unfolding cut token ahead name_from between encode
 blank_is_read = record {
   front = [];
-  last = located EndOfFile (at 1 0 1) (at 1 0 1);
+  last = token_at EndOfFile (at 1 0 1) (at 1 0 1);
   is = refl;
   before = stands (at 0 0 0) (32 ∷ []);
   after = stands (at 1 0 1) [];
@@ -57,21 +57,21 @@ blank_is_read = record {
 -- ---- trees
 
 -- `a`, without an alias
-a_is_named : Named (named ∷ []) (record { item = codes "a"; span = named.span })
+a_is_named : Named (name_token ∷ []) (record { item = codes "a"; span = name_token.span })
 a_is_named = record {
-  head = named;
+  head = name_token;
   tail = [];
   is = refl;
-  spells = record { at = named; alone = refl; of_kind = refl; means = refl };
+  spells = record { at = name_token; alone = refl; of_kind = refl; means = refl };
   stands = refl;
 }
 
-names : NamesOf (named ∷ []) (None, record { item = codes "a"; span = named.span })
+names : NamesOf (name_token ∷ []) (None, record { item = codes "a"; span = name_token.span })
 names = record {
-  front = named ∷ [];
+  front = name_token ∷ [];
   back = [];
   is = refl;
-  part = record { item = codes "a"; span = named.span };
+  part = record { item = codes "a"; span = name_token.span };
   begins = a_is_named;
   ends = inr (record { empty = refl; is = refl });
 }
@@ -80,13 +80,13 @@ module _ {S : Type 0} (reads : ScalarToken → Result S ParseError) (of_bool : B
   no_directives : DirectivesOf S reads of_bool false [] None
   no_directives = record { part = []; spells = none_more; is = refl }
 
-  a_is_selected : SelectionOf S reads of_bool (named ∷ []) field_a
+  a_is_selected : SelectionOf S reads of_bool (name_token ∷ []) field_a
   a_is_selected =
-      of_field (named ∷ []) _ (record { head = named; tail = []; is = refl; stands = refl })
-      (of_parts (named ∷ []) [] [] [] _ names absent no_directives no_set)
+      of_field (name_token ∷ []) _ (record { head = name_token; tail = []; is = refl; stands = refl })
+      (of_parts (name_token ∷ []) [] [] [] _ names absent no_directives no_set)
 
   its_set : SetOf S reads of_bool before_end (field_a ∷ [])
-  its_set = of_set opened closed (named ∷ []) (field_a ∷ []) refl (one_selection (named ∷ []) field_a a_is_selected) refl
+  its_set = of_set opened closed (name_token ∷ []) (field_a ∷ []) refl (one_selection (name_token ∷ []) field_a a_is_selected) refl
 
   pub tokens_spell : DocumentOf S reads of_bool before_end tree
   tokens_spell = record {
@@ -98,7 +98,7 @@ module _ {S : Type 0} (reads : ScalarToken → Result S ParseError) (of_bool : B
       part = record { item = query_of (field_a ∷ []); span = span (at 0 0 0) (at 4 1 2) };
       spells = record {
         head = opened;
-        tail = named ∷ closed ∷ [];
+        tail = name_token ∷ closed ∷ [];
         is = refl;
         spells = inl (record { part = field_a ∷ []; spells = its_set; is = refl });
         stands = refl;

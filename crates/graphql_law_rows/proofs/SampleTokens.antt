@@ -10,7 +10,7 @@ use Rattle.graphql_text.specs.declared.token.LexerError.{LexerError}
 use Rattle.graphql_text.specs.declared.token.LexerError.TheVariants.{UnknownCharacter, Memory}
 use Rattle.graphql_lexer.specs.Laws.{GivesInTurn, HadMemory}
 use Rattle.graphql_text.specs.Reading.{start_of}
-use Rattle.graphql_law_rows.specs.SampleTokens.{answers, at, before_end, broken, done, ended, fault, located, one_line, opened, others, tokens, two_lines}
+use Rattle.graphql_law_rows.specs.SampleTokens.{answers, at, before_end, broken, done, ended, fault, token_at, one_line, opened, others, tokens, two_lines}
 
 abbrev pub stands : SourcePosition → List ℕ → Place
 stands position rest = record { at = position; rest = rest }
@@ -41,9 +41,9 @@ pub one_line_is_read : Tokens one_line others
 unfolding cut token ahead name_from between encode
 one_line_is_read = record {
   front =
-      located CurlyOpen (at 0 0 0) (at 1 0 1) ∷ located (Name (codes "a")) (at 1 0 1) (at 2 0 2)
-      ∷ located CurlyClose (at 2 0 2) (at 3 0 3) ∷ [];
-  last = located EndOfFile (at 3 0 3) (at 3 0 3);
+      token_at CurlyOpen (at 0 0 0) (at 1 0 1) ∷ token_at (Name (codes "a")) (at 1 0 1) (at 2 0 2)
+      ∷ token_at CurlyClose (at 2 0 2) (at 3 0 3) ∷ [];
+  last = token_at EndOfFile (at 3 0 3) (at 3 0 3);
   is = refl;
   before = stands (at 3 0 3) [];
   after = stands (at 3 0 3) [];

@@ -15,10 +15,10 @@ use Rattle.graphql_output_values.specs.declared.value.Value.TheVariants as outpu
 use Rattle.graphql_values.proofs.InputValueEquations as inputs
 use Rattle.graphql_values.specs.InputValues.{Pair}
 use Rattle.graphql_values.specs.SameValue.{SameValue, UniqueNames, same_scalar, same_variable, same_list, more_items, no_items}
-use Rattle.graphql_values.specs.Variables.{constant_of, variables_in}
+use Rattle.graphql_values.specs.Variables.{constant_of, names_of_variables}
 use Rattle.graphql_values.specs.declared.input_value.InputValue.{InputValue}
 use Rattle.graphql_values.specs.declared.input_value.InputValue.TheVariants as input
-use Rattle.graphql_law_rows.specs.SampleValues.{inner_list, object, turned, put, variables, constants, fields, turned_fields, x_at, y_at, seven, nothing}
+use Rattle.graphql_law_rows.specs.SampleValues.{inner_list, sample_object, turned, at_index, variables, constants, sample_fields, turned_fields, x_at, y_at, seven, nothing}
 
 -- ---- objects
 
@@ -28,7 +28,7 @@ none_distinct = IsDistinct-from_apart bytes_eq [] (λ i j d before within. absur
 one_distinct : (key : List ℕ) → IsDistinct bytes_eq (key ∷ [])
 one_distinct key = IsDistinct-cons bytes_eq key [] tt none_distinct
 
-pub object_distinct : HasDistinctKeys object.fields
+pub object_distinct : HasDistinctKeys sample_object.fields
 object_distinct = IsDistinct-cons bytes_eq (codes "b") (codes "a" ∷ []) (refl, tt) (one_distinct (codes "a"))
 
 pub turned_distinct : HasDistinctKeys turned.fields
@@ -54,7 +54,7 @@ null_distinct = subst (All (IsDistinct bytes_eq)) (sym keys) (All-from_recursion
     keys : keys_in {S = ℕ} output.Null ≡ []
     keys = simp outputs.value_folds refl
 
-pub object_distinct_throughout : ObjectHasDistinctKeysThroughout object
+pub object_distinct_throughout : ObjectHasDistinctKeysThroughout sample_object
 object_distinct_throughout = (
   object_distinct,
   All-from_recursion HasDistinctKeysThroughout (output.Scalar 1 ∷ inner_list ∷ []) (scalar_distinct, (list_distinct, tt)),
@@ -76,7 +76,7 @@ x_is_not_y e = false≢true ((bytes_eq-Decides (codes "x") (codes "y")).1 e)
 one_unique : (p : Pair (InputValue ℕ)) → UniqueNames (p ∷ [])
 one_unique p i j d before within = absurd (omega (arith, before, within))
 
-pub fields_unique : UniqueNames fields
+pub fields_unique : UniqueNames sample_fields
 fields_unique =
     AllPairs-cons Differ (x_at 1) (y_at 7 ∷ []) (All-from_recursion (Differ (x_at 1)) (y_at 7 ∷ []) (x_is_not_y, tt))
     (one_unique (y_at 7))
@@ -98,20 +98,20 @@ same_ones = same_scalar 1 1 refl
 
 same_variables : SameValue ℕ nat_eq variables variables
 same_variables =
-    same_list (put 0 (input.Variable (codes "v")) ∷ []) (put 0 (input.Variable (codes "v")) ∷ [])
-    (more_items (put 0 (input.Variable (codes "v"))) (put 0 (input.Variable (codes "v"))) [] []
+    same_list (at_index 0 (input.Variable (codes "v")) ∷ []) (at_index 0 (input.Variable (codes "v")) ∷ [])
+    (more_items (at_index 0 (input.Variable (codes "v"))) (at_index 0 (input.Variable (codes "v"))) [] []
     (same_variable (codes "v")) no_items)
 
-pub each_has_its_like : (length fields ≡ length turned_fields) × All HasLike fields
+pub each_has_its_like : (length sample_fields ≡ length turned_fields) × All HasLike sample_fields
 each_has_its_like = (
   refl,
-  All-from_recursion HasLike fields (
+  All-from_recursion HasLike sample_fields (
     (1, x_at 10, omega arith, refl, (refl, same_ones)),
     ((0, y_at 1, omega arith, refl, (refl, same_variables)), tt),
   ),
 )
 
-pub no_variable_in_constants : variables_in constants ≡ []
+pub no_variable_in_constants : names_of_variables constants ≡ []
 no_variable_in_constants = simp inputs.value_folds refl
 
 pub seven_is_put : constant_of seven variables ≡ Some constants
@@ -120,5 +120,5 @@ seven_is_put = simp inputs.value_folds refl
 pub nothing_is_put : constant_of nothing variables ≡ None
 nothing_is_put = simp inputs.value_folds refl
 
-pub no_variable_in_seven : variables_in {S = ℕ} (input.Scalar 7) ≡ []
+pub no_variable_in_seven : names_of_variables {S = ℕ} (input.Scalar 7) ≡ []
 no_variable_in_seven = simp inputs.value_folds refl

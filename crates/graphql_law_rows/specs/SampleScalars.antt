@@ -18,8 +18,8 @@ abbrev pub bad : List ℕ
 bad = 92 ∷ 110 ∷ 92 ∷ 113 ∷ []
 
 -- `\q` is no escape
-abbrev pub told : ParseError
-told = LexerError (UnknownEscapeSequence (92 ∷ 113 ∷ []))
+abbrev pub unknown_escape : ParseError
+unknown_escape = LexerError (UnknownEscapeSequence (92 ∷ 113 ∷ []))
 
 abbrev pub no_integer : CheckError
 no_integer = Message (codes "no integer")

@@ -7,7 +7,7 @@ use Rattle.graphql_tree.specs.declared.document.Definition.TheVariants as defini
 use Rattle.graphql_tree.specs.declared.selection.Selection.{Selection}
 use Rattle.graphql_tree.specs.declared.selection.Selection.TheVariants as selection
 use Rattle.graphql_language.specs.ReadDocuments.{query_of}
-use Rattle.graphql_law_rows.specs.SampleTokens.{at, named, span}
+use Rattle.graphql_law_rows.specs.SampleTokens.{at, name_token, span}
 
 -- the query of one field
 module _ {S : Type 0} where
@@ -15,12 +15,12 @@ module _ {S : Type 0} where
   field_a = selection.Field (record {
     item = record {
       alias = None;
-      name = record { item = codes "a"; span = named.span };
+      name = record { item = codes "a"; span = name_token.span };
       arguments = None;
       directives = None;
       selection_set = None;
     };
-    span = named.span;
+    span = name_token.span;
   })
 
   abbrev pub tree : List (Definition S)

@@ -19,27 +19,27 @@ inner = record { fields = (codes "c", output.Null) ∷ [] }
 abbrev pub inner_list : Value ℕ
 inner_list = output.List (output.Object inner ∷ [])
 
-abbrev pub one : Pair (Value ℕ)
-one = (codes "b", output.Scalar 1)
+abbrev pub field_b : Pair (Value ℕ)
+field_b = (codes "b", output.Scalar 1)
 
-abbrev pub listed : Pair (Value ℕ)
-listed = (codes "a", inner_list)
+abbrev pub field_a : Pair (Value ℕ)
+field_a = (codes "a", inner_list)
 
 -- `{"b":1,"a":[{"c":null}]}`, and its fields the other way round
-abbrev pub object : Object ℕ
-object = record { fields = one ∷ listed ∷ [] }
+abbrev pub sample_object : Object ℕ
+sample_object = record { fields = field_b ∷ field_a ∷ [] }
 
 abbrev pub turned : Object ℕ
-turned = record { fields = listed ∷ one ∷ [] }
+turned = record { fields = field_a ∷ field_b ∷ [] }
 
 -- pairs of which two have one key
 abbrev pub pairs : List (Pair (Value ℕ))
-pairs = one ∷ listed ∷ (codes "b", output.Null) ∷ []
+pairs = field_b ∷ field_a ∷ (codes "b", output.Null) ∷ []
 
 -- ---- input values
 
-abbrev pub put : {A : Type 0} → ℕ → A → Placed A
-put n x = record {
+abbrev pub at_index : {A : Type 0} → ℕ → A → Placed A
+at_index n x = record {
   item = x;
   span = record {
     start = record { index = n; line = 0; column = n };
@@ -49,21 +49,21 @@ put n x = record {
 
 -- `[$v]` and `[7]`
 abbrev pub variables : InputValue ℕ
-variables = input.List (put 0 (input.Variable (codes "v")) ∷ [])
+variables = input.List (at_index 0 (input.Variable (codes "v")) ∷ [])
 
 abbrev pub constants : InputValue ℕ
-constants = input.List (put 0 (input.Scalar 7) ∷ [])
+constants = input.List (at_index 0 (input.Scalar 7) ∷ [])
 
 -- `x: 1` and `y: [$v]`
 abbrev pub x_at : ℕ → input_values.Pair (InputValue ℕ)
-x_at n = (put n (codes "x"), put (n + 3) (input.Scalar 1))
+x_at n = (at_index n (codes "x"), at_index (n + 3) (input.Scalar 1))
 
 abbrev pub y_at : ℕ → input_values.Pair (InputValue ℕ)
-y_at n = (put n (codes "y"), put (n + 3) variables)
+y_at n = (at_index n (codes "y"), at_index (n + 3) variables)
 
 -- `{x: 1, y: [$v]}`, and the two the other way round
-abbrev pub fields : List (input_values.Pair (InputValue ℕ))
-fields = x_at 1 ∷ y_at 7 ∷ []
+abbrev pub sample_fields : List (input_values.Pair (InputValue ℕ))
+sample_fields = x_at 1 ∷ y_at 7 ∷ []
 
 abbrev pub turned_fields : List (input_values.Pair (InputValue ℕ))
 turned_fields = y_at 1 ∷ x_at 10 ∷ []

@@ -8,5 +8,5 @@ abbrev pub without_null : List TypeModifier
 without_null = modifier.NonNull ∷ modifier.List None ∷ modifier.NonNull ∷ []
 
 -- of `[T]`
-abbrev pub with_null : List TypeModifier
-with_null = modifier.List None ∷ []
+abbrev pub list_with_null : List TypeModifier
+list_with_null = modifier.List None ∷ []

@@ -38,7 +38,7 @@ pub fn name_is_a_token()
 pub fn strings_are_read_by_their_pieces()
     ensures read { reads (token.String spec.written)
         ≡ Ok (scalar.String (encode_utf8_all spec.meant)) }
-    ensures refused { reads (token.String spec.bad) ≡ Err spec.told }
+    ensures refused { reads (token.String spec.bad) ≡ Err spec.unknown_escape }
 {
     scalar_laws::strings_mean_their_pieces();
     scalar_laws::first_bad_escape_is_told();

@@ -91,8 +91,8 @@ const WITH_NULL: &[TypeModifier] = &[TypeModifier::List(None)];
 
 /// By their wraps, `[T!]!` can be a subtype of `[T]`, and not the other way round.
 pub fn list_without_null_is_a_list()
-    ensures allowed { IsWrappedSubtype wraps.without_null wraps.with_null }
-    ensures other_way { IsWrappedSubtype wraps.with_null wraps.without_null → ⊥ }
+    ensures allowed { IsWrappedSubtype wraps.without_null wraps.list_with_null }
+    ensures other_way { IsWrappedSubtype wraps.list_with_null wraps.without_null → ⊥ }
 {
     wrapped_subtype_decides(WITHOUT_NULL, WITH_NULL);
     wrapped_subtype_decides(WITH_NULL, WITHOUT_NULL);

@@ -4,7 +4,7 @@ ghost use Rattle.std.specs.Prelude.{◌≡◌, ◌<◌, ◌≤◌, ◌+◌, ◌�
 ghost use Rattle.std.specs.Prelude.{false, encode_utf8_all, length, map};
 ghost use Rattle.graphql_text.specs.Grammar.{IsBroken, IsDivided, Spells};
 ghost use Rattle.graphql_lexer.specs.Laws.{Every, InOrder, placed, slice_of};
-ghost use Rattle.graphql_lexer.specs.OneByOne.{Answer, GivesNext};
+ghost use Rattle.graphql_lexer.specs.OneByOne.{TokenOrRefusal, GivesNext};
 ghost use Rattle.graphql_text.specs.Position.{position_at};
 ghost use Rattle.graphql_text.specs.Reading.{Refusal};
 ghost use Rattle.graphql_text.specs.Spelling.{source_of};
@@ -72,7 +72,8 @@ pub fn question_mark_is_the_fault()
         × (fault : Refusal)
         × (spec.answers ≡ map Ok front ++ (Err fault) ∷ [])
         × IsBroken spec.broken fault) }
-    ensures nothing_more { (answer : Answer) → GivesNext spec.done (Some answer) spec.done → ⊥ }
+    ensures nothing_more { (answer : TokenOrRefusal)
+        → GivesNext spec.done (Some answer) spec.done → ⊥ }
 {
     laws::reading_is_break();
     laws::one_fault();

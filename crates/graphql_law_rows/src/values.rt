@@ -20,8 +20,9 @@ use graphql_values::laws as input_laws;
 
 /// An object equals the one of its fields in another order, in which each of its fields stands.
 pub fn object_equals_its_turn()
-    ensures equals { fields_equal (equal nat_eq) spec.object.fields spec.turned.fields ≡ true }
-    ensures stand_in { StandIn (equal nat_eq) spec.object.fields spec.turned.fields }
+    ensures equals { fields_equal (equal nat_eq) spec.sample_object.fields spec.turned.fields
+        ≡ true }
+    ensures stand_in { StandIn (equal nat_eq) spec.sample_object.fields spec.turned.fields }
 {
     output_laws::equal_in_any_order::<u8>();
     output_laws::equal_by_fields::<u8>();
@@ -31,9 +32,10 @@ pub fn object_equals_its_turn()
 /// is written; and so has one that is made of pairs of which two have one key.
 pub fn objects_keep_distinct_keys()
     ensures inner { HasDistinctKeysThroughout (output.Object spec.inner) }
-    ensures under { IfSome (field_value spec.object.fields (codes "a")) HasDistinctKeysThroughout }
+    ensures under { IfSome (field_value spec.sample_object.fields (codes "a"))
+        HasDistinctKeysThroughout }
     ensures written { let fields =
-        set_value (bytes_eq (codes "b")) spec.object.fields spec.inner_list in
+        set_value (bytes_eq (codes "b")) spec.sample_object.fields spec.inner_list in
         ObjectHasDistinctKeysThroughout (record { fields = fields }) }
     ensures made { ObjectHasDistinctKeysThroughout (record { fields = with_fields [] spec.pairs }) }
 {
@@ -46,10 +48,12 @@ pub fn objects_keep_distinct_keys()
 /// An input object is the same as the one of its fields in another order, and so the other way
 /// round.
 pub fn input_object_is_its_turn()
-    ensures same { SameValue _ nat_eq (input.Object spec.fields) (input.Object spec.turned_fields) }
+    ensures same { SameValue _ nat_eq (input.Object spec.sample_fields)
+        (input.Object spec.turned_fields) }
     ensures either_way { SameValue _ nat_eq (input.Object spec.turned_fields)
-        (input.Object spec.fields) }
-    ensures by_a_third { SameValue _ nat_eq (input.Object spec.fields) (input.Object spec.fields) }
+        (input.Object spec.sample_fields) }
+    ensures by_a_third { SameValue _ nat_eq (input.Object spec.sample_fields)
+        (input.Object spec.sample_fields) }
 {
     input_laws::same_objects_have_the_same_fields::<u8>();
     input_laws::same_value_is_an_equivalence::<u8>();

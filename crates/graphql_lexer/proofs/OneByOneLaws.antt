@@ -3,12 +3,12 @@ use Rattle.std.proofs.Common.{◌≡◌, ◌⊎◌, inl, inr, Bool, true, false,
 use Rattle.graphql_text.specs.Reading.{Place, Refusal, start_of}
 use Rattle.graphql_text.specs.Tokens.{Located, cut, is_end, Runs, Tokens, FirstFault}
 use Rattle.graphql_text.specs.Grammar.{IsDivided, IsBroken}
-use Rattle.graphql_lexer.specs.OneByOne.{Remains, Answer}
+use Rattle.graphql_lexer.specs.OneByOne.{Remains, TokenOrRefusal}
 use Rattle.graphql_lexer.specs.Laws.{GivesInTurn, HadMemory, SameOneByOne}
 use Rattle.graphql_lexer.proofs.SoundTexts.{tokens_divide, fault_breaks}
 
 -- all tokens from a place on
-record GivesAll (p : Place) (answers : List Answer) : Type 0 where
+record GivesAll (p : Place) (answers : List TokenOrRefusal) : Type 0 where
   pub front : List Located
   pub last : Located
   pub are : answers ≡ map Ok (front ++ last ∷ [])
@@ -19,7 +19,7 @@ record GivesAll (p : Place) (answers : List Answer) : Type 0 where
   pub end : is_end last.item ≡ true
 
 -- tokens from a place on, and then a fault
-record GivesFault (p : Place) (answers : List Answer) : Type 0 where
+record GivesFault (p : Place) (answers : List TokenOrRefusal) : Type 0 where
   pub front : List Located
   pub fault : Refusal
   pub are : answers ≡ map Ok front ++ (Err fault) ∷ []
@@ -28,12 +28,12 @@ record GivesFault (p : Place) (answers : List Answer) : Type 0 where
   pub refuses : cut before ≡ Err fault
 
 -- nothing comes behind the last answer
-last_is_last : (s t : Remains) (others : List Answer) → s.is_done ≡ true → GivesInTurn s others t → others ≡ []
+last_is_last : (s t : Remains) (others : List TokenOrRefusal) → s.is_done ≡ true → GivesInTurn s others t → others ≡ []
 last_is_last s t [] h a = refl
 last_is_last s t ((Ok x) ∷ others) h (m, g, a) = let z = g.0 in absurd (cc)
 last_is_last s t ((Err e) ∷ others) h (m, g, a) = let z = g.0 in absurd (cc)
 
-given : (s t : Remains) (answers : List Answer) → s.is_done ≡ false → GivesInTurn s answers t → t.is_done ≡ true → HadMemory answers → GivesAll s.place answers ⊎ GivesFault s.place answers
+given : (s t : Remains) (answers : List TokenOrRefusal) → s.is_done ≡ false → GivesInTurn s answers t → t.is_done ≡ true → HadMemory answers → GivesAll s.place answers ⊎ GivesFault s.place answers
 given s t [] h a d m = let e : s.is_done ≡ t.is_done = ap (λ z. z.is_done) a in absurd (cc)
 given s t ((Ok x) ∷ others) h (n, g, a) d m = on (is_end x.item) refl (λ k. given n t others k a d m)
   where

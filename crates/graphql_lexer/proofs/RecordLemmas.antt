@@ -17,7 +17,7 @@ use Rattle.graphql_text.specs.Reading.{Place, Refusal, IsTail, ◌>>=◌}
 use Rattle.graphql_text.specs.Spelling.{source_of}
 use Rattle.graphql_text.specs.Tokens.{token, cut, ahead}
 use Rattle.graphql_text.specs.Grammar.{Spells, IsFault}
-use Rattle.graphql_lexer.specs.Records.{kind_of, unquoted, token_from, text_at, span_of, token_of, IsQuoted, Fits}
+use Rattle.graphql_lexer.specs.Records.{kind_of, unquoted, token_from, text_at, span_of, token_of, IsQuoted, StandsIn}
 use Rattle.graphql_lexer.proofs.Leading.{advance}
 use Rattle.graphql_lexer.proofs.LineFeeds.{line_feeds, spelled_in_a_line}
 use Rattle.graphql_lexer.proofs.TextLemmas.{text_split}
@@ -104,7 +104,7 @@ quoted t.Pipe e = absurd (cc)
 quoted t.EndOfFile e = absurd (cc)
 
 -- what is cut as a string stands in quotes
-pub quoted_at : (source : List ℕ) (r : TokenRecord) → Fits source r → r.kind ≡ k.String → IsQuoted (text_at source r)
+pub quoted_at : (source : List ℕ) (r : TokenRecord) → StandsIn source r → r.kind ≡ k.String → IsQuoted (text_at source r)
 quoted_at source r fits e =
     let is = fits.spells ∙ ap (λ (kind : TokenKind). source_of (token_from kind (text_at source r))) e in
     subst IsQuoted (sym is) (quoted (token_from k.String (text_at source r)) refl)
@@ -199,7 +199,7 @@ module _ (source start rest : List ℕ) (at : SourcePosition) (q : SourcePositio
   unfolding token_of
   record_is = λ i. record { item = item_is i; span = record { start = start_is i; end = end_is i } }
 
-  pub record_fits : q.index < 2 ^ 64 → at.column ≤ at.index → Fits source r
+  pub record_fits : q.index < 2 ^ 64 → at.column ≤ at.index → StandsIn source r
   record_fits room column =
       record {
         begins = begins_at source start rest own parts r.offset r.len offset_is len_is ut;

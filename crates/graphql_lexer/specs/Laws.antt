@@ -9,7 +9,7 @@ use Rattle.graphql_text.specs.Reading.{Refusal, start_of}
 use Rattle.graphql_text.specs.Spelling.{source_of}
 use Rattle.graphql_text.specs.Tokens.{Located, is_end, Tokens, FirstFault}
 use Rattle.graphql_text.specs.Grammar.{Spells, IsDivided, IsBroken}
-use Rattle.graphql_lexer.specs.OneByOne.{Remains, Answer, GivesNext}
+use Rattle.graphql_lexer.specs.OneByOne.{Remains, TokenOrRefusal, GivesNext}
 
 -- ---- the reading of a text and the grammar are one
 
@@ -112,19 +112,19 @@ DifferInPlaces =
 -- ---- one by one
 
 -- a lexer gives these answers one after another, from one state to another
-abbrev pub GivesInTurn : Remains → List Answer → Remains → Type 0
+abbrev pub GivesInTurn : Remains → List TokenOrRefusal → Remains → Type 0
 GivesInTurn s [] t = s ≡ t
 GivesInTurn s (a ∷ others) t = (m : Remains) × GivesNext s (Some a) m × GivesInTurn m others t
 
 -- no answer tells that memory ran out
-abbrev pub HadMemory : List Answer → Type 0
+abbrev pub HadMemory : List TokenOrRefusal → Type 0
 HadMemory [] = Unit {0}
 HadMemory ((Ok x) ∷ others) = HadMemory others
 HadMemory ((Err e) ∷ others) = (e.item ≡ Memory → ⊥) × HadMemory others
 
 -- a lexer that was asked until it had done gave all tokens, or some tokens and the first fault
 abbrev pub SameOneByOne : Type 0
-SameOneByOne = (text : List ℕ) (answers : List Answer) (t : Remains)
+SameOneByOne = (text : List ℕ) (answers : List TokenOrRefusal) (t : Remains)
     → GivesInTurn (record { place = start_of text; is_done = false }) answers t → t.is_done ≡ true
     → HadMemory answers →
     ((ts : List Located) × (answers ≡ map Ok ts) × IsDivided text ts)
@@ -135,4 +135,4 @@ SameOneByOne = (text : List ℕ) (answers : List Answer) (t : Remains)
 
 -- a lexer that has done gives nothing more
 abbrev pub NothingMore : Type 0
-NothingMore = (s t : Remains) (a : Answer) → s.is_done ≡ true → GivesNext s (Some a) t → ⊥
+NothingMore = (s t : Remains) (a : TokenOrRefusal) → s.is_done ≡ true → GivesNext s (Some a) t → ⊥

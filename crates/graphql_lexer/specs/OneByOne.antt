@@ -10,11 +10,11 @@ pub record Remains : Type 0 where
   pub place : Place
   pub is_done : Bool
 
-abbrev pub Answer : Type 0
-Answer = Result Located Refusal
+abbrev pub TokenOrRefusal : Type 0
+TokenOrRefusal = Result Located Refusal
 
 -- what a lexer gives next: the next token, or what refuses it; nothing after the end or a refusal
-abbrev pub GivesNext : Remains → Option Answer → Remains → Type 0
+abbrev pub GivesNext : Remains → Option TokenOrRefusal → Remains → Type 0
 GivesNext s None t = (s.is_done ≡ true) × (t ≡ s)
 GivesNext s (Some (Ok x)) t =
     (s.is_done ≡ false) × (cut s.place ≡ Ok (x, t.place)) × (t.is_done ≡ is_end x.item)

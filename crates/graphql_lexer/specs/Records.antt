@@ -95,7 +95,7 @@ token_of source r = record { item = token_from r.kind (text_at source r); span =
 
 -- a record's token can be cut from the text, its end can be told, and what is cut is its source
 -- text
-pub record Fits (source : List ℕ) (r : TokenRecord) : Type 0 where
+pub record StandsIn (source : List ℕ) (r : TokenRecord) : Type 0 where
   pub begins : IsCharBoundary source r.offset
   pub ends : IsCharBoundary source (r.offset + r.len)
   pub room : HasRoom r
@@ -103,15 +103,15 @@ pub record Fits (source : List ℕ) (r : TokenRecord) : Type 0 where
 
 -- ---- those of a text
 
-abbrev pub tokens_of : List ℕ → List TokenRecord → List Located
-tokens_of source rs = map (token_of source) rs
+abbrev pub tokens_in : List ℕ → List TokenRecord → List Located
+tokens_in source rs = map (token_of source) rs
 
-abbrev pub AllFit : List ℕ → List TokenRecord → Type 0
-AllFit source rs = All (Fits source) rs
+abbrev pub AllStand : List ℕ → List TokenRecord → Type 0
+AllStand source rs = All (StandsIn source) rs
 
 -- each fits the text, and their tokens stand one behind the other
 abbrev pub AreRecords : List ℕ → List TokenRecord → Type 0
-AreRecords source rs = AllFit source rs × Rises 0 (tokens_of source rs)
+AreRecords source rs = AllStand source rs × Rises 0 (tokens_in source rs)
 
 -- the tokens of a text before its end, and where that is
 pub record Recorded : Type 0 where

@@ -6,7 +6,7 @@ ghost use Rattle.graphql_text.specs.Memory.{MeetsBy, UnlessMemory};
 ghost use Rattle.graphql_text.specs.Reading.{place_of, IsMemory, IsTail};
 ghost use Rattle.graphql_text.specs.Grammar.{IsDivided, IsBroken};
 ghost use Rattle.graphql_text.specs.Tokens as spec;
-ghost use Rattle.graphql_lexer.specs.Records.{AllFit, Fits, token_of, tokens_of};
+ghost use Rattle.graphql_lexer.specs.Records.{AllStand, StandsIn, token_of, tokens_in};
 
 use crate::token_record::{TokenKind, TokenRecord, ends_text, kind_of};
 use crate::tokens::{ahead, token};
@@ -47,7 +47,7 @@ fn cut_record<'a>(
     requires { IsTail (chars source.now) (chars cursor.rest.now) }
     ensures token { MeetsBy (λ r. (token_of source.now r.0, place_of r.1)) IsMemory result
         (spec.cut (place_of cursor.entry)) }
-    ensures fits { IfOk result (λ r. Fits source.now r.0) }
+    ensures fits { IfOk result (λ r. StandsIn source.now r.0) }
     ensures tail { IfOk result (λ r. IsTail (chars source.now) (chars r.1.rest.now)) }
 {
     let start = ahead(cursor);
@@ -68,8 +68,8 @@ pub(crate) fn record_all(
     source: &str,
 ) -> Result<Vec<TokenRecord>, Spanning<LexerError>>
     ensures tokens { IfOk result
-        (λ v. IsDivided (chars source.now) (tokens_of source.now v.items)) }
-    ensures fit { IfOk result (λ v. AllFit source.now v.items) }
+        (λ v. IsDivided (chars source.now) (tokens_in source.now v.items)) }
+    ensures fit { IfOk result (λ v. AllStand source.now v.items) }
     ensures fault { IfErr result (λ e. UnlessMemory IsMemory e (IsBroken (chars source.now) e)) }
 {
     let mut cursor = Cursor::new(source);

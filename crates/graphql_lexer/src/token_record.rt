@@ -4,7 +4,7 @@ ghost use Rattle.std.specs.Prelude.{◌≡◌, ℕ, List};
 ghost use Rattle.graphql_lexer.specs.declared.token_record.TokenKind.TheVariants as kinds;
 ghost use Rattle.graphql_lexer.specs.Records as spec;
 ghost use Rattle.graphql_text.specs.Tokens.{is_end};
-ghost use Rattle.graphql_lexer.specs.Records.{Fits, text_at, token_from, unquoted};
+ghost use Rattle.graphql_lexer.specs.Records.{StandsIn, text_at, token_from, unquoted};
 ghost use Rattle.graphql_lexer.specs.Within.{with_text};
 
 use crate::token_text::TokenText;
@@ -137,7 +137,7 @@ fn token_of_kind<'a>(kind: TokenKind, text: &'a str) -> Token<'a>
 impl TokenRecord {
     /// The source text of the token: a string's with its quotes, and escapes as they are written.
     fn text<'a>(self, source: &'a str) -> &'a str
-        requires { Fits source.now self }
+        requires { StandsIn source.now self }
         ensures { result.now ≡ text_at source.now self }
     {
         &source[self.offset..self.offset + self.len]
@@ -145,7 +145,7 @@ impl TokenRecord {
 
     /// The token, cut from the source. Nothing is counted.
     pub fn item<'a>(self, source: &'a str) -> Token<'a>
-        requires { Fits source.now self }
+        requires { StandsIn source.now self }
         ensures { result ≡ token_from self.kind (text_at source.now self) }
     {
         token_of_kind(self.kind, self.text(source))
@@ -177,7 +177,7 @@ impl TokenRecord {
     /// The token at its place, cut from the source.
     #[tactic(auto, unfolding(crate::specs::Records::token_of))]
     pub fn token<'a>(self, source: &'a str) -> Spanning<Token<'a>>
-        requires { Fits source.now self }
+        requires { StandsIn source.now self }
         ensures { result ≡ spec.token_of source.now self }
     {
         Spanning::new(self.span(), self.item(source))
@@ -186,7 +186,7 @@ impl TokenRecord {
     /// The token at its place, with its source text.
     #[tactic(auto, unfolding(crate::specs::Records::token_of))]
     pub fn with_text<'a>(self, source: &'a str) -> TokenText<'a>
-        requires { Fits source.now self }
+        requires { StandsIn source.now self }
         ensures { result ≡ with_text (spec.token_of source.now self) }
     {
         TokenText {

@@ -28,11 +28,11 @@ pub struct TokenRecords<'a> {
 }
 
 impl<'a> Model for TokenRecords<'a> {
-    ghost use Rattle.graphql_lexer.specs.Records.{Recorded, AreRecords, tokens_of};
+    ghost use Rattle.graphql_lexer.specs.Records.{Recorded, AreRecords, tokens_in};
 
     ghost Value = { Recorded };
 
-    ghost view = { λ r. record { tokens = tokens_of r.source.now r.records; finish = r.finish } };
+    ghost view = { λ r. record { tokens = tokens_in r.source.now r.records; finish = r.finish } };
 
     ghost invariant = { λ r. AreRecords r.source.now r.records };
 }

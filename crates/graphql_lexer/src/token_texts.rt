@@ -3,7 +3,7 @@
 ghost use Rattle.std.specs.Prelude.{◌≡◌, ◌<◌, ◌≤◌, length};
 ghost use Rattle.std.specs.Iterator.{YieldsFirst, item_count};
 ghost use Rattle.std.specs.List.Sorted.{IsNonDecreasingBy, IsPartitionPoint};
-ghost use Rattle.graphql_lexer.specs.Records.{AreRecords, tokens_of};
+ghost use Rattle.graphql_lexer.specs.Records.{AreRecords, tokens_in};
 ghost use Rattle.graphql_lexer.specs.Within.{texts_within};
 
 use crate::token_record::TokenRecord;
@@ -25,12 +25,12 @@ pub struct TokenTexts<'s, 'a> {
 impl<'s, 'a> Model for TokenTexts<'s, 'a> {
     ghost use Rattle.std.specs.Prelude.{List};
     ghost use Rattle.graphql_lexer.specs.declared.token_text.TokenText.{TokenText};
-    ghost use Rattle.graphql_lexer.specs.Records.{AreRecords, tokens_of};
+    ghost use Rattle.graphql_lexer.specs.Records.{AreRecords, tokens_in};
     ghost use Rattle.graphql_lexer.specs.Within.{texts_until};
 
     ghost Value = { List TokenText };
 
-    ghost view = { λ t. texts_until t.end.index (tokens_of t.source.now t.rest.now) };
+    ghost view = { λ t. texts_until t.end.index (tokens_in t.source.now t.rest.now) };
 
     ghost invariant = { λ t. AreRecords t.source.now t.rest.now };
 }
@@ -49,7 +49,7 @@ impl<'s, 'a> TokenTexts<'s, 'a> {
     /// The tokens of a source, by their records, that stand within a part of it.
     pub(crate) fn new(source: &'a str, records: &'s [TokenRecord], span: Span) -> TokenTexts<'s, 'a>
         requires { AreRecords source.now records.now }
-        ensures { result ≡ texts_within (tokens_of source.now records.now) span }
+        ensures { result ≡ texts_within (tokens_in source.now records.now) span }
     {
         let first = starting_before(records, span.start);
         TokenTexts {

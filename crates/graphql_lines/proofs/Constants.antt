@@ -7,7 +7,7 @@ use Rattle.graphql_text.specs.declared.text.Text.{Text}
 use Rattle.graphql_values.specs.declared.input_value.InputValue.{InputValue}
 use Rattle.graphql_values.specs.declared.input_value.InputValue.TheVariants as value
 use Rattle.graphql_values.specs.InputValues.{Placed, Pair, unplaced, unplaced_pair}
-use Rattle.graphql_values.specs.Variables.{variables_in, variables_layer}
+use Rattle.graphql_values.specs.Variables.{names_of_variables, variables_layer}
 use Rattle.graphql_values.proofs.InputValueEquations.{fold_null, fold_scalar}
 use Rattle.graphql_values.proofs.VariableLemmas.{variables_in_list, variables_in_object}
 use Rattle.graphql_lines.specs.Variables.{whole_of, input_of, inputs_of, fields_of}
@@ -38,7 +38,7 @@ anything_nameless (Some x) = refl
 
 module _ {S : Type 0} (of_bool : Bool → S) (of_int : ℤ → S) (of_text : List ℕ → S) where
   abbrev names : InputValue S → List Text
-  names = variables_in {S = S}
+  names = names_of_variables {S = S}
 
   abbrev item_names : Placed (InputValue S) → List Text
   item_names x = names x.item

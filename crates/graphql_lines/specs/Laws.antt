@@ -3,7 +3,7 @@ use Rattle.std.specs.Prelude.{◌≡◌, ◌↔◌, ℕ, ℤ, Bool, List, [], �
 use Rattle.serde_json.specs.Data.{Num, Data, null, boolean, number, string, array, object, Items}
 use Rattle.serde_json.specs.Data.{no_items, item, Members, no_members, member}
 use Rattle.graphql_values.specs.declared.input_value.InputValue.{InputValue}
-use Rattle.graphql_values.specs.Variables.{variables_in}
+use Rattle.graphql_values.specs.Variables.{names_of_variables}
 use Rattle.graphql_lines.specs.Variables.{whole_of, input_of, fields_of}
 
 -- the numbers in data, from left to right
@@ -40,4 +40,4 @@ module _ {S : Type 0} (of_bool : Bool → S) (of_int : ℤ → S) (of_text : Lis
   -- in a value that data stands for stands no variable (2.10 Variables)
   abbrev pub JsonHoldsNoVariable : Type 0
   JsonHoldsNoVariable = (d : Data) (v : InputValue S) → input_of of_bool of_int of_text d ≡ Some v
-      → variables_in v ≡ []
+      → names_of_variables v ≡ []

@@ -11,7 +11,7 @@ use Rattle.graphql_values.specs.declared.input_value.InputValue.{InputValue, out
 use Rattle.graphql_values.specs.declared.input_value.InputValue.TheOpen.{InputValue-F}
 use Rattle.graphql_values.specs.declared.input_value.InputValue.TheVariants as value
 use Rattle.graphql_values.specs.InputValues.{Placed, Pair}
-use Rattle.graphql_values.specs.Variables.{IsConstant, variables_in, variables_layer}
+use Rattle.graphql_values.specs.Variables.{IsConstant, names_of_variables, variables_layer}
 use Rattle.graphql_values.proofs.InputValueEquations.{fold_null, fold_variable}
 use Rattle.graphql_values.proofs.VariableLemmas.{variables_in_list, variables_in_object}
 use Rattle.graphql_values.proofs.VariableLaws.{none_is_listed}
@@ -22,11 +22,11 @@ use Rattle.graphql_schema.specs.declared.meta.argument.Argument.{Argument}
 use Rattle.graphql_schema.specs.declared.meta.input_object.InputObjectMeta.{InputObjectMeta}
 use Rattle.graphql_schema.specs.declared.meta.MetaType.{MetaType}
 use Rattle.graphql_schema.specs.declared.meta.MetaType.TheVariants as meta
-use Rattle.graphql_schema.specs.Types.{TypeOf}
+use Rattle.graphql_schema.specs.Types.{TypeOf, refuses_null}
 use Rattle.graphql_names.specs.Names.{Bytes}
 use Rattle.graphql_schema.specs.Lookups.{type_named}
 use Rattle.graphql_literal_checks.specs.declared.source.Source.{Source}
-use Rattle.graphql_literal_checks.specs.InputTypes.{WholeFits, allows, refuses_null, may_stand_alone, argument_named}
+use Rattle.graphql_literal_checks.specs.InputTypes.{WholeFits, allows, may_stand_alone, argument_named}
 use Rattle.graphql_literal_checks.specs.Conforms.{Conforms, null, variable, scalar, enum, sent_enum, list, object, EachConforms, no_items, more_items, FieldsConform, no_fields, more_fields}
 use Rattle.graphql_literal_checks.specs.Judged.{IsListOf, Judged, Names, IsObject, ObjectFits, NamedFits, AloneFits, ListFits, FieldFits, lent, is_constant, are_constant, have_constants}
 
@@ -68,10 +68,10 @@ constant_variable S name = ap (list_all (λ _. false)) (sym (fold_variable {S = 
 
 module _ {S : Type 0} where
   pub constant_list : (xs : List (Placed (InputValue S))) → are_constant xs ≡ is_constant (value.List xs)
-  constant_list xs = sym (ap (list_all (λ _. false)) (variables_in_list xs) ∙ all_nothing (λ (x : Placed (InputValue S)). variables_in x.item) xs)
+  constant_list xs = sym (ap (list_all (λ _. false)) (variables_in_list xs) ∙ all_nothing (λ (x : Placed (InputValue S)). names_of_variables x.item) xs)
 
   pub constant_object : (ps : List (Pair (InputValue S))) → have_constants ps ≡ is_constant (value.Object ps)
-  constant_object ps = sym (ap (list_all (λ _. false)) (variables_in_object ps) ∙ all_nothing (λ (p : Pair (InputValue S)). variables_in p.1.item) ps)
+  constant_object ps = sym (ap (list_all (λ _. false)) (variables_in_object ps) ∙ all_nothing (λ (p : Pair (InputValue S)). names_of_variables p.1.item) ps)
 
   pub no_item_varies : (b : Bool) (xs : List (Placed (InputValue S))) → length xs ≡ 0 → b ≡ (b && are_constant xs)
   no_item_varies b xs none = sym (and-true b) ∙ ap (λ ys. b && are_constant ys) (sym (none_there xs none))
@@ -80,7 +80,7 @@ module _ {S : Type 0} where
   no_field_varies b ps none = sym (and-true b) ∙ ap (λ qs. b && have_constants qs) (sym (none_there ps none))
 
   is_constant_if : (v : InputValue S) → is_constant v ≡ true → IsConstant v
-  is_constant_if v h = (none_is_listed S v).0 (nothing_if (variables_in v) h)
+  is_constant_if v h = (none_is_listed S v).0 (nothing_if (names_of_variables v) h)
 
   constant_if : (v : InputValue S) → IsConstant v → is_constant v ≡ true
   constant_if v h = ap (list_all (λ _. false)) ((none_is_listed S v).1 h)

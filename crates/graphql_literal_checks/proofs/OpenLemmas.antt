@@ -16,7 +16,7 @@ use Rattle.graphql_literal_checks.specs.declared.misfit.Misfit.{Misfit}
 use Rattle.graphql_literal_checks.specs.declared.open_values.Open.{Open}
 use Rattle.graphql_literal_checks.specs.declared.source.Source.{Source}
 use Rattle.graphql_literal_checks.specs.Judged.{Judged, IsMemory}
-use Rattle.graphql_literal_checks.specs.OpenValues.{Owed, Owes, Opens, all_constant, stays_constant, all_left, left_in, items_left, fields_left}
+use Rattle.graphql_literal_checks.specs.OpenValues.{Owed, Owes, LeavesAsked, all_constant, stays_constant, all_left, left_in, items_left, fields_left}
 
 -- ---- variables
 
@@ -35,7 +35,7 @@ module _ {S C : Type 0} (answer : S → ScalarAnswer) (accepts : C → InputValu
   All = Owed answer accepts types source
 
   abbrev Opened : Type 0 → Bool → Result Bool Misfit → List (Open S C) → List (Open S C) → Type 0
-  Opened = Opens answer accepts types source
+  Opened = LeavesAsked answer accepts types source
 
   owed_push : (here : Bool) (fs : List (Open S C)) (f : Open S C) → All here (fs ++ f ∷ []) → One here f × All (stays_constant here f) fs
   owed_push here [] f h = (h.0, tt)

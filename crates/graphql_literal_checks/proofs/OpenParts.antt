@@ -17,13 +17,13 @@ use Rattle.graphql_literal_checks.specs.declared.source.Source.{Source}
 use Rattle.graphql_literal_checks.specs.Conforms.{Conforms}
 use Rattle.graphql_literal_checks.specs.InputTypes.{WholeFits, argument_named}
 use Rattle.graphql_literal_checks.specs.Judged.{FieldFits, Judged, lent, is_constant, are_constant, have_constants}
-use Rattle.graphql_literal_checks.specs.OpenValues.{ListOwes, ObjectOwes, Opens, list_constant, object_constant}
+use Rattle.graphql_literal_checks.specs.OpenValues.{ListOwes, ObjectOwes, LeavesAsked, list_constant, object_constant}
 use Rattle.graphql_literal_checks.proofs.ConformsLemmas.{first_field, first_item, fits_field, field_fits, no_field_varies, no_item, no_item_varies, no_pair, with_field, with_item}
 use Rattle.graphql_literal_checks.proofs.OpenLemmas.{constant_first, opens_none, opens_same, opens_within}
 
 module _ {S C : Type 0} (answer : S → ScalarAnswer) (accepts : C → InputValue S → Type 0) (types : List (MetaType S C)) (source : Source) where
   abbrev Opened : Type 0 → Bool → Result Bool Misfit → List (Open S C) → List (Open S C) → Type 0
-  Opened = Opens answer accepts types source
+  Opened = LeavesAsked answer accepts types source
 
   -- ---- lists
 

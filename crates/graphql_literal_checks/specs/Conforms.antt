@@ -15,12 +15,12 @@ use Rattle.graphql_schema.specs.declared.meta.enumeration.EnumMeta.{EnumMeta}
 use Rattle.graphql_schema.specs.declared.meta.input_object.InputObjectMeta.{InputObjectMeta}
 use Rattle.graphql_schema.specs.declared.meta.MetaType.{MetaType}
 use Rattle.graphql_schema.specs.declared.meta.MetaType.TheVariants as meta
-use Rattle.graphql_schema.specs.Types.{TypeOf}
+use Rattle.graphql_schema.specs.Types.{TypeOf, refuses_null}
 use Rattle.graphql_names.specs.Names.{Bytes}
 use Rattle.graphql_schema.specs.Lookups.{type_named}
 use Rattle.graphql_literal_checks.specs.declared.source.Source.{Source}
 use Rattle.graphql_literal_checks.specs.declared.source.Source.TheVariants.{Sent}
-use Rattle.graphql_literal_checks.specs.InputTypes.{WholeFits, refuses_null, allows}
+use Rattle.graphql_literal_checks.specs.InputTypes.{WholeFits, allows}
 use Rattle.graphql_literal_checks.specs.InputTypes.{may_stand_alone, declares, argument_named}
 
 -- by what a scalar answers, what the check of a type accepts, the types of a schema, and where the

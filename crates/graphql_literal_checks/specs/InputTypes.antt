@@ -3,7 +3,6 @@
 use Rattle.std.specs.Prelude.{◌≡◌, ◌||◌, ℕ, Bool, true, false, if◌then◌else◌, nat_eq, List, [], ◌∷◌}
 use Rattle.std.specs.Prelude.{map, Option, Some, None}
 use Rattle.std.specs.List.{list_all, list_any}
-use Rattle.graphql_names.specs.TypeReference.{outermost, is_non_null}
 use Rattle.graphql_names.specs.declared.type_modifier.TypeModifier.{TypeModifier}
 use Rattle.graphql_names.specs.declared.type_modifier.TypeModifier.TheVariants as modifier
 use Rattle.graphql_schema.specs.declared.meta.argument.Argument.{Argument}
@@ -16,10 +15,6 @@ use Rattle.graphql_values.specs.declared.input_value.InputValue.TheVariants as v
 use Rattle.graphql_values.specs.InputValues.{Pair}
 pub use Rattle.graphql_schema.specs.Declarations.{argument_named}
 pub use Rattle.graphql_schema.specs.Executable.{is_optional}
-
--- null is not among its values
-abbrev pub refuses_null : TypeOf → Bool
-refuses_null t = is_non_null (outermost t.modifiers)
 
 -- a list may have this many items: the size that is asked for, where one is
 abbrev pub allows : Option ℕ → ℕ → Bool

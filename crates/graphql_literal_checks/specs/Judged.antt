@@ -9,7 +9,7 @@ use Rattle.graphql_scalars.specs.ScalarAnswers.{ScalarAnswer, as_text}
 use Rattle.graphql_values.specs.declared.input_value.InputValue.{InputValue}
 use Rattle.graphql_values.specs.declared.input_value.InputValue.TheVariants as value
 use Rattle.graphql_values.specs.InputValues.{Placed, Pair}
-use Rattle.graphql_values.specs.Variables.{IsConstant, variables_in}
+use Rattle.graphql_values.specs.Variables.{IsConstant, names_of_variables}
 use Rattle.graphql_names.specs.TypeReference.{nullable}
 use Rattle.graphql_names.specs.declared.type_modifier.TypeModifier.{TypeModifier}
 use Rattle.graphql_names.specs.declared.type_modifier.TypeModifier.TheVariants as modifier
@@ -46,7 +46,7 @@ IsListOf modifiers size within = nullable modifiers ≡ within ++ modifier.List 
 module _ {S : Type 0} where
   -- no variable stands in the value
   abbrev pub is_constant : InputValue S → Bool
-  is_constant v = list_all (λ _. false) (variables_in v)
+  is_constant v = list_all (λ _. false) (names_of_variables v)
 
   -- no variable stands in one of these
   abbrev pub are_constant : List (Placed (InputValue S)) → Bool

@@ -1,6 +1,5 @@
 pub mod InputTypes
 pub mod Conforms
-pub mod InputFields
 pub mod Judged
 pub mod OpenValues
 pub mod Laws

@@ -76,6 +76,7 @@ module _ {S C : Type 0} (answer : S → ScalarAnswer) (accepts : C → InputValu
 
   -- a value tells whether no variable stood in what was judged, and then the fact and what was
   -- asked before are what is asked now; a misfit, that the fact does not hold
-  abbrev pub Opens : Type 0 → Bool → Result Bool Misfit → List (Open S C) → List (Open S C) → Type 0
-  Opens Fact constant result old new =
+  abbrev pub LeavesAsked : Type 0 → Bool → Result Bool Misfit → List (Open S C) → List (Open S C)
+      → Type 0
+  LeavesAsked Fact constant result old new =
       Answers (λ told. Owed told new ↔ (Fact × Owed constant old)) (λ _. Fact → ⊥) IsMemory result

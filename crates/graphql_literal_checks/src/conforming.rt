@@ -7,7 +7,7 @@ ghost use Rattle.graphql_literal_checks.specs.Conforms.{Conforms};
 ghost use Rattle.graphql_literal_checks.specs.Judged.{AloneFits, FieldFits, IsMemory, IsObject};
 ghost use Rattle.graphql_literal_checks.specs.Judged.{ListFits, ObjectFits, are_constant};
 ghost use Rattle.graphql_literal_checks.specs.Judged.{is_constant, lent};
-ghost use Rattle.graphql_literal_checks.specs.OpenValues.{ListOwes, ObjectOwes, Opens, Owes};
+ghost use Rattle.graphql_literal_checks.specs.OpenValues.{ListOwes, ObjectOwes, LeavesAsked, Owes};
 ghost use Rattle.graphql_literal_checks.specs.OpenValues.{all_left, fields_left, items_left};
 ghost use Rattle.graphql_literal_checks.specs.OpenValues.{left_in, list_constant, object_constant};
 ghost use Rattle.graphql_literal_checks.specs.OpenValues.{stays_constant};
@@ -63,8 +63,9 @@ impl<'a, S: SchemaScalar> Judge<'a, S> {
         asked: &BorrowedType<'a>,
         value: &'a InputValue<S>,
     ) -> Result<bool, Misfit>
-        ensures fits { Opens S.answer S.Check.accepts self.now.schema.now.types self.now.source
-            (Conforms S.answer S.Check.accepts self.now.schema.now.types self.now.source
+        ensures fits { LeavesAsked S.answer S.Check.accepts self.now.schema.now.types
+            self.now.source (Conforms S.answer S.Check.accepts self.now.schema.now.types
+            self.now.source
             (lent asked.now) value.now) (is_constant value.now) result opened.old opened.new }
         ensures ends { OnOk result
             (all_left opened.new < all_left opened.old + 2 * value_count value.now) }
@@ -91,8 +92,9 @@ impl<'a, S: SchemaScalar> Judge<'a, S> {
         items: &'a [Spanning<InputValue<S>>],
         value: &InputValue<S>,
     ) -> Result<bool, Misfit>
-        ensures fits { Opens S.answer S.Check.accepts self.now.schema.now.types self.now.source
-            (ListFits S.answer S.Check.accepts self.now.schema.now.types self.now.source
+        ensures fits { LeavesAsked S.answer S.Check.accepts self.now.schema.now.types
+            self.now.source (ListFits S.answer S.Check.accepts self.now.schema.now.types
+            self.now.source
             (lent asked.now) items.now) (are_constant items.now) result opened.old opened.new }
         ensures ends { OnOk result
             (all_left opened.new ≡ all_left opened.old + items_left items.now) }
@@ -128,8 +130,9 @@ impl<'a, S: SchemaScalar> Judge<'a, S> {
         asked: &BorrowedType<'a>,
         value: &'a InputValue<S>,
     ) -> Result<bool, Misfit>
-        ensures fits { Opens S.answer S.Check.accepts self.now.schema.now.types self.now.source
-            (AloneFits S.answer S.Check.accepts self.now.schema.now.types self.now.source
+        ensures fits { LeavesAsked S.answer S.Check.accepts self.now.schema.now.types
+            self.now.source (AloneFits S.answer S.Check.accepts self.now.schema.now.types
+            self.now.source
             (lent asked.now) value.now) (is_constant value.now) result opened.old opened.new }
         ensures ends { OnOk result
             (all_left opened.new < all_left opened.old + 2 * value_count value.now) }
@@ -154,8 +157,9 @@ impl<'a, S: SchemaScalar> Judge<'a, S> {
         meta: &'a InputObjectMeta<S, S::Check>,
         value: &'a InputValue<S>,
     ) -> Result<bool, Misfit>
-        ensures fits { Opens S.answer S.Check.accepts self.now.schema.now.types self.now.source
-            (IsObject (ObjectFits S.answer S.Check.accepts self.now.schema.now.types self.now.source
+        ensures fits { LeavesAsked S.answer S.Check.accepts self.now.schema.now.types
+            self.now.source (IsObject (ObjectFits S.answer S.Check.accepts self.now.schema.now.types
+            self.now.source
             meta.now) value.now) (is_constant value.now) result opened.old opened.new }
         ensures ends { OnOk result
             (all_left opened.new < all_left opened.old + 2 * value_count value.now) }
@@ -191,8 +195,9 @@ impl<'a, S: SchemaScalar> Judge<'a, S> {
         innermost: Open<'a, S>,
         constant: bool,
     ) -> Result<bool, Misfit>
-        ensures fits { Opens S.answer S.Check.accepts self.now.schema.now.types self.now.source
-            (Owes S.answer S.Check.accepts self.now.schema.now.types self.now.source constant
+        ensures fits { LeavesAsked S.answer S.Check.accepts self.now.schema.now.types
+            self.now.source (Owes S.answer S.Check.accepts self.now.schema.now.types
+            self.now.source constant
             innermost.entry) (stays_constant constant innermost.entry) result opened.old
             opened.new }
         ensures ends { OnOk result
@@ -211,8 +216,9 @@ impl<'a, S: SchemaScalar> Judge<'a, S> {
         list: OpenList<'a, S>,
         constant: bool,
     ) -> Result<bool, Misfit>
-        ensures fits { Opens S.answer S.Check.accepts self.now.schema.now.types self.now.source
-            (ListOwes S.answer S.Check.accepts self.now.schema.now.types self.now.source list.entry)
+        ensures fits { LeavesAsked S.answer S.Check.accepts self.now.schema.now.types
+            self.now.source (ListOwes S.answer S.Check.accepts self.now.schema.now.types
+            self.now.source list.entry)
             (list_constant constant list.entry) result opened.old opened.new }
         ensures ends { OnOk result
             (all_left opened.new < all_left opened.old + items_left list.entry.rest.now) }
@@ -245,8 +251,9 @@ impl<'a, S: SchemaScalar> Judge<'a, S> {
         object: OpenObject<'a, S>,
         constant: bool,
     ) -> Result<bool, Misfit>
-        ensures fits { Opens S.answer S.Check.accepts self.now.schema.now.types self.now.source
-            (ObjectOwes S.answer S.Check.accepts self.now.schema.now.types self.now.source constant
+        ensures fits { LeavesAsked S.answer S.Check.accepts self.now.schema.now.types
+            self.now.source (ObjectOwes S.answer S.Check.accepts self.now.schema.now.types
+            self.now.source constant
             object.entry) (object_constant constant object.entry) result opened.old opened.new }
         ensures ends { OnOk result
             (all_left opened.new < all_left opened.old + fields_left object.entry.rest.now) }
@@ -283,9 +290,9 @@ impl<'a, S: SchemaScalar> Judge<'a, S> {
         object: OpenObject<'a, S>,
         field: &'a Pair<S>,
     ) -> Result<bool, Misfit>
-        ensures fits { Opens S.answer S.Check.accepts self.now.schema.now.types self.now.source
-            (FieldFits S.answer S.Check.accepts self.now.schema.now.types self.now.source
-            object.entry.meta.now.input_fields field.now.0.item field.now.1.item
+        ensures fits { LeavesAsked S.answer S.Check.accepts self.now.schema.now.types
+            self.now.source (FieldFits S.answer S.Check.accepts self.now.schema.now.types
+            self.now.source object.entry.meta.now.input_fields field.now.0.item field.now.1.item
             × ObjectOwes S.answer S.Check.accepts self.now.schema.now.types
             self.now.source (is_constant field.now.1.item) object.entry)
             (object_constant (is_constant field.now.1.item) object.entry) result opened.old

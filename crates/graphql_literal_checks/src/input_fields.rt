@@ -5,7 +5,7 @@ ghost use Rattle.std.specs.Prelude.{◌≡◌, ◌||◌, ℕ, List, IfOk, MatchO
 ghost use Rattle.std.specs.List.{list_all};
 ghost use Rattle.std.specs.Option.{option_copied};
 ghost use Rattle.graphql_names.specs.Names.{is_one_of};
-ghost use Rattle.graphql_literal_checks.specs.InputFields.{has_name};
+ghost use Rattle.graphql_names.specs.NameSets.{has_name};
 ghost use Rattle.graphql_literal_checks.specs.InputTypes as spec;
 
 use graphql_schema::{Argument, InputObjectMeta};

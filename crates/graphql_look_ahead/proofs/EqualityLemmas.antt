@@ -11,7 +11,7 @@ use Rattle.graphql_values.specs.declared.input_value.InputValue.TheOpen.{InputVa
 use Rattle.graphql_values.specs.declared.input_value.InputValue.TheVariants as value
 use Rattle.graphql_look_ahead.specs.Equality.{equal, same_field, same_form, same_item, same_span}
 use Rattle.graphql_look_ahead.specs.EqualityLaws.{equal_is}
-use Rattle.graphql_look_ahead.specs.Values.{fields_told, items_told, told}
+use Rattle.graphql_look_ahead.specs.Values.{fields_told, items_told, value_shown}
 use Rattle.graphql_look_ahead.specs.declared.list.LookAheadList.{LookAheadList}
 use Rattle.graphql_look_ahead.specs.declared.object.LookAheadObject.{LookAheadObject}
 use Rattle.graphql_look_ahead.specs.declared.value.LookAheadValue.{LookAheadValue}
@@ -42,7 +42,7 @@ module _ {S : Type 0} where
   layer_told (look_ahead.List list) = InputValue-F.List (items_told list)
   layer_told (look_ahead.Object object) = InputValue-F.Object (fields_told object)
 
-  out_told : (v : LookAheadValue S) → out-InputValue S (told v) ≡ layer_told v
+  out_told : (v : LookAheadValue S) → out-InputValue S (value_shown v) ≡ layer_told v
   out_told look_ahead.Null = value.outs-Null
   out_told (look_ahead.Scalar scalar) = value.outs-Scalar scalar.now
   out_told (look_ahead.Enum name) = value.outs-Enum name.now
@@ -54,10 +54,10 @@ module _ {S : Type 0} (scalars : S → S → Bool) where
   same_layer v w = same_form (equal scalars) scalars (layer_told v) (layer_told w)
 
   -- what values tell is equal where its layers are
-  pub equal_told : (v w : LookAheadValue S) → equal scalars (told v) (told w) ≡ same_layer v w
-  equal_told v w = equal_is scalars (told v) (told w) ∙ (λ i. same_form (equal scalars) scalars (out_told v i) (out_told w i))
+  pub equal_told : (v w : LookAheadValue S) → equal scalars (value_shown v) (value_shown w) ≡ same_layer v w
+  equal_told v w = equal_is scalars (value_shown v) (value_shown w) ∙ (λ i. same_form (equal scalars) scalars (out_told v i) (out_told w i))
 
-  pub equal_forms : (v w mine theirs : LookAheadValue S) → v ≡ mine → w ≡ theirs → equal scalars (told v) (told w) ≡ same_layer mine theirs
+  pub equal_forms : (v w mine theirs : LookAheadValue S) → v ≡ mine → w ≡ theirs → equal scalars (value_shown v) (value_shown w) ≡ same_layer mine theirs
   equal_forms v w mine theirs is other_is = equal_told v w ∙ (λ i. same_layer (is i) (other_is i))
 
   -- a value of one form against one of another

@@ -20,7 +20,7 @@ use Rattle.graphql_written_out.specs.Written.{Settled, condition_of, fragment_me
 use Rattle.graphql_written_out.proofs.Layers.{deep-Field, deep-Inline, deep-Spread, written-cons}
 use Rattle.graphql_look_ahead.specs.Applies.{bound, only_of}
 use Rattle.graphql_look_ahead.specs.Children.{Ahead, Children, Opened, a_field, directives_of, opened_directives, left_out, no_more, of_field, of_inline, of_spread, of_unknown}
-use Rattle.graphql_look_ahead.specs.Open.{Adds, AllHave, IsMet, IsNext, IsTurn, IsUnknown, OpenSet, Skips, Steps, open_set, opened, rest_of, tree_turns, turns_of, turns_open}
+use Rattle.graphql_look_ahead.specs.Open.{AddsChildren, AllHave, IsMet, IsNext, IsTurn, IsUnknown, OpenSet, Skips, Steps, open_set, opened, rest_of, tree_turns, turns_of, turns_open}
 use Rattle.graphql_look_ahead.specs.declared.open.Met.{Met}
 use Rattle.graphql_look_ahead.specs.declared.open.Met.TheVariants as met
 use Rattle.graphql_look_ahead.specs.declared.open.Open.{Open}
@@ -361,7 +361,7 @@ module _ {S : Type 0} (drops : Directives S → Bool) (fragments : List (Fragmen
       (before.0, before.1, before.2 ∙ later.2)
 
   -- where one list was open and none is left, its children were found
-  pub steps-whole : (list : List (Selection S)) (f1 f2 : List X) (os : List (OpenSet S)) → os ≡ [] → Steps drops fragments shown (whole list) f1 os f2 → Adds drops fragments shown list f1 f2
+  pub steps-whole : (list : List (Selection S)) (f1 f2 : List X) (os : List (OpenSet S)) → os ≡ [] → Steps drops fragments shown (whole list) f1 os f2 → AddsChildren drops fragments shown list f1 f2
   steps-whole list f1 f2 os e s =
       let all = subst (λ zs. Steps drops fragments shown (whole list) f1 zs f2) e s [] refl in
       let h = all.1 in
@@ -387,10 +387,10 @@ module _ {S : Type 0} (drops : Directives S → Bool) (fragments : List (Fragmen
   both to _ ys _ ds (of_inline o x xs inner cs d i c) h =
       subst (Children drops fragments to (selection.InlineFragment x ∷ xs ++ ys)) (sym (append_assoc inner cs ds)) (of_inline to x (xs ++ ys) inner (cs ++ ds) d i (both to xs ys cs ds c h))
 
-  pub adds-none : (f : List X) → Adds drops fragments shown [] f f
+  pub adds-none : (f : List X) → AddsChildren drops fragments shown [] f f
   adds-none f = ([], no_more None, sym (append-nil f))
 
-  pub adds-more : (xs ys : List (Selection S)) (f1 f2 f3 : List X) → Adds drops fragments shown xs f1 f2 → Adds drops fragments shown ys f2 f3 → Adds drops fragments shown (xs ++ ys) f1 f3
+  pub adds-more : (xs ys : List (Selection S)) (f1 f2 f3 : List X) → AddsChildren drops fragments shown xs f1 f2 → AddsChildren drops fragments shown ys f2 f3 → AddsChildren drops fragments shown (xs ++ ys) f1 f3
   adds-more xs ys f1 f2 f3 a b = (
     a.0 ++ b.0,
     both None xs ys a.0 b.0 a.1 b.1,
@@ -399,11 +399,11 @@ module _ {S : Type 0} (drops : Directives S → Bool) (fragments : List (Fragmen
 
   -- one list more, of those that fields have
   pub adds-each : {A : Type 0} (h : A → List (Selection S)) (xs : List A) (n : ℕ) (x : A) (f1 f2 f3 : List X) → n < length xs → x ≡ get_or xs n x
-      → Adds drops fragments shown (flat_map h (take n xs)) f1 f2 → Adds drops fragments shown (h x) f2 f3 → Adds drops fragments shown (flat_map h (take (n + 1) xs)) f1 f3
-  adds-each h xs n x f1 f2 f3 lt is a b = subst (λ zs. Adds drops fragments shown zs f1 f3)
+      → AddsChildren drops fragments shown (flat_map h (take n xs)) f1 f2 → AddsChildren drops fragments shown (h x) f2 f3 → AddsChildren drops fragments shown (flat_map h (take (n + 1) xs)) f1 f3
+  adds-each h xs n x f1 f2 f3 lt is a b = subst (λ zs. AddsChildren drops fragments shown zs f1 f3)
       (sym (ap (flat_map h) (take_more xs n x lt ∙ ap (λ z. take n xs ++ z ∷ []) (sym is)) ∙ flat_map-append h (take n xs) (x ∷ []) ∙ ap (λ zs. flat_map h (take n xs) ++ zs) (append-nil (h x))))
       (adds-more (flat_map h (take n xs)) (h x) f1 f2 f3 a b)
 
   pub adds-all : {A : Type 0} (h : A → List (Selection S)) (xs : List A) (n : ℕ) (list : List (Selection S)) (f1 f2 : List X) → length xs ≤ n → list ≡ flat_map h xs
-      → Adds drops fragments shown (flat_map h (take n xs)) f1 f2 → Adds drops fragments shown list f1 f2
-  adds-all h xs n list f1 f2 le is a = subst (λ zs. Adds drops fragments shown zs f1 f2) (ap (flat_map h) (take_all n xs le) ∙ sym is) a
+      → AddsChildren drops fragments shown (flat_map h (take n xs)) f1 f2 → AddsChildren drops fragments shown list f1 f2
+  adds-all h xs n list f1 f2 le is a = subst (λ zs. AddsChildren drops fragments shown zs f1 f2) (ap (flat_map h) (take_all n xs le) ∙ sym is) a

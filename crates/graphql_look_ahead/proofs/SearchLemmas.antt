@@ -21,9 +21,9 @@ use Rattle.graphql_written_out.specs.Written.{Settled, condition_of, fragment_me
 use Rattle.graphql_collected.proofs.NamesBehind.{last-cases}
 use Rattle.graphql_look_ahead.specs.Applies.{bound, only_of}
 use Rattle.graphql_look_ahead.specs.Children.{Ahead, Children, a_field, left_out, no_more, of_field, of_inline, of_spread, of_unknown}
-use Rattle.graphql_look_ahead.specs.FirstChild.{AllLack, FragmentLacks, Finds, GoesOn, IsFirst, IsSearch, Turns, IsSound, Lacks, Leads, first_child, lists_left, turns_left}
+use Rattle.graphql_look_ahead.specs.FirstChild.{AllLack, FragmentLacks, FindsFirst, GoesOn, IsFirst, IsSearch, Turns, SearchIsSound, Lacks, KeepsFirst, first_child, lists_left, turns_left}
 use Rattle.graphql_look_ahead.specs.Open.{AllHave, IsMet, IsNext, OpenSet, Skips, open_set, rest_of, turns_of}
-use Rattle.graphql_look_ahead.specs.Told.{key_of, looked_at, told, within}
+use Rattle.graphql_look_ahead.specs.Told.{key_of, looked_at, document_field, with_request}
 use Rattle.graphql_collected.specs.Requests.{drops_in, fragments_in}
 use Rattle.graphql_collected.specs.declared.request.Request.{Request}
 use Rattle.graphql_scalars.specs.ScalarAnswers.{ScalarAnswer}
@@ -76,10 +76,10 @@ module _ {S : Type 0} (drops : Directives S → Bool) (fragments : List (Fragmen
   Lacking = Lacks drops fragments key
 
   abbrev Sound : Type 0 → List (Task S) → Type 0
-  Sound = IsSound drops fragments key
+  Sound = SearchIsSound drops fragments key
 
   abbrev Leading : List (OpenSet S) → List (OpenSet S) → Type 0
-  Leading = Leads drops fragments key
+  Leading = KeepsFirst drops fragments key
 
   pub sound-weaker : (P Q : Type 0) (ts : List (Task S)) → (P → Q) → Sound Q ts → Sound P ts
   sound-weaker P Q [] f s = s
@@ -140,7 +140,7 @@ module _ {S : Type 0} (drops : Directives S → Bool) (fragments : List (Fragmen
 
   -- a field of the key
   pub finds-field : (x : Placed (Field S)) (xs : List (Selection S)) (only : Option Bytes) (os : List (OpenSet S)) → drops (listed x.item.directives) ≡ false
-      → bytes_eq (response_key x.item.alias x.item.name) key ≡ true → Finds drops fragments key ((only, selection.Field x ∷ xs) ∷ os) (a_field x only)
+      → bytes_eq (response_key x.item.alias x.item.name) key ≡ true → FindsFirst drops fragments key ((only, selection.Field x ∷ xs) ∷ os) (a_field x only)
   finds-field x xs only os d same = λ ds h.
       let p = in-field drops fragments x xs d only h.0 h.2 in
       ap (first_child key) (h.4 ∙ ap (λ zs. zs ++ h.1) p.2) ∙ first-is key (a_field x only) (p.0 ++ h.1) same
@@ -184,7 +184,7 @@ module _ {S : Type 0} (drops : Directives S → Bool) (fragments : List (Fragmen
   opens-behind set mid inner rest within s opens only = λ cs h. opens only cs (s.none only cs h)
 
   pub finds-behind : (set mid : List (Selection S)) (only : Option Bytes) (os : List (OpenSet S)) (a : Ahead S) → Skips drops fragments set mid
-      → Finds drops fragments key ((only, mid) ∷ os) a → Finds drops fragments key ((only, set) ∷ os) a
+      → FindsFirst drops fragments key ((only, mid) ∷ os) a → FindsFirst drops fragments key ((only, set) ∷ os) a
   finds-behind set mid only os a s finds = λ ds h. finds ds (h.0, h.1, s.none only h.0 h.2, h.3, h.4)
 
   abbrev Going : List (Task S) → List (Task S) → List Bytes → Type 0
@@ -281,7 +281,7 @@ module _ {S : Type 0} (drops : Directives S → Bool) (fragments : List (Fragmen
       turn-field-other o = field-passes (passes-field x.now (rest_of new) o)
 
       pub turn-field-found : drops (listed x.now.item.directives) ≡ false → bytes_eq (response_key x.now.item.alias x.now.item.name) key ≡ true
-          → Finds drops fragments key (lists_left (task.Search top ∷ ts)) (a_field x.now (only_of top.applies))
+          → FindsFirst drops fragments key (lists_left (task.Search top ∷ ts)) (a_field x.now (only_of top.applies))
       turn-field-found d same = finds-behind (rest_of top) (selection.Field x.now ∷ rest_of new) (only_of top.applies) (lists_left ts) (a_field x.now (only_of top.applies)) field-skips
           (finds-field x.now (rest_of new) (only_of top.applies) (lists_left ts) d same)
 
@@ -370,7 +370,7 @@ module _ {S C : Type 0} (answer : S → ScalarAnswer) (request : Request S C) (k
   known = fragments_in request
 
   abbrev Whole : List (Selection S) → List (Task S) → Type 0
-  Whole list ts = Leads left_out_by known key ((None, list) ∷ []) (lists_left ts)
+  Whole list ts = KeepsFirst left_out_by known key ((None, list) ∷ []) (lists_left ts)
 
   -- the list alone
   alone : (list : List (Selection S)) (cs : List (Ahead S)) → Children left_out_by known None list cs → AllHave left_out_by known ((None, list) ∷ []) cs
@@ -381,7 +381,7 @@ module _ {S C : Type 0} (answer : S → ScalarAnswer) (request : Request S C) (k
   found-first list ts popped now t searched r found leads e is turns = λ cs h.
       let f : Turns answer request key (t ∷ reverse popped) now searched (Some found) = subst (Turns answer request key (t ∷ reverse popped) now searched) is turns in
       let l = subst (Whole list) (pushed-task popped ts t e) leads cs (alone list cs h) in
-      ap (λ q. Some (told found, q)) f.1 ∙ sym (ap (option_map (within request)) (l.2 ∙ f.0 l.0 l.1))
+      ap (λ q. Some (document_field found, q)) f.1 ∙ sym (ap (option_map (with_request request)) (l.2 ∙ f.0 l.0 l.1))
 
   pub goes-leads : (list : List (Selection S)) (ts popped now : List (Task S)) (t : Task S) (searched : List Bytes) (r : Option (LookAheadSelection S C))
       → Whole list (reverse ts) → ts ≡ popped ++ t ∷ [] → r ≡ None → Turns answer request key (t ∷ reverse popped) now searched r → Whole list now
@@ -400,13 +400,13 @@ module _ {S C : Type 0} (answer : S → ScalarAnswer) (request : Request S C) (k
   pub none-first : (list : List (Selection S)) (ts : List (Task S)) → Whole list (reverse ts) → ts ≡ [] → IsFirst answer request key list None
   none-first list ts leads e = λ cs h.
       let l = subst (λ (zs : List (Task S)). Whole list (reverse zs)) e leads cs (alone list cs h) in
-      sym (ap (option_map (within request)) (l.2 ∙ ap (first_child key) l.1))
+      sym (ap (option_map (with_request request)) (l.2 ∙ ap (first_child key) l.1))
 
   -- a list of whose children none is found lacks the key
   pub lacks-none : (list : List (Selection S)) → IsFirst answer request key list None → (cs : List (Ahead S)) → Children left_out_by known None list cs → first_child key cs ≡ None
   lacks-none list first cs h = no-first (first_child key cs) (first cs h)
     where
-      no-first : (o : Option (Ahead S)) → None ≡ option_map (within request) o → o ≡ None
+      no-first : (o : Option (Ahead S)) → None ≡ option_map (with_request request) o → o ≡ None
       no-first None e = refl
       no-first (Some a) e = absurd (some-none e)
         where
@@ -454,21 +454,21 @@ module _ {S C : Type 0} (answer : S → ScalarAnswer) (request : Request S C) (k
   First = IsFirst answer request key
 
   pub first-nil : (list : List (Selection S)) → list ≡ [] → First list None
-  first-nil list e = λ cs h. sym (ap (option_map (within request)) (ap (first_child key) (parts left_out_by known None [] cs (subst (λ w. Children left_out_by known None w cs) e h))))
+  first-nil list e = λ cs h. sym (ap (option_map (with_request request)) (ap (first_child key) (parts left_out_by known None [] cs (subst (λ w. Children left_out_by known None w cs) e h))))
 
   -- behind a list that lacks the key
   pub first-later : (xs ys : List (Selection S)) (r : Option (LookAheadSelection S C)) → First xs None → First ys r → First (xs ++ ys) r
   first-later xs ys r none first = λ cs h.
       let s = split None (xs ++ ys) xs ys cs refl h in
-      first s.1 s.3 ∙ sym (ap (option_map (within request)) (ap (first_child key) s.4 ∙ first-behind key s.0 s.1 (lacks-none xs none s.0 s.2)))
+      first s.1 s.3 ∙ sym (ap (option_map (with_request request)) (ap (first_child key) s.4 ∙ first-behind key s.0 s.1 (lacks-none xs none s.0 s.2)))
 
   -- and before any other list
   pub first-before : (xs ys : List (Selection S)) (f : LookAheadSelection S C) → First xs (Some f) → First (xs ++ ys) (Some f)
   first-before xs ys f first = λ cs h.
       let s = split None (xs ++ ys) xs ys cs refl h in
-      first s.0 s.2 ∙ sym (ap (option_map (within request)) (ap (first_child key) s.4 ∙ first-append key s.0 s.1 ∙ stays (first_child key s.0) (first_child key s.1) (first s.0 s.2)))
+      first s.0 s.2 ∙ sym (ap (option_map (with_request request)) (ap (first_child key) s.4 ∙ first-append key s.0 s.1 ∙ stays (first_child key s.0) (first_child key s.1) (first s.0 s.2)))
     where
-      stays : (o q : Option (Ahead S)) → Some (looked_at f) ≡ option_map (within request) o → option_or o q ≡ o
+      stays : (o q : Option (Ahead S)) → Some (looked_at f) ≡ option_map (with_request request) o → option_or o q ≡ o
       stays (Some a) q e = refl
       stays None q e = absurd (subst IsNothing (sym e) tt)
 

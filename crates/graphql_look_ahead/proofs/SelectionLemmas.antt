@@ -15,7 +15,7 @@ use Rattle.graphql_written_out.specs.Written.{response_key}
 use Rattle.graphql_collected.specs.declared.request.Request.{Request}
 use Rattle.graphql_look_ahead.specs.Children.{Ahead}
 use Rattle.graphql_look_ahead.specs.Selections.{first_of_key, opened_of_key}
-use Rattle.graphql_look_ahead.specs.Told.{IsOf, looked_at, within}
+use Rattle.graphql_look_ahead.specs.Told.{IsOfRequest, looked_at, with_request}
 use Rattle.graphql_look_ahead.specs.declared.selection.LookAheadSelection.{LookAheadSelection}
 
 or-or : {A : Type 0} (f g h : Option A) → option_or f (option_or g h) ≡ option_or (option_or f g) h
@@ -90,7 +90,7 @@ module _ {S C : Type 0} (request : Request S C) where
   rest (x ∷ xs) = xs
 
   -- what is told within a request is of it
-  pub all-of : (found : List (LookAheadSelection S C)) (children : List (Ahead S)) → map looked_at found ≡ map (within request) children → All (IsOf request) found
-  all-of [] children same = All-nil (IsOf request)
-  all-of (x ∷ xs) [] same = All-cons (IsOf request) x xs (ap first same) (all-of xs [] (ap rest same))
-  all-of (x ∷ xs) (a ∷ children) same = All-cons (IsOf request) x xs (ap first same) (all-of xs children (ap rest same))
+  pub all-of : (found : List (LookAheadSelection S C)) (children : List (Ahead S)) → map looked_at found ≡ map (with_request request) children → All (IsOfRequest request) found
+  all-of [] children same = All-nil (IsOfRequest request)
+  all-of (x ∷ xs) [] same = All-cons (IsOfRequest request) x xs (ap first same) (all-of xs [] (ap rest same))
+  all-of (x ∷ xs) (a ∷ children) same = All-cons (IsOfRequest request) x xs (ap first same) (all-of xs children (ap rest same))

@@ -5,11 +5,11 @@ use Rattle.graphql_values.specs.InputValues.{Placed, Pair}
 use Rattle.graphql_values.specs.declared.input_value.InputValue.{InputValue}
 use Rattle.graphql_values.specs.declared.input_value.InputValue.TheVariants as value
 use Rattle.graphql_values.proofs.InputValueEquations.{on_item, on_value, fold_list, fold_object}
-use Rattle.graphql_look_ahead.specs.Seen.{seen, seen_layer}
+use Rattle.graphql_look_ahead.specs.Seen.{value_seen, seen_layer}
 
 module _ {S : Type 0} (given : Text → Option (InputValue S)) where
-  pub seen_list : (xs : List (Placed (InputValue S))) → seen given (value.List xs) ≡ value.List (map (on_item (seen given)) xs)
+  pub seen_list : (xs : List (Placed (InputValue S))) → value_seen given (value.List xs) ≡ value.List (map (on_item (value_seen given)) xs)
   seen_list xs = fold_list (seen_layer given) xs
 
-  pub seen_object : (ps : List (Pair (InputValue S))) → seen given (value.Object ps) ≡ value.Object (map (on_value (seen given)) ps)
+  pub seen_object : (ps : List (Pair (InputValue S))) → value_seen given (value.Object ps) ≡ value.Object (map (on_value (value_seen given)) ps)
   seen_object ps = fold_object (seen_layer given) ps

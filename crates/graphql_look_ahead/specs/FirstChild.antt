@@ -14,7 +14,7 @@ use Rattle.graphql_collected.specs.Requests.{drops_in, fragments_in}
 use Rattle.graphql_collected.specs.declared.request.Request.{Request}
 use Rattle.graphql_look_ahead.specs.Children.{Ahead, Children}
 use Rattle.graphql_look_ahead.specs.Open.{AllHave, OpenSet, open_set, rest_of, turns_of}
-use Rattle.graphql_look_ahead.specs.Told.{key_of, looked_at, told, within}
+use Rattle.graphql_look_ahead.specs.Told.{key_of, looked_at, document_field, with_request}
 use Rattle.graphql_look_ahead.specs.declared.selection.LookAheadSelection.{LookAheadSelection}
 use Rattle.graphql_look_ahead.specs.declared.searching.Task.{Task}
 use Rattle.graphql_look_ahead.specs.declared.searching.Task.TheVariants as task
@@ -54,34 +54,35 @@ module _ {S : Type 0} (drops : Directives S → Bool) (fragments : List (Fragmen
   AllLack searched = (name : Bytes) → list_any (bytes_eq name) searched ≡ true → FragmentLacks name
 
   -- where the lists before it lack the key, so does each fragment whose search ends
-  abbrev pub IsSound : Type 0 → List (Task S) → Type 0
-  IsSound before [] = Unit {0}
-  IsSound before (task.Search o ∷ ts) = IsSound (before × Lacks (rest_of o)) ts
-  IsSound before (task.Searched name ∷ ts) = (before → FragmentLacks name) × IsSound before ts
+  abbrev pub SearchIsSound : Type 0 → List (Task S) → Type 0
+  SearchIsSound before [] = Unit {0}
+  SearchIsSound before (task.Search o ∷ ts) = SearchIsSound (before × Lacks (rest_of o)) ts
+  SearchIsSound before (task.Searched name ∷ ts) = (before → FragmentLacks name)
+      × SearchIsSound before ts
 
   -- a search over these tasks, where these fragments were searched
   pub record IsSearch (ts : List (Task S)) (searched : List Bytes) : Type 0 where
-    pub sound : IsSound (Unit {0}) ts
+    pub sound : SearchIsSound (Unit {0}) ts
     pub lack : AllLack searched
 
   -- whatever the children of what was left are, the first of them is the first of those of what is
   -- left now
-  abbrev pub Leads : List (OpenSet S) → List (OpenSet S) → Type 0
-  Leads before now =
+  abbrev pub KeepsFirst : List (OpenSet S) → List (OpenSet S) → Type 0
+  KeepsFirst before now =
       (ds : List (Ahead S)) → AllHave drops fragments before ds
       → (cs : List (Ahead S))
       × AllHave drops fragments now cs
       × (first_child key ds ≡ first_child key cs)
 
   -- whatever they are, this is the first of them
-  abbrev pub Finds : List (OpenSet S) → Ahead S → Type 0
-  Finds before found =
+  abbrev pub FindsFirst : List (OpenSet S) → Ahead S → Type 0
+  FindsFirst before found =
       (ds : List (Ahead S)) → AllHave drops fragments before ds → first_child key ds ≡ Some found
 
   -- a turn: the child is found, or the search goes on
   pub record GoesOn (before : List (Task S)) (now : List (Task S))
       (searched : List Bytes) : Type 0 where
-    pub leads : Leads (lists_left before) (lists_left now)
+    pub leads : KeepsFirst (lists_left before) (lists_left now)
     pub search : IsSearch now searched
 
 module _ {S C : Type 0} (answer : S → ScalarAnswer) (request : Request S C) (key : Bytes) where
@@ -92,11 +93,12 @@ module _ {S C : Type 0} (answer : S → ScalarAnswer) (request : Request S C) (k
       GoesOn (drops_in answer request) (fragments_in request) key before now searched
       × (turns_left (fragments_in request) now < turns_left (fragments_in request) before)
   Turns before now searched (Some found) =
-      Finds (drops_in answer request) (fragments_in request) key (lists_left before) (told found)
+      FindsFirst (drops_in answer request) (fragments_in request) key (lists_left before)
+      (document_field found)
       × (found.request.now ≡ request)
 
   -- the first child of the key of a list that is bound to nothing
   abbrev pub IsFirst : List (Selection S) → Option (LookAheadSelection S C) → Type 0
   IsFirst list found =
       (cs : List (Ahead S)) → Children (drops_in answer request) (fragments_in request) None list cs
-      → option_map looked_at found ≡ option_map (within request) (first_child key cs)
+      → option_map looked_at found ≡ option_map (with_request request) (first_child key cs)

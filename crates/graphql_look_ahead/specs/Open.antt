@@ -85,8 +85,8 @@ module _ {S : Type 0} (drops : Directives S → Bool) (fragments : List (Fragmen
       pub nearer : turns_open fragments now < turns_open fragments before
 
     -- the children of a list, which is bound to nothing, come behind those that were found
-    abbrev pub Adds : List (Selection S) → List X → List X → Type 0
-    Adds set before after = (own : List (Ahead S))
+    abbrev pub AddsChildren : List (Selection S) → List X → List X → Type 0
+    AddsChildren set before after = (own : List (Ahead S))
         × Children drops fragments None set own
         × (after ≡ before ++ map shown own)
 

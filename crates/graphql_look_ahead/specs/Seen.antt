@@ -20,13 +20,13 @@ module _ {S : Type 0} (given : Text → Option (InputValue S)) where
   seen_layer (InputValue-F.Object pairs) = value.Object pairs
 
   -- the value with what is given for each variable in its stead, and null where nothing is
-  abbrev pub seen : InputValue S → InputValue S
-  seen = fold-InputValue S (InputValue S) seen_layer
+  abbrev pub value_seen : InputValue S → InputValue S
+  value_seen = fold-InputValue S (InputValue S) seen_layer
 
 module _ {S : Type 0} where
   -- the value of a variable: a variable that stands in it is null
   abbrev pub seen_alone : InputValue S → InputValue S
-  seen_alone = seen (λ _. None)
+  seen_alone = value_seen (λ _. None)
 
   -- what is seen of a variable that has a value
   abbrev pub seen_value : FinalVariables S → Text → Option (InputValue S)
@@ -34,4 +34,4 @@ module _ {S : Type 0} where
 
   -- a value of a document, where variables have these values
   abbrev pub seen_in : FinalVariables S → InputValue S → InputValue S
-  seen_in variables = seen (seen_value variables)
+  seen_in variables = value_seen (seen_value variables)

@@ -16,12 +16,12 @@ use Rattle.graphql_look_ahead.specs.declared.selected.Selected.TheVariants as se
 
 module _ {S : Type 0} where
   -- the selections of a field
-  abbrev pub set_of : Placed (Field S) → List (Selection S)
-  set_of x = listed x.item.selection_set
+  abbrev pub set_below : Placed (Field S) → List (Selection S)
+  set_below x = listed x.item.selection_set
 
   -- the selections of a field that was collected
   abbrev pub below_collected : CollectedField S → List (Selection S)
-  below_collected x = set_of x.field.now
+  below_collected x = set_below x.field.now
 
   -- all of them, in order
   abbrev pub selections_of : Selected S → List (Selection S)

@@ -10,7 +10,7 @@ use Rattle.graphql_written_out.specs.Written.{response_key}
 use Rattle.graphql_collected.specs.declared.request.Request.{Request}
 use Rattle.graphql_look_ahead.specs.Applies.{only_of}
 use Rattle.graphql_look_ahead.specs.Children.{Ahead, a_field, a_key}
-use Rattle.graphql_look_ahead.specs.Selections.{selections_of, set_of}
+use Rattle.graphql_look_ahead.specs.Selections.{selections_of, set_below}
 use Rattle.graphql_look_ahead.specs.declared.selection.LookAheadSelection.{LookAheadSelection}
 use Rattle.graphql_look_ahead.specs.declared.selection.Source.{Source}
 use Rattle.graphql_look_ahead.specs.declared.selection.Source.TheVariants as source
@@ -20,8 +20,8 @@ told_source (source.Field x) only = a_field x.now only
 told_source (source.Key key selected) only = a_key key.now (selections_of selected)
 
 -- a field that is looked at, as it is in its document
-abbrev pub told : {S C : Type 0} → LookAheadSelection S C → Ahead S
-told s = told_source s.source (only_of s.applies)
+abbrev pub document_field : {S C : Type 0} → LookAheadSelection S C → Ahead S
+document_field s = told_source s.source (only_of s.applies)
 
 module _ {S : Type 0} where
   -- the field's own name
@@ -44,27 +44,27 @@ module _ {S : Type 0} where
   only (a_key key below) = None
 
   -- the arguments, as they are written
-  abbrev pub arguments : Ahead S → List (Argument S)
-  arguments (a_field x only) = arguments_in x.item.arguments
-  arguments (a_key key below) = []
+  abbrev pub written_arguments : Ahead S → List (Argument S)
+  written_arguments (a_field x only) = arguments_in x.item.arguments
+  written_arguments (a_key key below) = []
 
   -- what is selected below it
   abbrev pub selected : Ahead S → List (Selection S)
-  selected (a_field x only) = set_of x
+  selected (a_field x only) = set_below x
   selected (a_key key below) = below
 
 module _ {S C : Type 0} where
   -- a field of a request
-  abbrev pub within : Request S C → Ahead S → Ahead S × Request S C
-  within request a = (a, request)
+  abbrev pub with_request : Request S C → Ahead S → Ahead S × Request S C
+  with_request request a = (a, request)
 
   -- the same, with the request of which it is
   abbrev pub looked_at : LookAheadSelection S C → Ahead S × Request S C
-  looked_at s = (told s, s.request.now)
+  looked_at s = (document_field s, s.request.now)
 
   -- it is of this request
-  abbrev pub IsOf : Request S C → LookAheadSelection S C → Type 0
-  IsOf request s = s.request.now ≡ request
+  abbrev pub IsOfRequest : Request S C → LookAheadSelection S C → Type 0
+  IsOfRequest request s = s.request.now ≡ request
 
   abbrev pub has_key : Bytes → LookAheadSelection S C → Bool
-  has_key key s = bytes_eq (key_of (told s)) key
+  has_key key s = bytes_eq (key_of (document_field s)) key

@@ -39,24 +39,24 @@ module _ {S : Type 0} where
   abbrev pub fields_told : LookAheadObject S → List (Pair (InputValue S))
   fields_told object = map (field_seen object.variables) object.fields.now
 
-  abbrev pub told : LookAheadValue S → InputValue S
-  told look_ahead.Null = value.Null
-  told (look_ahead.Scalar scalar) = value.Scalar scalar.now
-  told (look_ahead.Enum name) = value.Enum name.now
-  told (look_ahead.List list) = value.List (items_told list)
-  told (look_ahead.Object object) = value.Object (fields_told object)
+  abbrev pub value_shown : LookAheadValue S → InputValue S
+  value_shown look_ahead.Null = value.Null
+  value_shown (look_ahead.Scalar scalar) = value.Scalar scalar.now
+  value_shown (look_ahead.Enum name) = value.Enum name.now
+  value_shown (look_ahead.List list) = value.List (items_told list)
+  value_shown (look_ahead.Object object) = value.Object (fields_told object)
 
   -- at its place
   abbrev pub placed : Placed (LookAheadValue S) → Placed (InputValue S)
-  placed x = record { item = told x.item; span = x.span }
+  placed x = record { item = value_shown x.item; span = x.span }
 
   -- with its name, at their places
-  abbrev pub named : Placed (Bor (List ℕ)) × Placed (LookAheadValue S) → Pair (InputValue S)
-  named p = (record { item = p.0.item.now; span = p.0.span }, placed p.1)
+  abbrev pub named_value : Placed (Bor (List ℕ)) × Placed (LookAheadValue S) → Pair (InputValue S)
+  named_value p = (record { item = p.0.item.now; span = p.0.span }, placed p.1)
 
   -- what an iterator has yet to give
-  abbrev pub items_left : ListIter S → List (Placed (InputValue S))
-  items_left it = map (item_seen it.variables) it.items.now
+  abbrev pub items_ahead : ListIter S → List (Placed (InputValue S))
+  items_ahead it = map (item_seen it.variables) it.items.now
 
   abbrev pub fields_left : ObjectIter S → List (Pair (InputValue S))
   fields_left it = map (field_seen it.variables) it.fields.now

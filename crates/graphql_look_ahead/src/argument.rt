@@ -4,7 +4,7 @@ ghost use Rattle.std.specs.Prelude.{◌≡◌, [], map};
 ghost use Rattle.std.specs.Iterator.{YieldsFirstBy, YieldsLastBy, item_count};
 ghost use Rattle.std.specs.Option.{option_map};
 ghost use Rattle.graphql_look_ahead.specs.Values.{argument_named, argument_seen, argument_told};
-ghost use Rattle.graphql_look_ahead.specs.Values.{arguments_left, told, written_left};
+ghost use Rattle.graphql_look_ahead.specs.Values.{arguments_left, value_shown, written_left};
 
 use crate::value::LookAheadValue;
 use graphql_text::{Span, Spanning, TextRef};
@@ -61,7 +61,7 @@ impl<'a, S> LookAheadArgument<'a, S> {
 
     /// Its value: `null` where it is a variable without a value.
     pub fn value(&self) -> LookAheadValue<'a, S>
-        ensures { told result ≡ (argument_told self.now).1.item }
+        ensures { value_shown result ≡ (argument_told self.now).1.item }
     {
         LookAheadValue::new(&self.value.item, Some(self.variables))
     }

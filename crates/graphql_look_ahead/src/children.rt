@@ -8,7 +8,7 @@ ghost use Rattle.std.specs.Iterator.Runs.{EveryRun, ItemsMapTo};
 ghost use Rattle.graphql_collected.specs.declared.request.Request.{Request};
 ghost use Rattle.graphql_look_ahead.specs.declared.selection.LookAheadSelection.{LookAheadSelection};
 ghost use Rattle.graphql_look_ahead.specs.NamesLeft.{key_at, names_left};
-ghost use Rattle.graphql_look_ahead.specs.Told.{IsOf, has_key};
+ghost use Rattle.graphql_look_ahead.specs.Told.{IsOfRequest, has_key};
 
 mod names;
 mod traits;
@@ -60,8 +60,8 @@ impl<'d, 'a, S, C> LookAheadChildren<'d, 'a, S, C> {
     /// The first child of this response key.
     pub fn select(&self, key: &str) -> Option<&LookAheadSelection<'d, 'a, S, C>>
         ensures first { option_copied result ≡ find (has_key key.now) self.now.children }
-        ensures request { (request : Request S C) → All (IsOf request) self.now.children
-            → IfSome (option_copied result) (IsOf request) }
+        ensures request { (request : Request S C) → All (IsOfRequest request) self.now.children
+            → IfSome (option_copied result) (IsOfRequest request) }
     {
         self.as_slice()
             .iter()

@@ -8,8 +8,9 @@ ghost use Rattle.std.specs.Str.{bytes_eq};
 ghost use Rattle.graphql_look_ahead.specs.Equality.{equal, same_field, same_item, same_span};
 ghost use Rattle.graphql_look_ahead.specs.EqualityLaws.{equal_equiv, equal_per, fields_equiv};
 ghost use Rattle.graphql_look_ahead.specs.EqualityLaws.{fields_per, items_equiv, items_per};
-ghost use Rattle.graphql_look_ahead.specs.Values.{fields_left, fields_told, items_left, items_told};
-ghost use Rattle.graphql_look_ahead.specs.Values.{told};
+ghost use Rattle.graphql_look_ahead.specs.Values.{fields_left, fields_told, items_ahead};
+ghost use Rattle.graphql_look_ahead.specs.Values.{items_told};
+ghost use Rattle.graphql_look_ahead.specs.Values.{value_shown};
 
 use crate::list::LookAheadList;
 use crate::object::LookAheadObject;
@@ -34,7 +35,7 @@ fn are_same_name(mine: &str, theirs: &str) -> bool
 /// Whether the values have one form, and are equal in what they hold.
 #[cycle(equality)]
 fn are_same_value<S: PartialEq>(mine: LookAheadValue<'_, S>, theirs: LookAheadValue<'_, S>) -> bool
-    ensures { result ≡ equal S.eq (told mine.entry) (told theirs.entry) }
+    ensures { result ≡ equal S.eq (value_shown mine.entry) (value_shown theirs.entry) }
 {
     match mine {
         LookAheadValue::Null => match theirs {
@@ -67,7 +68,7 @@ fn are_same_items<S: PartialEq>(
     mut theirs: look_ahead_list::Iter<'_, S>,
 ) -> bool
     ensures { result
-        ≡ pointwise (same_item (equal S.eq)) (items_left mine.entry) (items_left theirs.entry) }
+        ≡ pointwise (same_item (equal S.eq)) (items_ahead mine.entry) (items_ahead theirs.entry) }
 {
     'items: while let Some(item) = mine.next() {
         match theirs.next() {
@@ -119,9 +120,9 @@ fn are_same_fields<S: PartialEq>(
 // name, lists item by item, objects field by field in order, all at the same places. Takes stack
 // for each level that both nest.
 impl<'a, S: PartialEq> PartialEq for LookAheadValue<'a, S> {
-    ghost eq = { on told (equal S.eq) };
+    ghost eq = { on value_shown (equal S.eq) };
 
-    ghost laws = { on_per told (equal_per S.eq S.laws) };
+    ghost laws = { on_per value_shown (equal_per S.eq S.laws) };
 
     fn eq(&self, other: &LookAheadValue<'a, S>) -> bool {
         are_same_value(*self, *other)
@@ -129,7 +130,7 @@ impl<'a, S: PartialEq> PartialEq for LookAheadValue<'a, S> {
 }
 
 impl<'a, S: Eq> Eq for LookAheadValue<'a, S> {
-    ghost laws = { on_equiv told (equal_equiv S.eq S.Eq.laws) };
+    ghost laws = { on_equiv value_shown (equal_equiv S.eq S.Eq.laws) };
 }
 
 // Equal items in order, at the same places. Takes stack for each level that both nest.

@@ -5,9 +5,9 @@ ghost use Rattle.graphql_collected.specs.Requests.{drops_in, fragments_in};
 ghost use Rattle.graphql_written_out.specs.Written.{Settled};
 ghost use Rattle.graphql_look_ahead.specs.Applies.{only_of};
 ghost use Rattle.graphql_look_ahead.specs.Children.{a_field};
-ghost use Rattle.graphql_look_ahead.specs.Open.{Adds, IsTurn, open_set, opened};
+ghost use Rattle.graphql_look_ahead.specs.Open.{AddsChildren, IsTurn, open_set, opened};
 ghost use Rattle.graphql_look_ahead.specs.Selections.{selections_of};
-ghost use Rattle.graphql_look_ahead.specs.Told.{looked_at, within};
+ghost use Rattle.graphql_look_ahead.specs.Told.{looked_at, with_request};
 
 use crate::applies::Applies;
 use crate::open::{Met, Open};
@@ -44,7 +44,7 @@ fn find<'d, 'a, S: SchemaScalar>(
 ) -> Result<(), AllocError>
     ensures { OnOk result (map looked_at found.new
         ≡ map looked_at found.old
-        ++ within request.now (a_field field.now (only_of applies.entry)) ∷ []) }
+        ++ with_request request.now (a_field field.now (only_of applies.entry)) ∷ []) }
 {
     found.push(LookAheadSelection {
         source: Source::Field(field),
@@ -63,7 +63,8 @@ fn advance<'d, 'a, S: SchemaScalar + Drop>(
 ) -> Result<(), AllocError>
     requires { Settled (fragments_in request.now) }
     ensures { OnOk result
-        (IsTurn (drops_in S.answer request.now) (fragments_in request.now) (within request.now)
+        (IsTurn (drops_in S.answer request.now) (fragments_in request.now)
+        (with_request request.now)
         (open_set top.entry ∷ opened open.old) (map looked_at found.old) (opened open.new)
         (map looked_at found.new)) }
 {
@@ -105,8 +106,8 @@ fn gather<'d, 'a, S: SchemaScalar + Drop>(
     found: &mut Items<LookAheadSelection<'d, 'a, S>>,
 ) -> Result<(), AllocError>
     requires { Settled (fragments_in request.now) }
-    ensures { OnOk result (Adds (drops_in S.answer request.now) (fragments_in request.now)
-        (within request.now) set.now
+    ensures { OnOk result (AddsChildren (drops_in S.answer request.now) (fragments_in request.now)
+        (with_request request.now) set.now
         (map looked_at found.old) (map looked_at found.new)) }
 {
     let mut open = Items::new(alloc);
@@ -125,8 +126,8 @@ pub(crate) fn gather_selected<'d, 'a, S: SchemaScalar + Drop>(
     found: &mut Items<LookAheadSelection<'d, 'a, S>>,
 ) -> Result<(), AllocError>
     requires { Settled (fragments_in request.now) }
-    ensures { OnOk result (Adds (drops_in S.answer request.now) (fragments_in request.now)
-        (within request.now) (selections_of selected.entry)
+    ensures { OnOk result (AddsChildren (drops_in S.answer request.now) (fragments_in request.now)
+        (with_request request.now) (selections_of selected.entry)
         (map looked_at found.old) (map looked_at found.new)) }
 {
     let fields = match selected {

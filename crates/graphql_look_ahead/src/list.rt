@@ -1,7 +1,7 @@
 //! Lists in the values of arguments.
 
 ghost use Rattle.std.specs.Prelude.{◌≡◌, [], map};
-ghost use Rattle.graphql_look_ahead.specs.Values.{item_seen, items_left, items_told};
+ghost use Rattle.graphql_look_ahead.specs.Values.{item_seen, items_ahead, items_told};
 
 use crate::look_ahead_list::Iter;
 use graphql_text::Spanning;
@@ -31,7 +31,7 @@ impl<'a, S> LookAheadList<'a, S> {
 
     /// The items in order, each at its place.
     pub fn iter(&self) -> Iter<'a, S>
-        ensures { items_left result ≡ items_told self.now }
+        ensures { items_ahead result ≡ items_told self.now }
     {
         Iter::new(self.items, self.variables)
     }
@@ -43,7 +43,7 @@ impl<'a, S> IntoIterator for LookAheadList<'a, S> {
 
     type IntoIter = Iter<'a, S>;
 
-    ghost into_iter_gives = { λ list r. items_left r ≡ items_told list };
+    ghost into_iter_gives = { λ list r. items_ahead r ≡ items_told list };
 
     fn into_iter(self) -> Iter<'a, S> {
         self.iter()

@@ -2,7 +2,7 @@
 
 ghost use Rattle.std.specs.Prelude.{◌≡◌, map};
 ghost use Rattle.std.specs.Iterator.{YieldsFirstBy, YieldsLastBy, item_count};
-ghost use Rattle.graphql_look_ahead.specs.Values.{item_seen, items_left, placed};
+ghost use Rattle.graphql_look_ahead.specs.Values.{item_seen, items_ahead, placed};
 
 use crate::value::LookAheadValue;
 use graphql_text::Spanning;
@@ -26,7 +26,7 @@ impl<'a, S> Iter<'a, S> {
         items: &'a [Spanning<InputValue<S>>],
         variables: Option<&'a FinalVariables<'a, S>>,
     ) -> Iter<'a, S>
-        ensures { items_left result ≡ map (item_seen variables.entry) items.now }
+        ensures { items_ahead result ≡ map (item_seen variables.entry) items.now }
     {
         Iter { items, variables }
     }
@@ -47,9 +47,9 @@ fn item_at<'a, S>(
 impl<'a, S> Iterator for Iter<'a, S> {
     type Item = Spanning<LookAheadValue<'a, S>>;
 
-    ghost next_gives = { YieldsFirstBy placed items_left };
+    ghost next_gives = { YieldsFirstBy placed items_ahead };
 
-    ghost remaining = { item_count items_left };
+    ghost remaining = { item_count items_ahead };
 
     fn next(&mut self) -> Option<Spanning<LookAheadValue<'a, S>>> {
         match self.items.split_first() {
@@ -68,7 +68,7 @@ impl<'a, S> Iterator for Iter<'a, S> {
 }
 
 impl<'a, S> DoubleEndedIterator for Iter<'a, S> {
-    ghost next_back_gives = { YieldsLastBy placed items_left };
+    ghost next_back_gives = { YieldsLastBy placed items_ahead };
 
     fn next_back(&mut self) -> Option<Spanning<LookAheadValue<'a, S>>> {
         match self.items.split_last() {

@@ -2,7 +2,7 @@
 
 ghost use Rattle.std.specs.Prelude.{◌≡◌, map};
 ghost use Rattle.std.specs.Iterator.{YieldsFirstBy, YieldsLastBy, item_count};
-ghost use Rattle.graphql_look_ahead.specs.Values.{field_seen, fields_left, named};
+ghost use Rattle.graphql_look_ahead.specs.Values.{field_seen, fields_left, named_value};
 
 use crate::value::LookAheadValue;
 use graphql_text::{Spanning, Text};
@@ -38,7 +38,7 @@ fn field_at<'a, S>(
     field: &'a (Spanning<Text>, Spanning<InputValue<S>>),
     variables: Option<&'a FinalVariables<'a, S>>,
 ) -> (Spanning<&'a str>, Spanning<LookAheadValue<'a, S>>)
-    ensures { named result ≡ field_seen variables.entry field.now }
+    ensures { named_value result ≡ field_seen variables.entry field.now }
 {
     let name = Spanning {
         item: field.0.item.as_str(),
@@ -52,7 +52,7 @@ fn field_at<'a, S>(
 impl<'a, S> Iterator for Iter<'a, S> {
     type Item = (Spanning<&'a str>, Spanning<LookAheadValue<'a, S>>);
 
-    ghost next_gives = { YieldsFirstBy named fields_left };
+    ghost next_gives = { YieldsFirstBy named_value fields_left };
 
     ghost remaining = { item_count fields_left };
 
@@ -73,7 +73,7 @@ impl<'a, S> Iterator for Iter<'a, S> {
 }
 
 impl<'a, S> DoubleEndedIterator for Iter<'a, S> {
-    ghost next_back_gives = { YieldsLastBy named fields_left };
+    ghost next_back_gives = { YieldsLastBy named_value fields_left };
 
     fn next_back(&mut self) -> Option<(Spanning<&'a str>, Spanning<LookAheadValue<'a, S>>)> {
         match self.fields.split_last() {

@@ -11,7 +11,8 @@ ghost use Rattle.graphql_look_ahead.specs.Children.{Ahead, Children, HasChildren
 ghost use Rattle.graphql_look_ahead.specs.FirstChild.{IsFirst};
 ghost use Rattle.graphql_look_ahead.specs.Selections.{field_or_key, first_of_key, none_or};
 ghost use Rattle.graphql_look_ahead.specs.Selections.{selections_of};
-ghost use Rattle.graphql_look_ahead.specs.Told.{IsOf, looked_at, told, within};
+ghost use Rattle.graphql_look_ahead.specs.Told.{IsOfRequest, looked_at, document_field};
+ghost use Rattle.graphql_look_ahead.specs.Told.{with_request};
 ghost use Rattle.graphql_look_ahead.specs.Told as spec;
 ghost use Rattle.graphql_look_ahead.specs.Values.{argument_named, argument_seen, argument_told};
 ghost use Rattle.graphql_look_ahead.specs.Values.{arguments_left};
@@ -120,7 +121,7 @@ impl<'d, 'a, S, C> LookAheadSelection<'d, 'a, S, C> {
         key: &'d str,
         below: Selected<'d, 'd, 'a, S>,
     ) -> LookAheadSelection<'d, 'a, S, C>
-        ensures told { told result
+        ensures document_field { document_field result
             ≡ field_or_key (first_of_key key.now (none_or among.entry))
             key.now (selections_of below.entry) }
         ensures request { result.request.now ≡ request.now }
@@ -153,7 +154,7 @@ impl<'d, 'a, S, C> LookAheadSelection<'d, 'a, S, C> {
 
     /// The field's own name.
     pub fn field_original_name(&self) -> &'d str
-        ensures { result.now ≡ spec.original_name (told self.now) }
+        ensures { result.now ≡ spec.original_name (document_field self.now) }
     {
         match self.source {
             Source::Field(field) => field.item.name.item.as_str(),
@@ -163,7 +164,7 @@ impl<'d, 'a, S, C> LookAheadSelection<'d, 'a, S, C> {
 
     /// The alias, if there is one (GraphQL October 2021, 2.7 Field Alias).
     pub fn field_alias(&self) -> Option<&'d str>
-        ensures { option_copied result ≡ spec.alias (told self.now) }
+        ensures { option_copied result ≡ spec.alias (document_field self.now) }
     {
         match self.source {
             Source::Field(field) => match &field.item.alias {
@@ -176,7 +177,7 @@ impl<'d, 'a, S, C> LookAheadSelection<'d, 'a, S, C> {
 
     /// The response key: the alias, else the name.
     pub fn field_name(&self) -> &'d str
-        ensures { result.now ≡ spec.key_of (told self.now) }
+        ensures { result.now ≡ spec.key_of (document_field self.now) }
     {
         match self.source {
             Source::Field(field) => response_key(&field.item),
@@ -186,7 +187,7 @@ impl<'d, 'a, S, C> LookAheadSelection<'d, 'a, S, C> {
 
     /// The type to which it is bound by the inline fragments around it, if to one.
     pub fn applies_for(&self) -> Option<&'d str>
-        ensures { option_copied result ≡ spec.only (told self.now) }
+        ensures { option_copied result ≡ spec.only (document_field self.now) }
     {
         match self.source {
             Source::Field(_) => self.applies.only(),
@@ -196,7 +197,7 @@ impl<'d, 'a, S, C> LookAheadSelection<'d, 'a, S, C> {
 
     /// Whether it has arguments.
     pub fn has_arguments(&self) -> bool
-        ensures { IsFalse result ↔ (spec.arguments (told self.now) ≡ []) }
+        ensures { IsFalse result ↔ (spec.written_arguments (document_field self.now) ≡ []) }
     {
         match self.source {
             Source::Field(field) => !arguments_in(&field.item.arguments).is_empty(),
@@ -207,7 +208,8 @@ impl<'d, 'a, S, C> LookAheadSelection<'d, 'a, S, C> {
     /// The arguments as they are written, in order, from both ends.
     pub fn arguments(&self) -> LookAheadArguments<'d, 'a, S>
         ensures { arguments_left result
-            ≡ map (argument_seen self.now.request.now.variables) (spec.arguments (told self.now)) }
+            ≡ map (argument_seen self.now.request.now.variables)
+            (spec.written_arguments (document_field self.now)) }
     {
         let request = self.request;
         let Source::Field(field) = self.source else {
@@ -220,7 +222,8 @@ impl<'d, 'a, S, C> LookAheadSelection<'d, 'a, S, C> {
     pub fn argument(&self, name: &str) -> Option<LookAheadArgument<'d, S>>
         ensures { option_map argument_told result
             ≡ argument_named
-            (map (argument_seen self.now.request.now.variables) (spec.arguments (told self.now)))
+            (map (argument_seen self.now.request.now.variables)
+            (spec.written_arguments (document_field self.now)))
             name.now }
     {
         self.arguments().get(name)
@@ -228,7 +231,7 @@ impl<'d, 'a, S, C> LookAheadSelection<'d, 'a, S, C> {
 
     /// Whether it is not bound to another type than the one of this name.
     fn applies_to(&self, type_name: &str) -> bool
-        ensures { result ≡ applies_to type_name.now (spec.only (told self.now)) }
+        ensures { result ≡ applies_to type_name.now (spec.only (document_field self.now)) }
     {
         match self.applies_for() {
             Some(name) => name == type_name,
@@ -238,7 +241,7 @@ impl<'d, 'a, S, C> LookAheadSelection<'d, 'a, S, C> {
 
     /// What is selected below it.
     fn selected(&self) -> Selected<'d, 'd, 'a, S>
-        ensures { selections_of result ≡ spec.selected (told self.now) }
+        ensures { selections_of result ≡ spec.selected (document_field self.now) }
     {
         match self.source {
             Source::Field(field) => Selected::Set(set_of(&field.item)),
@@ -259,9 +262,10 @@ impl<'d, 'a, S: SchemaScalar + Drop> LookAheadSelection<'d, 'a, S> {
         ensures children { let request = self.now.request.now in
             IfOk result (λ found. (children : List (Ahead S))
             × Children (drops_in S.answer request) (fragments_in request) None
-            (spec.selected (told self.now)) children
-            × (map looked_at found.children ≡ map (within request) children)) }
-        ensures request { IfOk result (λ found. All (IsOf self.now.request.now) found.children) }
+            (spec.selected (document_field self.now)) children
+            × (map looked_at found.children ≡ map (with_request request) children)) }
+        ensures request { IfOk result (λ found.
+            All (IsOfRequest self.now.request.now) found.children) }
     {
         let mut found = Items::new(alloc);
         gather_selected(alloc, self.request, self.selected(), &mut found)?;
@@ -279,10 +283,11 @@ impl<'d, 'a, S: SchemaScalar + Drop> LookAheadSelection<'d, 'a, S> {
         ensures children { let request = self.now.request.now in
             IfOk result (λ found. (children : List (Ahead S))
             × Children (drops_in S.answer request) (fragments_in request) None
-            (spec.selected (told self.now)) children
-            × (map looked_at found.children ≡ map (within request)
+            (spec.selected (document_field self.now)) children
+            × (map looked_at found.children ≡ map (with_request request)
             (filter (λ child. applies_to type_name.now (spec.only child)) children))) }
-        ensures request { IfOk result (λ found. All (IsOf self.now.request.now) found.children) }
+        ensures request { IfOk result (λ found.
+            All (IsOfRequest self.now.request.now) found.children) }
     {
         let all = self.children(alloc)?;
         let mut children = Items::new(alloc);
@@ -306,10 +311,10 @@ impl<'d, 'a, S: SchemaScalar + Drop> LookAheadSelection<'d, 'a, S> {
         requires { Settled (fragments_in self.now.request.now) }
         ensures children { let request = self.now.request.now in
             HasChildren (drops_in S.answer request) (fragments_in request) None
-            (spec.selected (told self.now)) }
+            (spec.selected (document_field self.now)) }
         ensures first { IfOk result (IsFirst S.answer self.now.request.now key.now
-            (spec.selected (told self.now))) }
-        ensures request { IfOk result (λ found. IfSome found (IsOf self.now.request.now)) }
+            (spec.selected (document_field self.now))) }
+        ensures request { IfOk result (λ found. IfSome found (IsOfRequest self.now.request.now)) }
     {
         find_first(alloc, self.request, key, self.selected())
     }

@@ -2,7 +2,7 @@
 
 ghost use Rattle.std.specs.Prelude.{◌≡◌};
 ghost use Rattle.graphql_look_ahead.specs.Seen.{seen_alone, seen_in};
-ghost use Rattle.graphql_look_ahead.specs.Values.{seen_by, told};
+ghost use Rattle.graphql_look_ahead.specs.Values.{seen_by, value_shown};
 
 use crate::list::LookAheadList;
 use crate::object::LookAheadObject;
@@ -39,7 +39,7 @@ impl<'a, S> LookAheadValue<'a, S> {
         written: &'a InputValue<S>,
         variables: Option<&'a FinalVariables<'a, S>>,
     ) -> LookAheadValue<'a, S>
-        ensures { told result ≡ seen_by variables.entry written.now }
+        ensures { value_shown result ≡ seen_by variables.entry written.now }
     {
         match variables {
             Some(given) => in_document(written, given),
@@ -53,7 +53,7 @@ fn in_document<'a, S>(
     written: &'a InputValue<S>,
     variables: &'a FinalVariables<'a, S>,
 ) -> LookAheadValue<'a, S>
-    ensures { told result ≡ seen_in variables.now written.now }
+    ensures { value_shown result ≡ seen_in variables.now written.now }
 {
     match written {
         InputValue::Null => LookAheadValue::Null,
@@ -74,7 +74,7 @@ fn in_document<'a, S>(
 
 /// A variable's value, or a part of it.
 fn alone<S>(value: &InputValue<S>) -> LookAheadValue<'_, S>
-    ensures { told result ≡ seen_alone value.now }
+    ensures { value_shown result ≡ seen_alone value.now }
 {
     match value {
         InputValue::Null => LookAheadValue::Null,

@@ -12,7 +12,7 @@ use Rattle.graphql_text.specs.declared.position.SourcePosition.{SourcePosition}
 use Rattle.graphql_merging.specs.Members.{Member, Scope, member, inside, members}
 use Rattle.graphql_merging.specs.Merging.{Agree, in_set, apart}
 use Rattle.graphql_merging.specs.Sets.{directs_in, directs_of}
-use Rattle.graphql_merging.specs.Told.{Names, Tells, nothing, fitting, conflict, Fits, later_pairs}
+use Rattle.graphql_merging.specs.Told.{Names, Tells, nothing, fitting, conflict, AgreeIfOneKey, later_pairs}
 use Rattle.graphql_merging.specs.Laws.{DirectConflictsAreNamed, DirectConflictsAreConflicts, NothingToldFits}
 use Rattle.graphql_merging.proofs.Standing.{apart-self}
 use Rattle.graphql_merging.proofs.Nested.{one-only, in-nothing}
@@ -108,12 +108,12 @@ pub direct-conflicts-are-named : (S C : Type 0) (eq : S → S → Bool) → Dire
 direct-conflicts-are-named S C eq types set es told a b i key differ =
     let inn = to-In (a, b) (later_pairs (directs_of types set)) i in
     let both = later-In (directs_of types set) a b inn in
-    elim (tells-named (Fits eq types false) _ es told a b inn) [
+    elim (tells-named (AgreeIfOneKey eq types false) _ es told a b inn) [
       | inl fits ↦ absurd (differ ((fits key).0 (direct-apart types set.scope set.tree a b (from-In a _ both.0) (from-In b _ both.1))))
       | inr named ↦ named
     ]
 
-key-of : {S C : Type 0} (eq : S → S → Bool) (types : List (MetaType S C)) (a b : Member S C) → (Fits eq types false a b → ⊥) → a.head.key ≡ b.head.key
+key-of : {S C : Type 0} (eq : S → S → Bool) (types : List (MetaType S C)) (a b : Member S C) → (AgreeIfOneKey eq types false a b → ⊥) → a.head.key ≡ b.head.key
 key-of eq types a b h = cases (bytes_eq a.head.key b.head.key) refl
   where
     cases : (r : Bool) → bytes_eq a.head.key b.head.key ≡ r → a.head.key ≡ b.head.key
@@ -123,7 +123,7 @@ key-of eq types a b h = cases (bytes_eq a.head.key b.head.key) refl
 pub direct-conflicts-are-conflicts : (S C : Type 0) (eq : S → S → Bool) → DirectConflictsAreConflicts S C eq
 direct-conflicts-are-conflicts S C eq types set es told k d within =
     let e = get_or es k d in
-    let r = tells-sound (Fits eq types false) _ es told e (to-In e es (Contains-get_or es k d within)) in
+    let r = tells-sound (AgreeIfOneKey eq types false) _ es told e (to-In e es (Contains-get_or es k d within)) in
     let both = later-In (directs_of types set) r.0 r.1 r.2 in
     let one = direct-member types set.scope set.tree r.0 (from-In r.0 _ both.0) in
     let two = direct-member types set.scope set.tree r.1 (from-In r.1 _ both.1) in
@@ -132,7 +132,7 @@ direct-conflicts-are-conflicts S C eq types set es told k d within =
     (r.0, r.1, (set, (0, lit< tt, refl), (false, in_set r.0 r.1 one two key, λ merge. differ ((merge 1).0))), r.4)
 
 pub nothing-told-fits : (S C : Type 0) (eq : S → S → Bool) → NothingToldFits S C eq
-nothing-told-fits S C eq types x ps told a b i = elim (tells-named (Fits eq types x) ps [] told a b (to-In (a, b) ps i)) [
+nothing-told-fits S C eq types x ps told a b i = elim (tells-named (AgreeIfOneKey eq types x) ps [] told a b (to-In (a, b) ps i)) [
   | inl fits ↦ fits
   | inr named ↦ absurd (omega (arith, named.2))
 ]

@@ -20,7 +20,7 @@ use Rattle.graphql_written_out.specs.Trees.{Head, Tree, none, field, inline}
 use Rattle.graphql_merging.specs.Members.{Member, members_below}
 use Rattle.graphql_merging.specs.Merging.{SameArguments, SameField, Agree, Merges, Merge, Merging, Together, in_set, in_sets, apart}
 use Rattle.graphql_merging.specs.Sets.{Set, members_of, directs_of}
-use Rattle.graphql_merging.specs.Told.{Names, Tells, nothing, conflict, Fits, later_pairs}
+use Rattle.graphql_merging.specs.Told.{Names, Tells, nothing, conflict, AgreeIfOneKey, later_pairs}
 use Rattle.graphql_merging.specs.Contract.{IsConflict}
 use Rattle.graphql_merging.proofs.Nested.{in-nothing, one-only}
 use Rattle.graphql_merging.proofs.Standing.{arguments-self, merging-is-agreement, disagreement-is-conflict, agreement-is-mutual, merging-is-mutual, agrees-with-itself}
@@ -224,7 +224,7 @@ dog_names_conflict = disagreement-is-conflict nat_eq beings false dog_name dog_n
 abbrev pub dog_errors : Places
 dog_errors = (at 30 ∷ at 40 ∷ []) ∷ []
 
-pub told_of_dog : Tells (Fits nat_eq beings false) (later_pairs (directs_of beings dog_set)) dog_errors
+pub told_of_dog : Tells (AgreeIfOneKey nat_eq beings false) (later_pairs (directs_of beings dog_set)) dog_errors
 told_of_dog =
     conflict dog_name dog_nick (at 30 ∷ at 40 ∷ []) [] [] (λ fits. dog_names_disagree (fits refl)) refl nothing
 

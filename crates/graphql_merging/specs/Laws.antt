@@ -8,7 +8,7 @@ use Rattle.graphql_merging.specs.Members.{Member, members}
 use Rattle.graphql_merging.specs.Merging.{SameField, Agree, Merge, Merging, Together, apart}
 use Rattle.graphql_merging.specs.Sets.{Set, members_of, directs_of, sets_of}
 use Rattle.graphql_merging.specs.Pieces.{Pieces, PieceField, IsPieceOf, HasOwnPieces, Meets}
-use Rattle.graphql_merging.specs.Told.{Names, Tells, Fits, later_pairs}
+use Rattle.graphql_merging.specs.Told.{Names, Tells, AgreeIfOneKey, later_pairs}
 use Rattle.graphql_merging.specs.Contract.{IsSound}
 use Rattle.graphql_names.specs.Names.{Bytes}
 use Rattle.graphql_written_out.specs.Trees.{Directives, Tree}
@@ -56,14 +56,14 @@ module _ (S C : Type 0) (eq : S → S → Bool) where
   -- differ in names or arguments
   abbrev pub DirectConflictsAreNamed : Type 0
   DirectConflictsAreNamed = (types : List (MetaType S C)) (set : Set S C) (es : Places)
-      → Tells (Fits eq types false) (later_pairs (directs_of types set)) es
+      → Tells (AgreeIfOneKey eq types false) (later_pairs (directs_of types set)) es
       → (a b : Member S C) → Contains (later_pairs (directs_of types set)) (a, b)
       → a.head.key ≡ b.head.key → (SameField eq types a b → ⊥) → Any (λ e. Names e a b) es
 
   -- and nothing but conflicts
   abbrev pub DirectConflictsAreConflicts : Type 0
   DirectConflictsAreConflicts = (types : List (MetaType S C)) (set : Set S C) (es : Places)
-      → Tells (Fits eq types false) (later_pairs (directs_of types set)) es
+      → Tells (AgreeIfOneKey eq types false) (later_pairs (directs_of types set)) es
       → IsSound eq types (set ∷ []) es
 
   -- pairs of pieces whose fields stand together in a set lead to such pairs: a piece of the set
@@ -84,8 +84,8 @@ module _ (S C : Type 0) (eq : S → S → Bool) where
   -- where nothing is told, each pair fits
   abbrev pub NothingToldFits : Type 0
   NothingToldFits = (types : List (MetaType S C)) (x : Bool) (ps : List (Member S C × Member S C))
-      → Tells (Fits eq types x) ps []
-      → (a b : Member S C) → Contains ps (a, b) → Fits eq types x a b
+      → Tells (AgreeIfOneKey eq types x) ps []
+      → (a b : Member S C) → Contains ps (a, b) → AgreeIfOneKey eq types x a b
 
 module _ (S C : Type 0) where
   -- where the types of a set are known, the members that apply to an object type are the fields

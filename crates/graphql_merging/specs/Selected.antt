@@ -6,8 +6,8 @@ use Rattle.graphql_merging.specs.declared.selected.SelectedField.{SelectedField}
 use Rattle.graphql_merging.specs.Members.{Member}
 
 -- a field of a document, its fragments written out
-abbrev pub seen : {S C : Type 0} → List (Fragment S) → SelectedField S C → Member S C
-seen fragments f = record {
+abbrev pub member_of : {S C : Type 0} → List (Fragment S) → SelectedField S C → Member S C
+member_of fragments f = record {
   parent = f.parent.now;
   head = head_of f.field.now;
   below = written fragments (listed f.field.now.item.selection_set);

@@ -42,8 +42,8 @@ module _ {S C : Type 0} where
 
 module _ {S C : Type 0} (eq : S → S → Bool) (types : List (MetaType S C)) where
   -- two fields whose names, arguments and shapes are alike, or that have two response keys
-  abbrev pub Fits : Bool → Member S C → Member S C → Type 0
-  Fits x a b = a.head.key ≡ b.head.key → Agree eq types x a b
+  abbrev pub AgreeIfOneKey : Bool → Member S C → Member S C → Type 0
+  AgreeIfOneKey x a b = a.head.key ≡ b.head.key → Agree eq types x a b
 
   -- what two fields do not have alike, the first of it: names, arguments, shapes
   abbrev pub Differs : Bool → Member S C → Member S C → Option Difference → Type 0

@@ -6,7 +6,7 @@ ghost use Rattle.graphql_tree.specs.declared.document.Fragment.{Fragment};
 ghost use Rattle.graphql_tree.specs.Documents.{arguments_in as arguments_given};
 ghost use Rattle.graphql_merging.specs.Members.{declared, declared_type};
 ghost use Rattle.graphql_merging.specs.Merging.{SameShape, SameShapes, apart, SameArguments};
-ghost use Rattle.graphql_merging.specs.Selected.{seen};
+ghost use Rattle.graphql_merging.specs.Selected.{member_of};
 ghost use Rattle.graphql_merging.specs.Told.{Differs, DiffersAsWritten};
 
 use crate::arguments::same_arguments;
@@ -78,7 +78,8 @@ pub fn is_excused<S, C>(
     right: &SelectedField<'_, '_, S, C>,
 ) -> bool
     ensures { (fragments : List (Fragment S))
-        → result ≡ (around || apart (seen fragments left.now) (seen fragments right.now)) }
+        → result ≡ (around || apart (member_of fragments left.now)
+        (member_of fragments right.now)) }
 {
     around || are_different_objects(left.parent, right.parent)
 }
@@ -124,7 +125,8 @@ pub fn first_difference<S: PartialEq, C>(
 ) -> Result<Option<Difference>, AllocError>
     ensures { IfOk result (λ difference. (fragments : List (Fragment S))
         → Differs S.eq
-        schema.now.types around (seen fragments left.now) (seen fragments right.now) difference) }
+        schema.now.types around (member_of fragments left.now)
+        (member_of fragments right.now) difference) }
 {
     let excused = is_excused(around, left, right);
     let written = written_difference(alloc, excused, &left.field.item, &right.field.item)?;

@@ -9,7 +9,7 @@ use Rattle.graphql_text.specs.Position.{origin}
 use Rattle.graphql_text.specs.declared.position.SourcePosition.{SourcePosition}
 use Rattle.graphql_scalars.specs.ScalarAnswers.{ScalarAnswer}
 use Rattle.graphql_values.specs.InputValues.{Pair, Placed}
-use Rattle.graphql_values.specs.Variables.{variables_in as variables_of, variables_layer}
+use Rattle.graphql_values.specs.Variables.{names_of_variables as variables_of, variables_layer}
 use Rattle.graphql_values.specs.declared.input_value.InputValue.{InputValue}
 use Rattle.graphql_values.specs.declared.input_value.InputValue.TheVariants as value
 use Rattle.graphql_values.proofs.InputValueInduction.{value_ind}

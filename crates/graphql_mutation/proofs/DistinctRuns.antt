@@ -29,7 +29,7 @@ use Rattle.graphql_semantics.specs.Laws.{DataHaveDistinctKeys, FailuresTellDisti
 use Rattle.graphql_semantics.proofs.GroupKeys.{distinct-groups}
 use Rattle.graphql_semantics.proofs.ToldErrors.{type-tells}
 use Rattle.graphql_mutation.specs.Laws.{RunsHaveDistinctKeys, StepsTellDistinctKeys}
-use Rattle.graphql_mutation.specs.Serial.{Mutation, Run, Step, completed_step, declared_step, mutate, root_group, root_groups, serially, step_of, unless_null}
+use Rattle.graphql_mutation.specs.Serial.{Mutation, Run, RootStep, completed_step, declared_step, mutate, root_group, root_groups, serially, step_of, unless_null}
 
 abbrev Distinct : {S : Type 0} → Value S → Type 0
 Distinct v = HasDistinctKeysThroughout v
@@ -151,7 +151,7 @@ module _ {S N X : Type 0} (kept : DataHaveDistinctKeys S N) (told : FailuresTell
       → IfDistinct (completed_step m object key sets head type (step_of m object c head)).outcome.value
       × All TellsDistinctKeys (completed_step m object key sets head type (step_of m object c head)).outcome.failures
   completed key sets head c type =
-      let step : Step S N X = step_of m object c head in
+      let step : RootStep S N X = step_of m object c head in
       let e : Engine S N = m.engine step.after in
       let run_on : N → Outcome S (Members S) = λ n. evaluate e (key ∷ []) (e.concrete n) n sets in (
         at-place run_on (λ n. kept e (key ∷ []) (e.concrete n) n sets) (blame_at (key ∷ []) head.place)

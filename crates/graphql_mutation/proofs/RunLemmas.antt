@@ -30,7 +30,7 @@ use Rattle.graphql_execution_walk.specs.Asked.{AskedAnswer}
 use Rattle.graphql_execution_walk.specs.Engines.{Resolves, engine_of}
 use Rattle.graphql_execution_walk.specs.declared.asked.Asked.{Asked}
 use Rattle.graphql_execution_walk.specs.FieldDeclarations.{declared_type}
-use Rattle.graphql_execution_walk.specs.FieldPaths.{keys_of, place_of}
+use Rattle.graphql_execution_walk.specs.FieldPaths.{keys_of, start_of_path}
 use Rattle.graphql_execution_walk.specs.Sets.{sets_in}
 use Rattle.graphql_execution_walk.specs.declared.executor.Executor.{Executor}
 use Rattle.graphql_execution_walk.proofs.EngineParts.{engine-declared}
@@ -38,7 +38,7 @@ use Rattle.graphql_execution_walk.proofs.OwnErrorLaws.{own-fails}
 use Rattle.graphql_mutation.specs.Completing.{IsValueOrTold, outcome_of_result, own_error_of_result, step_shown}
 use Rattle.graphql_mutation.specs.Mutations.{Changes, mutation_of}
 use Rattle.graphql_mutation.specs.Runs.{HasRun, LeavesOrKeeps}
-use Rattle.graphql_mutation.specs.Serial.{Mutation, Run, Step, completed_step, declared_step, root_group, step_of}
+use Rattle.graphql_mutation.specs.Serial.{Mutation, Run, RootStep, completed_step, declared_step, root_group, step_of}
 
 pub on_err : {A E : Type 0} (r : Result A E) (P : Type 0) → P → OnErr r P
 on_err (Ok x) P h = tt
@@ -88,12 +88,12 @@ module _ {S C N X Context : Type 0} (of_text : Bytes → S) (of_bool : Bool → 
       in
       let outcome : outcome_here e over r ≡ outcome_of_result f executor wanted =
       λ i. outcome_at (engine_on (request i) (here i)) (sets_in (request i) (selected i)) (type i).name.now
-      (place_of (path i)) (reverse (type i).modifiers.now) (sym is i) (keys_of (path i)) in
+      (start_of_path (path i)) (reverse (type i).modifiers.now) (sym is i) (keys_of (path i)) in
       subst (λ x. Completes x (outcome_of_result f executor wanted) old result new) own
       (subst (λ o. Completes (own_error_here e over r) o old result new) outcome h)
 
 -- what is completed and told is what the place shows
-module _ {S N X Context C : Type 0} (m : Mutation S N X) (executor : Executor Context S C) (step : Step S N X) where
+module _ {S N X Context C : Type 0} (m : Mutation S N X) (executor : Executor Context S C) (step : RootStep S N X) where
   abbrev own : Option (FieldError S)
   own = own_error_of_result (m.engine step.after) executor step.answer
 
@@ -101,13 +101,13 @@ module _ {S N X Context C : Type 0} (m : Mutation S N X) (executor : Executor Co
   comes = outcome_of_result (m.engine step.after) executor step.answer
 
   told-fails : (x : FieldError S) → own ≡ Some x
-      → comes ≡ fails (blame_at (keys_of executor.path) (place_of executor.path) x)
+      → comes ≡ fails (blame_at (keys_of executor.path) (start_of_path executor.path) x)
   told-fails x h =
       let e = m.engine step.after in
       let name = executor.current_type.name.now in
       own-fails name (e.is_leaf name) (λ n. e.is_possible name (e.concrete n))
       (λ n. evaluate e (keys_of executor.path) (e.concrete n) n (sets_in executor.request.now executor.selected))
-      (blame_at (keys_of executor.path) (place_of executor.path)) (reverse executor.current_type.modifiers.now) step.answer x h
+      (blame_at (keys_of executor.path) (start_of_path executor.path)) (reverse executor.current_type.modifiers.now) step.answer x h
 
   told-comes : (r : Result (Option (Value S)) (FieldFault S)) (v : Option (Value S))
       (old mid new : List (ExecutionError S))
@@ -117,7 +117,7 @@ module _ {S N X Context C : Type 0} (m : Mutation S N X) (executor : Executor Co
   told-comes (Err (fault.Error x)) v old mid new h t =
       let fails_so = sym (told-fails x h.0) in (
         t.0 ∙ ap (λ (o : Outcome S (Value S)). o.value) fails_so,
-        t.1 ∙ ap (λ es. es ++ blame_at (keys_of executor.path) (place_of executor.path) x ∷ []) h.1
+        t.1 ∙ ap (λ es. es ++ blame_at (keys_of executor.path) (start_of_path executor.path) x ∷ []) h.1
             ∙ ap (λ (o : Outcome S (Value S)). old ++ o.failures) fails_so,
       )
   told-comes (Err fault.Memory) v old mid new h t = absurd t
@@ -203,7 +203,7 @@ module _ {S C N X Context : Type 0} (of_text : Bytes → S) (of_bool : Bool → 
   pub shown-group : (object : Bytes) (c : X) (key : Bytes) (fields : Lent S) (x : CollectedField S) (type : TypeOf)
       → Some x ≡ slice_get fields 0
       → ((mutation_at rq).engine c).declared object (head_of x.field.now).name ≡ Some type
-      → here.request.now ≡ rq → place_of here.path ≡ (head_of x.field.now).place → keys_of here.path ≡ key ∷ []
+      → here.request.now ≡ rq → start_of_path here.path ≡ (head_of x.field.now).place → keys_of here.path ≡ key ∷ []
       → literal_of here.current_type ≡ type
       → sets_in here.request.now here.selected ≡ sets_below (all_found (fragments_in rq) fields)
       → step_shown (mutation_at here.request.now) here

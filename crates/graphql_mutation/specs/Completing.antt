@@ -11,10 +11,10 @@ use Rattle.graphql_semantics.specs.Completion.{is_required}
 use Rattle.graphql_semantics.specs.Engines.{Engine}
 use Rattle.graphql_semantics.specs.Outcomes.{Outcome, show_place}
 use Rattle.graphql_execution_walk.specs.Begins.{outcome_at, own_error_at}
-use Rattle.graphql_execution_walk.specs.FieldPaths.{error_at, keys_of, place_of}
+use Rattle.graphql_execution_walk.specs.FieldPaths.{error_at, keys_of, start_of_path}
 use Rattle.graphql_execution_walk.specs.Sets.{sets_in}
 use Rattle.graphql_execution_walk.specs.declared.executor.Executor.{Executor}
-use Rattle.graphql_mutation.specs.Serial.{Mutation, Run, Step}
+use Rattle.graphql_mutation.specs.Serial.{Mutation, Run, RootStep}
 
 module _ {S N Context C : Type 0} (e : Engine S N) (executor : Executor Context S C)
     (answer : Result (Resolved S N) (FieldError S)) where
@@ -29,7 +29,7 @@ module _ {S N Context C : Type 0} (e : Engine S N) (executor : Executor Context 
   abbrev pub outcome_of_result : Outcome S (Value S)
   outcome_of_result =
       outcome_at e (sets_in executor.request.now executor.selected) executor.current_type.name.now
-      (place_of executor.path) (reverse executor.current_type.modifiers.now) answer
+      (start_of_path executor.path) (reverse executor.current_type.modifiers.now) answer
       (keys_of executor.path)
 
 -- the value, or none where the place itself fails, which is told
@@ -38,13 +38,13 @@ abbrev pub IsValueOrTold : {S Context C : Type 0} → Executor Context S C
     → List (ExecutionError S) → Option (Value S) → List (ExecutionError S) → Type 0
 IsValueOrTold executor (Ok v) old value new = (value ≡ v) × (new ≡ old)
 IsValueOrTold executor (Err (fault.Error e)) old value new =
-    (value ≡ None) × (new ≡ old ++ error_at (place_of executor.path) executor.path e ∷ [])
+    (value ≡ None) × (new ≡ old ++ error_at (start_of_path executor.path) executor.path e ∷ [])
 IsValueOrTold executor (Err fault.Memory) old value new = ⊥
 
 -- the answer of a step, completed on the context after, as the place at which an executor stands
 -- shows it
 abbrev pub step_shown : {S N X Context C : Type 0} → Mutation S N X → Executor Context S C
-    → Step S N X
+    → RootStep S N X
     → Run S X (Value S)
 step_shown m executor step = record {
   outcome =

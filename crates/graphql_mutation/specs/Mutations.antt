@@ -13,7 +13,7 @@ use Rattle.graphql_execution_walk.specs.Asked.{map_answer, or_asked, told_of_its
 use Rattle.graphql_execution_walk.specs.Engines.{Resolves, engine_over}
 use Rattle.graphql_execution_walk.specs.declared.asked.Asked.{Asked}
 use Rattle.graphql_execution_walk.specs.declared.asked.Asked.TheVariants as asked
-use Rattle.graphql_mutation.specs.Serial.{Mutation, Step}
+use Rattle.graphql_mutation.specs.Serial.{Mutation, RootStep}
 
 -- what a resolver does at a mutation's root: what it answers for a field by its argument values,
 -- and the context after
@@ -27,7 +27,7 @@ pub record Changes (S N X : Type 0) : Type 0 where
 module _ {S C N X : Type 0} (of_text : Bytes → S) (answer : S → ScalarAnswer)
     (schema : SchemaType S C)
     (changes : Changes S N X) where
-  abbrev pub told_first : X → Bytes → Bytes → Given S → Step S (Asked S N C) X
+  abbrev pub told_first : X → Bytes → Bytes → Given S → RootStep S (Asked S N C) X
   told_first c object name given =
       let told = told_of_itself of_text answer schema object name given in
       record {

@@ -18,7 +18,7 @@ use Rattle.graphql_semantics.specs.Evaluation.{Group, at_type, evaluate, found_i
 use Rattle.graphql_semantics.specs.Outcomes.{Outcome, gives, no_value}
 
 -- what a field of the root is answered, and the context after
-pub record Step (S N X : Type 0) : Type 0 where
+pub record RootStep (S N X : Type 0) : Type 0 where
   pub answer : Result (Resolved S N) (FieldError S)
   pub after : X
 
@@ -27,7 +27,7 @@ pub record Mutation (S N X : Type 0) : Type 0 where
   -- over each context
   pub engine : X → Engine S N
   -- on a context, for a field of an object type, the root's, by its argument values
-  pub step : X → Bytes → Bytes → Given S → Step S N X
+  pub step : X → Bytes → Bytes → Given S → RootStep S N X
 
 -- what a part of a mutation gives, and the context after
 pub record Run (S X A : Type 0) : Type 0 where
@@ -53,11 +53,11 @@ unless_null key first (Some v) others = record {
 
 module _ {S N X : Type 0} (m : Mutation S N X) (object : Bytes) where
   -- what a field is answered; its argument values are those that the engine gives
-  abbrev pub step_of : X → Head S → Step S N X
+  abbrev pub step_of : X → Head S → RootStep S N X
   step_of c head = m.step c object head.name ((m.engine c).arguments object head)
 
   -- the answer, completed at a type on the context after, with these sets selected from its objects
-  abbrev pub completed_step : Bytes → List (Tree S) → Head S → TypeOf → Step S N X
+  abbrev pub completed_step : Bytes → List (Tree S) → Head S → TypeOf → RootStep S N X
       → Run S X (Value S)
   completed_step key sets head type step =
       let e = m.engine step.after in

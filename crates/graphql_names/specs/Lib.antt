@@ -3,3 +3,4 @@ pub mod NameMaps
 pub mod Indexes
 pub mod Laws
 pub mod TypeReference
+pub mod NameSets

@@ -29,14 +29,14 @@ abbrev pub nullable : List TypeModifier → List TypeModifier
 nullable ms = if is_non_null (outermost ms) then take (length ms - 1) ms else ms
 
 -- what a wrap writes around a type
-abbrev pub wrapped : List ℕ → TypeModifier → List ℕ
-wrapped inner modifier.NonNull = inner ++ codes "!"
-wrapped inner (modifier.List size) = codes "[" ++ inner ++ codes "]"
+abbrev pub wrapped_type : List ℕ → TypeModifier → List ℕ
+wrapped_type inner modifier.NonNull = inner ++ codes "!"
+wrapped_type inner (modifier.List size) = codes "[" ++ inner ++ codes "]"
 
 -- a type as it is written, from the innermost wrap to the outermost
-abbrev pub written : List ℕ → List TypeModifier → List ℕ
-written inner [] = inner
-written inner (m ∷ ms) = written (wrapped inner m) ms
+abbrev pub written_type : List ℕ → List TypeModifier → List ℕ
+written_type inner [] = inner
+written_type inner (m ∷ ms) = written_type (wrapped_type inner m) ms
 
 -- the part of it before the type within, and the part behind that
 abbrev pub opening : TypeModifier → List ℕ

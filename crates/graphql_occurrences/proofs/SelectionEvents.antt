@@ -16,12 +16,12 @@ use Rattle.graphql_occurrences.specs.DeclaredLookups.{Declarations}
 use Rattle.graphql_occurrences.specs.Nodes.{Around, Inner, AtSelectionSet, AtField, AtInlineFragment, OfField}
 use Rattle.graphql_occurrences.specs.Nodes.{field_head, inline_head}
 use Rattle.graphql_occurrences.specs.Lookups.{field_arguments, field_of}
-use Rattle.graphql_occurrences.specs.Events.{each, set_of, set_events, set_around, selection_layer, field_layer, inline_layer, selection_events, field_events, inline_events, spread_events, if_known, through, field_around, condition_around, arguments_events, directives_events}
+use Rattle.graphql_occurrences.specs.Events.{through_each, set_within, set_events, set_around, selection_layer, field_layer, inline_layer, selection_events, field_events, inline_events, spread_events, if_known, through, field_around, condition_around, arguments_events, directives_events}
 use Rattle.std.specs.Prelude.{unwrap_or}
 use Rattle.graphql_tree.specs.Documents.{arguments_in}
 
 module _ {S C : Type 0} (schema : Declarations S C) where
-  set_is : (xs : List (Selection S)) (around : Around S C) → set_of schema (each (λ s. s) (map (selection_events schema) xs)) around ≡ set_events schema xs around
+  set_is : (xs : List (Selection S)) (around : Around S C) → set_within schema (through_each (λ s. s) (map (selection_events schema) xs)) around ≡ set_events schema xs around
   set_is xs around =
       ap (λ es. if_known (set_around schema around).parent (through (Inner AtSelectionSet) es (set_around schema around))) (flat_map-map (λ s. s (set_around schema around)) (selection_events schema) xs)
 
@@ -58,10 +58,10 @@ module _ {S C : Type 0} (schema : Declarations S C) where
   -- nothing is within a set whose type is unknown
   pub set_unknown : (xs : List (Selection S)) (around inside : Around S C) → inside ≡ set_around schema around → inside.parent ≡ None → set_events schema xs around ≡ []
   set_unknown xs around inside same none =
-      ap (λ t. if_known t.parent (through (Inner AtSelectionSet) (each (selection_events schema) xs t) t)) (sym same)
-      ∙ ap (λ p. if_known p (through (Inner AtSelectionSet) (each (selection_events schema) xs inside) inside)) none
+      ap (λ t. if_known t.parent (through (Inner AtSelectionSet) (through_each (selection_events schema) xs t) t)) (sym same)
+      ∙ ap (λ p. if_known p (through (Inner AtSelectionSet) (through_each (selection_events schema) xs inside) inside)) none
 
-  pub set_known : (xs : List (Selection S)) (around inside : Around S C) (m : MetaType S C) → inside ≡ set_around schema around → inside.parent ≡ Some m → set_events schema xs around ≡ through (Inner AtSelectionSet) (each (selection_events schema) xs inside) inside
+  pub set_known : (xs : List (Selection S)) (around inside : Around S C) (m : MetaType S C) → inside ≡ set_around schema around → inside.parent ≡ Some m → set_events schema xs around ≡ through (Inner AtSelectionSet) (through_each (selection_events schema) xs inside) inside
   set_known xs around inside m same some =
-      ap (λ t. if_known t.parent (through (Inner AtSelectionSet) (each (selection_events schema) xs t) t)) (sym same)
-      ∙ ap (λ p. if_known p (through (Inner AtSelectionSet) (each (selection_events schema) xs inside) inside)) some
+      ap (λ t. if_known t.parent (through (Inner AtSelectionSet) (through_each (selection_events schema) xs t) t)) (sym same)
+      ∙ ap (λ p. if_known p (through (Inner AtSelectionSet) (through_each (selection_events schema) xs inside) inside)) some

@@ -5,7 +5,7 @@ use Rattle.std.proofs.lemmas.Grind.{flat_map-append}
 use Rattle.std.proofs.lemmas.List.Elements.{All-head, All-tail}
 use Rattle.graphql_occurrences.specs.Parts.{Part}
 use Rattle.graphql_occurrences.specs.Nodes.{Around, Seen, Event, Enter, Leave, Head, Inner}
-use Rattle.graphql_occurrences.specs.Events.{seen, through}
+use Rattle.graphql_occurrences.specs.Events.{seen_event, through}
 use Rattle.graphql_occurrences.specs.PartsOf.{parts_of, parts_at}
 
 -- of a part within a definition
@@ -43,8 +43,8 @@ module _ {S C : Type 0} where
   -- a part is entered and left: it is told, and then what is within it
   pub tells_it : (part : Head S) (inner : List (Seen S C)) (around : Around S C) (ps : List (Part S C)) → Tells inner ps → Tells (through (Inner part) inner around) (parts_at around part ++ ps)
   tells_it part inner around ps h = record {
-    inner = (refl, inner_append inner (seen around (Leave (Inner part)) ∷ []) h.inner (refl, tt));
-    told = ap (λ x. parts_at around part ++ x) (flat_map-append parts_of inner (seen around (Leave (Inner part)) ∷ []) ∙ append-nil (flat_map parts_of inner) ∙ h.told);
+    inner = (refl, inner_append inner (seen_event around (Leave (Inner part)) ∷ []) h.inner (refl, tt));
+    told = ap (λ x. parts_at around part ++ x) (flat_map-append parts_of inner (seen_event around (Leave (Inner part)) ∷ []) ∙ append-nil (flat_map parts_of inner) ∙ h.told);
   }
 
   pub tells_all : {A : Type 0} (f : A → List (Seen S C)) (g : A → List (Part S C)) (xs : List A) → All (λ x. Tells (f x) (g x)) xs → Tells (flat_map f xs) (flat_map g xs)

@@ -25,7 +25,7 @@ use Rattle.graphql_occurrences.specs.Parts.{InputPlace, Part, Condition}
 use Rattle.graphql_occurrences.specs.Occurrences.{placed_parts, directives_parts, set_parts, variable_parts, operation_parts, definition_parts, occurrences}
 use Rattle.graphql_occurrences.specs.Nodes.{Around, Seen, Leave, AtDocument, AtOperation, AtFragment, AtVariableDefinition, placed_as, operation_head, fragment_head}
 use Rattle.graphql_occurrences.specs.Events as walk
-use Rattle.graphql_occurrences.specs.Events.{events, seen, through, each, asked, top}
+use Rattle.graphql_occurrences.specs.Events.{events, seen_event, through, through_each, asked, top}
 use Rattle.graphql_occurrences.specs.PartsOf.{parts_of}
 use Rattle.graphql_occurrences.proofs.Tells.{Tells, tells_nil, tells_append, tells_as, tells_three, tells_it, tells_each}
 use Rattle.graphql_occurrences.proofs.TellsValues.{value_tells, directives_tell}
@@ -61,7 +61,7 @@ module _ {S C : Type 0} (schema : Declarations S C) where
   abbrev pub within_operation : Placed (Operation S) → List (Seen S C)
   within_operation o =
       let inside = top (option_map own_name (root_of schema o.item.operation_type)) in
-      each (walk.variable_events schema) (variables_in o.item.variable_definitions) inside
+      through_each (walk.variable_events schema) (variables_in o.item.variable_definitions) inside
       ++ (walk.directives_events schema (location_of o.item.operation_type) (unwrap_or o.item.directives []) inside ++ walk.set_events schema o.item.selection_set inside)
 
   pub operation_tells : (o : Placed (Operation S)) → Tells (within_operation o) (operation_parts schema o.item)
@@ -88,11 +88,11 @@ module _ {S C : Type 0} (schema : Declarations S C) where
   -- the events of a definition tell its parts
   pub definition_told : (d : Definition S) → flat_map parts_of (walk.definition_events schema d) ≡ definition_parts schema d
   definition_told (definition.Operation o) =
-      flat_map-append parts_of (within_operation o) (seen (top (option_map own_name (root_of schema o.item.operation_type))) (Leave (AtOperation (placed_as o (operation_head o.item)))) ∷ [])
+      flat_map-append parts_of (within_operation o) (seen_event (top (option_map own_name (root_of schema o.item.operation_type))) (Leave (AtOperation (placed_as o (operation_head o.item)))) ∷ [])
       ∙ append-nil (flat_map parts_of (within_operation o)) ∙ (operation_tells o).told
   definition_told (definition.Fragment f) =
       ap (λ ps. Condition f.item.type_condition ∷ ps)
-      (flat_map-append parts_of (within_fragment f) (seen (top (Some f.item.type_condition.item)) (Leave (AtFragment (placed_as f (fragment_head f.item)))) ∷ [])
+      (flat_map-append parts_of (within_fragment f) (seen_event (top (Some f.item.type_condition.item)) (Leave (AtFragment (placed_as f (fragment_head f.item)))) ∷ [])
       ∙ append-nil (flat_map parts_of (within_fragment f)) ∙ (fragment_tells f).told)
 
   definitions_told : (ds : List (Definition S)) → flat_map parts_of (flat_map (walk.definition_events schema) ds) ≡ flat_map (definition_parts schema) ds
@@ -103,5 +103,5 @@ module _ {S C : Type 0} (schema : Declarations S C) where
   pub events_told : (document : List (Definition S)) → flat_map parts_of (events schema document) ≡ occurrences schema document
   unfolding events occurrences
   events_told document =
-      flat_map-append parts_of (flat_map (walk.definition_events schema) document) (seen (top None) (Leave (AtDocument document)) ∷ [])
+      flat_map-append parts_of (flat_map (walk.definition_events schema) document) (seen_event (top None) (Leave (AtDocument document)) ∷ [])
       ∙ append-nil (flat_map parts_of (flat_map (walk.definition_events schema) document)) ∙ definitions_told document

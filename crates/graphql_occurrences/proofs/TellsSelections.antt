@@ -19,10 +19,10 @@ use Rattle.graphql_tree.proofs.SelectionInduction.{selection_ind}
 use Rattle.graphql_occurrences.specs.Lookups.{field_arguments, field_in, field_type, referred}
 use Rattle.graphql_tree.specs.Documents.{arguments_in}
 use Rattle.graphql_occurrences.specs.Parts.{InputPlace}
-use Rattle.graphql_occurrences.specs.Occurrences.{selection_parts, field_layer, inline_layer, under, set_parts}
+use Rattle.graphql_occurrences.specs.Occurrences.{selection_parts, field_layer, inline_layer, parts_under, set_parts}
 use Rattle.graphql_occurrences.specs.Nodes.{OfField, Around, AtSelectionSet, AtField, AtFragmentSpread, AtInlineFragment, placed_as, field_head, inline_head, spread_head}
 use Rattle.graphql_occurrences.specs.Events as walk
-use Rattle.graphql_occurrences.specs.Events.{events, seen, through, each, asked, top}
+use Rattle.graphql_occurrences.specs.Events.{events, seen_event, through, through_each, asked, top}
 use Rattle.graphql_occurrences.proofs.OccurrenceEquations.{parts_field, parts_spread, parts_inline}
 use Rattle.graphql_occurrences.proofs.SelectionEvents.{selection_field, selection_spread, selection_inline, set_unknown, set_known}
 use Rattle.graphql_occurrences.proofs.Tells.{Tells, tells_nil, tells_append, tells_as, tells_three, tells_it, tells_all}
@@ -43,13 +43,13 @@ module _ {S C : Type 0} (schema : Declarations S C) where
       let inside = at around.current m None in
       let same : inside ≡ walk.set_around schema around = ap (λ p. record { current = around.current; parent = p; input = None }) (sym e) in
       tells_as _ _ _ _ (sym (set_known schema xs around inside m same refl)) (sym (flat_map-map (λ s. s m) (selection_parts schema) xs))
-      (tells_it AtSelectionSet (each (walk.selection_events schema) xs inside) inside _
+      (tells_it AtSelectionSet (through_each (walk.selection_events schema) xs inside) inside _
       (tells_all (λ x. walk.selection_events schema x inside) (λ x. selection_parts schema x m) xs (λ k d l. h k d l around.current m None e)))
 
   set_tells : (xs : List (Selection S)) → All SelectionTells xs → (around : Around S C) → Tells (walk.set_events schema xs around) (set_parts schema (referred schema around.current) xs)
   set_tells xs h around = set_at xs h around (referred schema around.current) refl
 
-  nothing_tells : (m : Option (MetaType S C)) → Tells [] (under schema m [])
+  nothing_tells : (m : Option (MetaType S C)) → Tells [] (parts_under schema m [])
   nothing_tells None = tells_nil
   nothing_tells (Some m) = tells_nil
 

@@ -22,7 +22,7 @@ use Rattle.graphql_occurrences.specs.Parts.{InputPlace, Part, ObjectOf}
 use Rattle.graphql_occurrences.specs.Occurrences.{value_parts, placed_parts, directive_parts, directives_parts}
 use Rattle.graphql_occurrences.specs.Nodes.{Owner, OfDirective, Around, AtValue, AtObjectField, AtArgument, AtDirective, value_head, value_head_layer, nulled}
 use Rattle.graphql_occurrences.specs.Events as walk
-use Rattle.graphql_occurrences.specs.Events.{events, seen, through, each, asked, top}
+use Rattle.graphql_occurrences.specs.Events.{events, seen_event, through, through_each, asked, top}
 use Rattle.graphql_occurrences.specs.PartsOf.{parts_of_value}
 use Rattle.graphql_occurrences.proofs.OccurrenceEquations.{parts_null, parts_scalar, parts_enum, parts_variable, parts_list, parts_object}
 use Rattle.graphql_occurrences.proofs.ValueEvents.{value_is, content_list, content_object, content_null, content_scalar, content_enum, content_variable}

@@ -40,7 +40,7 @@ use Rattle.graphql_occurrences.specs.DeclaredLookups.{Declarations}
 use Rattle.graphql_occurrences.specs.DeclaredLookups.{directive_named}
 use Rattle.graphql_occurrences.specs.Lookups.{argument_place, bare_place, directive_arguments, field_arguments, field_in, field_place, field_type, item_place, known, location_of, referred, root_of}
 use Rattle.graphql_occurrences.specs.Laws.{OccurrencesAreUnlocated}
-use Rattle.graphql_occurrences.specs.Occurrences.{variable_part, value_parts, placed_parts, given_parts, directive_parts, directives_parts, under, type_inside, selection_parts, set_parts, variable_parts, operation_parts, fragment_parts, definition_parts, occurrences}
+use Rattle.graphql_occurrences.specs.Occurrences.{variable_part, value_parts, placed_parts, given_parts, directive_parts, directives_parts, parts_under, type_inside, selection_parts, set_parts, variable_parts, operation_parts, fragment_parts, definition_parts, occurrences}
 use Rattle.graphql_occurrences.specs.Parts.{Part, InputPlace, VariableDefined, Condition, AField, ASpread, AnInline, ADirective, Given, ObjectOf}
 use Rattle.graphql_occurrences.specs.Unlocated.{unlocated_variable_part, unlocated_part}
 use Rattle.graphql_occurrences.proofs.OccurrenceEquations.{parts_null, parts_scalar, parts_enum, parts_variable, parts_list, parts_object, parts_field, parts_spread, parts_inline}
@@ -185,8 +185,8 @@ module _ {S C : Type 0} (schema : Declarations S C) where
 
   below_field : (parent : Option (MetaType S C)) (set : Option (List (Selection S)))
       → IfSome set (HoldsOfSet SelectionUnlocated)
-      → Unlocated (under schema parent (unwrap_or (parts_in (option_map (map unlocated_selection) set)) []))
-      (under schema parent (unwrap_or (parts_in set) []))
+      → Unlocated (parts_under schema parent (unwrap_or (parts_in (option_map (map unlocated_selection) set)) []))
+      (parts_under schema parent (unwrap_or (parts_in set) []))
   below_field parent (Some xs) h = set_by parent xs h
   below_field None None h = refl
   below_field (Some parent) None h = refl

@@ -13,13 +13,13 @@ use Rattle.graphql_values.proofs.InputValueInduction.{value_ind}
 use Rattle.graphql_occurrences.specs.DeclaredLookups.{Declarations}
 use Rattle.graphql_occurrences.specs.Nodes.{Around, Seen, Inner, AtValue, value_head_layer, nulled}
 use Rattle.graphql_occurrences.specs.Nodes.{value_head}
-use Rattle.graphql_occurrences.specs.Events.{through, each, value_within, value_layer, item_layer, pair_layer, item_events, pair_events, content_of, content_events}
+use Rattle.graphql_occurrences.specs.Events.{through, through_each, value_within, value_layer, item_layer, pair_layer, item_events, pair_events, content_of, content_events}
 
 module _ {S C : Type 0} (schema : Declarations S C) where
-  pub content_list : (xs : List (Placed (InputValue S))) (around : Around S C) → content_events schema (value.List xs) around ≡ each (item_events schema) xs around
+  pub content_list : (xs : List (Placed (InputValue S))) (around : Around S C) → content_events schema (value.List xs) around ≡ through_each (item_events schema) xs around
   content_list xs around = ap (λ m. content_of schema m around) (value.outs-List xs)
 
-  pub content_object : (ps : List (Pair (InputValue S))) (around : Around S C) → content_events schema (value.Object ps) around ≡ each (pair_events schema) ps around
+  pub content_object : (ps : List (Pair (InputValue S))) (around : Around S C) → content_events schema (value.Object ps) around ≡ through_each (pair_events schema) ps around
   content_object ps around = ap (λ m. content_of schema m around) (value.outs-Object ps)
 
   pub content_null : (around : Around S C) → content_events schema value.Null around ≡ []
@@ -54,11 +54,11 @@ module _ {S C : Type 0} (schema : Declarations S C) where
       (λ n span around. (λ i. fold_variable (value_layer schema) n i span around) ∙ ap (λ m. at_layer m span around) (sym (value.outs-Variable n)))
       (λ xs h span around.
       (λ i. fold_list (value_layer schema) xs i span around)
-      ∙ ap (λ heads. through (Inner (AtValue (record { item = value.List heads; span = span }))) (each (item_layer schema) (map (on_item (value_within schema)) xs) around) around) (map-map nulled (on_item (value_within schema)) xs)
+      ∙ ap (λ heads. through (Inner (AtValue (record { item = value.List heads; span = span }))) (through_each (item_layer schema) (map (on_item (value_within schema)) xs) around) around) (map-map nulled (on_item (value_within schema)) xs)
       ∙ ap (λ es. through (Inner (AtValue (record { item = value.List (map nulled xs); span = span }))) es around) (flat_map-map (λ x. item_layer schema x around) (on_item (value_within schema)) xs)
       ∙ ap (λ m. at_layer m span around) (sym (value.outs-List xs)))
       (λ ps h span around.
       (λ i. fold_object (value_layer schema) ps i span around)
-      ∙ ap (λ heads. through (Inner (AtValue (record { item = value.Object heads; span = span }))) (each (pair_layer schema) (map (on_value (value_within schema)) ps) around) around) (map-map (λ p. (p.0, nulled p.1)) (on_value (value_within schema)) ps)
+      ∙ ap (λ heads. through (Inner (AtValue (record { item = value.Object heads; span = span }))) (through_each (pair_layer schema) (map (on_value (value_within schema)) ps) around) around) (map-map (λ p. (p.0, nulled p.1)) (on_value (value_within schema)) ps)
       ∙ ap (λ es. through (Inner (AtValue (record { item = value.Object (map (λ p. (p.0, nulled p.1)) ps); span = span }))) es around) (flat_map-map (λ p. pair_layer schema p around) (on_value (value_within schema)) ps)
       ∙ ap (λ m. at_layer m span around) (sym (value.outs-Object ps)))

@@ -54,15 +54,16 @@ abbrev pub PlacedWithin : Type 0 → Type 0 → Type 0
 PlacedWithin S C = Span → Within S C
 
 module _ {S C : Type 0} where
-  abbrev pub seen : Around S C → Event S → Seen S C
-  seen around event = record { around = around; event = event }
+  abbrev pub seen_event : Around S C → Event S → Seen S C
+  seen_event around event = record { around = around; event = event }
 
   -- a node is entered, then what is within it, and then it is left
   abbrev pub through : Node S → List (Seen S C) → Within S C
-  through node inner around = seen around (Enter node) ∷ (inner ++ seen around (Leave node) ∷ [])
+  through node inner around = seen_event around (Enter node)
+      ∷ (inner ++ seen_event around (Leave node) ∷ [])
 
-  abbrev pub each : {A : Type 0} → (A → Within S C) → List A → Within S C
-  each f xs around = flat_map (λ x. f x around) xs
+  abbrev pub through_each : {A : Type 0} → (A → Within S C) → List A → Within S C
+  through_each f xs around = flat_map (λ x. f x around) xs
 
   -- the same types, and a value stands here
   abbrev pub asked : Around S C → Option InputPlace → Around S C
@@ -102,8 +103,8 @@ module _ {S C : Type 0} (schema : Declarations S C) where
   item_layer x around = x.item x.span (asked around (item_place around.input))
 
   abbrev pub content_layer : InputValue-F S (PlacedWithin S C) → Within S C
-  content_layer (InputValue-F.List items) = each item_layer items
-  content_layer (InputValue-F.Object pairs) = each pair_layer pairs
+  content_layer (InputValue-F.List items) = through_each item_layer items
+  content_layer (InputValue-F.Object pairs) = through_each pair_layer pairs
   content_layer _ = λ around. []
 
   abbrev pub value_layer : InputValue-F S (PlacedWithin S C) → PlacedWithin S C
@@ -128,8 +129,8 @@ module _ {S C : Type 0} (schema : Declarations S C) where
 
   -- what is within a value
   abbrev pub content_of : InputValue-F S (InputValue S) → Within S C
-  content_of (InputValue-F.List items) = each item_events items
-  content_of (InputValue-F.Object pairs) = each pair_events pairs
+  content_of (InputValue-F.List items) = through_each item_events items
+  content_of (InputValue-F.Object pairs) = through_each pair_events pairs
   content_of _ = λ around. []
 
   abbrev pub content_events : InputValue S → Within S C
@@ -143,7 +144,7 @@ module _ {S C : Type 0} (schema : Declarations S C) where
 
   abbrev pub arguments_events : Owner → Option (List (declared.Argument S)) → List (Argument S)
       → Within S C
-  arguments_events owner declared = each (argument_events owner declared)
+  arguments_events owner declared = through_each (argument_events owner declared)
 
   -- 2.12 Directives
   abbrev pub directive_events : DirectiveLocation → Placed (Directive S) → Within S C
@@ -155,20 +156,20 @@ module _ {S C : Type 0} (schema : Declarations S C) where
 
   -- the events of directives at a location
   abbrev pub directives_events : DirectiveLocation → List (Placed (Directive S)) → Within S C
-  directives_events place = each (directive_events place)
+  directives_events place = through_each (directive_events place)
 
   -- 2.4 Selection Sets
   abbrev pub set_around : Around S C → Around S C
   set_around around =
       record { current = around.current; parent = referred schema around.current; input = None }
 
-  abbrev pub set_of : Within S C → Within S C
-  set_of selections around = if_known (set_around around).parent
+  abbrev pub set_within : Within S C → Within S C
+  set_within selections around = if_known (set_around around).parent
       (through (Inner AtSelectionSet) (selections (set_around around)) (set_around around))
 
   abbrev pub optional_layer : Option (List (Within S C)) → Within S C
   optional_layer None = λ around. []
-  optional_layer (Some selections) = set_of (each (λ s. s) selections)
+  optional_layer (Some selections) = set_within (through_each (λ s. s) selections)
 
   abbrev pub field_layer : Field-F S (Within S C) (PlacedWithin S C) (PlacedWithin S C)
       → PlacedWithin S C
@@ -193,7 +194,7 @@ module _ {S C : Type 0} (schema : Declarations S C) where
       let inside = condition_around outer i.type_condition in
       through (Inner (AtInlineFragment (record { item = inline_head_layer i; span = span })))
       (directives_events location.InlineFragment (unwrap_or i.directives []) inside
-      ++ set_of (each (λ s. s) i.selection_set) inside) inside
+      ++ set_within (through_each (λ s. s) i.selection_set) inside) inside
 
   abbrev pub selection_layer : Selection-F S (Within S C) (PlacedWithin S C) (PlacedWithin S C)
       → Within S C
@@ -208,7 +209,7 @@ module _ {S C : Type 0} (schema : Declarations S C) where
 
   -- below an unknown type there is nothing
   abbrev pub set_events : List (Selection S) → Within S C
-  set_events xs = set_of (each selection_events xs)
+  set_events xs = set_within (through_each selection_events xs)
 
   abbrev pub optional_set : Option (List (Selection S)) → Within S C
   optional_set None = λ around. []
@@ -250,7 +251,7 @@ module _ {S C : Type 0} (schema : Declarations S C) where
   operation_events o =
       let inside = top (option_map own_name (root_of schema o.item.operation_type)) in
       through (AtOperation (placed_as o (operation_head o.item)))
-      (each variable_events (variables_in o.item.variable_definitions) inside
+      (through_each variable_events (variables_in o.item.variable_definitions) inside
       ++ (directives_events (location_of o.item.operation_type) (unwrap_or o.item.directives [])
       inside ++ set_events o.item.selection_set inside)) inside
 

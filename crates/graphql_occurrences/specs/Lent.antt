@@ -20,8 +20,8 @@ use Rattle.graphql_occurrences.specs.declared.event.Owner.{Owner}
 use Rattle.graphql_occurrences.specs.declared.event.Owner.TheVariants as owner
 use Rattle.graphql_occurrences.specs.declared.event.Seen.{Seen}
 
-abbrev pub input_of : InputPlace → part.InputPlace
-input_of i = record {
+abbrev pub lent_input : InputPlace → part.InputPlace
+lent_input i = record {
   asked = literal_of i.asked;
   has_default = i.has_default;
   is_only_field = i.is_only_field;
@@ -61,7 +61,7 @@ module _ {S C : Type 0} where
   around_of a = record {
     current = option_map literal_of a.current;
     parent = option_copied a.parent;
-    input = option_map input_of a.input;
+    input = option_map lent_input a.input;
   }
 
   abbrev pub seen_of : Seen S C → spec.Seen S C

@@ -36,14 +36,14 @@ location_of operation.Subscription = location.Subscription
 
 module _ {S : Type 0} where
   -- the place of the value of an argument, or of a field of an input object
-  abbrev pub place_of : Argument S → InputPlace
-  place_of a =
+  abbrev pub input_place_of : Argument S → InputPlace
+  input_place_of a =
       record { asked = a.arg_type; has_default = is_some a.default_value; is_only_field = false }
 
   -- the place of the value of the argument of a name among those declared, where it is known
   abbrev pub argument_place : Option (List (Argument S)) → Bytes → Option InputPlace
   argument_place declared name =
-      option_map place_of (option_and_then (λ ds. argument_named ds name) declared)
+      option_map input_place_of (option_and_then (λ ds. argument_named ds name) declared)
 
 module _ {S C : Type 0} where
   abbrev pub input_object : MetaType S C → Option (InputObjectMeta S C)
@@ -52,7 +52,8 @@ module _ {S C : Type 0} where
 
   -- the place of the value of the field of a name of an input object, where it is declared
   abbrev pub place_within : Bytes → InputObjectMeta S C → Option InputPlace
-  place_within name m = option_map (λ a. record (place_of a) { is_only_field = m.exactly_one })
+  place_within name m = option_map
+      (λ a. record (input_place_of a) { is_only_field = m.exactly_one })
       (argument_named m.input_fields name)
 
 module _ {S C : Type 0} (schema : Declarations S C) where

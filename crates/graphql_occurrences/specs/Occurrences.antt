@@ -90,9 +90,9 @@ module _ {S C : Type 0} (schema : Declarations S C) where
   Below = MetaType S C → List (Part S C)
 
   -- below an unknown type there are none
-  abbrev pub under : Option (MetaType S C) → List Below → List (Part S C)
-  under (Some parent) selections = flat_map (λ s. s parent) selections
-  under None selections = []
+  abbrev pub parts_under : Option (MetaType S C) → List Below → List (Part S C)
+  parts_under (Some parent) selections = flat_map (λ s. s parent) selections
+  parts_under None selections = []
 
   -- 2.5 Fields
   abbrev pub field_layer : Field-F S Below (SourcePosition → Below) (SourcePosition → Below)
@@ -108,7 +108,7 @@ module _ {S C : Type 0} (schema : Declarations S C) where
       })
       ∷ given_parts place (field_arguments declared) (arguments_in f.arguments)
       ++ directives_parts location.Field f.directives
-      ++ under (referred schema (field_type declared)) (unwrap_or f.selection_set [])
+      ++ parts_under (referred schema (field_type declared)) (unwrap_or f.selection_set [])
 
   -- an inline fragment's condition, else the type around it
   abbrev pub type_inside : MetaType S C → Option (Placed Bytes) → Option (MetaType S C)
@@ -122,7 +122,7 @@ module _ {S C : Type 0} (schema : Declarations S C) where
       AnInline (record { condition = i.type_condition; place = place; parent = parent })
       ∷ map Condition (option_to_list i.type_condition)
       ++ directives_parts location.InlineFragment i.directives
-      ++ under (type_inside parent i.type_condition) i.selection_set
+      ++ parts_under (type_inside parent i.type_condition) i.selection_set
 
   -- 2.8 Fragments
   abbrev pub spread_parts : Placed (FragmentSpread S) → Below
@@ -143,7 +143,7 @@ module _ {S C : Type 0} (schema : Declarations S C) where
 
   -- the parts of a set in a type
   abbrev pub set_parts : Option (MetaType S C) → List (Selection S) → List (Part S C)
-  set_parts parent selections = under parent (map selection_parts selections)
+  set_parts parent selections = parts_under parent (map selection_parts selections)
 
   -- what always counts: a variable of an operation, with its default and its directives (2.10
   -- Variables)

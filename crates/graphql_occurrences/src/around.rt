@@ -12,7 +12,7 @@ ghost use Rattle.graphql_occurrences.specs.Events.{
   set_around,
   top as around_top,
 };
-ghost use Rattle.graphql_occurrences.specs.Lent.{around_of, input_of, literal_of};
+ghost use Rattle.graphql_occurrences.specs.Lent.{around_of, lent_input, literal_of};
 
 use crate::place::InputPlace;
 use crate::{SchemaType, TypeLiteral};
@@ -76,7 +76,7 @@ impl<'a, S, C> Around<'a, S, C> {
     /// The same, and a value stands here.
     pub fn asking(self, input: Option<InputPlace<'a>>) -> Around<'a, S, C>
         ensures { around_of result
-            ≡ asked (around_of self.entry) (option_map input_of input.entry) }
+            ≡ asked (around_of self.entry) (option_map lent_input input.entry) }
     {
         Around {
             current: self.current,

@@ -4,7 +4,7 @@ ghost use Rattle.std.specs.Prelude.{◌≡◌};
 ghost use Rattle.std.specs.Option.{option_and_then, option_copied, option_map};
 ghost use Rattle.graphql_occurrences.specs.DeclaredLookups.{declarations_of};
 ghost use Rattle.graphql_occurrences.specs.Lookups as spec;
-ghost use Rattle.graphql_occurrences.specs.Lent.{arguments_lent, input_of, literal_of};
+ghost use Rattle.graphql_occurrences.specs.Lent.{arguments_lent, lent_input, literal_of};
 
 use crate::{DeclaredArguments, SchemaType, TypeLiteral};
 use graphql_schema::{Argument, InputObjectMeta, MetaType};
@@ -27,7 +27,7 @@ pub struct InputPlace<'a> {
 impl<'a> InputPlace<'a> {
     /// A place for values of this type, without a default.
     pub fn bare(asked: TypeLiteral<'a>) -> InputPlace<'a>
-        ensures { input_of result ≡ spec.bare_place (literal_of asked.entry) }
+        ensures { lent_input result ≡ spec.bare_place (literal_of asked.entry) }
     {
         InputPlace {
             asked,
@@ -39,7 +39,7 @@ impl<'a> InputPlace<'a> {
 
 /// Where the value of an argument, or of a field of an input object, stands.
 fn place_in<'a, S>(argument: &'a Argument<S>) -> InputPlace<'a>
-    ensures { input_of result ≡ spec.place_of argument.now }
+    ensures { lent_input result ≡ spec.input_place_of argument.now }
 {
     InputPlace {
         asked: TypeLiteral::of(&argument.arg_type),
@@ -50,7 +50,8 @@ fn place_in<'a, S>(argument: &'a Argument<S>) -> InputPlace<'a>
 
 /// The same, where there is one.
 fn place_in_some<'a, S>(argument: Option<&'a Argument<S>>) -> Option<InputPlace<'a>>
-    ensures { option_map input_of result ≡ option_map spec.place_of (option_copied argument.entry) }
+    ensures { option_map lent_input result ≡ option_map spec.input_place_of
+        (option_copied argument.entry) }
 {
     match argument {
         Some(argument) => Some(place_in(argument)),
@@ -63,7 +64,7 @@ pub fn place_of_argument<'a, S>(
     declared: Option<DeclaredArguments<'a, S>>,
     name: &str,
 ) -> Option<InputPlace<'a>>
-    ensures { option_map input_of result
+    ensures { option_map lent_input result
         ≡ spec.argument_place (option_map arguments_lent declared.entry) name.now }
 {
     match declared {
@@ -74,7 +75,7 @@ pub fn place_of_argument<'a, S>(
 
 /// Where the items of a list of this type stand.
 fn place_in_list<'a>(literal: TypeLiteral<'a>) -> Option<InputPlace<'a>>
-    ensures { option_map input_of result
+    ensures { option_map lent_input result
         ≡ option_map spec.bare_place (spec.item_type (literal_of literal.entry)) }
 {
     match literal.items() {
@@ -85,7 +86,7 @@ fn place_in_list<'a>(literal: TypeLiteral<'a>) -> Option<InputPlace<'a>>
 
 /// Where the items of a list stand, if a list is asked for.
 pub fn place_of_items<'a>(input: Option<InputPlace<'a>>) -> Option<InputPlace<'a>>
-    ensures { option_map input_of result ≡ spec.item_place (option_map input_of input.entry) }
+    ensures { option_map lent_input result ≡ spec.item_place (option_map lent_input input.entry) }
 {
     match input {
         Some(place) => place_in_list(place.asked),
@@ -109,7 +110,7 @@ fn input_object<'a, S, C>(
 
 /// Where the value of the field of this name of an input object stands, if the field is declared.
 fn place_within<'a, S, C>(meta: &'a InputObjectMeta<S, C>, name: &str) -> Option<InputPlace<'a>>
-    ensures { option_map input_of result ≡ spec.place_within name.now meta.now }
+    ensures { option_map lent_input result ≡ spec.place_within name.now meta.now }
 {
     match place_in_some(meta.input_fields.get(name)) {
         Some(place) => Some(InputPlace {
@@ -125,7 +126,7 @@ fn place_within_some<'a, S, C>(
     meta: Option<&'a InputObjectMeta<S, C>>,
     name: &str,
 ) -> Option<InputPlace<'a>>
-    ensures { option_map input_of result
+    ensures { option_map lent_input result
         ≡ option_and_then (spec.place_within name.now) (option_copied meta.entry) }
 {
     match meta {
@@ -140,8 +141,9 @@ pub fn place_of_field<'a, S, C>(
     input: Option<InputPlace<'a>>,
     name: &str,
 ) -> Option<InputPlace<'a>>
-    ensures { option_map input_of result
-        ≡ spec.field_place (declarations_of schema.now) (option_map input_of input.entry) name.now }
+    ensures { option_map lent_input result
+        ≡ spec.field_place (declarations_of schema.now)
+        (option_map lent_input input.entry) name.now }
 {
     match input {
         Some(place) => place_within_some(input_object(schema, place.asked), name),

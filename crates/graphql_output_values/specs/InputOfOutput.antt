@@ -25,5 +25,5 @@ module _ {S : Type 0} where
   abbrev pub input_of : Value S → InputValue S
   input_of = fold-Value S (InputValue S) (List (Pair (InputValue S))) input_layer fields_layer
 
-  abbrev pub fields_of : Object S → List (Pair (InputValue S))
-  fields_of = fold-Object S (InputValue S) (List (Pair (InputValue S))) input_layer fields_layer
+  abbrev pub input_fields : Object S → List (Pair (InputValue S))
+  input_fields = fold-Object S (InputValue S) (List (Pair (InputValue S))) input_layer fields_layer

@@ -20,10 +20,11 @@ module _ {A H : Type 0} where
 
 module _ {S : Type 0} where
   -- the value that a look-up finds under a key
-  abbrev pub found : Lookup S → List ℕ → Option (Value S)
-  found (lookup.Index values) key = indexed values key
-  found (lookup.Scan object) key = field_value object.now.fields key
+  abbrev pub value_under : Lookup S → List ℕ → Option (Value S)
+  value_under (lookup.Index values) key = indexed values key
+  value_under (lookup.Scan object) key = field_value object.now.fields key
 
   -- it finds what the fields have
-  abbrev pub Finds : Lookup S → List (Pair (Value S)) → Type 0
-  Finds where_found fields = (key : List ℕ) → found where_found key ≡ field_value fields key
+  abbrev pub IsLookupOf : Lookup S → List (Pair (Value S)) → Type 0
+  IsLookupOf where_found fields = (key : List ℕ)
+      → value_under where_found key ≡ field_value fields key

@@ -12,15 +12,15 @@ use Rattle.graphql_output_values.specs.declared.walk.Walk.{Walk}
 
 module _ {S : Type 0} where
   -- the step that is told
-  abbrev pub told : Step S → spec.Step S
-  told step.Null = spec.Null
-  told (step.Scalar s) = spec.Scalar s.now
-  told step.ListOpens = spec.ListOpens
-  told step.ListCloses = spec.ListCloses
-  told step.ObjectOpens = spec.ObjectOpens
-  told step.ObjectCloses = spec.ObjectCloses
-  told (step.Key key) = spec.Key key.now
-  told step.Gap = spec.Gap
+  abbrev pub told_step : Step S → spec.Step S
+  told_step step.Null = spec.Null
+  told_step (step.Scalar s) = spec.Scalar s.now
+  told_step step.ListOpens = spec.ListOpens
+  told_step step.ListCloses = spec.ListCloses
+  told_step step.ObjectOpens = spec.ObjectOpens
+  told_step step.ObjectCloses = spec.ObjectCloses
+  told_step (step.Key key) = spec.Key key.now
+  told_step step.Gap = spec.Gap
 
   abbrev pub task_steps : Task S → List (spec.Step S)
   task_steps (task.Value v) = steps v.now
@@ -38,8 +38,8 @@ module _ {S : Type 0} where
 
   -- the first of these steps is told, and the others are ahead
   abbrev pub Opens : List (spec.Step S) → Step S → List (Task S) → List (Task S) → Type 0
-  Opens these first old new = these ++ pending old ≡ told first ∷ pending new
+  Opens these first old new = these ++ pending old ≡ told_step first ∷ pending new
 
   -- the steps that a walk has yet to tell
-  abbrev pub ahead : Walk S → List (spec.Step S)
-  ahead walk = pending walk.tasks
+  abbrev pub steps_ahead : Walk S → List (spec.Step S)
+  steps_ahead walk = pending walk.tasks

@@ -5,7 +5,7 @@ ghost use Rattle.std.specs.List.{list_all};
 ghost use Rattle.std.specs.Map.{keys_of};
 ghost use Rattle.std.specs.Option.{option_copied};
 ghost use Rattle.graphql_output_values.specs.Equality.{agree, equal, equal_objects, items_equal};
-ghost use Rattle.graphql_output_values.specs.Lookups.{found};
+ghost use Rattle.graphql_output_values.specs.Lookups.{value_under};
 ghost use Rattle.graphql_output_values.specs.Objects.{field_value};
 
 use crate::lookup::Lookup;
@@ -132,7 +132,8 @@ fn has_keys_of<S>(object: &Object<S>, other: &Object<S>) -> bool
 
 /// Whether a field of each key of the object is found.
 fn finds_all<S>(values: &Lookup<'_, S>, object: &Object<S>) -> bool
-    ensures { result ≡ list_all (λ field. is_some (found values.now field.0)) object.now.fields }
+    ensures { result ≡ list_all
+        (λ field. is_some (value_under values.now field.0)) object.now.fields }
 {
     object
         .fields

@@ -55,7 +55,7 @@ fn fields_of<S: ScalarValue>(
     alloc: Global,
     object: &Object<S>,
 ) -> Result<Items<(Spanning<Text>, Spanning<InputValue<S>>)>, AllocError>
-    ensures { Gives result (spec.fields_of object.now) }
+    ensures { Gives result (spec.input_fields object.now) }
 {
     let mut pairs = Items::with_capacity(alloc, object.field_count())?;
     'fields: for field in object.as_slice() {

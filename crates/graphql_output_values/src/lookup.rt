@@ -2,7 +2,7 @@
 
 ghost use Rattle.std.specs.Prelude.{◌≡◌, IfOk, is_some};
 ghost use Rattle.std.specs.Option.{option_copied};
-ghost use Rattle.graphql_output_values.specs.Lookups.{Finds, IsIndex, found};
+ghost use Rattle.graphql_output_values.specs.Lookups.{IsLookupOf, IsIndex, value_under};
 
 use crate::object::Object;
 use crate::value::Value;
@@ -26,7 +26,7 @@ impl<'a, S> Lookup<'a, S> {
     /// Of an object: an index where it has more than a few fields and there is memory for one, else
     /// a scan.
     pub(crate) fn new(object: &'a Object<S>) -> Lookup<'a, S>
-        ensures { Finds result object.now.fields }
+        ensures { IsLookupOf result object.now.fields }
     {
         if object.field_count() <= FEW_FIELDS {
             return Lookup::Scan(object);
@@ -39,7 +39,7 @@ impl<'a, S> Lookup<'a, S> {
 
     /// The value of the field of this key, if there is one.
     pub(crate) fn get(&self, key: &str) -> Option<&'a Value<S>>
-        ensures { option_copied result ≡ found self.now key.now }
+        ensures { option_copied result ≡ value_under self.now key.now }
     {
         match self {
             Lookup::Index(values) => match values.get(key) {
@@ -52,7 +52,7 @@ impl<'a, S> Lookup<'a, S> {
 
     /// Whether there is a field of this key.
     pub(crate) fn contains(&self, key: &str) -> bool
-        ensures { result ≡ is_some (found self.now key.now) }
+        ensures { result ≡ is_some (value_under self.now key.now) }
     {
         self.get(key).is_some()
     }

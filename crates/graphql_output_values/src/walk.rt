@@ -1,7 +1,7 @@
 //! A walk over a value, step by step.
 
 ghost use Rattle.std.specs.Prelude.{◌≡◌, ◌∷◌, [], IfOk, MatchOption};
-ghost use Rattle.graphql_output_values.specs.Pending.{Opens, ahead, task_steps, told};
+ghost use Rattle.graphql_output_values.specs.Pending.{Opens, steps_ahead, task_steps, told_step};
 ghost use Rattle.graphql_output_values.specs.Steps.{fields_steps, items_steps, steps};
 
 use crate::key::Key;
@@ -66,7 +66,7 @@ pub struct Walk<'a, S> {
 impl<'a, S> Walk<'a, S> {
     /// A walk from the start of `value`. An error is want of memory.
     pub fn new(alloc: Global, value: &'a Value<S>) -> Result<Walk<'a, S>, AllocError>
-        ensures { IfOk result (λ walk. ahead walk ≡ steps value.now) }
+        ensures { IfOk result (λ walk. steps_ahead walk ≡ steps value.now) }
     {
         let mut tasks = Items::new(alloc);
         tasks.push(Task::Value(value))?;
@@ -75,8 +75,8 @@ impl<'a, S> Walk<'a, S> {
 
     /// The next step, or `None` at the end of the value. An error is want of memory.
     pub fn next(&mut self) -> Result<Option<Step<'a, S>>, AllocError>
-        ensures { IfOk result (λ next. MatchOption next (ahead self.old ≡ [])
-            (λ step. ahead self.old ≡ told step ∷ ahead self.new)) }
+        ensures { IfOk result (λ next. MatchOption next (steps_ahead self.old ≡ [])
+            (λ step. steps_ahead self.old ≡ told_step step ∷ steps_ahead self.new)) }
     {
         match self.tasks.pop() {
             None => Ok(None),

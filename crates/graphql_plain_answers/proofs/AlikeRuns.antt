@@ -12,7 +12,7 @@ use Rattle.graphql_field_results.specs.declared.resolved.Resolved.{Resolved}
 use Rattle.graphql_semantics.specs.Engines.{Engine}
 use Rattle.graphql_semantics.specs.Outcomes.{Outcome, outcome_map}
 use Rattle.graphql_semantics.specs.Completion.{Members, blame_at}
-use Rattle.graphql_semantics.specs.Evaluation.{Group, Runs, at_declared, evaluate, found_in, group, highest, keyed, run, sets_below}
+use Rattle.graphql_semantics.specs.Evaluation.{Group, RunOfSets, at_declared, evaluate, found_in, group, highest, keyed, run, sets_below}
 use Rattle.graphql_plain_answers.specs.AlikeSets.{AreAnsweredAlike, AreOverOneSchema, LeaveOutAlike, SetsAlike}
 use Rattle.graphql_plain_answers.specs.Laws.{AlikeGiveTheSame}
 use Rattle.graphql_plain_answers.proofs.AlikeFields.{FoundAlike, Founds, below-alike, found-alike, highest-alike, keys-alike, under-alike}
@@ -32,7 +32,7 @@ module _ {S N : Type 0} (e f : Engine S N) where
   abbrev Fields : List (Found S) → List (Found S) → Type 0
   Fields = Founds Heads Marks
 
-  abbrev pub RunAlike : Runs S N → Runs S N → Type 0
+  abbrev pub RunAlike : RunOfSets S N → RunOfSets S N → Type 0
   RunAlike r s =
       (path : List Bytes) (object : Bytes) (node : N) (ts us : List (Tree S)) → SetsAlike e f ts us
       → U (r path object node ts) ≡ U (s path object node us)
@@ -47,7 +47,7 @@ module _ {S N : Type 0} (e f : Engine S N) where
       at-type-alike run other runs (blame_at path x.head.place) (blame_at path y.head.place)
       (λ z. refl) e type a
 
-  group-alike : (r s : Runs S N) → RunAlike r s
+  group-alike : (r s : RunOfSets S N) → RunAlike r s
       → (path : List Bytes) (object : Bytes) (node : N) (key : Bytes) (xs ys : List (Found S))
       → Fields xs ys
       → U (group e r path object node key xs) ≡ U (group mixed s path object node key ys)

@@ -12,15 +12,15 @@ use Rattle.graphql_values.specs.InputValues.{unlocated}
 use Rattle.graphql_values.specs.declared.input_value.InputValue.{InputValue}
 use Rattle.graphql_values.proofs.SamePlaces.{same_without_places}
 use Rattle.graphql_tree.specs.Unlocated.{without_place}
-use Rattle.graphql_arguments.specs.ArgumentValues.{Given, Value, value_named}
+use Rattle.graphql_arguments.specs.ArgumentValues.{Given, NamedValue, value_named}
 use Rattle.graphql_arguments.specs.SameArguments.{SameInOrder}
 use Rattle.graphql_arguments.proofs.SameOrders.{in-order-same}
 use Rattle.graphql_schema.specs.declared.meta.MetaType.{MetaType}
 use Rattle.graphql_schema.specs.declared.schema.SchemaType.{SchemaType}
 use Rattle.graphql_field_results.specs.declared.resolved.Resolved.TheVariants as resolved
-use Rattle.graphql_introspection.specs.Answers.{answer_of, found}
+use Rattle.graphql_introspection.specs.Answers.{part_answer, type_found}
 use Rattle.graphql_introspection.specs.Given.{includes_deprecated, is_true, name_asked, text_layer, text_of, truth_layer}
-use Rattle.graphql_introspection.specs.TypeAnswers.{Unwrapped, apart, of_apart}
+use Rattle.graphql_introspection.specs.TypeAnswers.{Unwrapped, outermost_off, of_apart}
 use Rattle.graphql_introspection.specs.declared.part.SchemaPart.{SchemaPart}
 use Rattle.graphql_introspection.specs.declared.part.SchemaPart.TheVariants as part
 use Rattle.graphql_execution_walk.specs.Asked.{Resolves, asked_answer, map_answer, map_nodes, or_asked, own_answer, told_of_itself}
@@ -47,22 +47,22 @@ module _ {S : Type 0} where
     same-in-order [] (v ∷ vs) same = absurd (cc)
     same-in-order (u ∷ us) [] same = absurd (cc)
     same-in-order (u ∷ us) (v ∷ vs) same =
-        let here : Value S = (u.0, without_place unlocated u.1) in
-        let there : Value S = (v.0, without_place unlocated v.1) in
+        let here : NamedValue S = (u.0, without_place unlocated u.1) in
+        let there : NamedValue S = (v.0, without_place unlocated v.1) in
         let first : here ≡ there =
         first-of here there (unlocated_given us) (unlocated_given vs) same in (
-          ap (λ (p : Value S). p.0) first,
-          same_without_places eq laws u.1.item v.1.item (ap (λ (p : Value S). p.1.item) first),
+          ap (λ (p : NamedValue S). p.0) first,
+          same_without_places eq laws u.1.item v.1.item (ap (λ (p : NamedValue S). p.1.item) first),
           same-in-order us vs (rest-of here there (unlocated_given us) (unlocated_given vs) same),
         )
 
   -- ---- what introspection reads of them
 
-  one-named : (is : Bool) (v : Value S) (o p : Option (Value S))
-      → option_map (λ (w : Value S). w.1.item) o
-      ≡ option_map unlocated (option_map (λ (w : Value S). w.1.item) p)
-      → option_map (λ (w : Value S). w.1.item) (cond is (Some (v.0, without_place unlocated v.1)) o)
-      ≡ option_map unlocated (option_map (λ (w : Value S). w.1.item) (cond is (Some v) p))
+  one-named : (is : Bool) (v : NamedValue S) (o p : Option (NamedValue S))
+      → option_map (λ (w : NamedValue S). w.1.item) o
+      ≡ option_map unlocated (option_map (λ (w : NamedValue S). w.1.item) p)
+      → option_map (λ (w : NamedValue S). w.1.item) (cond is (Some (v.0, without_place unlocated v.1)) o)
+      ≡ option_map unlocated (option_map (λ (w : NamedValue S). w.1.item) (cond is (Some v) p))
   one-named true v o p same = refl
   one-named false v o p same = same
 
@@ -71,8 +71,8 @@ module _ {S : Type 0} where
   value-named-unlocated name [] = refl
   value-named-unlocated name (v ∷ values) =
       one-named (bytes_eq v.0 name) v
-      (find (λ (w : Value S). bytes_eq w.0 name) (unlocated_given values))
-      (find (λ (w : Value S). bytes_eq w.0 name) values) (value-named-unlocated name values)
+      (find (λ (w : NamedValue S). bytes_eq w.0 name) (unlocated_given values))
+      (find (λ (w : NamedValue S). bytes_eq w.0 name) values) (value-named-unlocated name values)
 
   module _ (answer : S → ScalarAnswer) (a b : Given S)
       (same : unlocated_given a ≡ unlocated_given b) where
@@ -118,7 +118,7 @@ module _ {S C : Type 0} (of_text : Bytes → S) (of_bool : Bool → S) (answer :
       (cond (bytes_eq name (codes "__schema") && bytes_eq object schema.query)
       (Some (resolved.Node part.Schema))
       (cond (bytes_eq name (codes "__type") && bytes_eq object schema.query)
-      (Some (found schema.types (name-alike answer a b same i))) None))
+      (Some (type_found schema.types (name-alike answer a b same i))) None))
 
   apart-alike : (m : MetaType S C) (wraps : Option Unwrapped) (field : Bytes)
       → of_apart of_text of_bool answer schema.types m wraps field a
@@ -127,10 +127,10 @@ module _ {S C : Type 0} (of_text : Bytes → S) (of_bool : Bool → S) (answer :
   apart-alike m (Some wraps) field = refl
 
   part-alike : (p : SchemaPart S C) (field : Bytes)
-      → answer_of of_text of_bool answer schema p field a
-      ≡ answer_of of_text of_bool answer schema p field b
+      → part_answer of_text of_bool answer schema p field a
+      ≡ part_answer of_text of_bool answer schema p field b
   part-alike part.Schema field = refl
-  part-alike (part.Type m wraps) field = apart-alike m (apart wraps) field
+  part-alike (part.Type m wraps) field = apart-alike m (outermost_off wraps) field
   part-alike (part.Field f) field = refl
   part-alike (part.InputValue v) field = refl
   part-alike (part.EnumValue v) field = refl

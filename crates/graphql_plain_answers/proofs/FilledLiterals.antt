@@ -6,7 +6,7 @@ use Rattle.std.specs.Option.{option_map}
 use Rattle.std.proofs.lemmas.List.Elements.{Contains-append_left, Contains-append_right}
 use Rattle.graphql_names.specs.Names.{Bytes}
 use Rattle.graphql_values.specs.InputValues.{Placed, Pair, unplaced, unplaced_pair, unlocated, unlocated_layer}
-use Rattle.graphql_values.specs.Variables.{given_pair, variables_in, variables_layer}
+use Rattle.graphql_values.specs.Variables.{given_pair, names_of_variables, variables_layer}
 use Rattle.graphql_values.specs.declared.input_value.InputValue.{InputValue}
 use Rattle.graphql_values.specs.declared.input_value.InputValue.TheVariants as value
 use Rattle.graphql_values.proofs.InputValueEquations.{fold_null, fold_scalar, fold_enum, fold_variable, unlocated_list, unlocated_object}
@@ -46,7 +46,7 @@ module _ {S : Type 0} where
 
     abbrev Alike : InputValue S → Type 0
     Alike v =
-        AgreeOn given other (variables_in v)
+        AgreeOn given other (names_of_variables v)
         → option_map unlocated (filled given (unlocated v)) ≡ option_map unlocated (filled other v)
 
     -- a literal that has no places of its own
@@ -75,26 +75,26 @@ module _ {S : Type 0} where
         ∙ sym (or-null (filled other x.item)))
 
     items-alike : (xs : List (Placed (InputValue S))) → HoldsOfItems Alike xs
-        → AgreeOn given other (flat_map (λ x. variables_in x.item) xs)
+        → AgreeOn given other (flat_map (λ x. names_of_variables x.item) xs)
         → map unlocated_item (map (filled_item given) (map unlocated_item xs))
         ≡ map unlocated_item (map (filled_item other) xs)
     items-alike [] each agree = refl
     items-alike (x ∷ xs) each agree =
-        let names = variables_in x.item in
-        let behind = flat_map (λ (y : Placed (InputValue S)). variables_in y.item) xs in
+        let names = names_of_variables x.item in
+        let behind = flat_map (λ (y : Placed (InputValue S)). names_of_variables y.item) xs in
         let first = item-alike x (each 0 x (omega arith) (agree-left names behind agree)) in
         let rest = items-alike xs (λ k d within. each (suc k) d (omega arith))
         (agree-right names behind agree) in
         λ i. first i ∷ rest i
 
     pairs-alike : (ps : List (Pair (InputValue S))) → HoldsOfPairs Alike ps
-        → AgreeOn given other (flat_map (λ p. variables_in p.1.item) ps)
+        → AgreeOn given other (flat_map (λ p. names_of_variables p.1.item) ps)
         → map unlocated_pair (filter_map (filled_pair given) (map unlocated_pair ps))
         ≡ map unlocated_pair (filter_map (filled_pair other) ps)
     pairs-alike [] each agree = refl
     pairs-alike (p ∷ ps) each agree =
-        let names = variables_in p.1.item in
-        let behind = flat_map (λ (q : Pair (InputValue S)). variables_in q.1.item) ps in
+        let names = names_of_variables p.1.item in
+        let behind = flat_map (λ (q : Pair (InputValue S)). names_of_variables q.1.item) ps in
         one-pair (filled given (unlocated p.1.item)) (filled other p.1.item) p
         (each 0 p (omega arith) (agree-left names behind agree)) _ _
         (pairs-alike ps (λ k d within. each (suc k) d (omega arith))

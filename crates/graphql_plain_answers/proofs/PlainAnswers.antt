@@ -26,7 +26,7 @@ use Rattle.graphql_plain_tree.specs.StandIns.{skip_true}
 use Rattle.graphql_plain_tree.proofs.PlainShapes.{plain-throughout}
 use Rattle.graphql_plain_laws.proofs.PlainRuns.{evaluate-plain}
 use Rattle.graphql_plain_answers.specs.AgreeingValues.{AgreeOn, Values}
-use Rattle.graphql_plain_answers.specs.AlikeMutations.{AreAlike, AskOverOneSchema}
+use Rattle.graphql_plain_answers.specs.AlikeMutations.{SetsServedAlike, AskOverOneSchema}
 use Rattle.graphql_plain_answers.specs.Answers.{GiveTheSame}
 use Rattle.graphql_plain_answers.specs.Lawful.{IsLawful}
 use Rattle.graphql_plain_answers.specs.Laws.{OutcomesSucceedAlike, PlainDocumentsAnswerAlike}
@@ -86,7 +86,7 @@ module _ {S C N X : Type 0} (of_text : Bytes → S) (of_bool : Bool → S) (answ
       let left : LeftAlike answer values others p =
       plain-left-alike answer values others stand_in fit (fits others) p
       (plain-throughout drops stand_in own) in
-      let alike : AreAlike m n p new =
+      let alike : SetsServedAlike m n p new =
       trees-alike of_text of_bool answer schema eq laws type_of resolves changes lawful
       values others p new (sym same) agree left in
       record {

@@ -23,7 +23,7 @@ use Rattle.graphql_moved.specs.UnlocatedTrees.{unlocated_tree}
 use Rattle.graphql_moved.proofs.UnlocatedDefinitions.{finals-alike, variables-alike}
 use Rattle.graphql_moved.proofs.UnlocatedWritten.{left-out-alike, same-in-documents}
 use Rattle.graphql_plain_answers.specs.AgreeingValues.{Values}
-use Rattle.graphql_plain_answers.specs.AlikeMutations.{AreAlike, AskOverOneSchema}
+use Rattle.graphql_plain_answers.specs.AlikeMutations.{SetsServedAlike, AskOverOneSchema}
 use Rattle.graphql_plain_answers.specs.Answers.{GiveTheSame}
 use Rattle.graphql_plain_answers.specs.Lawful.{IsLawful}
 use Rattle.graphql_plain_answers.specs.Laws.{SameDocumentsAnswerAlike}
@@ -60,7 +60,7 @@ module _ {S C N X : Type 0} (of_text : Bytes → S) (of_bool : Bool → S) (answ
       let one : AskOverOneSchema m n =
       one-schema of_text of_bool answer schema eq laws type_of resolves changes lawful values others
       in
-      let alike : AreAlike m n t u =
+      let alike : SetsServedAlike m n t u =
       trees-alike of_text of_bool answer schema eq laws type_of resolves changes lawful values
       others t u is
       (λ name i. agree name) (left-alike answer values others agree t) in

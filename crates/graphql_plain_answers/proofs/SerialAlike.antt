@@ -11,7 +11,7 @@ use Rattle.graphql_written_out.specs.Groups.{keys, under, groups}
 use Rattle.graphql_semantics.specs.Completion.{Members, blame_at}
 use Rattle.graphql_semantics.specs.Engines.{Engine}
 use Rattle.graphql_semantics.specs.Evaluation.{Group, at_type, evaluate, found_in, sets_below}
-use Rattle.graphql_mutation.specs.Serial.{Mutation, Run, Step, completed_step, declared_step, mutate, root_group, serially, step_of, unless_null}
+use Rattle.graphql_mutation.specs.Serial.{Mutation, Run, RootStep, completed_step, declared_step, mutate, root_group, serially, step_of, unless_null}
 use Rattle.graphql_plain_answers.specs.AlikeMutations.{AlwaysLeaveOutAlike, AreServedAlike, AskOverOneSchema, SetsAreAlike}
 use Rattle.graphql_plain_answers.specs.AlikeSets.{AreAnsweredAlike, EachAlike, LeaveOutAlike, SetsAlike, TreesAlike}
 use Rattle.graphql_plain_answers.specs.Laws.{AlikeChangeTheSame}
@@ -80,7 +80,7 @@ module _ {S N X : Type 0} (m n : Mutation S N X) (one : AskOverOneSchema m n) (o
   -- ---- one group
 
   type-alike : (key : Bytes) (x y : Found S) (ts us : List (Tree S)) → SetsAreAlike m n ts us
-      → (type : TypeOf) (step : Step S N X)
+      → (type : TypeOf) (step : RootStep S N X)
       → R (completed_step m object key ts x.head type step)
       ≡ R (completed_step n object key us y.head type step)
   type-alike key x y ts us a type step =

@@ -20,7 +20,7 @@ use Rattle.graphql_plain_tree.specs.Laws.{Fit}
 use Rattle.graphql_plain_tree.specs.PlainOperations.{variables_given, variables_used}
 use Rattle.graphql_plain_tree.specs.PlainShape.{IsPlain, IsPlainSet}
 use Rattle.graphql_plain_answers.specs.AgreeingValues.{AgreeOn, Values}
-use Rattle.graphql_plain_answers.specs.AlikeMutations.{AreAlike, AreServedAlike, AskOverOneSchema}
+use Rattle.graphql_plain_answers.specs.AlikeMutations.{SetsServedAlike, AreServedAlike, AskOverOneSchema}
 use Rattle.graphql_plain_answers.specs.Lawful.{IsLawful}
 use Rattle.graphql_plain_answers.proofs.AskedAlike.{asked-alike, step-alike}
 use Rattle.graphql_plain_answers.proofs.FilledLiterals.{agree-left, agree-right}
@@ -155,7 +155,7 @@ module _ {S C N X : Type 0} (of_text : Bytes → S) (of_bool : Bool → S) (answ
 
   pub trees-alike : (t u : Tree S) → unlocated_tree t ≡ unlocated_tree u
       → AgreeOn given other (variables_used t)
-      → LeftAlike answer given other t → AreAlike (asked-by given) (asked-by other) t u
+      → LeftAlike answer given other t → SetsServedAlike (asked-by given) (asked-by other) t u
   unfolding engine_over
   trees-alike none none same agree left = tt
   trees-alike none (field k es inner more) same agree left = absurd (cc)

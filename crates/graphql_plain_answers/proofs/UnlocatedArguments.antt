@@ -7,7 +7,7 @@ use Rattle.std.specs.Str.{bytes_eq}
 use Rattle.std.proofs.lemmas.List.{map-append}
 use Rattle.graphql_names.specs.Names.{Bytes}
 use Rattle.graphql_values.specs.InputValues.{unplaced, unlocated}
-use Rattle.graphql_values.specs.Variables.{variables_in}
+use Rattle.graphql_values.specs.Variables.{names_of_variables}
 use Rattle.graphql_values.specs.declared.input_value.InputValue.{InputValue}
 use Rattle.graphql_values.proofs.UnlocatedVariables.{same_variables}
 use Rattle.graphql_schema.specs.declared.meta.argument.Argument.{Argument as Declared}
@@ -59,7 +59,7 @@ module _ {S : Type 0} where
         ≡ unlocated_given (written_values other xs)
     written-alike [] agree = refl
     written-alike (x ∷ xs) agree =
-        let names = variables_in x.1.item in
+        let names = names_of_variables x.1.item in
         let behind = variables_given xs in
         one-alike x (filled given (unlocated x.1.item)) (filled other x.1.item)
         (filled-alike given other x.1.item (agree-left given other names behind agree)) _ _

@@ -22,9 +22,9 @@ module _ {S N X : Type 0} (m n : Mutation S N X) where
       (c : X) → LeaveOutAlike (m.engine c) (n.engine c) directives marks
 
   -- sets whose fields are served alike, and of which the same is left out
-  abbrev pub AreAlike : Tree S → Tree S → Type 0
-  AreAlike = TreesAlike AreServedAlike AlwaysLeaveOutAlike
+  abbrev pub SetsServedAlike : Tree S → Tree S → Type 0
+  SetsServedAlike = TreesAlike AreServedAlike AlwaysLeaveOutAlike
 
   -- each two of these sets, one by one, are served alike
   abbrev pub SetsAreAlike : List (Tree S) → List (Tree S) → Type 0
-  SetsAreAlike = EachAlike AreAlike
+  SetsAreAlike = EachAlike SetsServedAlike

@@ -26,7 +26,8 @@ use Rattle.graphql_plain_tree.specs.PlainOperations.{plain_operation, variables_
 use Rattle.graphql_plain_tree.specs.PlainShape.{IsPlain}
 use Rattle.graphql_plain_tree.specs.StandIns.{skip_true}
 use Rattle.graphql_plain_answers.specs.AgreeingValues.{AgreeOn, Values}
-use Rattle.graphql_plain_answers.specs.AlikeMutations.{AreAlike, AskOverOneSchema, SetsAreAlike}
+use Rattle.graphql_plain_answers.specs.AlikeMutations.{SetsServedAlike, AskOverOneSchema}
+use Rattle.graphql_plain_answers.specs.AlikeMutations.{SetsAreAlike}
 use Rattle.graphql_plain_answers.specs.AlikeSets.{AreOverOneSchema, SetsAlike}
 use Rattle.graphql_plain_answers.specs.Answers.{GiveTheSame, SucceedAlike}
 use Rattle.graphql_plain_answers.specs.Lawful.{ForEachLawful}
@@ -107,7 +108,7 @@ module _ {S : Type 0} (of_text : Bytes → S) (of_bool : Bool → S) (answer : S
   PlacesDoNotCount =
       ForEachLawful of_text of_bool answer eq C N X (λ asked.
       (values : Values S) (set other : Tree S) → unlocated_tree set ≡ unlocated_tree other
-      → AreAlike (asked values) (asked values) set other)
+      → SetsServedAlike (asked values) (asked values) set other)
 
   -- so are plain ones, by values of variables that agree on those that the set uses
   abbrev pub UnusedVariablesDoNotCount : Type 0
@@ -115,7 +116,7 @@ module _ {S : Type 0} (of_text : Bytes → S) (of_bool : Bool → S) (answer : S
       ForEachLawful of_text of_bool answer eq C N X (λ asked.
       (values others : Values S) (set other : Tree S) → unlocated_tree set ≡ unlocated_tree other
       → IsPlain (skip_true of_bool) set → AgreeOn values others (variables_used set)
-      → AreAlike (asked values) (asked others) set other)
+      → SetsServedAlike (asked values) (asked others) set other)
 
   -- an operation and that of a document that is its plain document but for places give the same,
   -- also where variables have other values then that no field of the plain document uses

@@ -11,7 +11,7 @@ use Rattle.graphql_written_out.specs.Fields.{Found, fields}
 use Rattle.graphql_written_out.specs.Groups.{keys_after, keys, under, groups}
 use Rattle.graphql_semantics.specs.Engines.{Engine}
 use Rattle.graphql_semantics.specs.Outcomes.{Outcome, outcome_map, together}
-use Rattle.graphql_semantics.specs.Evaluation.{Group, Runs, answer_of, evaluate, found_in, group, highest, keyed, run, sets_below}
+use Rattle.graphql_semantics.specs.Evaluation.{Group, RunOfSets, field_outcome, evaluate, found_in, group, highest, keyed, run, sets_below}
 use Rattle.graphql_semantics.proofs.Depths.{evaluate-run}
 use Rattle.graphql_plain_tree.specs.Laws.{Fit, plain_found}
 use Rattle.graphql_plain_tree.specs.Plain.{plain}
@@ -74,17 +74,17 @@ module _ {S N : Type 0} (e : Engine S N) (stand_in : Directives S) (fit : Fit e.
       (λ i. one i ++ ih i) ∙ sym (map-append pf (fields e.drops (e.is_below object) t) (found_in e object ts))
 
   -- a way to run sets that gives the same for plain sets
-  abbrev Same : Runs S N → Type 0
+  abbrev Same : RunOfSets S N → Type 0
   Same r = (path : List Bytes) (object : Bytes) (node : N) (ts : List (Tree S)) → r path object node (pt ts) ≡ r path object node ts
 
-  group-plain : (r : Runs S N) → Same r → (path : List Bytes) (object : Bytes) (node : N) (key : Bytes) (xs : List (Found S))
+  group-plain : (r : RunOfSets S N) → Same r → (path : List Bytes) (object : Bytes) (node : N) (key : Bytes) (xs : List (Found S))
       → group e r path object node key (map pf xs) ≡ group e r path object node key xs
   group-plain r h path object node key [] = refl
   group-plain r h path object node key (x ∷ xs) =
       let at : List Bytes = path ++ key ∷ [] in
       let same : (m : N) → r at (e.concrete m) m (sets_below (map pf (x ∷ xs))) ≡ r at (e.concrete m) m (sets_below (x ∷ xs)) =
       λ m. ap (λ ts. r at (e.concrete m) m ts) (below-plain e.drops stand_in (x ∷ xs)) ∙ h at (e.concrete m) m (sets_below (x ∷ xs)) in
-      λ i. answer_of e (λ m. same m i) at object node x.head
+      λ i. field_outcome e (λ m. same m i) at object node x.head
 
   run-plain : (n : ℕ) → Same (run e n)
   run-plain zero path object node ts = refl

@@ -10,7 +10,7 @@ use Rattle.std.proofs.lemmas.List.Folds.{list_any-append}
 use Rattle.std.proofs.lemmas.List.Sorted.{list_any-IsPermutation}
 use Rattle.graphql_names.specs.Names.{Bytes, is_one_of}
 use Rattle.graphql_names.proofs.NameLemmas.{same_bytes}
-use Rattle.graphql_values.specs.Variables.{variables_in}
+use Rattle.graphql_values.specs.Variables.{names_of_variables}
 use Rattle.graphql_tree.specs.Arguments.{Argument}
 use Rattle.graphql_plain_tree.specs.PlainOperations.{variables_given}
 use Rattle.graphql_plain_print.specs.NameSets.{AreSame}
@@ -87,7 +87,7 @@ same-next start used new done more after a b e =
 
 -- the names in one argument more
 pub given-more : {S : Type 0} (xs : List (Argument S)) (k : ℕ) (x : Argument S) → k < length xs → x ≡ get_or xs k x
-    → variables_given (take (k + 1) xs) ≡ variables_given (take k xs) ++ variables_in x.1.item
+    → variables_given (take (k + 1) xs) ≡ variables_given (take k xs) ++ names_of_variables x.1.item
 given-more xs k x within is =
-    ap variables_given (take_more xs k x within ∙ ap (λ z. take k xs ++ z ∷ []) (sym is)) ∙ flat_map-append (λ a. variables_in a.1.item) (take k xs) (x ∷ [])
-    ∙ ap (λ l. variables_given (take k xs) ++ l) (append-nil (variables_in x.1.item))
+    ap variables_given (take_more xs k x within ∙ ap (λ z. take k xs ++ z ∷ []) (sym is)) ∙ flat_map-append (λ a. names_of_variables a.1.item) (take k xs) (x ∷ [])
+    ∙ ap (λ l. variables_given (take k xs) ++ l) (append-nil (names_of_variables x.1.item))

@@ -5,5 +5,5 @@ use Rattle.graphql_text.specs.declared.token.Token.{Token}
 use Rattle.graphql_plain_text.specs.PlainTexts.{spaced}
 
 -- the new text is the old one and these tokens, each behind a space
-abbrev pub Adds : Bytes → Bytes → List Token → Type 0
-Adds old new tokens = new ≡ old ++ spaced tokens
+abbrev pub AddsTokens : Bytes → Bytes → List Token → Type 0
+AddsTokens old new tokens = new ≡ old ++ spaced tokens

@@ -10,7 +10,7 @@ ghost use Rattle.graphql_plain_tree.specs.Plain.{size};
 ghost use Rattle.graphql_plain_tree.specs.PlainOperations.{plain_operation, variables_used};
 ghost use Rattle.graphql_plain_text.specs.TreeTokens.{keyword, name_token};
 ghost use Rattle.graphql_plain_text.specs.PlainTexts.{plain_text};
-ghost use Rattle.graphql_plain_print.specs.Adding.{Adds};
+ghost use Rattle.graphql_plain_print.specs.Adding.{AddsTokens};
 ghost use Rattle.graphql_plain_print.specs.Faults.{IfTooLarge};
 ghost use Rattle.graphql_plain_print.specs.NameSets.{AreSame};
 
@@ -42,7 +42,7 @@ fn keyword_of(operation_type: OperationType) -> &'static str
 
 /// The name of an operation, if it has one.
 fn push_name(text: &mut String, name: &Option<Spanning<TextRef<'_>>>) -> Result<(), AllocError>
-    ensures { OnOk result (Adds (string_bytes text.old) (string_bytes text.new)
+    ensures { OnOk result (AddsTokens (string_bytes text.old) (string_bytes text.new)
         (name_token (option_map (λ n. n.item) name.now))) }
 {
     match name {

@@ -8,7 +8,7 @@ ghost use Rattle.graphql_plain_tree.specs.PlainOperations.{variables_used};
 ghost use Rattle.graphql_plain_text.specs.TreeTokens.{in_braces};
 ghost use Rattle.graphql_plain_print.specs.declared.printing.Frame.TheVariants.{First, Kept};
 ghost use Rattle.graphql_plain_print.specs.declared.written.Written.TheVariants as form;
-ghost use Rattle.graphql_plain_print.specs.Adding.{Adds};
+ghost use Rattle.graphql_plain_print.specs.Adding.{AddsTokens};
 ghost use Rattle.graphql_plain_print.specs.Alone.{alone_tokens, alone_uses, below_size};
 ghost use Rattle.graphql_plain_print.specs.Alone.{below_turns, set_tokens};
 ghost use Rattle.graphql_plain_print.specs.Faults.{IfTooLarge};
@@ -356,7 +356,7 @@ pub(crate) fn print_set<'d, 'a, S: ScalarValue>(
     used: &mut HashSet<TextRef<'d>>,
 ) -> Result<(), PrintError>
     requires { Settled (fragments_by plan.now) }
-    ensures text { OnOk result (Adds (string_bytes text.old) (string_bytes text.new)
+    ensures text { OnOk result (AddsTokens (string_bytes text.old) (string_bytes text.new)
         (in_braces (tokens_by plan.now (plain_by S.answer S.of_bool plan.now set.now)))) }
     ensures uses { OnOk result (AreSame used.new.keys
         (used.old.keys ++ variables_used (plain_by S.answer S.of_bool plan.now set.now))) }

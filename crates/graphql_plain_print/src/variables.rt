@@ -4,12 +4,12 @@ ghost use Rattle.std.specs.Prelude.{◌≡◌, [], ◌∷◌, ◌++◌, OnOk, no
 ghost use Rattle.std.specs.List.{flat_map};
 ghost use Rattle.std.specs.String.{string_bytes};
 ghost use Rattle.graphql_names.specs.Names.{is_one_of};
-ghost use Rattle.graphql_values.specs.Variables.{variables_in as variables_of};
+ghost use Rattle.graphql_values.specs.Variables.{names_of_variables as variables_of};
 ghost use Rattle.graphql_plain_tree.specs.PlainOperations.{definitions_used, variables_given};
 ghost use Rattle.graphql_plain_tree.specs.PlainOperations.{without_directives};
 ghost use Rattle.graphql_plain_text.specs.TreeTokens.{default_tokens, in_parentheses};
 ghost use Rattle.graphql_plain_text.specs.TreeTokens.{variable_tokens};
-ghost use Rattle.graphql_plain_print.specs.Adding.{Adds};
+ghost use Rattle.graphql_plain_print.specs.Adding.{AddsTokens};
 ghost use Rattle.graphql_plain_text.specs.SpanTokens.{tokens_within};
 ghost use Rattle.graphql_plain_print.specs.NameSets.{AreSame, is_nothing};
 
@@ -64,7 +64,7 @@ fn push_default<S>(
     tokens: &TokenRecords<'_>,
     value: &Option<Spanning<InputValue<S>>>,
 ) -> Result<(), AllocError>
-    ensures { OnOk result (Adds (string_bytes text.old) (string_bytes text.new)
+    ensures { OnOk result (AddsTokens (string_bytes text.old) (string_bytes text.new)
         (default_tokens (tokens_within tokens.now.tokens) value.now)) }
 {
     match value {
@@ -83,7 +83,7 @@ fn push_definition<S>(
     tokens: &TokenRecords<'_>,
     definition: &(Spanning<TextRef<'_>>, VariableDefinition<'_, S>),
 ) -> Result<(), AllocError>
-    ensures { OnOk result (Adds (string_bytes text.old) (string_bytes text.new)
+    ensures { OnOk result (AddsTokens (string_bytes text.old) (string_bytes text.new)
         (variable_tokens (tokens_within tokens.now.tokens) (without_directives definition.now))) }
 {
     push_word(text, "$")?;
@@ -123,7 +123,7 @@ fn push_if_used<S>(
     definition: &(Spanning<TextRef<'_>>, VariableDefinition<'_, S>),
     used: &HashSet<TextRef<'_>>,
 ) -> Result<(), AllocError>
-    ensures { OnOk result (Adds (string_bytes text.old) (string_bytes text.new)
+    ensures { OnOk result (AddsTokens (string_bytes text.old) (string_bytes text.new)
         (flat_map (variable_tokens (tokens_within tokens.now.tokens))
         (definitions_used used.now.keys (definition.now ∷ [])))) }
 {
@@ -141,7 +141,7 @@ pub(crate) fn push_definitions<S>(
     definitions: &[(Spanning<TextRef<'_>>, VariableDefinition<'_, S>)],
     used: &HashSet<TextRef<'_>>,
 ) -> Result<(), AllocError>
-    ensures { OnOk result (Adds (string_bytes text.old) (string_bytes text.new)
+    ensures { OnOk result (AddsTokens (string_bytes text.old) (string_bytes text.new)
         (in_parentheses (variable_tokens (tokens_within tokens.now.tokens))
         (definitions_used used.now.keys definitions.now))) }
 {

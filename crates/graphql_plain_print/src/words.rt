@@ -8,7 +8,7 @@ ghost use Rattle.graphql_tree.specs.Documents.{arguments_in as arguments_given};
 ghost use Rattle.graphql_written_out.specs.Written.{response_key};
 ghost use Rattle.graphql_plain_text.specs.TreeTokens.{argument_tokens, condition_tokens};
 ghost use Rattle.graphql_plain_text.specs.TreeTokens.{name_tokens, in_parentheses, skip_tokens};
-ghost use Rattle.graphql_plain_print.specs.Adding.{Adds};
+ghost use Rattle.graphql_plain_print.specs.Adding.{AddsTokens};
 ghost use Rattle.graphql_plain_text.specs.SpanTokens.{tokens_within};
 
 use graphql_lexer::TokenRecords;
@@ -32,7 +32,7 @@ pub(crate) fn push_within(
     tokens: &TokenRecords<'_>,
     span: Span,
 ) -> Result<(), AllocError>
-    ensures { OnOk result (Adds (string_bytes text.old) (string_bytes text.new)
+    ensures { OnOk result (AddsTokens (string_bytes text.old) (string_bytes text.new)
         (tokens_within tokens.now.tokens span)) }
 {
     for found in tokens.texts(span) {
@@ -43,7 +43,7 @@ pub(crate) fn push_within(
 
 /// The names of a field: its alias, if it has one, and its own.
 fn push_names<S>(text: &mut String, field: &Field<'_, S>) -> Result<(), AllocError>
-    ensures { OnOk result (Adds (string_bytes text.old) (string_bytes text.new)
+    ensures { OnOk result (AddsTokens (string_bytes text.old) (string_bytes text.new)
         (name_tokens (is_some field.now.alias) (response_key field.now.alias field.now.name)
         field.now.name.item)) }
 {
@@ -67,7 +67,7 @@ fn push_argument<S>(
     tokens: &TokenRecords<'_>,
     argument: &(Spanning<TextRef<'_>>, Spanning<InputValue<S>>),
 ) -> Result<(), AllocError>
-    ensures { OnOk result (Adds (string_bytes text.old) (string_bytes text.new)
+    ensures { OnOk result (AddsTokens (string_bytes text.old) (string_bytes text.new)
         (argument_tokens (tokens_within tokens.now.tokens) argument.now)) }
 {
     push_word(text, argument.0.item.as_str())?;
@@ -82,7 +82,7 @@ fn push_arguments<S>(
     tokens: &TokenRecords<'_>,
     arguments: &[(Spanning<TextRef<'_>>, Spanning<InputValue<S>>)],
 ) -> Result<(), AllocError>
-    ensures { OnOk result (Adds (string_bytes text.old) (string_bytes text.new)
+    ensures { OnOk result (AddsTokens (string_bytes text.old) (string_bytes text.new)
         (in_parentheses (argument_tokens (tokens_within tokens.now.tokens)) arguments.now)) }
 {
     if arguments.is_empty() {
@@ -102,7 +102,7 @@ pub(crate) fn push_head<S>(
     tokens: &TokenRecords<'_>,
     field: &Field<'_, S>,
 ) -> Result<(), AllocError>
-    ensures { OnOk result (Adds (string_bytes text.old) (string_bytes text.new)
+    ensures { OnOk result (AddsTokens (string_bytes text.old) (string_bytes text.new)
         (name_tokens (is_some field.now.alias) (response_key field.now.alias field.now.name)
         field.now.name.item ++ in_parentheses (argument_tokens (tokens_within tokens.now.tokens))
         (arguments_given field.now.arguments))) }
@@ -114,7 +114,8 @@ pub(crate) fn push_head<S>(
 
 /// `...`, and the condition of an inline fragment, if it has one.
 pub(crate) fn push_condition(text: &mut String, on: Option<&str>) -> Result<(), AllocError>
-    ensures { OnOk result (Adds (string_bytes text.old) (string_bytes text.new) ((Ellipsis ∷ [])
+    ensures { OnOk result
+        (AddsTokens (string_bytes text.old) (string_bytes text.new) ((Ellipsis ∷ [])
         ++ condition_tokens (option_map (λ n. n.now) on.entry))) }
 {
     push_word(text, "...")?;
@@ -130,7 +131,7 @@ pub(crate) fn push_condition(text: &mut String, on: Option<&str>) -> Result<(), 
 
 /// `@skip(if: true)`, where a selection stands for a set of which all are left out.
 pub(crate) fn push_stand_in(text: &mut String, stands_in: bool) -> Result<(), AllocError>
-    ensures { OnOk result (Adds (string_bytes text.old) (string_bytes text.new)
+    ensures { OnOk result (AddsTokens (string_bytes text.old) (string_bytes text.new)
         (if stands_in then skip_tokens else [])) }
 {
     if stands_in {

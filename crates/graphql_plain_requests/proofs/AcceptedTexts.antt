@@ -21,7 +21,7 @@ use Rattle.graphql_plain_validity.specs.PlainRequests.{IsPlainDocument}
 use Rattle.graphql_plain_validity.proofs.OneOperation.{the-one}
 use Rattle.graphql_plain_validity.specs.Laws.{IsValidText, PlainTextsAreValid}
 use Rattle.graphql_plain_validity.proofs.ValidTexts.{full}
-use Rattle.graphql_requests.specs.Operations.{chosen, has_name, mutation_root}
+use Rattle.graphql_requests.specs.Operations.{chosen, operation_has_name, mutation_root}
 use Rattle.graphql_requests.specs.Refusals.{IsValidIn}
 use Rattle.graphql_requests.specs.Scalars.{Scalars}
 use Rattle.graphql_requests.specs.declared.graphql_error.GraphQLError.TheVariants as error
@@ -59,7 +59,7 @@ plain-passes test (Some n) = refl
 
 module _ {S : Type 0} where
   -- the one operation of a document is chosen, where it has the name that is asked for
-  lone-chosen : (x : Placed (Operation S)) (name : Bytes) → has_name name x ≡ true
+  lone-chosen : (x : Placed (Operation S)) (name : Bytes) → operation_has_name name x ≡ true
       → chosen (Some name) (definition.Operation x ∷ []) ≡ Ok x
   lone-chosen x name has =
       ap (λ (b : Bool). option_map_or Ok (cond b (Some x) None) (Err error.UnknownOperationName)) has
@@ -72,8 +72,8 @@ module _ {S : Type 0} where
   chosen-again p document o x named same None e = refl
   chosen-again p document o x named same (Some name) e =
       let test : Bytes → Bool = λ n. bytes_eq n name in
-      let old : has_name name o ≡ true =
-      found-passes (has_name name) (reverse (operations_of document)) o
+      let old : operation_has_name name o ≡ true =
+      found-passes (operation_has_name name) (reverse (operations_of document)) o
       error.UnknownOperationName e in
       lone-chosen x name
       (sym (unlocated-passes test x.item.name)

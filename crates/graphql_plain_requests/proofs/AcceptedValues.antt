@@ -13,7 +13,7 @@ use Rattle.graphql_tree.specs.Variables.{Variable}
 use Rattle.graphql_tree.specs.declared.document.Operation.{Operation}
 use Rattle.graphql_written_out.specs.FinalValues.{variable_name}
 use Rattle.graphql_schema.specs.declared.meta.MetaType.{MetaType}
-use Rattle.graphql_literal_checks.specs.InputTypes.{refuses_null}
+use Rattle.graphql_schema.specs.Types.{refuses_null}
 use Rattle.graphql_rules_document.proofs.ListItems.{contains-map, image-of}
 use Rattle.graphql_variable_checks.specs.Accepted.{AreAccepted, FitsVariable, IsAccepted, variable_type}
 use Rattle.graphql_plain_tree.specs.PlainDocuments.{operation_as}

@@ -14,7 +14,7 @@ use Rattle.graphql_language.proofs.AlikeTexts.{differ_in_places, refused_alike}
 use Rattle.graphql_language.proofs.TextLaws.{one_document}
 use Rattle.graphql_schema.specs.Declarations.{declarations_of}
 use Rattle.graphql_schema.specs.declared.root_node.RootNode.{RootNode}
-use Rattle.graphql_requests.specs.Asked.{Asking, IsExecutable, Reads}
+use Rattle.graphql_requests.specs.Asked.{Asking, IsExecutable, ReadsValid}
 use Rattle.graphql_requests.specs.Operations.{chosen, mutation_root}
 use Rattle.graphql_requests.specs.Refusals.{IsOnly, TakesValues}
 use Rattle.graphql_requests.specs.Scalars.{Scalars}
@@ -23,7 +23,7 @@ use Rattle.graphql_plain_requests.specs.PlainRequests.{asked_at}
 use Rattle.graphql_moved.specs.Moved.{moved, moved_operation}
 use Rattle.graphql_moved.proofs.Unlocated.{document-is, nowhere, same}
 use Rattle.graphql_plain_requests.specs.Laws.{AreValidAlike}
-use Rattle.graphql_requests.specs.Steps.{IsExecuted, IsRefusedAt, Step, no_document, not_chosen, not_served, not_valid, takes_not}
+use Rattle.graphql_requests.specs.Steps.{IsExecuted, IsRefusedAt, RequestStep, no_document, not_chosen, not_served, not_valid, takes_not}
 use Rattle.graphql_plain_requests.proofs.Choices.{carried, chosen-moved, err-from, ok-from}
 use Rattle.graphql_plain_requests.proofs.AcceptedValues.{accepted-alike}
 use Rattle.graphql_plain_requests.proofs.TruthsAlike.{operations-same, variables-same}
@@ -63,7 +63,7 @@ module _ {S C : Type 0} (s : Scalars S C) (root : RootNode S C)
       }
 
   module _ (d e : List (Definition S)) (is : unlocated_document d ≡ unlocated_document e) where
-    read-again : IsOnly s (chars other) e → Reads s this d → Reads s that e
+    read-again : IsOnly s (chars other) e → ReadsValid s this d → ReadsValid s that e
     read-again only read = record {
       spelled = only.spelled;
       alone = only.alone;
@@ -150,7 +150,7 @@ module _ {S C : Type 0} (s : Scalars S C) (root : RootNode S C)
 
   -- ---- what is refused
 
-  pub refused-at-alike : (step : Step) → IsRefusedAt s this step → IsRefusedAt s that step
+  pub refused-at-alike : (step : RequestStep) → IsRefusedAt s this step → IsRefusedAt s that step
   refused-at-alike _ (no_document fault r) =
       let f = refused_alike s.reads s.of_bool (chars one) (chars other) alike fault r in no_document
       f.0 f.1

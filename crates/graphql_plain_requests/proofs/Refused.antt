@@ -17,7 +17,7 @@ use Rattle.graphql_plain_text.specs.PlainTexts.{plain_text}
 use Rattle.graphql_plain_print.specs.Faults.{IfTooLarge}
 use Rattle.graphql_plain_print.specs.declared.print_error.PrintError.{PrintError}
 use Rattle.graphql_plain_print.specs.declared.print_error.PrintError.TheVariants as print
-use Rattle.graphql_requests.specs.Asked.{Asking, IsExecutable, IsRefused, Reads}
+use Rattle.graphql_requests.specs.Asked.{Asking, IsExecutable, IsRefused, ReadsValid}
 use Rattle.graphql_requests.specs.Operations.{chosen}
 use Rattle.graphql_requests.specs.Refusals.{IsReady, IsStopped, errors_of}
 use Rattle.graphql_requests.specs.Faults.{refusal_of}
@@ -25,17 +25,17 @@ use Rattle.graphql_requests.specs.Scalars.{Scalars}
 use Rattle.graphql_requests.specs.declared.graphql_error.GraphQLError.{GraphQLError}
 use Rattle.graphql_requests.specs.declared.graphql_error.GraphQLError.TheVariants as refusal
 use Rattle.graphql_requests.proofs.FaultLemmas.{fault-told}
-use Rattle.graphql_plain_requests.specs.Faults.{IsTold, of_print, of_refusal}
+use Rattle.graphql_plain_requests.specs.Faults.{IsForSize, of_print, of_refusal}
 use Rattle.graphql_plain_requests.specs.PlainRequests.{HasNoPlainText, IsPlainTextWithin, plain_of, size_of}
 use Rattle.graphql_plain_requests.specs.declared.plain_error.PlainError.{PlainError}
 use Rattle.graphql_plain_requests.specs.declared.plain_error.PlainError.TheVariants as error
 
 -- why an operation is not printed, handed on
 pub not-printed : {A : Type 0} (B : Type 0) (r : Result A PlainError) (e : PrintError) (P Q : Type 0) → IsErrAnd r (λ y. y ≡ of_print e)
-    → IfTooLarge {A = B} (Err e) P → (P → Q) → IfErr r (IsTold Q)
+    → IfTooLarge {A = B} (Err e) P → (P → Q) → IfErr r (IsForSize Q)
 not-printed B (Ok x) e P Q h p f = tt
-not-printed B (Err y) print.TooLarge P Q h p f = subst (IsTold Q) (sym h) (f p)
-not-printed B (Err y) print.Memory P Q h p f = subst (IsTold Q) (sym h) tt
+not-printed B (Err y) print.TooLarge P Q h p f = subst (IsForSize Q) (sym h) (f p)
+not-printed B (Err y) print.Memory P Q h p f = subst (IsForSize Q) (sym h) tt
 
 module _ {S C : Type 0} (s : Scalars S C) (a : Asking S C) (limit : ℕ) where
   module _ (cmp : RuleError → RuleError → Ordering) where
@@ -64,18 +64,18 @@ module _ {S C : Type 0} (s : Scalars S C) (a : Asking S C) (limit : ℕ) where
         (λ f lexical. refused-by (refusal.ParseError f) (inl (record { unread = inl lexical; sorted = sorted }))) tt fault.item fault h
 
   -- the document that is read, by another name
-  pub executable-at : (document lent : List (Definition S)) → lent ≡ document → Reads s a document → (operation : Placed (Operation S))
+  pub executable-at : (document lent : List (Definition S)) → lent ≡ document → ReadsValid s a document → (operation : Placed (Operation S))
       → IsReady s a.schema a.given (chosen a.operation_name lent) operation → IsExecutable s a lent operation
   executable-at document lent same read operation ready =
-      record { read = subst (λ (d : List (Definition S)). Reads s a d) (sym same) read; ready = ready }
+      record { read = subst (λ (d : List (Definition S)). ReadsValid s a d) (sym same) read; ready = ready }
 
-  pub stopped-at : (cmp : RuleError → RuleError → Ordering) (document lent : List (Definition S)) → lent ≡ document → Reads s a document
+  pub stopped-at : (cmp : RuleError → RuleError → Ordering) (document lent : List (Definition S)) → lent ≡ document → ReadsValid s a document
       → (why : GraphQLError) → IsStopped s a.schema a.given (chosen a.operation_name lent) why → IsSorted cmp (errors_of why)
       → IsRefused s a cmp why
   stopped-at cmp document lent same read why stopped sorted =
       inr (record {
         document = lent;
-        read = subst (λ (d : List (Definition S)). Reads s a d) (sym same) read;
+        read = subst (λ (d : List (Definition S)). ReadsValid s a d) (sym same) read;
         stopped = stopped;
         sorted = sorted;
       })
@@ -100,7 +100,7 @@ module _ {S C : Type 0} (s : Scalars S C) (a : Asking S C) (limit : ℕ) where
     }
 
     pub larger : {A : Type 0} (cmp : RuleError → RuleError → Ordering) (r : Result A PlainError)
-        → IfErr r (IsTold (limit < size_of s a document operation.item)) → IfErr r (HasNoPlainText s a cmp limit)
+        → IfErr r (IsForSize (limit < size_of s a document operation.item)) → IfErr r (HasNoPlainText s a cmp limit)
     larger cmp (Ok x) h = tt
     larger cmp (Err (error.Refused why)) h = absurd h
     larger cmp (Err error.TooLarge) h =

@@ -25,7 +25,8 @@ use Rattle.graphql_rules_document.specs.NoUnusedVariables.{unused_in, unused_var
 use Rattle.graphql_rules_document.specs.UniqueFragmentNames.{fragment_mention, unique_fragment_names_faults}
 use Rattle.graphql_rules_document.specs.UniqueOperationNames.{operation_mention, unique_operation_names_faults}
 use Rattle.graphql_rules_document.specs.UniqueVariableNames.{unique_variable_names_faults, variable_mention}
-use Rattle.graphql_rules_document.specs.VariablesInAllowedPosition.{disallowed_at, disallowed_by, disallowed_in, disallowed_use, variables_in_allowed_position_faults, is_allowed, refuses_null, with_null, without_null}
+use Rattle.graphql_rules_document.specs.VariablesInAllowedPosition.{disallowed_at, disallowed_by, disallowed_in, disallowed_use, variables_in_allowed_position_faults, is_allowed, with_null, without_null}
+use Rattle.graphql_schema.specs.Types.{refuses_null}
 use Rattle.graphql_moved.proofs.Unlocated.{nowhere}
 use Rattle.graphql_plain_validity.proofs.AllowedUses.{same-default}
 use Rattle.graphql_plain_requests.proofs.Erased.{unlocated_mention, each-erased, erase, error-erased, flat-mapped, named-mapped, none-erased, repeats-erased}

@@ -15,7 +15,7 @@ of_print print.TooLarge = error.TooLarge
 of_print print.Memory = error.Memory
 
 -- an operation has no plain text for its size alone; want of memory tells nothing
-abbrev pub IsTold : Type 0 → PlainError → Type 0
-IsTold larger (error.Refused why) = ⊥
-IsTold larger error.TooLarge = larger
-IsTold larger error.Memory = Unit {0}
+abbrev pub IsForSize : Type 0 → PlainError → Type 0
+IsForSize larger (error.Refused why) = ⊥
+IsForSize larger error.TooLarge = larger
+IsForSize larger error.Memory = Unit {0}

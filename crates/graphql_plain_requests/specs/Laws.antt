@@ -39,7 +39,7 @@ use Rattle.graphql_tree.specs.Unlocated.{unlocated_document}
 use Rattle.graphql_schema.specs.Declarations.{Declarations}
 use Rattle.graphql_plain_validity.specs.Laws.{IsValidDocument}
 use Rattle.graphql_language.specs.Alike.{AreAlike}
-use Rattle.graphql_requests.specs.Steps.{IsExecuted, IsRefusedAt, Step}
+use Rattle.graphql_requests.specs.Steps.{IsExecuted, IsRefusedAt, RequestStep}
 
 module _ {S C : Type 0} (s : Scalars S C) where
   -- a request has one plain text, whatever the limit
@@ -143,7 +143,7 @@ module _ {S C : Type 0} (s : Scalars S C) (a : Asking S C) where
 module _ {S C : Type 0} (s : Scalars S C) (a b : Asking S C) where
   -- they are refused at one step, or executed both, with one plain text within each limit
   pub record AreAskedAlike : Type 0 where
-    pub refused : (step : Step) → IsRefusedAt s a step ↔ IsRefusedAt s b step
+    pub refused : (step : RequestStep) → IsRefusedAt s a step ↔ IsRefusedAt s b step
     pub executed : IsExecuted s a ↔ IsExecuted s b
     pub plain : (limit : ℕ) (bytes : Bytes)
         → IsPlainTextWithin s a limit bytes ↔ IsPlainTextWithin s b limit bytes

@@ -16,7 +16,7 @@ ghost use Rattle.graphql_plain_tree.specs.Plain.{size};
 ghost use Rattle.graphql_plain_tree.specs.PlainOperations.{plain_operation, variables_used};
 ghost use Rattle.graphql_plain_text.specs.PlainTexts.{plain_text};
 ghost use Rattle.graphql_plain_requests.specs.AcceptedAgain.{IsAcceptedAgain};
-ghost use Rattle.graphql_plain_requests.specs.Faults.{IsTold};
+ghost use Rattle.graphql_plain_requests.specs.Faults.{IsForSize};
 ghost use Rattle.graphql_plain_requests.specs.PlainRequests.{HasNoPlainText, IsDocumentAgain};
 ghost use Rattle.graphql_plain_requests.specs.PlainRequests.{IsPlainTextWithin, asked_at, asked_of};
 ghost use Rattle.graphql_plain_requests.specs.StandIns.{TakesStandIn};
@@ -187,7 +187,7 @@ pub fn plain_of_chosen<'d, 'a, S: SchemaScalar + Drop>(
         final_value (get_by_text variables.now) (variables_in operation.now.variable_definitions) in
         let p =
         plain_operation S.answer S.of_bool values (fragments_listed document.now) operation.now in
-        IfErr result (IsTold (limit < size p.set)) }
+        IfErr result (IsForSize (limit < size p.set)) }
 {
     let values = FinalVariables::new(alloc, variables, operation)?;
     let printed = print_over(alloc, document, operation, values, records, limit)?;

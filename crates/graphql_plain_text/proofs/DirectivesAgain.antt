@@ -24,7 +24,7 @@ use Rattle.graphql_tree.specs.declared.directive.Directive.{Directive}
 use Rattle.graphql_tree.specs.Unlocated.{without_place, unlocated_name, unlocated_argument, unlocated_arguments, unlocated_directive, unlocated_directives}
 use Rattle.graphql_value_syntax.specs.Values.{ValueOf, of_true, spanned}
 use Rattle.graphql_value_syntax.specs.Directives.{Sign, NameOf, Named, ArgumentOf, ArgumentsOf, DirectiveOf, DirectivesOf}
-use Rattle.graphql_language.specs.ReadSelections.{Names}
+use Rattle.graphql_language.specs.ReadSelections.{AliasedName}
 use Rattle.graphql_language.specs.Selections.{TypeConditionOf, NamesOf}
 use Rattle.graphql_written_out.specs.Trees.{Directives}
 use Rattle.graphql_plain_tree.specs.PlainDocuments.{alias_if, arguments_as, directives_as}
@@ -43,7 +43,7 @@ pub again_sign : (w : Kind) (x : Token) → only w (kind x) ≡ true
     → Again (Sign w) (λ u. u) (x ∷ []) tt
 again_sign w x h = again_token (only w) (λ y. tt {0}) x h
 
-abbrev pub unlocated_names : Names → Names
+abbrev pub unlocated_names : AliasedName → AliasedName
 unlocated_names ns = (option_map unlocated_name ns.0, unlocated_name ns.1)
 
 pub again_names : (b : Bool) (key name : Bytes)

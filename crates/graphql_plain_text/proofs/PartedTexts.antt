@@ -14,7 +14,7 @@ use Rattle.graphql_text.specs.Grammar.{Spells, Divides, IsDivided}
 use Rattle.graphql_lexer.proofs.DividedLaws.{source_is_slice}
 use Rattle.graphql_plain_text.proofs.RisingTokens.{same_push}
 use Rattle.graphql_language.specs.Texts.{IsCut}
-use Rattle.graphql_plain_text.specs.Parts.{Part, AreBlank, IsClosed, text_of, Fits, AllFit, tokens_of as located_in, up_to, end_of}
+use Rattle.graphql_plain_text.specs.Parts.{TextPart, AreBlank, IsClosed, parts_text, IsTokenBefore, AllFit, tokens_of as located_in, up_to, end_of}
 use Rattle.graphql_plain_text.proofs.Parts.{parts_are_tokens, closed_tokens_end}
 use Rattle.graphql_plain_text.specs.Spelt.{IsSpelt, AreSpelt}
 use Rattle.graphql_grammar.specs.Alike.{tokens_of}
@@ -48,26 +48,26 @@ parted-utf8 (x ∷ xs) h =
 
 -- ---- parts, each behind a space
 
-spaced_parts : (xs : List Token) → AreSpelt xs → List Part
+spaced_parts : (xs : List Token) → AreSpelt xs → List TextPart
 spaced_parts [] h = []
 spaced_parts (x ∷ xs) h =
     record { blanks = 32 ∷ []; token = x; own = h.0.own } ∷ spaced_parts xs h.1
 
-closed : (xs : List Token) (h : AreSpelt xs) → IsClosed (text_of (spaced_parts xs h) ++ [])
+closed : (xs : List Token) (h : AreSpelt xs) → IsClosed (parts_text (spaced_parts xs h) ++ [])
 unfolding spaced_parts
 closed [] h = tt
 closed (x ∷ xs) h = refl
 
 -- a part, by the blanks in front of its token
-abbrev part : List ℕ → (x : Token) → IsSpelt x → Part
+abbrev part : List ℕ → (x : Token) → IsSpelt x → TextPart
 part blanks x h = record { blanks = blanks; token = x; own = h.own }
 
 -- it fits in front of the others, where its blanks are blank
 fits : (blanks : List ℕ) → AreBlank blanks
     → (x : Token) (h : IsSpelt x) (xs : List Token) (hs : AreSpelt xs)
-    → Fits (part blanks x h) (text_of (spaced_parts xs hs) ++ [])
+    → IsTokenBefore (part blanks x h) (parts_text (spaced_parts xs hs) ++ [])
 fits blanks blank x h xs hs =
-    let behind = text_of (spaced_parts xs hs) ++ [] in
+    let behind = parts_text (spaced_parts xs hs) ++ [] in
     record {
       blank = blank;
       spells = h.spells;
@@ -88,11 +88,11 @@ part_bytes x h behind bytes e =
     encodes-append h.own behind ∙ (λ i. source-is x h.own h.spells i ++ e i)
 
 spaced_bytes : (xs : List Token) (h : AreSpelt xs)
-    → encode_utf8_all (text_of (spaced_parts xs h)) ≡ spaced xs
+    → encode_utf8_all (parts_text (spaced_parts xs h)) ≡ spaced xs
 unfolding spaced_parts
 spaced_bytes [] h = refl
 spaced_bytes (x ∷ xs) h =
-    let behind = text_of (spaced_parts xs h.1) in
+    let behind = parts_text (spaced_parts xs h.1) in
     encodes-append (32 ∷ []) (h.0.own ++ behind)
     ∙ (λ i. space i ++ part_bytes x h.0 behind (spaced xs) (spaced_bytes xs h.1) i)
 
@@ -103,7 +103,7 @@ spaced_items before [] h = refl
 spaced_items before (x ∷ xs) h =
     ap (λ l. x ∷ l) (spaced_items (up_to before (part (32 ∷ []) x h.0)) xs h.1)
 
-parts : (xs : List Token) → AreSpelt xs → List Part
+parts : (xs : List Token) → AreSpelt xs → List TextPart
 parts [] h = []
 parts (x ∷ xs) h = part [] x h.0 ∷ spaced_parts xs h.1
 
@@ -113,11 +113,11 @@ parts_fit [] h = tt
 parts_fit (x ∷ xs) h = (fits [] tt x h.0 xs h.1, spaced_fit xs h.1)
 
 parts_bytes : (xs : List Token) (h : AreSpelt xs)
-    → encode_utf8_all (text_of (parts xs h)) ≡ parted_text xs
+    → encode_utf8_all (parts_text (parts xs h)) ≡ parted_text xs
 unfolding parts
 parts_bytes [] h = refl
 parts_bytes (x ∷ xs) h =
-    part_bytes x h.0 (text_of (spaced_parts xs h.1)) (spaced xs) (spaced_bytes xs h.1)
+    part_bytes x h.0 (parts_text (spaced_parts xs h.1)) (spaced xs) (spaced_bytes xs h.1)
 
 parts_items : (xs : List Token) (h : AreSpelt xs) → tokens_of (located_in [] (parts xs h)) ≡ xs
 unfolding parts
@@ -134,13 +134,13 @@ pub record CutInto (text : List ℕ) (xs : List Token) : Type 0 where
 pub parted-is-cut : (xs : List Token) → AreSpelt xs → CutInto (chars (parted_text xs)) xs
 parted-is-cut xs h =
     let ps = parts xs h in
-    let same : text_of ps ≡ chars (parted_text xs) =
-    chars_from_encodes (text_of ps) (parted_text xs) (parted-utf8 xs h) (parts_bytes xs h) in
+    let same : parts_text ps ≡ chars (parted_text xs) =
+    chars_from_encodes (parts_text ps) (parted_text xs) (parted-utf8 xs h) (parts_bytes xs h) in
     record {
       tokens = located_in [] ps;
-      finish = end_of (text_of ps ++ []);
-      cut = subst (λ text. IsCut text (located_in [] ps) (end_of (text_of ps ++ [])))
-          (append-nil (text_of ps) ∙ same) (parts_are_tokens ps [] tt (parts_fit xs h));
+      finish = end_of (parts_text ps ++ []);
+      cut = subst (λ text. IsCut text (located_in [] ps) (end_of (parts_text ps ++ [])))
+          (append-nil (parts_text ps) ∙ same) (parts_are_tokens ps [] tt (parts_fit xs h));
       same = parts_items xs h;
     }
 

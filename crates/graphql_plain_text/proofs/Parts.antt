@@ -8,7 +8,7 @@ use Rattle.graphql_text.specs.declared.token.ScalarToken.TheVariants as s
 use Rattle.graphql_text.specs.Characters.{is_blank, continues_name}
 use Rattle.graphql_text.specs.Tokens.{is_end}
 use Rattle.graphql_text.specs.Grammar.{NextIsNot, IsWhole, IsInteger, Spells, Ignored, blank, gap_of, AreIgnored, IsGap, Heads, Divides}
-use Rattle.graphql_plain_text.specs.Parts.{Part, AreBlank, text_of, Fits, AllFit, up_to, located, tokens_of, end_of}
+use Rattle.graphql_plain_text.specs.Parts.{TextPart, AreBlank, parts_text, IsTokenBefore, AllFit, up_to, located_part, tokens_of, end_of}
 use Rattle.graphql_plain_text.specs.ReadBackLaws.{PartsAreTokens, ClosedTokensEnd}
 
 -- ---- what a token begins with is not blank, and begins no comment
@@ -88,7 +88,7 @@ blanks_are_gap cs rest h none = record { ignored = ignored_of cs; is = gap_is cs
 
 -- ---- parts are divided into their tokens
 
-part_heads : (before : List ℕ) (p : Part) (behind : List ℕ) → Fits p behind → Heads before (p.blanks ++ (p.own ++ behind)) (located before p) (up_to before p) behind
+part_heads : (before : List ℕ) (p : TextPart) (behind : List ℕ) → IsTokenBefore p behind → Heads before (p.blanks ++ (p.own ++ behind)) (located_part before p) (up_to before p) behind
 part_heads before p behind h = record {
   gap = p.blanks;
   own = p.own;
@@ -105,16 +105,16 @@ part_heads before p behind h = record {
 regrouped : (a b c d : List ℕ) → (a ++ (b ++ c)) ++ d ≡ a ++ (b ++ (c ++ d))
 regrouped a b c d = append_assoc a (b ++ c) d ∙ ap (λ l. a ++ l) (append_assoc b c d)
 
-pub up_to_all : (before : List ℕ) (p : Part) (text : List ℕ) → up_to before p ++ text ≡ before ++ (p.blanks ++ (p.own ++ text))
+pub up_to_all : (before : List ℕ) (p : TextPart) (text : List ℕ) → up_to before p ++ text ≡ before ++ (p.blanks ++ (p.own ++ text))
 up_to_all before p text = append_assoc (before ++ p.blanks) p.own text ∙ append_assoc before p.blanks (p.own ++ text)
 
-pub parts_divide : (before : List ℕ) (ps : List Part) (behind : List ℕ) → AllFit ps behind → Divides before (text_of ps ++ behind) (tokens_of before ps) (before ++ text_of ps) behind
+pub parts_divide : (before : List ℕ) (ps : List TextPart) (behind : List ℕ) → AllFit ps behind → Divides before (parts_text ps ++ behind) (tokens_of before ps) (before ++ parts_text ps) behind
 parts_divide before [] behind fit = (sym (append-nil before), refl)
 parts_divide before (p ∷ ps) behind fit =
     let after = up_to before p in
-    let heads : Heads before ((p.blanks ++ (p.own ++ text_of ps)) ++ behind) (located before p) after (text_of ps ++ behind) =
-    subst (λ l. Heads before l (located before p) after (text_of ps ++ behind)) (sym (regrouped p.blanks p.own (text_of ps) behind)) (part_heads before p (text_of ps ++ behind) fit.0) in
-    (after, text_of ps ++ behind, heads, fit.0.goes_on, subst (λ l. Divides after (text_of ps ++ behind) (tokens_of after ps) l behind) (up_to_all before p (text_of ps)) (parts_divide after ps behind fit.1))
+    let heads : Heads before ((p.blanks ++ (p.own ++ parts_text ps)) ++ behind) (located_part before p) after (parts_text ps ++ behind) =
+    subst (λ l. Heads before l (located_part before p) after (parts_text ps ++ behind)) (sym (regrouped p.blanks p.own (parts_text ps) behind)) (part_heads before p (parts_text ps ++ behind) fit.0) in
+    (after, parts_text ps ++ behind, heads, fit.0.goes_on, subst (λ l. Divides after (parts_text ps ++ behind) (tokens_of after ps) l behind) (up_to_all before p (parts_text ps)) (parts_divide after ps behind fit.1))
 
 end_heads : (before blanks : List ℕ) → AreBlank blanks → Heads before blanks (record { item = t.EndOfFile; span = end_of (before ++ blanks) }) (before ++ blanks) []
 end_heads before blanks h = record {
@@ -132,12 +132,12 @@ end_heads before blanks h = record {
 pub parts_are_tokens : PartsAreTokens
 parts_are_tokens ps blanks h fit = record {
   front = tokens_of [] ps;
-  last = record { item = t.EndOfFile; span = end_of (text_of ps ++ blanks) };
+  last = record { item = t.EndOfFile; span = end_of (parts_text ps ++ blanks) };
   is = refl;
-  before = text_of ps;
+  before = parts_text ps;
   rest = blanks;
   divides = parts_divide [] ps blanks fit;
-  heads = end_heads (text_of ps) blanks h;
+  heads = end_heads (parts_text ps) blanks h;
   end = refl;
 }
 

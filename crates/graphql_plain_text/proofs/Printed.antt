@@ -7,7 +7,7 @@ use Rattle.std.proofs.lemmas.Str.Ascii.{IsAscii-cons, IsAscii-nil}
 use Rattle.graphql_text.specs.declared.token.Token.{Token}
 use Rattle.graphql_text.specs.Tokens.{is_end}
 use Rattle.graphql_text.specs.Grammar.{Spells, Ends}
-use Rattle.graphql_plain_text.specs.Parts.{Part, AreBlank, IsClosed, text_of, Fits, AllFit, up_to, located, tokens_of}
+use Rattle.graphql_plain_text.specs.Parts.{TextPart, AreBlank, IsClosed, parts_text, IsTokenBefore, AllFit, up_to, located_part, tokens_of}
 use Rattle.graphql_plain_text.proofs.Parts.{up_to_all}
 
 -- ---- characters and their bytes
@@ -32,21 +32,21 @@ written_chars cs bs w = sym (chars_from_encodes cs bs w.utf8 w.is)
 
 -- ---- parts behind parts
 
-pub text_append : (ps qs : List Part) → text_of (ps ++ qs) ≡ text_of ps ++ text_of qs
+pub text_append : (ps qs : List TextPart) → parts_text (ps ++ qs) ≡ parts_text ps ++ parts_text qs
 text_append [] qs = refl
 text_append (p ∷ ps) qs =
-    ap (λ l. p.blanks ++ (p.own ++ l)) (text_append ps qs) ∙ ap (λ l. p.blanks ++ l) (sym (append_assoc p.own (text_of ps) (text_of qs))) ∙ sym (append_assoc p.blanks (p.own ++ text_of ps) (text_of qs))
+    ap (λ l. p.blanks ++ (p.own ++ l)) (text_append ps qs) ∙ ap (λ l. p.blanks ++ l) (sym (append_assoc p.own (parts_text ps) (parts_text qs))) ∙ sym (append_assoc p.blanks (p.own ++ parts_text ps) (parts_text qs))
 
-pub fit_append : (ps qs : List Part) (behind : List ℕ) → AllFit ps (text_of qs ++ behind) → AllFit qs behind → AllFit (ps ++ qs) behind
+pub fit_append : (ps qs : List TextPart) (behind : List ℕ) → AllFit ps (parts_text qs ++ behind) → AllFit qs behind → AllFit (ps ++ qs) behind
 fit_append [] qs behind front back = back
 fit_append (p ∷ ps) qs behind front back =
-    let moved : text_of ps ++ (text_of qs ++ behind) ≡ text_of (ps ++ qs) ++ behind = sym (append_assoc (text_of ps) (text_of qs) behind) ∙ ap (λ l. l ++ behind) (sym (text_append ps qs)) in
-    (subst (λ l. Fits p l) moved front.0, fit_append ps qs behind front.1 back)
+    let moved : parts_text ps ++ (parts_text qs ++ behind) ≡ parts_text (ps ++ qs) ++ behind = sym (append_assoc (parts_text ps) (parts_text qs) behind) ∙ ap (λ l. l ++ behind) (sym (text_append ps qs)) in
+    (subst (λ l. IsTokenBefore p l) moved front.0, fit_append ps qs behind front.1 back)
 
-pub tokens_append : (before : List ℕ) (ps qs : List Part) → tokens_of before (ps ++ qs) ≡ tokens_of before ps ++ tokens_of (before ++ text_of ps) qs
+pub tokens_append : (before : List ℕ) (ps qs : List TextPart) → tokens_of before (ps ++ qs) ≡ tokens_of before ps ++ tokens_of (before ++ parts_text ps) qs
 tokens_append before [] qs = ap (λ l. tokens_of l qs) (sym (append-nil before))
 tokens_append before (p ∷ ps) qs =
-    ap (λ l. located before p ∷ l) (tokens_append (up_to before p) ps qs ∙ ap (λ l. tokens_of (up_to before p) ps ++ tokens_of l qs) (up_to_all before p (text_of ps)))
+    ap (λ l. located_part before p ∷ l) (tokens_append (up_to before p) ps qs ∙ ap (λ l. tokens_of (up_to before p) ps ++ tokens_of l qs) (up_to_all before p (parts_text ps)))
 
 -- ---- printed texts
 
@@ -71,23 +71,23 @@ pub record IsWord (token : Token) (own bytes : List ℕ) : Type 0 where
   pub writes : Writes own bytes
 
 pub record Printed (text : List ℕ) : Type 0 where
-  pub parts : List Part
-  pub writes : Writes (text_of parts) text
+  pub parts : List TextPart
+  pub writes : Writes (parts_text parts) text
   -- in front of what is closed the parts are their tokens
   pub fits : (behind : List ℕ) → IsClosed behind → AllFit parts behind
 
 abbrev pub printed_as : {a b : List ℕ} → a ≡ b → Printed a → Printed b
-printed_as {a} {b} same p = record { parts = p.parts; writes = writes_as (text_of p.parts) a b same p.writes; fits = p.fits }
+printed_as {a} {b} same p = record { parts = p.parts; writes = writes_as (parts_text p.parts) a b same p.writes; fits = p.fits }
 
 abbrev pub printed_nil : Printed []
 printed_nil = record { parts = []; writes = writes_ascii [] IsAscii-nil; fits = λ behind closed. tt }
 
 -- a word in front of what is printed
 abbrev pub printed_cons : (lead : List ℕ) (token : Token) (own bytes : List ℕ) {text : List ℕ} → IsLead lead → IsWord token own bytes → (rest : Printed text)
-    → ((behind : List ℕ) → IsClosed behind → Ends token own (text_of rest.parts ++ behind)) → Printed (lead ++ (bytes ++ text))
+    → ((behind : List ℕ) → IsClosed behind → Ends token own (parts_text rest.parts ++ behind)) → Printed (lead ++ (bytes ++ text))
 printed_cons lead token own bytes {text} l w rest ends = record {
   parts = record { blanks = lead; token = token; own = own } ∷ rest.parts;
-  writes = writes_append lead (own ++ text_of rest.parts) lead (bytes ++ text) (writes_ascii lead l.ascii) (writes_append own (text_of rest.parts) bytes text w.writes rest.writes);
+  writes = writes_append lead (own ++ parts_text rest.parts) lead (bytes ++ text) (writes_ascii lead l.ascii) (writes_append own (parts_text rest.parts) bytes text w.writes rest.writes);
   fits = λ behind closed. (record { blank = l.blank; spells = w.spells; ends = ends behind closed; goes_on = w.goes_on }, rest.fits behind closed);
 }
 
@@ -96,9 +96,9 @@ abbrev pub Closes : List ℕ → Type 0
 Closes front = (behind : List ℕ) → IsClosed behind → IsClosed (front ++ behind)
 
 -- what is printed behind what is printed
-abbrev pub printed_append : {a b : List ℕ} (p : Printed a) (q : Printed b) → Closes (text_of q.parts) → Printed (a ++ b)
+abbrev pub printed_append : {a b : List ℕ} (p : Printed a) (q : Printed b) → Closes (parts_text q.parts) → Printed (a ++ b)
 printed_append {a} {b} p q closes = record {
   parts = p.parts ++ q.parts;
-  writes = subst (λ l. Writes l (a ++ b)) (sym (text_append p.parts q.parts)) (writes_append (text_of p.parts) (text_of q.parts) a b p.writes q.writes);
-  fits = λ behind closed. fit_append p.parts q.parts behind (p.fits (text_of q.parts ++ behind) (closes behind closed)) (q.fits behind closed);
+  writes = subst (λ l. Writes l (a ++ b)) (sym (text_append p.parts q.parts)) (writes_append (parts_text p.parts) (parts_text q.parts) a b p.writes q.writes);
+  fits = λ behind closed. fit_append p.parts q.parts behind (p.fits (parts_text q.parts ++ behind) (closes behind closed)) (q.fits behind closed);
 }

@@ -18,12 +18,12 @@ use Rattle.graphql_grammar.specs.Relations.{end_of}
 use Rattle.graphql_grammar.specs.Cursor.{IsStart, IsLexical}
 use Rattle.graphql_grammar.specs.Faults.{Reading, Begins, FirstFaultyToken}
 use Rattle.graphql_grammar.proofs.FirstFaults.{one_tree}
-use Rattle.graphql_language.specs.Literals.{Values, NextValue}
+use Rattle.graphql_language.specs.Literals.{LiteralOf, NextValue}
 use Rattle.graphql_language.specs.Parser.{State, Rule, Fails, CallsFresh, Calls, RefusesAgain}
 use Rattle.graphql_language.specs.Texts.{IsCut}
 use Rattle.graphql_value_syntax.specs.ReadValues.{value}
 use Rattle.graphql_value_syntax.proofs.ValueLaws.{law_value}
-use Rattle.graphql_plain_text.specs.Parts.{tokens_of, end_of as place_of_end, text_of}
+use Rattle.graphql_plain_text.specs.Parts.{tokens_of, end_of as place_of_end, parts_text}
 use Rattle.graphql_plain_text.specs.Writable.{Value, value_text, IsWritable}
 use Rattle.graphql_plain_text.specs.ReadBackLaws.{Of, ShownSpells, ShownIsFound, IsSpelledBy, GivesBack, ShownIsReadBack}
 use Rattle.graphql_plain_text.proofs.Parts.{parts_are_tokens}
@@ -87,12 +87,12 @@ shown_spells is_const v h =
     let w = written is_const v h [] no_lead in
     let parts = w.printed.parts in
     let tree = w.spells [] in
-    let cut : IsCut (text_of parts ++ []) (tokens_of [] parts) (place_of_end (text_of parts ++ [])) = parts_are_tokens parts [] tt (w.printed.fits [] tt) in
-    let text : text_of parts ++ [] ≡ chars (value_text v) = append-nil (text_of parts) ∙ sym (written_chars (text_of parts) (value_text v) w.printed.writes) in
+    let cut : IsCut (parts_text parts ++ []) (tokens_of [] parts) (place_of_end (parts_text parts ++ [])) = parts_are_tokens parts [] tt (w.printed.fits [] tt) in
+    let text : parts_text parts ++ [] ≡ chars (value_text v) = append-nil (parts_text parts) ∙ sym (written_chars (parts_text parts) (value_text v) w.printed.writes) in
     record {
       tokens = tokens_of [] parts;
-      finish = place_of_end (text_of parts ++ []);
-      cut = subst (λ t. IsCut t (tokens_of [] parts) (place_of_end (text_of parts ++ []))) text cut;
+      finish = place_of_end (parts_text parts ++ []);
+      cut = subst (λ t. IsCut t (tokens_of [] parts) (place_of_end (parts_text parts ++ []))) text cut;
       tree = tree.0;
       spells = tree.1;
       same = tree.2;
@@ -112,7 +112,7 @@ shown_is_found is_const v h i start (Ok (x, j)) (spelled, only) =
 shown_is_found is_const v h i start (Err e) fault =
     let s = shown_spells is_const v h in
     let ahead = start_tokens (chars (value_text v)) s.tokens s.finish i s.cut start in
-    no_fault reads (Values scalar.Boolean is_const) i s.tree e (subst (λ ts. Of is_const ts s.tree) (sym ahead) s.spells) fault
+    no_fault reads (LiteralOf scalar.Boolean is_const) i s.tree e (subst (λ ts. Of is_const ts s.tree) (sym ahead) s.spells) fault
 
 given_back : (is_const : Bool) (v : Value) → IsWritable is_const v → (i : Input) (new : State) (r : Result (At Value) Fault) → IsStart (chars (value_text v)) i → CallsFresh (NextValue DefaultScalarValue reads scalar.Boolean is_const) i r new → GivesBack is_const v r new
 given_back is_const v h i new (Ok x) start gives = shown_is_found is_const v h i start (Ok (x, new.input)) gives.0

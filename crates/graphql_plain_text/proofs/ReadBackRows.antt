@@ -11,7 +11,7 @@ use Rattle.graphql_scalars.specs.declared.default_scalar.DefaultScalarValue.{Def
 use Rattle.graphql_scalars.specs.declared.default_scalar.DefaultScalarValue.TheVariants as scalar
 use Rattle.graphql_scalars.specs.DefaultScalar.{reads}
 use Rattle.graphql_names.specs.declared.type_modifier.TypeModifier.TheVariants as m
-use Rattle.graphql_names.specs.TypeReference.{written}
+use Rattle.graphql_names.specs.TypeReference.{written_type}
 use Rattle.graphql_values.specs.declared.input_value.InputValue.{InputValue}
 use Rattle.graphql_values.specs.declared.input_value.InputValue.TheVariants as v
 use Rattle.graphql_values.specs.InputValues.{Placed, unlocated, unlocated_layer, unplaced, unplaced_pair}
@@ -19,15 +19,15 @@ use Rattle.graphql_values.specs.SameValue.{SameValue}
 use Rattle.graphql_values.proofs.InputValueEquations.{fold_scalar, unlocated_list}
 use Rattle.graphql_grammar.specs.Input.{At, Input, Outcome}
 use Rattle.graphql_grammar.specs.Cursor.{IsStart}
-use Rattle.graphql_grammar.specs.Faults.{Found, Sought}
+use Rattle.graphql_grammar.specs.Faults.{SoughtAlone, Sought}
 use Rattle.graphql_grammar.proofs.Cursors.{starts}
-use Rattle.graphql_language.specs.Literals.{Types, Values, NextType, NextValue}
+use Rattle.graphql_language.specs.Literals.{Types, LiteralOf, NextType, NextValue}
 use Rattle.graphql_language.proofs.LiteralLaws.{type_or_refused, value_or_refused}
 use Rattle.graphql_language.specs.Texts.{IsCut}
 use Rattle.graphql_value_syntax.specs.ReadTypes.{TypeRef}
 use Rattle.graphql_value_syntax.specs.Types.{no_scalar}
-use Rattle.graphql_plain_text.specs.ReadBackLaws.{SpellsType, SpellsValue, IsFound, IsTypeFound, GivesBack, GivesTypeBack}
-use Rattle.graphql_plain_text.specs.Parts.{Part, AllFit, tokens_of, end_of}
+use Rattle.graphql_plain_text.specs.ReadBackLaws.{SpellsType, SpellsValue, IsReadBack, IsTypeFound, GivesBack, GivesTypeBack}
+use Rattle.graphql_plain_text.specs.Parts.{TextPart, AllFit, tokens_of, end_of}
 use Rattle.graphql_plain_text.specs.Writable.{Value, value_text, IsWritable}
 use Rattle.graphql_plain_text.specs.WritableTypes.{IsWritableType}
 use Rattle.graphql_plain_text.proofs.Parts.{closed_tokens_end, parts_are_tokens}
@@ -41,10 +41,10 @@ use Rattle.graphql_plain_text.proofs.WritableLemmas.{name_decides, tests_by_form
 -- ---- parts
 
 -- ` id !`: the name ends at the blank behind it, the mark where it stands
-abbrev name_part : Part
+abbrev name_part : TextPart
 name_part = record { blanks = codes " "; token = t.Name (codes "id"); own = codes "id" }
 
-abbrev mark_part : Part
+abbrev mark_part : TextPart
 mark_part = record { blanks = codes " "; token = t.ExclamationMark; own = codes "!" }
 
 -- `id` is a name, which ends where a blank and a mark follow
@@ -114,8 +114,8 @@ Next i x j = NextValue DefaultScalarValue reads scalar.Boolean false i (Ok x) j
 
 -- whatever is found there is the value, with nothing left behind it
 pub whatever_is_found :
-    (found : Outcome (At Value)) → Found reads (Values scalar.Boolean false) value_start found
-    → IsFound false some_value found
+    (found : Outcome (At Value)) → SoughtAlone reads (LiteralOf scalar.Boolean false) value_start found
+    → IsReadBack false some_value found
 whatever_is_found = shown_is_found false some_value it_is_writable value_start value_starts
 
 -- and a value is found there
@@ -155,7 +155,7 @@ pub it_is_a_writable_type : IsWritableType some_type
 it_is_a_writable_type = record { name = (name_decides (codes "Int")).0 refl; wraps = tt }
 
 -- the characters of what it is displayed as
-pub type_characters : chars (written some_type.name some_type.modifiers) ≡ codes "[Int!]"
+pub type_characters : chars (written_type some_type.name some_type.modifiers) ≡ codes "[Int!]"
 unfolding chars
 type_characters = refl
 
@@ -169,7 +169,7 @@ abbrev type_start : Input
 type_start = record { ahead = type_is_spelled.tokens; finish = type_is_spelled.finish; end = origin }
 
 -- the tokens of its text are ahead there
-pub type_starts : IsStart (chars (written some_type.name some_type.modifiers)) type_start
+pub type_starts : IsStart (chars (written_type some_type.name some_type.modifiers)) type_start
 type_starts =
     subst (λ text. IsStart text type_start) (sym type_characters)
     (starts (codes "[Int!]") _ type_is_spelled.tokens

@@ -19,7 +19,7 @@ use Rattle.graphql_tree.specs.declared.selection.Selection.{Selection}
 use Rattle.graphql_tree.specs.declared.selection.Selection.TheVariants as s
 use Rattle.graphql_tree.specs.Unlocated.{without_place, unlocated_name, unlocated_arguments, unlocated_directives, unlocated_selection, unlocated_field, unlocated_inline}
 use Rattle.graphql_tree.proofs.UnlocatedEquations.{unlocated_selection_field, unlocated_selection_inline, unlocated_in_field, unlocated_in_inline}
-use Rattle.graphql_language.specs.ReadSelections.{Names}
+use Rattle.graphql_language.specs.ReadSelections.{AliasedName}
 use Rattle.graphql_language.specs.Selections.{Stands, SelectionOf, of_field, of_inline, FieldOf, of_parts, InlineOf, of_inline_parts, MaybeSetOf, no_set, some_set, SetOf, of_set, SelectionsOf, one_selection, more_selections}
 use Rattle.graphql_written_out.specs.Trees.{Directives, Head, Tree, none, field, inline, is_empty}
 use Rattle.graphql_plain_tree.specs.PlainDocuments.{list_unless, alias_if, arguments_as, directives_as, selections_of}
@@ -175,8 +175,8 @@ module _ {S : Type 0} (reads : ScalarToken → Result S ParseError) (of_bool : B
       let whole = joined_four us o.front o.back q.front q.back r.front r.back o.is q.is r.is in
       let spells = of_parts o.front q.front r.front r.back x n.1 g.1 m.1 p.1 in
       let same =
-      same_field x (field_as head ds set) (ap (λ (z : Names). z.0) n.2)
-      (ap (λ (z : Names). z.1) n.2) g.2 m.2 p.2 in (
+      same_field x (field_as head ds set) (ap (λ (z : AliasedName). z.0) n.2)
+      (ap (λ (z : AliasedName). z.1) n.2) g.2 m.2 p.2 in (
         s.Field at,
         of_field us at stands (field_spelled us o.front q.front r.front r.back x whole spells),
         field_again at (field_as head ds set) same,

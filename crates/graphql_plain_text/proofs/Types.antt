@@ -10,7 +10,7 @@ use Rattle.graphql_text.specs.Tokens.{Located}
 use Rattle.graphql_text.specs.Grammar.{IsName, Ends}
 use Rattle.graphql_names.specs.declared.type_modifier.TypeModifier.{TypeModifier}
 use Rattle.graphql_names.specs.declared.type_modifier.TypeModifier.TheVariants as m
-use Rattle.graphql_names.specs.TypeReference.{written}
+use Rattle.graphql_names.specs.TypeReference.{written_type}
 use Rattle.graphql_grammar.specs.Input.{At, Input, Fault}
 use Rattle.graphql_grammar.specs.Ahead.{mk}
 use Rattle.graphql_grammar.specs.Cursor.{IsStart}
@@ -23,7 +23,7 @@ use Rattle.graphql_language.specs.Texts.{IsCut}
 use Rattle.graphql_value_syntax.specs.ReadTypes.{TypeRef, type_ref}
 use Rattle.graphql_value_syntax.specs.Types.{NullableOf, of_name, of_list, TypeOf, of_nullable, of_non_null, no_scalar}
 use Rattle.graphql_value_syntax.proofs.TypeLaws.{law_type}
-use Rattle.graphql_plain_text.specs.Parts.{Part, IsClosed, text_of, located, up_to, tokens_of, end_of as place_of_end}
+use Rattle.graphql_plain_text.specs.Parts.{TextPart, IsClosed, parts_text, located_part, up_to, tokens_of, end_of as place_of_end}
 use Rattle.graphql_plain_text.specs.WritableTypes.{CanWrap, IsWritableType}
 use Rattle.graphql_plain_text.specs.ReadBackLaws.{WrittenSpells, WrittenIsFound, GivesTypeBack, WrittenIsReadBack}
 use Rattle.graphql_plain_text.proofs.Parts.{parts_are_tokens, closed_tokens_end}
@@ -52,7 +52,7 @@ as_type false a ts x d = (span_of a ts, of_nullable a ts x d)
 plain_type : (n : List ℕ) → IsName n → Wrapped false n [] n
 plain_type n h = record {
   printed = printed_as (append-nil n) (printed_cons [] (t.Name n) n n no_lead (name_word n h) printed_nil (λ behind closed. closed_tokens_end (t.Name n) n behind refl closed));
-  spells = λ before. let a = located before (record { blanks = []; token = t.Name n; own = n }) in (a, [], refl, of_name a n refl);
+  spells = λ before. let a = located_part before (record { blanks = []; token = t.Name n; own = n }) in (a, [], refl, of_name a n refl);
 }
 
 -- a mark that closes, on its own
@@ -66,7 +66,7 @@ non_null_type n ms text w =
       printed = printed_append w.printed mark (λ behind closed. refl);
       spells = λ before.
           let inner = w.spells before in
-          let b = located (before ++ text_of w.printed.parts) (record { blanks = []; token = t.ExclamationMark; own = 33 ∷ [] }) in (
+          let b = located_part (before ++ parts_text w.printed.parts) (record { blanks = []; token = t.ExclamationMark; own = 33 ∷ [] }) in (
             inner.0,
             inner.1 ++ b ∷ [],
             tokens_append before w.printed.parts mark.parts ∙ ap (λ ts. ts ++ b ∷ []) inner.2,
@@ -81,11 +81,11 @@ list_type is_non_null n ms text w =
     record {
       printed = printed_cons [] t.BracketOpen (91 ∷ []) (91 ∷ []) no_lead bracket_open inside (λ behind closed. tt);
       spells = λ before.
-          let opening : Part = record { blanks = []; token = t.BracketOpen; own = 91 ∷ [] } in
+          let opening : TextPart = record { blanks = []; token = t.BracketOpen; own = 91 ∷ [] } in
           let first = up_to before opening in
-          let a = located before opening in
+          let a = located_part before opening in
           let inner = w.spells first in
-          let b = located (first ++ text_of w.printed.parts) (record { blanks = []; token = t.BracketClose; own = 93 ∷ [] }) in
+          let b = located_part (first ++ parts_text w.printed.parts) (record { blanks = []; token = t.BracketClose; own = 93 ∷ [] }) in
           let within = as_type is_non_null inner.0 inner.1 (wrapped_in n ms) inner.3 in (
             a,
             (inner.0 ∷ inner.1) ++ b ∷ [],
@@ -96,15 +96,15 @@ list_type is_non_null n ms text w =
 
 -- from the innermost wrap on
 all_wraps : (is_non_null : Bool) (n : List ℕ) (inner ms : List TypeModifier) (text : List ℕ) → CanWrap is_non_null ms → Wrapped is_non_null n inner text
-    → (b : Bool) × Wrapped b n (inner ++ ms) (written text ms)
+    → (b : Bool) × Wrapped b n (inner ++ ms) (written_type text ms)
 all_wraps is_non_null n inner [] text h w = (is_non_null, subst (λ ms. Wrapped is_non_null n ms text) (sym (append-nil inner)) w)
 all_wraps true n inner (m.NonNull ∷ ms) text h w = elim h [ ]
 all_wraps false n inner (m.NonNull ∷ ms) text h w =
     let r = all_wraps true n (inner ++ m.NonNull ∷ []) ms (text ++ 33 ∷ []) h (non_null_type n inner text w) in
-    (r.0, subst (λ all. Wrapped r.0 n all (written (text ++ 33 ∷ []) ms)) (append_assoc inner (m.NonNull ∷ []) ms) r.1)
+    (r.0, subst (λ all. Wrapped r.0 n all (written_type (text ++ 33 ∷ []) ms)) (append_assoc inner (m.NonNull ∷ []) ms) r.1)
 all_wraps is_non_null n inner (m.List None ∷ ms) text h w =
     let r = all_wraps false n (inner ++ m.List None ∷ []) ms (91 ∷ (text ++ 93 ∷ [])) h (list_type is_non_null n inner text w) in
-    (r.0, subst (λ all. Wrapped r.0 n all (written (91 ∷ (text ++ 93 ∷ [])) ms)) (append_assoc inner (m.List None ∷ []) ms) r.1)
+    (r.0, subst (λ all. Wrapped r.0 n all (written_type (91 ∷ (text ++ 93 ∷ [])) ms)) (append_assoc inner (m.List None ∷ []) ms) r.1)
 all_wraps is_non_null n inner (m.List (Some size) ∷ ms) text h w = elim h [ ]
 
 pub written_spells : WrittenSpells
@@ -114,13 +114,13 @@ written_spells x h =
     let parts = w.printed.parts in
     let found = w.spells [] in
     let tree = as_type r.0 found.0 found.1 x found.3 in
-    let cut : IsCut (text_of parts ++ []) (tokens_of [] parts) (place_of_end (text_of parts ++ [])) = parts_are_tokens parts [] tt (w.printed.fits [] tt) in
-    let text : text_of parts ++ [] ≡ chars (written x.name x.modifiers) = append-nil (text_of parts) ∙ sym (written_chars (text_of parts) (written x.name x.modifiers) w.printed.writes) in
+    let cut : IsCut (parts_text parts ++ []) (tokens_of [] parts) (place_of_end (parts_text parts ++ [])) = parts_are_tokens parts [] tt (w.printed.fits [] tt) in
+    let text : parts_text parts ++ [] ≡ chars (written_type x.name x.modifiers) = append-nil (parts_text parts) ∙ sym (written_chars (parts_text parts) (written_type x.name x.modifiers) w.printed.writes) in
     let spells : TypeOf (tokens_of [] parts) (record { item = x; span = tree.0 }) = subst (λ ts. TypeOf ts (record { item = x; span = tree.0 })) (sym found.2) tree.1 in
     record {
       tokens = tokens_of [] parts;
-      finish = place_of_end (text_of parts ++ []);
-      cut = subst (λ t. IsCut t (tokens_of [] parts) (place_of_end (text_of parts ++ []))) text cut;
+      finish = place_of_end (parts_text parts ++ []);
+      cut = subst (λ t. IsCut t (tokens_of [] parts) (place_of_end (parts_text parts ++ []))) text cut;
       span = tree.0;
       spells = spells;
       only = λ other d. ap (λ (y : At TypeRef). y.item)
@@ -130,7 +130,7 @@ written_spells x h =
 pub written_is_found : WrittenIsFound
 written_is_found x h i start (Ok (y, j)) (spelled, longest) =
     let s = written_spells x h in
-    let ahead = start_tokens (chars (written x.name x.modifiers)) s.tokens s.finish i s.cut start in
+    let ahead = start_tokens (chars (written_type x.name x.modifiers)) s.tokens s.finish i s.cut start in
     let tree : At TypeRef = record { item = x; span = s.span } in
     let whole : Spelled no_scalar TypeOf i tree (mk [] i.finish (end_of i.end i.ahead)) =
     record { tokens = i.ahead; front = sym (append-nil i.ahead); spells = subst (λ ts. TypeOf ts tree) (sym ahead) s.spells; after = refl } in
@@ -139,11 +139,11 @@ written_is_found x h i start (Ok (y, j)) (spelled, longest) =
     (ap (λ (z : At TypeRef). z.item) (sym (longest.same tree (mk [] i.finish (end_of i.end i.ahead)) whole (omega arith))), none)
 written_is_found x h i start (Err e) fault =
     let s = written_spells x h in
-    let ahead = start_tokens (chars (written x.name x.modifiers)) s.tokens s.finish i s.cut start in
+    let ahead = start_tokens (chars (written_type x.name x.modifiers)) s.tokens s.finish i s.cut start in
     let tree : At TypeRef = record { item = x; span = s.span } in
     no_fault no_scalar Types i tree e (subst (λ ts. TypeOf ts tree) (sym ahead) s.spells) fault
 
-given_back : (x : TypeRef) → IsWritableType x → (i : Input) (new : State) (r : Result (At TypeRef) Fault) → IsStart (chars (written x.name x.modifiers)) i → CallsFresh NextType i r new → GivesTypeBack x r new
+given_back : (x : TypeRef) → IsWritableType x → (i : Input) (new : State) (r : Result (At TypeRef) Fault) → IsStart (chars (written_type x.name x.modifiers)) i → CallsFresh NextType i r new → GivesTypeBack x r new
 given_back x h i new (Ok y) start gives = written_is_found x h i start (Ok (y, new.input)) gives.0
 given_back x h i new (Err f) start fails = fails_by_memory NextType i f new (λ e missing. written_is_found x h i start (Err e) missing.0) fails
 

@@ -22,7 +22,7 @@ use Rattle.graphql_grammar.specs.Input.{At}
 use Rattle.graphql_value_syntax.specs.Values.{Is, spanned, ValueOf, of_true, of_false, of_null, of_enum, of_scalar, of_variable, of_list, of_object, ItemsOf, FieldsOf}
 use Rattle.graphql_value_syntax.specs.Values as grammar
 use Rattle.graphql_scalars.proofs.IntLemmas.{integer_reads}
-use Rattle.graphql_plain_text.specs.Parts.{Part, IsClosed, text_of, located, up_to, tokens_of}
+use Rattle.graphql_plain_text.specs.Parts.{TextPart, IsClosed, parts_text, located_part, up_to, tokens_of}
 use Rattle.std.specs.List.{join_by}
 use Rattle.graphql_plain_text.specs.Writable.{Value, value_text, IsPlain, IsEnum, IsWritable, null, integer, string, boolean, enum, variable, list, object, AreWritable, no_items, more_items, FieldsAreWritable, no_fields, more_fields}
 use Rattle.graphql_plain_text.proofs.ValueTextEquations.{followed, item_texts, field_texts, value_text-null, value_text-scalar, value_text-enum, value_text-variable, value_text-list, value_text-object}
@@ -87,14 +87,14 @@ comma_parts rest = refl
 closes_by : (lead more front : List ℕ) → front ≡ lead ++ more → Parts lead → Closes front
 closes_by lead more front is parts behind closed = subst (λ z. IsClosed (z ++ behind)) (sym is) (subst (λ z. IsClosed z) (sym (append_assoc lead more behind)) (parts (more ++ behind)))
 
-closes_append : (ps qs : List Part) → Closes (text_of ps) → Closes (text_of qs) → Closes (text_of (ps ++ qs))
+closes_append : (ps qs : List TextPart) → Closes (parts_text ps) → Closes (parts_text qs) → Closes (parts_text (ps ++ qs))
 closes_append ps qs first second behind closed =
-    subst (λ z. IsClosed (z ++ behind)) (sym (text_append ps qs)) (subst (λ z. IsClosed z) (sym (append_assoc (text_of ps) (text_of qs) behind)) (first (text_of qs ++ behind) (second behind closed)))
+    subst (λ z. IsClosed (z ++ behind)) (sym (text_append ps qs)) (subst (λ z. IsClosed z) (sym (append_assoc (parts_text ps) (parts_text qs) behind)) (first (parts_text qs ++ behind) (second behind closed)))
 
 -- what is spelled by any number of parts, the first behind what stands in front, the others behind a comma
 pub record Many {A B : Type 0} (R : List Located → A → Type 0) (view : A → B) (goal : B) (lead : List ℕ) (texts : List (List ℕ)) : Type 0 where
   pub printed : Printed (led lead texts)
-  pub closes : Parts lead → Closes (text_of printed.parts)
+  pub closes : Parts lead → Closes (parts_text printed.parts)
   pub spells : (before : List ℕ) → (x : A) × R (tokens_of before printed.parts) x × (view x ≡ goal)
 
 -- ---- values
@@ -111,7 +111,7 @@ module _ (is_const : Bool) where
   pub record Written (value : Value) (lead : List ℕ) : Type 0 where
     pub printed : Printed (lead ++ value_text value)
     pub more : List ℕ
-    pub begins : text_of printed.parts ≡ lead ++ more
+    pub begins : parts_text printed.parts ≡ lead ++ more
     pub spells : (before : List ℕ) → (x : At Value) × Of (tokens_of before printed.parts) x × (bare x ≡ unlocated value)
 
   -- a value that one token spells
@@ -121,7 +121,7 @@ module _ (is_const : Bool) where
     printed = printed_as (ap (λ z. lead ++ z) (append-nil bytes ∙ sym is)) (printed_cons lead token own bytes l w printed_nil (λ behind closed. closed_tokens_end token own behind w.goes_on closed));
     more = own ++ [];
     begins = refl;
-    spells = λ before. let a = located before (record { blanks = lead; token = token; own = own }) in (spanned a value a, of_token a refl, refl);
+    spells = λ before. let a = located_part before (record { blanks = lead; token = token; own = own }) in (spanned a value a, of_token a refl, refl);
   }
 
   -- a value of a name
@@ -163,9 +163,9 @@ module _ (is_const : Bool) where
     more = 36 ∷ (name ++ []);
     begins = refl;
     spells = λ before.
-        let p : Part = record { blanks = lead; token = t.Dollar; own = 36 ∷ [] } in
-        let a = located before p in
-        let b = located (up_to before p) (record { blanks = []; token = t.Name name; own = name }) in
+        let p : TextPart = record { blanks = lead; token = t.Dollar; own = 36 ∷ [] } in
+        let a = located_part before p in
+        let b = located_part (up_to before p) (record { blanks = []; token = t.Name name; own = name }) in
         (spanned a (v.Variable name) b, of_variable a b name may refl refl, refl);
   }
 
@@ -209,13 +209,13 @@ module _ (is_const : Bool) where
   item_first : (x : Placed Value) (xs : List (Placed Value)) (lead : List ℕ) → Written x.item lead → ManyItems (codes ", ") xs → ManyItems lead (x ∷ xs)
   item_first x xs lead w m = record {
     printed = printed_as (more_led lead (value_text x.item) (item_texts xs)) (printed_append w.printed m.printed (m.closes comma_parts));
-    closes = λ parts. closes_append w.printed.parts m.printed.parts (closes_by lead w.more (text_of w.printed.parts) w.begins parts) (m.closes comma_parts);
+    closes = λ parts. closes_append w.printed.parts m.printed.parts (closes_by lead w.more (parts_text w.printed.parts) w.begins parts) (m.closes comma_parts);
     spells = λ before.
         let one = w.spells before in
-        let others = m.spells (before ++ text_of w.printed.parts) in (
+        let others = m.spells (before ++ parts_text w.printed.parts) in (
           one.0 ∷ others.0,
           subst (λ ts. Items ts (one.0 ∷ others.0)) (sym (tokens_append before w.printed.parts m.printed.parts))
-              (items_append (tokens_of before w.printed.parts) (tokens_of (before ++ text_of w.printed.parts) m.printed.parts) (one.0 ∷ []) others.0
+              (items_append (tokens_of before w.printed.parts) (tokens_of (before ++ parts_text w.printed.parts) m.printed.parts) (one.0 ∷ []) others.0
               (grammar.more_items [] (tokens_of before w.printed.parts) [] one.0 grammar.no_items one.1) others.1),
           ap (λ y. unplaced y ∷ bare_items others.0) one.2 ∙ ap (λ ys. unplaced (unlocated x.item) ∷ ys) others.2,
         );
@@ -234,19 +234,19 @@ module _ (is_const : Bool) where
       let field = field_printed lead p.0.item p.1.item l h w in
       record {
         printed = printed_as (more_led lead (p.0.item ++ codes ": " ++ value_text p.1.item) (field_texts ps)) (printed_append field m.printed (m.closes comma_parts));
-        closes = λ parts. closes_append field.parts m.printed.parts (closes_by lead (p.0.item ++ (58 ∷ text_of w.printed.parts)) (text_of field.parts) refl parts) (m.closes comma_parts);
+        closes = λ parts. closes_append field.parts m.printed.parts (closes_by lead (p.0.item ++ (58 ∷ parts_text w.printed.parts)) (parts_text field.parts) refl parts) (m.closes comma_parts);
         spells = λ before.
-            let key : Part = record { blanks = lead; token = t.Name p.0.item; own = p.0.item } in
-            let mark : Part = record { blanks = []; token = t.Colon; own = 58 ∷ [] } in
-            let a = located before key in
-            let b = located (up_to before key) mark in
+            let key : TextPart = record { blanks = lead; token = t.Name p.0.item; own = p.0.item } in
+            let mark : TextPart = record { blanks = []; token = t.Colon; own = 58 ∷ [] } in
+            let a = located_part before key in
+            let b = located_part (up_to before key) mark in
             let behind = up_to (up_to before key) mark in
             let one = w.spells behind in
-            let others = m.spells (before ++ text_of field.parts) in
+            let others = m.spells (before ++ parts_text field.parts) in
             let q : At (List ℕ) × At Value = (spanned a p.0.item a, one.0) in (
               q ∷ others.0,
               subst (λ ts. Fields ts (q ∷ others.0)) (sym (tokens_append before field.parts m.printed.parts))
-                  (fields_append (a ∷ b ∷ tokens_of behind w.printed.parts) (tokens_of (before ++ text_of field.parts) m.printed.parts) (q ∷ []) others.0
+                  (fields_append (a ∷ b ∷ tokens_of behind w.printed.parts) (tokens_of (before ++ parts_text field.parts) m.printed.parts) (q ∷ []) others.0
                   (grammar.more_fields [] (tokens_of behind w.printed.parts) [] a b p.0.item one.0 grammar.no_fields refl refl one.1) others.1),
               ap (λ y. unplaced_pair (p.0.item, y) ∷ bare_fields others.0) one.2 ∙ ap (λ ys. unplaced_pair (p.0.item, unlocated p.1.item) ∷ ys) others.2,
             );
@@ -261,14 +261,14 @@ module _ (is_const : Bool) where
       record {
         printed = printed_as (ap (λ z. lead ++ (91 ∷ (z ++ 93 ∷ []))) (led_joined (item_texts xs)) ∙ ap (λ z. lead ++ z) (sym (value_text-list xs)))
             (printed_cons lead t.BracketOpen (91 ∷ []) (91 ∷ []) l bracket_open inner (λ behind closed. tt));
-        more = 91 ∷ text_of inner.parts;
+        more = 91 ∷ parts_text inner.parts;
         begins = refl;
         spells = λ before.
-            let opening : Part = record { blanks = lead; token = t.BracketOpen; own = 91 ∷ [] } in
-            let a = located before opening in
+            let opening : TextPart = record { blanks = lead; token = t.BracketOpen; own = 91 ∷ [] } in
+            let a = located_part before opening in
             let first = up_to before opening in
             let found = m.spells first in
-            let b = located (first ++ text_of m.printed.parts) (record { blanks = []; token = t.BracketClose; own = 93 ∷ [] }) in (
+            let b = located_part (first ++ parts_text m.printed.parts) (record { blanks = []; token = t.BracketClose; own = 93 ∷ [] }) in (
               spanned a (v.List found.0) b,
               subst (λ ts. Of (a ∷ ts) (spanned a (v.List found.0) b)) (sym (tokens_append first m.printed.parts closing.parts)) (of_list a b (tokens_of first m.printed.parts) found.0 refl found.1 refl),
               unlocated_list found.0 ∙ ap v.List found.2 ∙ sym (unlocated_list xs),
@@ -282,14 +282,14 @@ module _ (is_const : Bool) where
       record {
         printed = printed_as (ap (λ z. lead ++ (123 ∷ (z ++ 125 ∷ []))) (led_joined (field_texts ps)) ∙ ap (λ z. lead ++ z) (sym (value_text-object ps)))
             (printed_cons lead t.CurlyOpen (123 ∷ []) (123 ∷ []) l curly_open inner (λ behind closed. tt));
-        more = 123 ∷ text_of inner.parts;
+        more = 123 ∷ parts_text inner.parts;
         begins = refl;
         spells = λ before.
-            let opening : Part = record { blanks = lead; token = t.CurlyOpen; own = 123 ∷ [] } in
-            let a = located before opening in
+            let opening : TextPart = record { blanks = lead; token = t.CurlyOpen; own = 123 ∷ [] } in
+            let a = located_part before opening in
             let first = up_to before opening in
             let found = m.spells first in
-            let b = located (first ++ text_of m.printed.parts) (record { blanks = []; token = t.CurlyClose; own = 125 ∷ [] }) in (
+            let b = located_part (first ++ parts_text m.printed.parts) (record { blanks = []; token = t.CurlyClose; own = 125 ∷ [] }) in (
               spanned a (v.Object found.0) b,
               subst (λ ts. Of (a ∷ ts) (spanned a (v.Object found.0) b)) (sym (tokens_append first m.printed.parts closing.parts)) (of_object a b (tokens_of first m.printed.parts) found.0 refl found.1 refl),
               unlocated_object found.0 ∙ ap v.Object found.2 ∙ sym (unlocated_object ps),

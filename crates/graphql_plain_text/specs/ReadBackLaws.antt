@@ -12,11 +12,11 @@ use Rattle.graphql_scalars.specs.DefaultScalar.{reads}
 use Rattle.graphql_values.specs.declared.input_value.InputValue.{InputValue}
 use Rattle.graphql_values.specs.InputValues.{unlocated}
 use Rattle.graphql_values.specs.SameValue.{SameValue}
-use Rattle.graphql_names.specs.TypeReference.{written}
+use Rattle.graphql_names.specs.TypeReference.{written_type}
 use Rattle.graphql_grammar.specs.Input.{At, Input, Fault, Outcome}
 use Rattle.graphql_grammar.specs.Cursor.{IsStart}
-use Rattle.graphql_grammar.specs.Faults.{Found, Sought}
-use Rattle.graphql_language.specs.Literals.{Values, Types, NextValue, NextType}
+use Rattle.graphql_grammar.specs.Faults.{SoughtAlone, Sought}
+use Rattle.graphql_language.specs.Literals.{LiteralOf, Types, NextValue, NextType}
 use Rattle.graphql_language.specs.Parser.{State, Calls}
 use Rattle.graphql_language.specs.Texts.{IsCut}
 use Rattle.graphql_value_syntax.specs.Values.{ValueOf}
@@ -24,15 +24,16 @@ use Rattle.graphql_value_syntax.specs.ReadTypes.{TypeRef}
 use Rattle.graphql_value_syntax.specs.Types.{TypeOf, no_scalar}
 use Rattle.graphql_plain_text.specs.Writable.{Value, value_text, IsWritable}
 use Rattle.graphql_plain_text.specs.WritableTypes.{IsWritableType}
-use Rattle.graphql_plain_text.specs.Parts.{Part, AreBlank, IsClosed, text_of, AllFit, tokens_of}
+use Rattle.graphql_plain_text.specs.Parts.{TextPart, AreBlank, IsClosed, parts_text, AllFit}
+use Rattle.graphql_plain_text.specs.Parts.{tokens_of}
 use Rattle.graphql_plain_text.specs.Parts.{end_of}
 
 -- ---- parts (2.1.6 Lexical Tokens)
 
 -- the tokens of a text in parts, with blanks behind them, are those of its parts
 abbrev pub PartsAreTokens : Type 0
-PartsAreTokens = (ps : List Part) (blanks : List ℕ) → AreBlank blanks → AllFit ps blanks
-    → IsCut (text_of ps ++ blanks) (tokens_of [] ps) (end_of (text_of ps ++ blanks))
+PartsAreTokens = (ps : List TextPart) (blanks : List ℕ) → AreBlank blanks → AllFit ps blanks
+    → IsCut (parts_text ps ++ blanks) (tokens_of [] ps) (end_of (parts_text ps ++ blanks))
 
 -- where what follows is closed each token ends
 abbrev pub ClosedTokensEnd : Type 0
@@ -68,18 +69,19 @@ ShownSpells = (is_const : Bool) (value : Value) → IsWritable is_const value
     → SpellsValue is_const (chars (value_text value)) value
 
 -- the value was found, places aside, as its text spells it, and nothing is left but the end
-abbrev pub IsFound : Bool → Value → Outcome (At Value) → Type 0
-IsFound is_const value (Ok p) = (unlocated p.0.item ≡ unlocated value)
+abbrev pub IsReadBack : Bool → Value → Outcome (At Value) → Type 0
+IsReadBack is_const value (Ok p) = (unlocated p.0.item ≡ unlocated value)
     × (p.1.ahead ≡ [])
     × IsSpelledBy is_const (chars (value_text value)) p.0
-IsFound is_const value (Err e) = ⊥
+IsReadBack is_const value (Err e) = ⊥
 
 -- whatever is found at the start of the text of a value is that value
 abbrev pub ShownIsFound : Type 0
 ShownIsFound =
     (is_const : Bool) (value : Value) → IsWritable is_const value → (i : Input)
     → IsStart (chars (value_text value)) i → (found : Outcome (At Value))
-    → Found reads (Values scalar.Boolean is_const) i found → IsFound is_const value found
+    → SoughtAlone reads (LiteralOf scalar.Boolean is_const) i found
+    → IsReadBack is_const value found
 
 -- a parser gives the value, places aside, as its text spells it, and stands at the end; else memory
 -- ran out
@@ -115,7 +117,8 @@ pub record SpellsType (text : List ℕ) (t : TypeRef) : Type 0 where
 
 -- what a type is displayed as spells it
 abbrev pub WrittenSpells : Type 0
-WrittenSpells = (t : TypeRef) → IsWritableType t → SpellsType (chars (written t.name t.modifiers)) t
+WrittenSpells = (t : TypeRef) → IsWritableType t
+    → SpellsType (chars (written_type t.name t.modifiers)) t
 
 -- the type was found, and nothing is left but the end
 abbrev pub IsTypeFound : TypeRef → Outcome (At TypeRef) → Type 0
@@ -125,7 +128,8 @@ IsTypeFound t (Err e) = ⊥
 -- the longest type that is found at the start of what a type is displayed as is that type
 abbrev pub WrittenIsFound : Type 0
 WrittenIsFound =
-    (t : TypeRef) → IsWritableType t → (i : Input) → IsStart (chars (written t.name t.modifiers)) i
+    (t : TypeRef) → IsWritableType t → (i : Input)
+    → IsStart (chars (written_type t.name t.modifiers)) i
     → (found : Outcome (At TypeRef)) → Sought no_scalar Types i found → IsTypeFound t found
 
 -- a parser gives the type and stands at the end; else memory ran out
@@ -137,5 +141,5 @@ GivesTypeBack t (Err e) new = e.item ≡ Memory
 abbrev pub WrittenIsReadBack : Type 0
 WrittenIsReadBack =
     (t : TypeRef) → IsWritableType t → (old new : State) (result : Result (At TypeRef) Fault)
-    → IsStart (chars (written t.name t.modifiers)) old.input → old.refused ≡ None
+    → IsStart (chars (written_type t.name t.modifiers)) old.input → old.refused ≡ None
     → Calls NextType old result new → GivesTypeBack t result new

@@ -5,7 +5,7 @@ use mir.Syntax.{w32}
 use Rattle.graphql_text.specs.Grammar.{Each, IsName, is_string_character}
 use Rattle.graphql_scalars.specs.declared.default_scalar.DefaultScalarValue.{DefaultScalarValue}
 use Rattle.graphql_scalars.specs.declared.default_scalar.DefaultScalarValue.TheVariants as scalar
-use Rattle.graphql_scalars.specs.DefaultScalar.{answer}
+use Rattle.graphql_scalars.specs.DefaultScalar.{scalar_answer}
 use Rattle.graphql_values.specs.declared.input_value.InputValue.{InputValue}
 use Rattle.graphql_values.specs.declared.input_value.InputValue.TheVariants as v
 use Rattle.graphql_values.specs.InputValues.{Placed, Pair}
@@ -17,7 +17,7 @@ Value = InputValue DefaultScalarValue
 
 -- the text of a value
 abbrev pub value_text : Value → List ℕ
-value_text = input_value_text answer
+value_text = input_value_text scalar_answer
 
 -- the bytes of characters among which is no quote, no backslash and no control but a tab (2.9.4
 -- String Value)

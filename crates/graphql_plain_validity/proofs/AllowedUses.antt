@@ -23,7 +23,8 @@ use Rattle.graphql_occurrences.specs.Parts.{InputPlace, Use, VariablePart}
 use Rattle.graphql_occurrences.specs.Unlocated.{unlocated_variable_part}
 use Rattle.graphql_rules_document.specs.Reached.{uses_from}
 use Rattle.graphql_rules_document.specs.Scopes.{FragmentScope, OperationScope, fragment_scopes, operation_scope, operation_scopes}
-use Rattle.graphql_rules_document.specs.VariablesInAllowedPosition.{variables_in_allowed_position_faults, has_value, is_allowed, is_value, refuses_null, with_null, without_null}
+use Rattle.graphql_rules_document.specs.VariablesInAllowedPosition.{variables_in_allowed_position_faults, has_value, is_allowed, is_value, with_null, without_null}
+use Rattle.graphql_schema.specs.Types.{refuses_null}
 use Rattle.graphql_rules_document.proofs.RuleLaws.{uses_allowed}
 use Rattle.graphql_rules_document.proofs.ListItems.{all-from, all-of, only-one}
 use Rattle.graphql_plain_tree.specs.PlainOperations.{PlainOperation, definitions_used, variables_used, without_directives}

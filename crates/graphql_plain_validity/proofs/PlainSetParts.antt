@@ -18,7 +18,7 @@ use Rattle.graphql_schema.specs.declared.meta.MetaType.{MetaType}
 use Rattle.graphql_schema.specs.Declarations.{Declarations}
 use Rattle.graphql_occurrences.specs.DeclaredLookups.{directive_arguments, directive_named}
 use Rattle.graphql_occurrences.specs.Lookups.{argument_place, field_arguments, field_in}
-use Rattle.graphql_occurrences.specs.Occurrences.{directives_parts, given_parts, selection_parts, set_parts, type_inside, under}
+use Rattle.graphql_occurrences.specs.Occurrences.{directives_parts, given_parts, selection_parts, set_parts, type_inside, parts_under}
 use Rattle.graphql_occurrences.specs.Parts.{Part, Condition, AField, AnInline, ADirective, Given}
 use Rattle.graphql_occurrences.proofs.OccurrenceEquations.{parts_field, parts_inline, parts_scalar}
 use Rattle.graphql_written_out.specs.Trees.{Directives, Head, Tree, none, field, inline, is_empty, IsFilled}
@@ -83,7 +83,7 @@ module _ {S C : Type 0} (schema : Declarations S C) (of_bool : Bool → S) where
 
     set-unless : (scope : Option (MetaType S C)) (b : Bool) (xs : List (Selection S))
         → Each Q (set_parts schema scope xs)
-        → Each Q (under schema scope (unwrap_or (option_map (map (selection_parts schema)) (list_unless b xs)) []))
+        → Each Q (parts_under schema scope (unwrap_or (option_map (map (selection_parts schema)) (list_unless b xs)) []))
     set-unless None b xs h = tt
     set-unless (Some parent) true xs h = tt
     set-unless (Some parent) false xs h = h

@@ -22,7 +22,7 @@ use Rattle.graphql_rules_document.specs.Ends.{EndsWithin}
 use Rattle.graphql_written_out.specs.Written.{fragment_meant, written}
 use Rattle.graphql_rules_document.specs.Counted.{IsSpread}
 use Rattle.graphql_rules_document.proofs.SettledRows.{field_types_are_known, they_are_known, its_scopes, each_ends}
-use Rattle.graphql_plain_validity.specs.WholeSets.{IsWholeSet, whole_field, whole_spread, no_set, whole_set, one_selection, more_selections, set_of}
+use Rattle.graphql_plain_validity.specs.WholeSets.{IsWholeSet, whole_field, whole_spread, no_set, whole_set, one_selection, more_selections, definition_set}
 use Rattle.graphql_plain_validity.specs.Laws.{AreWhole, IsFull}
 use Rattle.graphql_plain_validity.proofs.WrittenSets.{written-sets-are-filled}
 
@@ -62,7 +62,7 @@ leaf_is_whole n name = one_selection (select n name None) (whole_field _ no_set)
 
 pub they_are_whole : AreWhole document
 they_are_whole =
-    All-from_recursion (λ (x : Definition ℕ). IsWholeSet (set_of x)) document (
+    All-from_recursion (λ (x : Definition ℕ). IsWholeSet (definition_set x)) document (
       one_selection _ (whole_field _ (whole_set _ (one_selection _ (whole_spread _)))),
       (
         more_selections _ _ (whole_field _ no_set) (one_selection _ (whole_spread _)),

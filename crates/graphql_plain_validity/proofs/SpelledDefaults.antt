@@ -8,7 +8,7 @@ use Rattle.std.proofs.lemmas.Option.{none-some, same_Some}
 use Rattle.graphql_text.specs.declared.token.ScalarToken.{ScalarToken}
 use Rattle.graphql_text.specs.declared.parse_error.ParseError.{ParseError}
 use Rattle.graphql_values.specs.InputValues as values
-use Rattle.graphql_values.specs.Variables.{IsConstant, variables_in as variables_of, variables_layer}
+use Rattle.graphql_values.specs.Variables.{IsConstant, names_of_variables as variables_of, variables_layer}
 use Rattle.graphql_values.specs.declared.input_value.InputValue.{InputValue}
 use Rattle.graphql_values.proofs.InputValueEquations.{fold_null, fold_scalar, fold_enum}
 use Rattle.graphql_values.proofs.VariableLaws.{none_is_listed}

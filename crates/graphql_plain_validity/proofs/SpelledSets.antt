@@ -16,7 +16,7 @@ use Rattle.graphql_language.specs.Selections.{SelectionOf, of_field, of_spread, 
 use Rattle.graphql_language.specs.Documents.{DocumentOf, DefinitionOf, FragmentOf, OperationOf}
 use Rattle.graphql_rules_document.proofs.ListItems.{only-one, all-of, all-from}
 use Rattle.graphql_plain_validity.specs.WholeSets as whole
-use Rattle.graphql_plain_validity.specs.WholeSets.{IsWhole, IsWholeIfThere, IsWholeSet, set_of}
+use Rattle.graphql_plain_validity.specs.WholeSets.{IsWhole, IsWholeIfThere, IsWholeSet, definition_set}
 
 module _ {S : Type 0} (reads : ScalarToken → Result S ParseError) (of_bool : Bool → S) where
   -- one more behind a set
@@ -50,7 +50,7 @@ module _ {S : Type 0} (reads : ScalarToken → Result S ParseError) (of_bool : B
   -- ---- of definitions
 
   abbrev DefinitionIsWhole : Definition S → Type 0
-  DefinitionIsWhole x = IsWholeSet (set_of x)
+  DefinitionIsWhole x = IsWholeSet (definition_set x)
 
   fragment-whole : (us : List Located) (x : At (Fragment S)) → FragmentOf S reads of_bool us x → IsWholeSet x.item.selection_set
   fragment-whole us x h = let made = h.spells.ends.ends.ends.ends in subst (λ (f : Fragment S). IsWholeSet f.selection_set) (sym made.is) (set-whole made.spells)

@@ -8,7 +8,7 @@ use Rattle.graphql_scalars.specs.ScalarAnswers.{ScalarAnswer, boolean}
 use Rattle.graphql_text.specs.Position.{origin}
 use Rattle.graphql_text.specs.declared.position.SourcePosition.{SourcePosition}
 use Rattle.graphql_values.specs.InputValues.{Placed, Pair}
-use Rattle.graphql_values.specs.Variables.{IsConstant, variables_in as variables_of, variables_layer}
+use Rattle.graphql_values.specs.Variables.{IsConstant, names_of_variables as variables_of, variables_layer}
 use Rattle.graphql_values.specs.declared.input_value.InputValue.{InputValue}
 use Rattle.graphql_values.specs.declared.input_value.InputValue.TheVariants as value
 use Rattle.graphql_values.proofs.InputValueEquations.{fold_variable}

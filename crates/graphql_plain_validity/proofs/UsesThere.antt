@@ -8,7 +8,7 @@ use Rattle.graphql_names.specs.Names.{Bytes}
 use Rattle.graphql_text.specs.Position.{origin}
 use Rattle.graphql_text.specs.declared.position.SourcePosition.{SourcePosition}
 use Rattle.graphql_values.specs.InputValues.{Placed, Pair, unplaced}
-use Rattle.graphql_values.specs.Variables.{variables_in as variables_of, variables_layer}
+use Rattle.graphql_values.specs.Variables.{names_of_variables as variables_of, variables_layer}
 use Rattle.graphql_values.specs.declared.input_value.InputValue.{InputValue}
 use Rattle.graphql_values.specs.declared.input_value.InputValue.TheVariants as value
 use Rattle.graphql_values.proofs.InputValueEquations.{fold_null, fold_scalar, fold_enum, fold_variable}
@@ -23,7 +23,7 @@ use Rattle.graphql_schema.specs.declared.meta.field.Field as declared
 use Rattle.graphql_schema.specs.declared.meta.MetaType.{MetaType}
 use Rattle.graphql_schema.specs.Declarations.{Declarations}
 use Rattle.graphql_occurrences.specs.Lookups.{argument_place, field_arguments, field_in, field_place, field_type, item_place, known, referred}
-use Rattle.graphql_occurrences.specs.Occurrences.{directives_parts, given_parts, placed_parts, selection_parts, set_parts, type_inside, under, value_parts}
+use Rattle.graphql_occurrences.specs.Occurrences.{directives_parts, given_parts, placed_parts, selection_parts, set_parts, type_inside, parts_under, value_parts}
 use Rattle.graphql_occurrences.specs.Parts.{FieldPart, InputPlace, Part, Use, AField, AnInline, Condition, Given, ObjectOf, VariableUsed}
 use Rattle.graphql_occurrences.proofs.OccurrenceEquations.{parts_field, parts_inline, parts_variable, parts_list, parts_object}
 use Rattle.graphql_rules_document.specs.Counted.{AreKnown, FieldTypesAreKnown}
@@ -122,7 +122,7 @@ module _ {S C : Type 0} (schema : Declarations S C) where
   -- ---- sets
 
   set-is : (scope : Option (MetaType S C)) (below : Tree S)
-      → under schema scope (unwrap_or (option_map (map (selection_parts schema)) (list_unless (is_empty below) (selections_of below))) [])
+      → parts_under schema scope (unwrap_or (option_map (map (selection_parts schema)) (list_unless (is_empty below) (selections_of below))) [])
       ≡ set_parts schema scope (selections_of below)
   set-is scope none = refl
   set-is scope (field head directives below rest) = refl
@@ -166,7 +166,7 @@ module _ {S C : Type 0} (schema : Declarations S C) where
         (arguments_in (arguments_as head.arguments)) in
         let directives = directives_parts schema location.Field (directives_as ds) in
         let inner =
-        under schema scope
+        parts_under schema scope
         (unwrap_or
         (option_map (map (selection_parts schema))
         (list_unless (is_empty below) (selections_of below))) []) in

@@ -21,7 +21,7 @@ use Rattle.graphql_schema.specs.declared.meta.MetaType.{MetaType}
 use Rattle.graphql_schema.specs.declared.meta.argument.Argument.{Argument as Declared}
 use Rattle.graphql_schema.specs.Declarations.{Declarations}
 use Rattle.graphql_occurrences.specs.Lookups.{argument_place, field_arguments, field_in, field_type, known, referred}
-use Rattle.graphql_occurrences.specs.Occurrences.{directives_parts, given_parts, placed_parts, selection_parts, set_parts, type_inside, under}
+use Rattle.graphql_occurrences.specs.Occurrences.{directives_parts, given_parts, placed_parts, selection_parts, set_parts, type_inside, parts_under}
 use Rattle.graphql_occurrences.specs.Parts.{Part, FieldPart, InlinePart, SpreadPart, Condition, AField, ASpread, AnInline, Given}
 use Rattle.graphql_occurrences.specs.Unlocated.{unlocated_part}
 use Rattle.graphql_occurrences.proofs.OccurrenceEquations.{parts_field, parts_spread, parts_inline}
@@ -139,7 +139,7 @@ module _ {S C : Type 0} (schema : Declarations S C) (fragments : List (Fragment 
         (each-right P (selection_parts schema x parent) _ each))
 
     in-option : (scope : Scope schema) (o : Option (List (Selection S))) → IfSome o (All Of)
-        → Each P (under schema scope (unwrap_or (option_map (map (selection_parts schema)) o) []))
+        → Each P (parts_under schema scope (unwrap_or (option_map (map (selection_parts schema)) o) []))
         → H (chain (map w (listed o)) none) scope
     in-option scope None h each = tt
     in-option scope (Some xs) h each = in-set scope xs h each
@@ -155,7 +155,7 @@ module _ {S C : Type 0} (schema : Declarations S C) (fragments : List (Fragment 
         (arguments_in x.item.arguments) in
         let directives = directives_parts schema location.Field x.item.directives in
         let below =
-        under schema (referred schema (field_type declared))
+        parts_under schema (referred schema (field_type declared))
         (unwrap_or (option_map (map (selection_parts schema)) x.item.selection_set) []) in
         let g = each-left P given directives (each-left P (given ++ directives) below e.1) in
         let b = each-right P (given ++ directives) below e.1 in
@@ -209,7 +209,7 @@ module _ {S C : Type 0} (schema : Declarations S C) (fragments : List (Fragment 
         let e = subst (Each P) (parts_inline schema x parent) each in
         let directives = directives_parts schema location.InlineFragment x.item.directives in
         let below =
-        under schema (type_inside schema parent c)
+        parts_under schema (type_inside schema parent c)
         (map (selection_parts schema) x.item.selection_set) in
         let conditions = map Condition (option_to_list c) in
         subst (λ t. H t (Some parent)) (sym (write_inline r x rest)) (

@@ -20,7 +20,7 @@ use Rattle.graphql_rules_document.proofs.ListItems.{nothing-in, only-one, all-of
 use Rattle.graphql_rules_document.proofs.WrittenLevels.{write-more}
 use Rattle.graphql_rules_document.proofs.CountedSpreads.{fragment-counted, operation-counted}
 use Rattle.graphql_rules_document.proofs.SettledFragments.{meant, within, as-many}
-use Rattle.graphql_plain_validity.specs.WholeSets.{IsWholeSet, set_of}
+use Rattle.graphql_plain_validity.specs.WholeSets.{IsWholeSet, definition_set}
 use Rattle.graphql_plain_validity.specs.Laws.{IsFull, WrittenSetsAreFilled}
 use Rattle.graphql_plain_validity.proofs.FullSets.{IsMeant, Sound, write-full}
 
@@ -56,8 +56,8 @@ module _ {S C : Type 0} (schema : Declarations S C) where
     written-sets-are-filled document o whole among root k meant_all ends =
         let fragments : List (Fragment S) = fragments_listed document in
         let n : ℕ = length (fragment_scopes schema document) in
-        let set_is_whole : (x : Definition S) → Contains document x → IsWholeSet (set_of x) =
-        λ x i. all-of (λ y. IsWholeSet (set_of y)) document whole x i in
+        let set_is_whole : (x : Definition S) → Contains document x → IsWholeSet (definition_set x) =
+        λ x i. all-of (λ y. IsWholeSet (definition_set y)) document whole x i in
         let AreMeant : List (Selection S) → Type 0 = λ xs. All (IsMeant fragments) (names_in xs) in
         let all_meant : (x : Definition S) → Contains document x → (xs : List (Selection S))
         → ((name : Bytes) → Contains (names_in xs) name → IsSpread (definition_parts schema x) name) → AreMeant xs =

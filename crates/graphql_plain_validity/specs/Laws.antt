@@ -35,7 +35,7 @@ use Rattle.graphql_rules_document.specs.Ends.{EndsWithin}
 use Rattle.graphql_written_out.specs.Trees.{Tree, is_empty, IsFilled}
 use Rattle.graphql_written_out.specs.Written.{fragment_meant, written}
 use Rattle.graphql_rules_document.specs.Counted.{IsSpread, AreKnown}
-use Rattle.graphql_plain_validity.specs.WholeSets.{IsWholeSet, set_of}
+use Rattle.graphql_plain_validity.specs.WholeSets.{IsWholeSet, definition_set}
 
 -- `eq`: the equality of scalars; `answer`: what a scalar answers; `accepts`: what the check of a
 -- type accepts
@@ -88,7 +88,7 @@ module _ {S C : Type 0} (eq : S → S → Bool) (answer : S → ScalarAnswer) wh
 
 -- the sets of all definitions are whole
 abbrev pub AreWhole : {S : Type 0} → List (Definition S) → Type 0
-AreWhole document = All (λ x. IsWholeSet (set_of x)) document
+AreWhole document = All (λ x. IsWholeSet (definition_set x)) document
 
 -- a document that tokens spell has a selection in each set that is written
 abbrev pub SpelledSetsAreWhole : (S : Type 0) → (ScalarToken → Result S ParseError) → (Bool → S)

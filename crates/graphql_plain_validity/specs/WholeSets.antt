@@ -31,6 +31,6 @@ module _ {S : Type 0} where
           → IsWholeSet (x ∷ xs)
 
   -- the set of an operation or of a fragment
-  abbrev pub set_of : Definition S → List (Selection S)
-  set_of (definition.Operation o) = o.item.selection_set
-  set_of (definition.Fragment f) = f.item.selection_set
+  abbrev pub definition_set : Definition S → List (Selection S)
+  definition_set (definition.Operation o) = o.item.selection_set
+  definition_set (definition.Fragment f) = f.item.selection_set

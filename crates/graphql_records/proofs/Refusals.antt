@@ -11,7 +11,7 @@ use Rattle.graphql_field_results.specs.declared.resolved.Resolved.TheVariants as
 use Rattle.graphql_records.specs.Answers.{is_possible}
 use Rattle.graphql_records.specs.Asked.{Asked}
 use Rattle.graphql_records.specs.Laws.{RefusalsChangeNothing, RefusalsTellDistinctKeys}
-use Rattle.graphql_records.specs.Settings.{Fault, Fields, settable, set_one, set_all, fields_set, fields_at, place_asked, after_setting, node_set}
+use Rattle.graphql_records.specs.Settings.{Fault, Fields, settable, set_one, set_all, fields_set, fields_set_at, place_asked, after_setting, node_set}
 use Rattle.graphql_records.specs.Tables.{Entries, Table}
 use Rattle.graphql_records.specs.declared.record.Record.{Record}
 use Rattle.graphql_records.specs.declared.table_type.TableType.{TableType}
@@ -61,16 +61,16 @@ module _ (types : List TableType) where
   tells_set : (of_type id : Bytes) (r : Record) (given : Asked) → TellsInDistinctKeys (fields_set types of_type id r given)
   tells_set of_type id r given = told_if (is_possible types of_type r.type_name) _ _ (tells_all r.type_name given r.fields) (reason_alone _)
 
-  tells_at : (records : Entries) (of_type : Bytes) (given : Asked) (place : ℕ) → TellsInDistinctKeys (fields_at types records of_type given place)
+  tells_at : (records : Entries) (of_type : Bytes) (given : Asked) (place : ℕ) → TellsInDistinctKeys (fields_set_at types records of_type given place)
   tells_at records of_type given place =
       told_or (slice_get records place) _ _ (λ r. told_behind (fields_set types of_type r.0 r.1 given) _ (tells_set of_type r.0 r.1 given) (λ x. nothing_told _)) (nothing_told _)
 
 pub refusals_change_nothing : RefusalsChangeNothing
 refusals_change_nothing types table of_type given refusal h =
-    unchanged types table (fields_at types table.entries of_type given) (place_asked table.entries given) refusal h
+    unchanged types table (fields_set_at types table.entries of_type given) (place_asked table.entries given) refusal h
 
 pub refusals_tell_distinct_keys : RefusalsTellDistinctKeys
 refusals_tell_distinct_keys types table of_type given =
     told_or types (place_asked table.entries given) _ _
-    (λ place. told_behind types (fields_at types table.entries of_type given place) _ (tells_at types table.entries of_type given place) (λ x. nothing_told types _))
+    (λ place. told_behind types (fields_set_at types table.entries of_type given place) _ (tells_at types table.entries of_type given place) (λ x. nothing_told types _))
     (nothing_told types _)

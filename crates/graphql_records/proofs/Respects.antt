@@ -11,16 +11,16 @@ use Rattle.graphql_values.specs.declared.input_value.InputValue.{InputValue, out
 use Rattle.graphql_values.specs.declared.input_value.InputValue.TheOpen.{InputValue-F}
 use Rattle.graphql_values.specs.declared.input_value.InputValue.TheVariants as value
 use Rattle.graphql_output_values.specs.Objects.{with_field}
-use Rattle.graphql_arguments.specs.ArgumentValues.{Value, value_named}
+use Rattle.graphql_arguments.specs.ArgumentValues.{NamedValue, value_named}
 use Rattle.graphql_arguments.specs.SameArguments.{SameArguments, SameGiven, SameInOrder}
 use Rattle.graphql_arguments.proofs.SameOrders.{in-order-same}
 use Rattle.graphql_field_results.specs.declared.resolved.Resolved.TheVariants as resolved
-use Rattle.graphql_records.specs.Answers.{answer, field_of, is_possible, known_field, record_at, value_answer, links_asked}
+use Rattle.graphql_records.specs.Answers.{answer, value_in_record, is_possible, known_field, record_at, value_answer, links_asked}
 use Rattle.graphql_records.specs.Asked.{Asked, scalar_layer, scalar_of, id_of_scalar, int_of_scalar, id_asked, first_asked}
-use Rattle.graphql_records.specs.Fields.{cut}
+use Rattle.graphql_records.specs.Fields.{cut_to}
 use Rattle.graphql_records.specs.Laws.{IsExact}
-use Rattle.graphql_records.specs.Settings.{Fault, Fields, set_layer, set_by, set_one, set_all, is_settable, no_scalar_field, misfit_record, fields_at, place_asked, root_answer, table_after, after_setting, node_set}
-use Rattle.graphql_records.specs.Tables.{Entries, Table, place_of}
+use Rattle.graphql_records.specs.Settings.{Fault, Fields, set_layer, set_by, set_one, set_all, is_settable, no_scalar_field, misfit_record, fields_set_at, place_asked, root_answer, table_after, after_setting, node_set}
+use Rattle.graphql_records.specs.Tables.{Entries, Table, record_index}
 use Rattle.graphql_records.specs.declared.field_value.FieldValue.{FieldValue}
 use Rattle.graphql_records.specs.declared.record.Record.{Record}
 use Rattle.graphql_records.specs.declared.table_node.TableNode.{TableNode}
@@ -87,7 +87,7 @@ module _ (eq : S → S → Bool) (exact : IsExact eq) where
       let values : (is_leaf : Bool) (v : FieldValue) → value_answer table.entries is_leaf a v ≡ value_answer table.entries is_leaf b v =
       λ is_leaf v. same_value table.entries is_leaf a b v (same_id a b same) in
       λ i. option_map_or (λ (r : Bytes × Record).
-      option_map_or (λ f. cut (firsts i) (values f.is_leaf (field_of r.0 r.1 field) i)) (known_field types r.1.type_name field) resolved.Null)
+      option_map_or (λ f. cut_to (firsts i) (values f.is_leaf (value_in_record r.0 r.1 field) i)) (known_field types r.1.type_name field) resolved.Null)
       (record_at table n) resolved.Null
 
   module _ (types : List TableType) where
@@ -97,7 +97,7 @@ module _ (eq : S → S → Bool) (exact : IsExact eq) where
         if bytes_eq name (codes "id") then Ok fields else
         option_map_or (λ x. Ok (with_field fields name x)) (if is_settable types object name then set else None) (Err (no_scalar_field object name))
 
-    same_one : (object : Bytes) (x y : Value S) (fields : Fields) → x.0 ≡ y.0 → SameValue S eq x.1.item y.1.item
+    same_one : (object : Bytes) (x y : NamedValue S) (fields : Fields) → x.0 ≡ y.0 → SameValue S eq x.1.item y.1.item
         → set_one types object x.0 x.1.item fields ≡ set_one types object y.0 y.1.item fields
     same_one object x y fields name same = λ i. set_if object (name i) (same_settings x.1.item y.1.item same i) fields
 
@@ -114,7 +114,7 @@ module _ (eq : S → S → Bool) (exact : IsExact eq) where
         ∙ same_after (set_one types object y.0 y.1.item fields) (set_all types object xs) (set_all types object ys) (same_all object xs ys same.2)
 
     same_fields : (records : Entries) (of_type : Bytes) (a b : Asked) → SameInOrder eq a b → (place : ℕ)
-        → fields_at types records of_type a place ≡ fields_at types records of_type b place
+        → fields_set_at types records of_type a place ≡ fields_set_at types records of_type b place
     same_fields records of_type a b same place =
         let set : (r : Bytes × Record) → set_all types r.1.type_name a r.1.fields ≡ set_all types r.1.type_name b r.1.fields =
         λ r. same_all r.1.type_name a b same r.1.fields in
@@ -123,16 +123,16 @@ module _ (eq : S → S → Bool) (exact : IsExact eq) where
         (slice_get records place) (Ok None)
 
     same_place : (records : Entries) (a b : Asked) → SameInOrder eq a b → place_asked records a ≡ place_asked records b
-    same_place records a b same = ap (option_and_then (place_of records)) (same_id a b (in-order-same eq a b same))
+    same_place records a b same = ap (option_and_then (record_index records)) (same_id a b (in-order-same eq a b same))
 
     pub root_respects : (table : Table) (of_type : Bytes) (a b : Asked) → SameInOrder eq a b → root_answer types table of_type a ≡ root_answer types table of_type b
     root_respects table of_type a b same =
-        let fields : (place : ℕ) → fields_at types table.entries of_type a place ≡ fields_at types table.entries of_type b place = same_fields table.entries of_type a b same in
+        let fields : (place : ℕ) → fields_set_at types table.entries of_type a place ≡ fields_set_at types table.entries of_type b place = same_fields table.entries of_type a b same in
         let place = same_place table.entries a b same in
         λ i. option_map_or (λ p. fields p i >>= λ set. Ok (node_set p set)) (place i) (Ok resolved.Null)
 
     pub after_respects : (table : Table) (of_type : Bytes) (a b : Asked) → SameInOrder eq a b → table_after types table of_type a ≡ table_after types table of_type b
     after_respects table of_type a b same =
-        let fields : (place : ℕ) → fields_at types table.entries of_type a place ≡ fields_at types table.entries of_type b place = same_fields table.entries of_type a b same in
+        let fields : (place : ℕ) → fields_set_at types table.entries of_type a place ≡ fields_set_at types table.entries of_type b place = same_fields table.entries of_type a b same in
         let place = same_place table.entries a b same in
         λ i. option_map_or (λ p. after_setting types table p (fields p i)) (place i) table

@@ -8,7 +8,7 @@ use Rattle.graphql_scalars.specs.declared.default_scalar.DefaultScalarValue.TheV
 use Rattle.graphql_output_values.specs.Objects.{field_value}
 use Rattle.graphql_field_results.specs.declared.resolved.Resolved.TheVariants as resolved
 use Rattle.graphql_records.specs.Asked.{Asked, id_asked, first_asked}
-use Rattle.graphql_records.specs.Fields.{Answer, at_leaf, at_links, cut, picked}
+use Rattle.graphql_records.specs.Fields.{TableAnswer, at_leaf, at_links, cut_to, picked}
 use Rattle.graphql_records.specs.Tables.{Entries, Table}
 use Rattle.graphql_records.specs.declared.field_value.FieldValue.{FieldValue}
 use Rattle.graphql_records.specs.declared.field_value.FieldValue.TheVariants as value
@@ -24,20 +24,20 @@ missing id field =
     if bytes_eq field (codes "id") then value.Scalar (scalar.String id) else value.Null
 
 -- the value of a field of the record of an id
-abbrev pub field_of : Bytes → Record → Bytes → FieldValue
-field_of id r field = option_map_or (λ v. v) (field_value r.fields field) (missing id field)
+abbrev pub value_in_record : Bytes → Record → Bytes → FieldValue
+value_in_record id r field = option_map_or (λ v. v) (field_value r.fields field) (missing id field)
 
 -- at a composite type an `id` picks a link
-abbrev pub links_asked : Entries → Option Bytes → FieldValue → Answer
+abbrev pub links_asked : Entries → Option Bytes → FieldValue → TableAnswer
 links_asked records id v = option_map_or (λ id. picked records id v) id (at_links records v)
 
-abbrev pub value_answer : Entries → Bool → Asked → FieldValue → Answer
+abbrev pub value_answer : Entries → Bool → Asked → FieldValue → TableAnswer
 value_answer records true given v = at_leaf v
 value_answer records false given v = links_asked records (id_asked given) v
 
 -- then `first` cuts
-abbrev pub field_answer : Entries → TableField → Asked → FieldValue → Answer
-field_answer records f given v = cut (first_asked given) (value_answer records f.is_leaf given v)
+abbrev pub field_answer : Entries → TableField → Asked → FieldValue → TableAnswer
+field_answer records f given v = cut_to (first_asked given) (value_answer records f.is_leaf given v)
 
 -- the record of a node
 abbrev pub place_at : ℕ → TableNode → ℕ
@@ -63,13 +63,13 @@ module _ (types : List TableType) where
       option_map_or (λ t. is_one_of t.possible object) (named (λ t. t.name) types at) false
 
   -- a field of the record of an id; one that the table does not know is null
-  abbrev pub record_answer : Entries → Bytes → Record → Bytes → Asked → Answer
+  abbrev pub record_answer : Entries → Bytes → Record → Bytes → Asked → TableAnswer
   record_answer records id r field given =
-      option_map_or (λ f. field_answer records f given (field_of id r field))
+      option_map_or (λ f. field_answer records f given (value_in_record id r field))
       (known_field r.type_name field) resolved.Null
 
   -- a field of a node; null where it has no record
-  abbrev pub answer : Table → TableNode → Bytes → Asked → Answer
+  abbrev pub answer : Table → TableNode → Bytes → Asked → TableAnswer
   answer table n field given =
       option_map_or (λ r. record_answer table.entries r.0 r.1 field given) (record_at table n)
       resolved.Null

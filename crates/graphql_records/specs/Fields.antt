@@ -10,42 +10,42 @@ use Rattle.graphql_scalars.specs.declared.default_scalar.DefaultScalarValue.TheV
 use Rattle.graphql_field_results.specs.declared.resolved.Resolved.{Resolved, out-Resolved}
 use Rattle.graphql_field_results.specs.declared.resolved.Resolved.TheOpen.{Resolved-F}
 use Rattle.graphql_field_results.specs.declared.resolved.Resolved.TheVariants as resolved
-use Rattle.graphql_records.specs.Tables.{Entries, place_of}
+use Rattle.graphql_records.specs.Tables.{Entries, record_index}
 use Rattle.graphql_records.specs.declared.field_value.FieldValue.{FieldValue, fold-FieldValue}
 use Rattle.graphql_records.specs.declared.field_value.FieldValue.TheOpen.{FieldValue-F}
 use Rattle.graphql_records.specs.declared.table_node.TableNode.{TableNode}
 use Rattle.graphql_records.specs.declared.table_node.TableNode.TheVariants as node
 
-abbrev pub Answer : Type 0
-Answer = Resolved DefaultScalarValue TableNode
+abbrev pub TableAnswer : Type 0
+TableAnswer = Resolved DefaultScalarValue TableNode
 
 -- at a leaf type a value answers itself
-abbrev pub leaf_layer : FieldValue-F Answer → Answer
+abbrev pub leaf_layer : FieldValue-F TableAnswer → TableAnswer
 leaf_layer FieldValue-F.Null = resolved.Null
 leaf_layer (FieldValue-F.Scalar s) = resolved.Scalar s
 leaf_layer (FieldValue-F.List answers) = resolved.List answers
 
-abbrev pub at_leaf : FieldValue → Answer
-at_leaf = fold-FieldValue Answer leaf_layer
+abbrev pub at_leaf : FieldValue → TableAnswer
+at_leaf = fold-FieldValue TableAnswer leaf_layer
 
 -- a link: the record of an id, null where there is none
-abbrev pub linked : Entries → Bytes → Answer
+abbrev pub linked : Entries → Bytes → TableAnswer
 linked records id =
-    option_map_or (λ place. resolved.Node (node.At place)) (place_of records id) resolved.Null
+    option_map_or (λ place. resolved.Node (node.At place)) (record_index records id) resolved.Null
 
 -- at a composite type texts are links
-abbrev pub link_of_scalar : Entries → DefaultScalarValue → Answer
+abbrev pub link_of_scalar : Entries → DefaultScalarValue → TableAnswer
 link_of_scalar records (scalar.String id) = linked records id
 link_of_scalar records (scalar.Int z) = resolved.Scalar (scalar.Int z)
 link_of_scalar records (scalar.Boolean b) = resolved.Scalar (scalar.Boolean b)
 
-abbrev pub link_layer : Entries → FieldValue-F Answer → Answer
+abbrev pub link_layer : Entries → FieldValue-F TableAnswer → TableAnswer
 link_layer records FieldValue-F.Null = resolved.Null
 link_layer records (FieldValue-F.Scalar s) = link_of_scalar records s
 link_layer records (FieldValue-F.List answers) = resolved.List answers
 
-abbrev pub at_links : Entries → FieldValue → Answer
-at_links records = fold-FieldValue Answer (link_layer records)
+abbrev pub at_links : Entries → FieldValue → TableAnswer
+at_links records = fold-FieldValue TableAnswer (link_layer records)
 
 -- whether a link to an id stands in a value or its lists
 abbrev pub is_link : Bytes → DefaultScalarValue → Bool
@@ -62,7 +62,7 @@ abbrev pub has_link : Bytes → FieldValue → Bool
 has_link id = fold-FieldValue Bool (link_here id)
 
 -- the first link equal to an id, null where there is none
-abbrev pub picked : Entries → Bytes → FieldValue → Answer
+abbrev pub picked : Entries → Bytes → FieldValue → TableAnswer
 picked records id v = if has_link id v then linked records id else resolved.Null
 
 -- how many items an integer asks for: none where it is negative
@@ -70,13 +70,13 @@ abbrev pub count_of : ℤ → ℕ
 count_of (pos n) = n
 count_of (negsuc n) = 0
 
-abbrev pub cut_layer : ℤ → Resolved-F DefaultScalarValue TableNode Answer → Answer
+abbrev pub cut_layer : ℤ → Resolved-F DefaultScalarValue TableNode TableAnswer → TableAnswer
 cut_layer z Resolved-F.Null = resolved.Null
 cut_layer z (Resolved-F.Scalar s) = resolved.Scalar s
 cut_layer z (Resolved-F.List answers) = resolved.List (take (count_of z) answers)
 cut_layer z (Resolved-F.Node n) = resolved.Node n
 
 -- a list is cut to as many first items as are asked for
-abbrev pub cut : Option ℤ → Answer → Answer
-cut None answer = answer
-cut (Some z) answer = cut_layer z (out-Resolved DefaultScalarValue TableNode answer)
+abbrev pub cut_to : Option ℤ → TableAnswer → TableAnswer
+cut_to None answer = answer
+cut_to (Some z) answer = cut_layer z (out-Resolved DefaultScalarValue TableNode answer)

@@ -12,13 +12,13 @@ use Rattle.graphql_scalars.specs.declared.default_scalar.DefaultScalarValue.TheV
 use Rattle.graphql_output_values.specs.Objects.{with_field}
 use Rattle.graphql_values.specs.declared.input_value.InputValue.{InputValue, out-InputValue}
 use Rattle.graphql_values.specs.declared.input_value.InputValue.TheOpen.{InputValue-F}
-use Rattle.graphql_field_results.specs.IntoFieldErrors.{told}
+use Rattle.graphql_field_results.specs.IntoFieldErrors.{only_reason}
 use Rattle.graphql_field_results.specs.declared.field_error.FieldError.{FieldError}
 use Rattle.graphql_field_results.specs.declared.resolved.Resolved.TheVariants as resolved
 use Rattle.graphql_records.specs.Answers.{is_possible, known_field}
 use Rattle.graphql_records.specs.Asked.{Asked, id_asked}
-use Rattle.graphql_records.specs.Fields.{Answer}
-use Rattle.graphql_records.specs.Tables.{Entries, Table, place_of}
+use Rattle.graphql_records.specs.Fields.{TableAnswer}
+use Rattle.graphql_records.specs.Tables.{Entries, Table, record_index}
 use Rattle.graphql_records.specs.declared.field_value.FieldValue.{FieldValue}
 use Rattle.graphql_records.specs.declared.field_value.FieldValue.TheVariants as value
 use Rattle.graphql_records.specs.declared.record.Record.{Record}
@@ -49,18 +49,18 @@ set_by v = set_layer (out-InputValue DefaultScalarValue v)
 -- field
 abbrev pub misfit_record : Bytes → Bytes → Fault
 misfit_record id of_type =
-    told (codes "Record \"" ++ id ++ codes "\" does not fit type " ++ of_type)
+    only_reason (codes "Record \"" ++ id ++ codes "\" does not fit type " ++ of_type)
 
 abbrev pub no_scalar_field : Bytes → Bytes → Fault
 no_scalar_field object name =
-    told (codes "Type " ++ object ++ codes " has no scalar field \"" ++ name ++ codes "\"")
+    only_reason (codes "Type " ++ object ++ codes " has no scalar field \"" ++ name ++ codes "\"")
 
 -- where the record stands that is asked for
 abbrev pub place_asked : Entries → Asked → Option ℕ
-place_asked records given = option_and_then (place_of records) (id_asked given)
+place_asked records given = option_and_then (record_index records) (id_asked given)
 
 -- once the fields of the record at a place are set: its node, and the table
-abbrev pub node_set : ℕ → Option Fields → Answer
+abbrev pub node_set : ℕ → Option Fields → TableAnswer
 node_set place (Some fields) = resolved.Node (node.At place)
 node_set place None = resolved.Null
 
@@ -112,15 +112,15 @@ module _ (types : List TableType) where
       if is_possible types of_type r.type_name then set_all r.type_name given r.fields
       else Err (misfit_record id of_type)
 
-  abbrev pub fields_at : Entries → Bytes → Asked → ℕ → Result (Option Fields) Fault
-  fields_at records of_type given place =
+  abbrev pub fields_set_at : Entries → Bytes → Asked → ℕ → Result (Option Fields) Fault
+  fields_set_at records of_type given place =
       option_map_or (λ r. fields_set of_type r.0 r.1 given >>= λ fields. Ok (Some fields))
       (slice_get records place) (Ok None)
 
   -- what a mutation's field answers: null where no record has the id
-  abbrev pub root_answer : Table → Bytes → Asked → Result Answer Fault
+  abbrev pub root_answer : Table → Bytes → Asked → Result TableAnswer Fault
   root_answer table of_type given =
-      option_map_or (λ place. fields_at table.entries of_type given place >>= λ fields.
+      option_map_or (λ place. fields_set_at table.entries of_type given place >>= λ fields.
       Ok (node_set place fields))
       (place_asked table.entries given) (Ok resolved.Null)
 
@@ -132,5 +132,5 @@ module _ (types : List TableType) where
   abbrev pub table_after : Table → Bytes → Asked → Table
   table_after table of_type given =
       option_map_or
-      (λ place. after_setting table place (fields_at table.entries of_type given place))
+      (λ place. after_setting table place (fields_set_at table.entries of_type given place))
       (place_asked table.entries given) table

@@ -15,8 +15,8 @@ pub record Table : Type 0 where
   pub root : ℕ
 
 -- where the record of an id stands
-abbrev pub place_of : Entries → Bytes → Option ℕ
-place_of records id = position (bytes_eq id) (keys_of records)
+abbrev pub record_index : Entries → Bytes → Option ℕ
+record_index records id = position (bytes_eq id) (keys_of records)
 
 -- the records, in order, queries starting from the first, where no id stands twice; none where one
 -- does

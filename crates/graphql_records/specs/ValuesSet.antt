@@ -10,8 +10,8 @@ use Rattle.graphql_records.specs.Settings.{Fault, Fields, fields_replaced}
 use Rattle.graphql_records.specs.Tables.{Entries}
 
 -- what is found, or why there is none
-abbrev pub Found : Type 0 → Type 0
-Found A = Result A (FieldFault DefaultScalarValue)
+abbrev pub FoundOrFault : Type 0 → Type 0
+FoundOrFault A = Result A (FieldFault DefaultScalarValue)
 
 -- the fields of the record at a place, and those with values set in turn
 abbrev pub fields_there : Entries → ℕ → Fields
@@ -24,7 +24,7 @@ abbrev pub values_set : Entries → ℕ → Fields → Entries
 values_set records place values = fields_replaced records place (fields_with records place values)
 
 -- fields, once the values that were found for them are set
-abbrev pub once_set : Fields → Found Fields → Found Fields
+abbrev pub once_set : Fields → FoundOrFault Fields → FoundOrFault Fields
 once_set fields (Ok values) = Ok (with_fields fields values)
 once_set fields (Err e) = Err e
 
@@ -32,13 +32,14 @@ once_set fields (Err e) = Err e
 abbrev pub changed : Entries → ℕ → Option Fields → Option Fields
 changed records place values = option_map (fields_with records place) values
 
-abbrev pub once_changed : Entries → ℕ → Found (Option Fields) → Found (Option Fields)
+abbrev pub once_changed : Entries → ℕ → FoundOrFault (Option Fields) → FoundOrFault (Option Fields)
 once_changed records place (Ok values) = Ok (changed records place values)
 once_changed records place (Err e) = Err e
 
 -- values are added: to any fields, set in turn behind those before them, they do what is wanted
-abbrev pub Adds : {A : Type 0} → (Fields → Result Fields Fault) → Fields → Found A → Fields → Type 0
-Adds wanted old (Ok done) new =
+abbrev pub AddsValues : {A : Type 0} → (Fields → Result Fields Fault) → Fields → FoundOrFault A
+    → Fields → Type 0
+AddsValues wanted old (Ok done) new =
     (fields : Fields) → wanted (with_fields fields old) ≡ Ok (with_fields fields new)
-Adds wanted old (Err (fault.Error e)) new = (fields : Fields) → wanted fields ≡ Err e
-Adds wanted old (Err fault.Memory) new = Unit {0}
+AddsValues wanted old (Err (fault.Error e)) new = (fields : Fields) → wanted fields ≡ Err e
+AddsValues wanted old (Err fault.Memory) new = Unit {0}

@@ -64,7 +64,7 @@ fn values_at(
     arguments: &Arguments<'_, DefaultScalarValue>,
 ) -> FieldResult<Option<Fields>, DefaultScalarValue>
     ensures { let given = arguments_told arguments.now in
-        Answered (spec.fields_at types.now records.now.entries of_type.now given place)
+        Answered (spec.fields_set_at types.now records.now.entries of_type.now given place)
         (once_changed records.now.entries place result) }
 {
     match records.get(place) {

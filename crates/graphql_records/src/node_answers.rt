@@ -91,7 +91,7 @@ fn known_answer(
     arguments: &Arguments<'_, DefaultScalarValue>,
 ) -> Result<Answer, AllocError>
     ensures { let given = arguments_told arguments.now in
-        let value = spec.field_of id.now found.now name.now in
+        let value = spec.value_in_record id.now found.now name.now in
         Gives result (spec.field_answer records.now.entries field.now given value) }
 {
     match found.value_of(name) {

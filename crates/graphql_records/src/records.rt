@@ -5,7 +5,7 @@ ghost use Rattle.std.specs.Prelude.{IfOk, IsTrue, OnErr, OnOk};
 ghost use Rattle.std.specs.Map.{keys_of};
 ghost use Rattle.graphql_names.specs.Names.{is_one_of};
 ghost use Rattle.graphql_records.specs.ValuesSet.{values_set};
-ghost use Rattle.graphql_records.specs.Tables.{IsTableOf, place_of};
+ghost use Rattle.graphql_records.specs.Tables.{IsTableOf, record_index};
 
 use crate::field_value::FieldValue;
 use crate::record::{Record, set_values};
@@ -47,7 +47,7 @@ impl Records {
 
     /// Where the record of an id stands, from zero. Takes the time of a look-up.
     pub fn place_of(&self, id: &Text) -> Option<usize>
-        ensures { result ≡ place_of self.now.entries id.now }
+        ensures { result ≡ record_index self.now.entries id.now }
     {
         self.by_id.get_index_of(id)
     }

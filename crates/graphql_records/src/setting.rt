@@ -5,7 +5,7 @@ ghost use Rattle.graphql_text.specs.Memory.{Gives};
 ghost use Rattle.graphql_arguments.specs.GivenValues.{arguments_told};
 ghost use Rattle.graphql_field_results.specs.Answered.{Answered};
 ghost use Rattle.graphql_records.specs.Settings as spec;
-ghost use Rattle.graphql_records.specs.ValuesSet.{Adds, once_set};
+ghost use Rattle.graphql_records.specs.ValuesSet.{AddsValues, once_set};
 
 use crate::field_value::FieldValue;
 use crate::lookups::known_field;
@@ -86,7 +86,7 @@ fn add_one(
     value: &InputValue<DefaultScalarValue>,
     values: &mut Fields,
 ) -> FieldResult<(), DefaultScalarValue>
-    ensures { Adds (spec.set_one types.now object.now name.now value.now) values.old result
+    ensures { AddsValues (spec.set_one types.now object.now name.now value.now) values.old result
         values.new }
 {
     if name == "id" {
@@ -111,7 +111,7 @@ fn add_at(
     values: &mut Fields,
 ) -> FieldResult<(), DefaultScalarValue>
     ensures { let given = arguments_told arguments.now in
-        Adds (spec.set_at types.now object.now given place) values.old result values.new }
+        AddsValues (spec.set_at types.now object.now given place) values.old result values.new }
 {
     match arguments.get_index(place) {
         Some((name, value)) => add_one(alloc, types, object, name, value, values),

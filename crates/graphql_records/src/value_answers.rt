@@ -151,7 +151,7 @@ fn count_of(count: i32) -> usize
 
 /// An answer of which, if it is a list, so many first items stay.
 pub(crate) fn cut(answer: Answer, first: Option<i32>) -> Answer
-    ensures { result ≡ spec.cut first answer }
+    ensures { result ≡ spec.cut_to first answer }
 {
     match (answer, first) {
         (Resolved::List(mut answers), Some(count)) => {

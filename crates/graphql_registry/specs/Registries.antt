@@ -13,8 +13,8 @@ use Rattle.graphql_schema.specs.Types.{TypeOf, reference_to}
 
 module _ {S : Type 0} where
   -- the field of a name whose values are those of a type
-  abbrev pub field_of : Bytes → TypeOf → Field S
-  field_of name field_type = record {
+  abbrev pub declared_field : Bytes → TypeOf → Field S
+  declared_field name field_type = record {
     name = name;
     description = None;
     arguments = None;
@@ -24,11 +24,11 @@ module _ {S : Type 0} where
 
   -- `__typename: String!` (4.1 Type Name Introspection)
   abbrev pub typename_field : Field S
-  typename_field = field_of (codes "__typename") (reference_to (codes "String"))
+  typename_field = declared_field (codes "__typename") (reference_to (codes "String"))
 
   -- the argument of a name whose values are those of a type
-  abbrev pub argument_of : Bytes → TypeOf → Argument S
-  argument_of name arg_type = record {
+  abbrev pub declared_argument : Bytes → TypeOf → Argument S
+  declared_argument name arg_type = record {
     name = name;
     description = None;
     arg_type = arg_type;

@@ -12,7 +12,7 @@ use Rattle.graphql_tree.specs.declared.document.Definition.{Definition}
 use Rattle.graphql_tree.specs.declared.document.Definition.TheVariants as definition
 use Rattle.graphql_tree.specs.declared.document.Operation.{Operation}
 use Rattle.graphql_requests.proofs.LastNamed.{last_from, last_is_found}
-use Rattle.graphql_requests.specs.Operations.{chosen, has_name, one_named, only_one}
+use Rattle.graphql_requests.specs.Operations.{chosen, operation_has_name, one_named, only_one}
 use Rattle.graphql_requests.specs.declared.graphql_error.GraphQLError.{GraphQLError}
 
 module _ {A : Type 0} (passes : A → Bool) where
@@ -65,7 +65,7 @@ module _ {S : Type 0} where
       → chosen name document ≡ Ok o → Contains (operations_of document) o
   chosen-listed None document o e = only-in (operations_of document) o e
   chosen-listed (Some name) document o e =
-      found-in (has_name name) (operations_of document) o (of-found _ _ o e)
+      found-in (operation_has_name name) (operations_of document) o (of-found _ _ o e)
 
   -- so it is a definition of the document
   pub chosen-in : (name : Option Bytes) (document : List (Definition S)) (o : Placed (Operation S))

@@ -19,7 +19,7 @@ use Rattle.graphql_requests.specs.Scalars.{Scalars}
 use Rattle.graphql_validation.specs.AllRules.{RequestTold}
 use Rattle.graphql_requests.specs.declared.graphql_error.GraphQLError.{GraphQLError}
 use Rattle.graphql_requests.specs.declared.graphql_error.GraphQLError.TheVariants as error
-use Rattle.graphql_requests.specs.Asked.{Asking, IsExecutable, IsRefused, Reads}
+use Rattle.graphql_requests.specs.Asked.{Asking, IsExecutable, IsRefused, ReadsValid}
 
 no-places : (errors : List RuleError) → places errors ≡ [] → errors ≡ []
 no-places [] e = refl
@@ -37,7 +37,7 @@ module _ {S C : Type 0} (s : Scalars S C) (a : Asking S C) where
   abbrev subject_of : List (Definition S) → Subject S C
   subject_of document = record { schema = declarations_of a.schema; document = document }
 
-  unread : (document : List (Definition S)) → Reads s a document → (e : GraphQLError)
+  unread : (document : List (Definition S)) → ReadsValid s a document → (e : GraphQLError)
       → IsUnread s (declarations_of a.schema) a.introspection_disabled a.text e → e ≡ error.Memory
   unread document h (error.ParseError fault) u =
       absurd (not_both s.reads s.of_bool a.text document fault h.spelled u)

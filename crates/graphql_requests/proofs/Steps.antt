@@ -13,14 +13,14 @@ use Rattle.graphql_visitors.specs.Subjects.{Subject}
 use Rattle.graphql_variable_checks.proofs.RefusalLemmas.{told_none, told_one}
 use Rattle.graphql_variable_checks.proofs.Sorted.{none_moved}
 use Rattle.graphql_validation.proofs.AllRulesLemmas.{root_exactly}
-use Rattle.graphql_requests.specs.Asked.{Asking, IsExecutable, IsRefused, Reads}
+use Rattle.graphql_requests.specs.Asked.{Asking, IsExecutable, IsRefused, ReadsValid}
 use Rattle.graphql_requests.specs.Operations.{chosen, mutation_root}
 use Rattle.graphql_requests.specs.Refusals.{AreRefused, IsHeld, IsOnly, IsStopped, IsUnread, IsValidIn, TakesValues}
 use Rattle.graphql_requests.specs.Scalars.{Scalars}
 use Rattle.graphql_requests.specs.declared.graphql_error.GraphQLError.{GraphQLError}
 use Rattle.graphql_requests.specs.declared.graphql_error.GraphQLError.TheVariants as error
 use Rattle.graphql_requests.proofs.Exclusive.{from-ok}
-use Rattle.graphql_requests.specs.Steps.{ExecutedAreAtNoStep, IsRefusedAt, OneStepRefuses, RefusalsHaveSteps, Step, Tells, choice, coercion, no_document, not_chosen, not_served, not_valid, parsing, serving, takes_not, validation}
+use Rattle.graphql_requests.specs.Steps.{ExecutedAreAtNoStep, IsRefusedAt, OneStepRefuses, RefusalsHaveSteps, RequestStep, Tells, choice, coercion, no_document, not_chosen, not_served, not_valid, parsing, serving, takes_not, validation}
 
 no-places : (errors : List RuleError) → places errors ≡ [] → errors ≡ []
 no-places [] e = refl
@@ -39,7 +39,7 @@ module _ {S C : Type 0} (s : Scalars S C) (a : Asking S C) where
   subject_of document = record { schema = declarations_of a.schema; document = document }
 
   abbrev At : GraphQLError → Type 0
-  At why = (why ≡ error.Memory) ⊎ ((step : Step) × IsRefusedAt s a step × Tells why step)
+  At why = (why ≡ error.Memory) ⊎ ((step : RequestStep) × IsRefusedAt s a step × Tells why step)
 
   -- ---- a refusal is at a step
 
@@ -63,7 +63,7 @@ module _ {S C : Type 0} (s : Scalars S C) (a : Asking S C) where
   of-unread error.NoMutationType u = absurd u
   of-unread error.Memory u = inl refl
 
-  module _ (document : List (Definition S)) (read : Reads s a document) where
+  module _ (document : List (Definition S)) (read : ReadsValid s a document) where
     module _ (o : Placed (Operation S)) (is : chosen a.operation_name document ≡ Ok o) where
       values-refused : (errors : List RuleError) → AreRefused s a.schema a.given o errors
           → TakesValues s a.schema a.given o → ⊥
@@ -129,7 +129,7 @@ module _ {S C : Type 0} (s : Scalars S C) (a : Asking S C) where
   -- ---- what is executed is refused at no step
 
   not-refused-at : (document : List (Definition S)) (o : Placed (Operation S))
-      → IsExecutable s a document o → (step : Step) → IsRefusedAt s a step → ⊥
+      → IsExecutable s a document o → (step : RequestStep) → IsRefusedAt s a step → ⊥
   not-refused-at document o x _ (no_document fault r) = not_both s.reads s.of_bool a.text document
       fault x.read.spelled r
   not-refused-at document o x _ (not_valid d only invalid) =
@@ -154,27 +154,27 @@ module _ {S C : Type 0} (s : Scalars S C) (a : Asking S C) where
 
   -- ---- a request is refused at one step
 
-  same-document : (d e : List (Definition S)) → Reads s a d → Reads s a e → d ≡ e
+  same-document : (d e : List (Definition S)) → ReadsValid s a d → ReadsValid s a e → d ≡ e
   same-document d e read other = other.alone d read.spelled
 
-  choices : (d e : List (Definition S)) → Reads s a d → Reads s a e → chosen a.operation_name d
+  choices : (d e : List (Definition S)) → ReadsValid s a d → ReadsValid s a e → chosen a.operation_name d
       ≡ chosen a.operation_name e
   choices d e read other = ap (λ (z : List (Definition S)). chosen a.operation_name z)
       (same-document d e read other)
 
   -- a document that is read is valid, and so not one that is not
-  valid-not : (d e : List (Definition S)) → Reads s a d → IsOnly s a.text e
+  valid-not : (d e : List (Definition S)) → ReadsValid s a d → IsOnly s a.text e
       → (IsValidIn s (declarations_of a.schema) a.introspection_disabled e → ⊥) → ⊥
   valid-not d e read only invalid =
       invalid (subst (λ (z : List (Definition S)). IsValidIn s (declarations_of a.schema)
       a.introspection_disabled z) (only.alone d read.spelled) read.valid)
 
-  one-chosen : (d e : List (Definition S)) (o p : Placed (Operation S)) → Reads s a d → Reads s a e
+  one-chosen : (d e : List (Definition S)) (o p : Placed (Operation S)) → ReadsValid s a d → ReadsValid s a e
       → chosen a.operation_name d ≡ Ok o → chosen a.operation_name e ≡ Ok p → o ≡ p
   one-chosen d e o p read other is again = ap (from-ok o) (sym is ∙ choices d e read other ∙ again)
 
   not-chosen-too : (d e : List (Definition S)) (o : Placed (Operation S)) (why : GraphQLError)
-      → Reads s a d → Reads s a e
+      → ReadsValid s a d → ReadsValid s a e
       → chosen a.operation_name d ≡ Ok o → chosen a.operation_name e ≡ Err why → ⊥
   not-chosen-too d e o why read other is again = not-refused (chosen a.operation_name d) o why is
       (choices d e read other ∙ again)
@@ -183,7 +183,7 @@ module _ {S C : Type 0} (s : Scalars S C) (a : Asking S C) where
       → TakesValues s a.schema a.given p
   takes-too o p same = subst (λ (z : Placed (Operation S)). TakesValues s a.schema a.given z) same
 
-  one-step : (x y : Step) → IsRefusedAt s a x → IsRefusedAt s a y → x ≡ y
+  one-step : (x y : RequestStep) → IsRefusedAt s a x → IsRefusedAt s a y → x ≡ y
   one-step _ _ (no_document f r) (no_document g t) = refl
   one-step _ _ (no_document f r) (not_valid e only h) =
       absurd (not_both s.reads s.of_bool a.text e f only.spelled r)

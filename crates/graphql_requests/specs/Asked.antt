@@ -39,13 +39,13 @@ asking schema introspection_disabled text name given = record {
 -- by what scalars mean
 module _ {S C : Type 0} (s : Scalars S C) (a : Asking S C) where
   -- the text is this document, which is valid
-  abbrev pub Reads : List (Definition S) → Type 0
-  Reads = IsRead s (declarations_of a.schema) a.introspection_disabled a.text
+  abbrev pub ReadsValid : List (Definition S) → Type 0
+  ReadsValid = IsRead s (declarations_of a.schema) a.introspection_disabled a.text
 
   -- the text is a valid document, and of it an operation is executed
   pub record IsExecutable (document : List (Definition S))
       (operation : Placed (Operation S)) : Type 0 where
-    pub read : Reads document
+    pub read : ReadsValid document
     pub ready : IsReady s a.schema a.given (chosen a.operation_name document) operation
 
   -- no document is read, and what rules have against the text is told in order
@@ -59,7 +59,7 @@ module _ {S C : Type 0} (s : Scalars S C) (a : Asking S C) where
   pub record IsRefusedRead (cmp : RuleError → RuleError → Ordering)
       (refusal : GraphQLError) : Type 0 where
     pub document : List (Definition S)
-    pub read : Reads document
+    pub read : ReadsValid document
     pub stopped : IsStopped s a.schema a.given (chosen a.operation_name document) refusal
     pub sorted : IsSorted cmp (errors_of refusal)
 

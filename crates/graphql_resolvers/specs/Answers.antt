@@ -107,15 +107,15 @@ module _ {N : Type 0} where
   nodes ns = Ok (reply (resolved.List (map (λ n. resolved.Node n) ns)))
 
   -- one more in front, unless one of both is an error
-  abbrev pub one_more : Answer N → Result (List (Resolved DefaultScalarValue N)) Refusal
+  abbrev pub in_front : Answer N → Result (List (Resolved DefaultScalarValue N)) Refusal
       → Result (List (Resolved DefaultScalarValue N)) Refusal
-  one_more (Ok x) (Ok xs) = Ok (x.resolved ∷ xs)
-  one_more (Ok x) (Err r) = Err r
-  one_more (Err r) others = Err r
+  in_front (Ok x) (Ok xs) = Ok (x.resolved ∷ xs)
+  in_front (Ok x) (Err r) = Err r
+  in_front (Err r) others = Err r
 
-  abbrev pub listed : Result (List (Resolved DefaultScalarValue N)) Refusal → Answer N
-  listed (Ok xs) = Ok (reply (resolved.List xs))
-  listed (Err r) = Err r
+  abbrev pub list_answer : Result (List (Resolved DefaultScalarValue N)) Refusal → Answer N
+  list_answer (Ok xs) = Ok (reply (resolved.List xs))
+  list_answer (Err r) = Err r
 
   -- ---- parts of a list that is answered; what is no list stays
 
@@ -132,16 +132,17 @@ module _ {N : Type 0} where
       → Resolved DefaultScalarValue N → Resolved DefaultScalarValue N
   cut_of f x = cut_layer f (out-Resolved DefaultScalarValue N x)
 
-  abbrev pub cut : (List (Resolved DefaultScalarValue N) → List (Resolved DefaultScalarValue N))
+  abbrev pub cut_answer : (List (Resolved DefaultScalarValue N)
+      → List (Resolved DefaultScalarValue N))
       → Answer N → Answer N
-  cut f (Ok x) = Ok (reply (cut_of f x.resolved))
-  cut f (Err r) = Err r
+  cut_answer f (Ok x) = Ok (reply (cut_of f x.resolved))
+  cut_answer f (Err r) = Err r
 
   abbrev pub cut_by : (ℕ → List (Resolved DefaultScalarValue N)
       → List (Resolved DefaultScalarValue N))
       → Option ℕ → Answer N → Answer N
   cut_by f None wanted = wanted
-  cut_by f (Some count) wanted = cut (f count) wanted
+  cut_by f (Some count) wanted = cut_answer (f count) wanted
 
   -- as many of the first as is asked for, if a count is given
   unfoldable pub first : Result (Option ℕ) Refusal → Answer N → Answer N
@@ -155,7 +156,7 @@ module _ {N : Type 0} where
     -- what each is answered, or the first reason
     unfoldable pub answers : List A → Result (List (Resolved DefaultScalarValue N)) Refusal
     answers [] = Ok []
-    answers (x ∷ xs) = one_more (answer x) (answers xs)
+    answers (x ∷ xs) = in_front (answer x) (answers xs)
 
     -- what a function may give at a reference is what is wanted of what it lends
     abbrev pub AnswersBy : (Bor A → Result (Reply N) Failure → Type 0) → Type 0
@@ -163,7 +164,7 @@ module _ {N : Type 0} where
 
     -- the list of what each is answered
     abbrev pub each : List A → Answer N
-    each xs = listed (answers xs)
+    each xs = list_answer (answers xs)
 
   module _ {A : Type 0} (node : ℕ → A → Option N) where
     -- the nodes of those from a place on that have one, each by its place and itself

@@ -55,12 +55,12 @@ all_some [] = Some []
 all_some (x ∷ xs) = option_and_then (λ y. option_map (λ ys. y ∷ ys) (all_some xs)) x
 
 module _ {A : Type 0} (kind : Leaf → Option A) where
-  abbrev pub one : Input → Option A
-  one null = None
-  one (leaf s) = kind s
-  one (items xs) = None
-  one fields = None
-  one variable = None
+  abbrev pub one_scalar : Input → Option A
+  one_scalar null = None
+  one_scalar (leaf s) = kind s
+  one_scalar (items xs) = None
+  one_scalar fields = None
+  one_scalar variable = None
 
   -- a leaf that is no list stands for the list of it alone (3.11 List, Input Coercion)
   abbrev pub many : Input → Option (List A)
@@ -83,14 +83,14 @@ or_refused (Some x) r = Ok (Some x)
 or_refused None r = Err r
 
 -- what is read of what stands there; nothing of `null`, and where nothing is given
-abbrev pub asked_of : {A : Type 0} → (Input → Option A) → Refusal → Option Input
+abbrev pub read_of : {A : Type 0} → (Input → Option A) → Refusal → Option Input
     → Result (Option A) Refusal
-asked_of reads r None = Ok None
-asked_of reads r (Some null) = Ok None
-asked_of reads r (Some (leaf s)) = or_refused (reads (leaf s)) r
-asked_of reads r (Some (items xs)) = or_refused (reads (items xs)) r
-asked_of reads r (Some fields) = or_refused (reads fields) r
-asked_of reads r (Some variable) = or_refused (reads variable) r
+read_of reads r None = Ok None
+read_of reads r (Some null) = Ok None
+read_of reads r (Some (leaf s)) = or_refused (reads (leaf s)) r
+read_of reads r (Some (items xs)) = or_refused (reads (items xs)) r
+read_of reads r (Some fields) = or_refused (reads fields) r
+read_of reads r (Some variable) = or_refused (reads variable) r
 
 -- it has to be there
 abbrev pub needed_of : {A : Type 0} → Refusal → Result (Option A) Refusal → Result A Refusal
@@ -103,22 +103,22 @@ needed name found = needed_of (refused name (codes "not given")) found
 
 module _ (given : Inputs) (name : Bytes) where
   abbrev pub asked : {A : Type 0} → (Input → Option A) → Bytes → Result (Option A) Refusal
-  asked reads what = asked_of reads (refused name what) (given (name ∷ []))
+  asked reads what = read_of reads (refused name what) (given (name ∷ []))
 
   abbrev pub word_or_null : Result (Option Bytes) Refusal
-  word_or_null = asked (one as_word) (codes "no text")
+  word_or_null = asked (one_scalar as_word) (codes "no text")
 
   abbrev pub int_or_null : Result (Option ℤ) Refusal
-  int_or_null = asked (one as_int) (codes "no integer")
+  int_or_null = asked (one_scalar as_int) (codes "no integer")
 
   abbrev pub boolean_or_null : Result (Option Bool) Refusal
-  boolean_or_null = asked (one as_boolean) (codes "no truth value")
+  boolean_or_null = asked (one_scalar as_boolean) (codes "no truth value")
 
   abbrev pub id_or_null : Result (Option Bytes) Refusal
-  id_or_null = asked (one as_id) (codes "no id")
+  id_or_null = asked (one_scalar as_id) (codes "no id")
 
   abbrev pub count_or_null : Result (Option ℕ) Refusal
-  count_or_null = asked (one as_count) (codes "no count")
+  count_or_null = asked (one_scalar as_count) (codes "no count")
 
   abbrev pub words_or_null : Result (Option (List Bytes)) Refusal
   words_or_null = asked (many as_word) (codes "no list of texts")

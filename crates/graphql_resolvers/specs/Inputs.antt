@@ -45,8 +45,8 @@ input_layer (InputValue-F.Variable name) = variable
 input_layer (InputValue-F.List xs) = items (leaves_of xs)
 input_layer (InputValue-F.Object pairs) = fields
 
-abbrev pub input_of : InputValue DefaultScalarValue → Input
-input_of v = input_layer (out-InputValue DefaultScalarValue v)
+abbrev pub read_input : InputValue DefaultScalarValue → Input
+read_input v = input_layer (out-InputValue DefaultScalarValue v)
 
 -- the value of the first field of this name
 abbrev pub field_named : List (Pair (InputValue DefaultScalarValue)) → Bytes
@@ -63,22 +63,23 @@ field_layer (InputValue-F.List xs) name = None
 field_layer (InputValue-F.Object pairs) name = field_named pairs name
 
 -- the field of this name of an input object
-abbrev pub field_of : InputValue DefaultScalarValue → Bytes → Option (InputValue DefaultScalarValue)
-field_of v = field_layer (out-InputValue DefaultScalarValue v)
+abbrev pub input_field : InputValue DefaultScalarValue → Bytes
+    → Option (InputValue DefaultScalarValue)
+input_field v = field_layer (out-InputValue DefaultScalarValue v)
 
 -- what stands at each path of names; nothing where nothing is given
 abbrev pub Inputs : Type 0
 Inputs = List Bytes → Option Input
 
 -- in a value
-abbrev pub within : List Bytes → InputValue DefaultScalarValue → Option Input
-within [] v = Some (input_of v)
-within (name ∷ path) v = option_and_then (within path) (field_of v name)
+abbrev pub input_at : List Bytes → InputValue DefaultScalarValue → Option Input
+input_at [] v = Some (read_input v)
+input_at (name ∷ path) v = option_and_then (input_at path) (input_field v name)
 
 -- where this is what stands under each name
 abbrev pub inputs_named : (Bytes → Option (InputValue DefaultScalarValue)) → Inputs
 inputs_named named [] = Some fields
-inputs_named named (name ∷ path) = option_and_then (within path) (named name)
+inputs_named named (name ∷ path) = option_and_then (input_at path) (named name)
 
 -- of a field's arguments
 abbrev pub inputs_of : Given DefaultScalarValue → Inputs

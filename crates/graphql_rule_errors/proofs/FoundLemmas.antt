@@ -9,7 +9,7 @@ use Rattle.std.proofs.lemmas.List.Folds.{find-append}
 use Rattle.std.proofs.lemmas.Map.Text.{hash_map_updates_str}
 use Rattle.graphql_names.specs.Names.{Bytes, named}
 use Rattle.graphql_names.proofs.NameLemmas.{same_bytes}
-use Rattle.graphql_rule_errors.specs.Found.{found}
+use Rattle.graphql_rule_errors.specs.Found.{item_named}
 
 none_if : {A : Type 0} (o : Option A) → is_some o ≡ false → o ≡ None
 none_if None absent = refl
@@ -22,17 +22,17 @@ or_none (Some x) = refl
 module _ {A S : Type 0} (old new : HashMap (Bor Bytes) (Bor A) S) (own bytes : Bytes) (item : Bor A) (is : bytes ≡ own) where
   -- an item put at a name at which there is none
   pub put_one : is_some (get_by (λ k. bytes_eq bytes k.now) old) ≡ false → UpdatesBy (λ x y. bytes_eq x.now y.now) (λ k. bytes_eq bytes k.now) old new (Some item)
-      → (q : Bytes) → found new q ≡ option_or (found old q) (cond (bytes_eq own q) (Some item.now) None)
+      → (q : Bytes) → item_named new q ≡ option_or (item_named old q) (cond (bytes_eq own q) (Some item.now) None)
   put_one absent updates q =
       ap (option_map (λ a. a.now)) (hash_map_updates_str bytes old new (Some item) updates q)
       ∙ either (bytes_eq bytes q) refl
-      ∙ ap (λ b. option_or (found old q) (cond (bytes_eq b q) (Some item.now) None)) is
+      ∙ ap (λ b. option_or (item_named old q) (cond (bytes_eq b q) (Some item.now) None)) is
     where
-      either : (b : Bool) → bytes_eq bytes q ≡ b → option_map (λ a. a.now) (cond b (Some item) (get_by (λ k. bytes_eq q k.now) old)) ≡ option_or (found old q) (cond b (Some item.now) None)
+      either : (b : Bool) → bytes_eq bytes q ≡ b → option_map (λ a. a.now) (cond b (Some item) (get_by (λ k. bytes_eq q k.now) old)) ≡ option_or (item_named old q) (cond b (Some item.now) None)
       either true same =
-          let none : found old q ≡ None = ap (option_map (λ a. a.now)) (ap (λ name. get_by (λ k. bytes_eq name k.now) old) (sym (same_bytes bytes q same)) ∙ none_if _ absent) in
+          let none : item_named old q ≡ None = ap (option_map (λ a. a.now)) (ap (λ name. get_by (λ k. bytes_eq name k.now) old) (sym (same_bytes bytes q same)) ∙ none_if _ absent) in
           sym (ap (λ o. option_or o (Some item.now)) none)
-      either false differs = or_none (found old q)
+      either false differs = or_none (item_named old q)
 
 module _ {A : Type 0} (name_of : A → Bytes) where
   -- the first of a name among one more

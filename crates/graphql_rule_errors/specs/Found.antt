@@ -7,5 +7,5 @@ use Rattle.std.specs.Str.{bytes_eq}
 use Rattle.graphql_names.specs.Names.{Bytes}
 
 -- the item at a name
-abbrev pub found : {A S : Type 0} → HashMap (Bor Bytes) (Bor A) S → Bytes → Option A
-found map name = option_map (λ a. a.now) (get_by (λ k. bytes_eq name k.now) map)
+abbrev pub item_named : {A S : Type 0} → HashMap (Bor Bytes) (Bor A) S → Bytes → Option A
+item_named map name = option_map (λ a. a.now) (get_by (λ k. bytes_eq name k.now) map)

@@ -4,7 +4,7 @@ ghost use Rattle.std.specs.Prelude.{◌≡◌, ◌∷◌, ◌++◌, [], ℕ, Lis
 ghost use Rattle.std.specs.Prelude.{if◌then◌else◌, string_bytes};
 ghost use Rattle.std.specs.Option.{option_copied, option_map, option_or};
 ghost use Rattle.std.specs.Str.{bytes_eq};
-ghost use Rattle.graphql_rule_errors.specs.Found.{found};
+ghost use Rattle.graphql_rule_errors.specs.Found.{item_named};
 ghost use Rattle.graphql_rule_errors.specs.Places.{Reports};
 ghost use Rattle.graphql_rule_errors.specs.Repeats.{behind_first, repeats};
 
@@ -62,8 +62,9 @@ pub fn first_mention<'m, M: Mentions>(
     mention: &'m M,
 ) -> Result<Option<&'m M>, AllocError>
     ensures first { IfOk result
-        (λ first. option_copied first ≡ found seen.old (M.mention_of mention.now).name) }
-    ensures seen { OnOk result ((name : List ℕ) → found seen.new name ≡ option_or (found seen.old
+        (λ first. option_copied first ≡ item_named seen.old (M.mention_of mention.now).name) }
+    ensures seen { OnOk result
+        ((name : List ℕ) → item_named seen.new name ≡ option_or (item_named seen.old
         name) (if bytes_eq (M.mention_of mention.now).name name then Some mention.now else None)) }
 {
     let name = mention.name();

@@ -16,7 +16,7 @@ use Rattle.graphql_names.proofs.NameMaps.{found_is_in}
 use Rattle.graphql_names.specs.Names.{Bytes, passes}
 use Rattle.graphql_occurrences.proofs.OccurrenceEquations.{parts_null, parts_scalar, parts_enum, parts_variable, parts_list, parts_object, parts_field, parts_spread, parts_inline}
 use Rattle.graphql_occurrences.specs.Lookups.{argument_place, bare_place, directive_arguments, field_arguments, field_in, field_place, field_type, item_place, known, location_of, referred, root_of}
-use Rattle.graphql_occurrences.specs.Occurrences.{definition_parts, directive_parts, directives_parts, field_layer, fragment_parts, given_parts, inline_layer, occurrences, operation_parts, placed_parts, selection_parts, set_parts, under, value_parts, variable_parts}
+use Rattle.graphql_occurrences.specs.Occurrences.{definition_parts, directive_parts, directives_parts, field_layer, fragment_parts, given_parts, inline_layer, occurrences, operation_parts, placed_parts, selection_parts, set_parts, parts_under, value_parts, variable_parts}
 use Rattle.graphql_occurrences.specs.Parts.{ASpread, AnInline, Condition, InlinePart, InputPlace, Part, SpreadPart}
 use Rattle.graphql_rule_errors.specs.Places.{error_if}
 use Rattle.graphql_rules.specs.Overlaps.{are_apart}
@@ -141,12 +141,12 @@ module _ {S C : Type 0} (subject : Subject S C) where
   any_set xs h None own = same_none
   any_set xs h (Some t) own = known_set xs h t (own t refl)
 
-  nothing_under : (m : Option (MetaType S C)) → SaysSame (under schema m [])
+  nothing_under : (m : Option (MetaType S C)) → SaysSame (parts_under schema m [])
   nothing_under None = same_none
   nothing_under (Some t) = same_none
 
   -- what is within a field
-  set_same : (set : Option (List (Selection S))) → IfSome set (All SelectionSame) → (t : Option TypeOf) → SaysSame (under schema (referred schema t) (unwrap_or (option_map (map (selection_parts schema)) set) []))
+  set_same : (set : Option (List (Selection S))) → IfSome set (All SelectionSame) → (t : Option TypeOf) → SaysSame (parts_under schema (referred schema t) (unwrap_or (option_map (map (selection_parts schema)) set) []))
   set_same None h t = nothing_under (referred schema t)
   set_same (Some xs) h t = any_set xs h (referred schema t) (own_referred t)
 

@@ -15,10 +15,10 @@ use Rattle.graphql_tree.specs.Arguments.{Argument}
 use Rattle.graphql_values.specs.declared.input_value.InputValue.{InputValue}
 use Rattle.graphql_visitors.specs.Rules.{Tell}
 use Rattle.graphql_visitors.specs.Subjects.{Subject}
-use Rattle.graphql_rules.specs.ArgumentsOfCorrectType.{arguments_of_correct_type_faults, asked_at, literal_of, literals_among}
-use Rattle.graphql_rules.specs.DefaultValuesOfCorrectType.{asked_of, default_of, default_values_of_correct_type_faults}
+use Rattle.graphql_rules.specs.ArgumentsOfCorrectType.{arguments_of_correct_type_faults, asked_argument, literal_of, literals_among}
+use Rattle.graphql_rules.specs.DefaultValuesOfCorrectType.{asked_default, defaults_asked, default_values_of_correct_type_faults}
 use Rattle.graphql_rules.specs.Laws.{ArgumentsFit, DefaultFits}
-use Rattle.graphql_rules.specs.Literals.{Asked, Fits, Judged, Misfits}
+use Rattle.graphql_rules.specs.Literals.{Asked, LiteralConforms, LiteralJudged, Misfits}
 
 module _ {X : Type 0} (Says : X → Places → Type 0) where
   -- where what is told of each item is determined, so is what is told of them all
@@ -62,53 +62,53 @@ module _ {A : Type 0} (P : A → Type 0) where
   each_option f (Some b) = (λ h x is. subst (λ y. P (f y)) (same_Some b x is) h.0, λ h. (h b refl, tt))
 
 module _ {S C : Type 0} (answer : S → ScalarAnswer) (accepts : C → InputValue S → Type 0) (types : List (MetaType S C)) where
-  judged_one : (a : Asked S) (ts us : Places) → Judged answer accepts types a ts → Judged answer accepts types a us → ts ≡ us
+  judged_one : (a : Asked S) (ts us : Places) → LiteralJudged answer accepts types a ts → LiteralJudged answer accepts types a us → ts ≡ us
   judged_one a ts us (inl h) (inl k) = h.1 ∙ sym k.1
   judged_one a ts us (inl h) (inr k) = absurd (k.0 h.0)
   judged_one a ts us (inr h) (inl k) = absurd (h.0 k.0)
   judged_one a ts us (inr h) (inr k) = h.1 ∙ sym k.1
 
-  judged_fits : (a : Asked S) → Judged answer accepts types a [] → Fits answer accepts types a
+  judged_fits : (a : Asked S) → LiteralJudged answer accepts types a [] → LiteralConforms answer accepts types a
   judged_fits a (inl h) = h.0
   judged_fits a (inr h) = absurd (omega (arith, ap length h.1))
 
-  pub fits_each : (asked : List (Asked S)) → Misfits answer accepts types asked [] ↔ Each (Fits answer accepts types) asked
+  pub fits_each : (asked : List (Asked S)) → Misfits answer accepts types asked [] ↔ Each (LiteralConforms answer accepts types) asked
   fits_each [] = (λ h. tt, λ h. refl)
   fits_each (a ∷ asked) = (
-    λ h. let each = (tell_none (Judged answer accepts types) (a ∷ asked)).0 h in (judged_fits a each.0, (fits_each asked).0 ((tell_none (Judged answer accepts types) asked).1 each.1)),
+    λ h. let each = (tell_none (LiteralJudged answer accepts types) (a ∷ asked)).0 h in (judged_fits a each.0, (fits_each asked).0 ((tell_none (LiteralJudged answer accepts types) asked).1 each.1)),
     λ h. ([], [], refl, inl (h.0, refl), (fits_each asked).1 h.1),
   )
 
   -- nothing is told of literals exactly where each of them conforms
-  pub misfits_none : (asked : List (Asked S)) → Misfits answer accepts types asked [] ↔ ((a : Asked S) → Contains asked a → Fits answer accepts types a)
-  misfits_none asked = (λ h. (each_contained (Fits answer accepts types) asked).0 ((fits_each asked).0 h), λ h. (fits_each asked).1 ((each_contained (Fits answer accepts types) asked).1 h))
+  pub misfits_none : (asked : List (Asked S)) → Misfits answer accepts types asked [] ↔ ((a : Asked S) → Contains asked a → LiteralConforms answer accepts types a)
+  misfits_none asked = (λ h. (each_contained (LiteralConforms answer accepts types) asked).0 ((fits_each asked).0 h), λ h. (fits_each asked).1 ((each_contained (LiteralConforms answer accepts types) asked).1 h))
 
   -- what is told of literals is determined
   pub misfits_one : (asked : List (Asked S)) (ts us : Places) → Misfits answer accepts types asked ts → Misfits answer accepts types asked us → ts ≡ us
-  misfits_one = tell_one (Judged answer accepts types) judged_one
+  misfits_one = tell_one (LiteralJudged answer accepts types) judged_one
 
   abbrev Fit : List (Declared S) → Argument S → Type 0
-  Fit declared a = ForSome (argument_named declared a.0.item) (λ d. Fits answer accepts types (asked_at a d))
+  Fit declared a = ForSome (argument_named declared a.0.item) (λ d. LiteralConforms answer accepts types (asked_argument a d))
 
-  arguments_fit : (g : GivenPart S) → Each (Fits answer accepts types) (literals_among g.declared g.given) ↔ ArgumentsFit answer accepts types g
+  arguments_fit : (g : GivenPart S) → Each (LiteralConforms answer accepts types) (literals_among g.declared g.given) ↔ ArgumentsFit answer accepts types g
   arguments_fit g = among g.declared g.given
     where
-      each_fits : (declared : List (Declared S)) (given : List (Argument S)) → Each (Fits answer accepts types) (flat_map (literal_of declared) given) ↔ ((a : Argument S) → Contains given a → Fit declared a)
+      each_fits : (declared : List (Declared S)) (given : List (Argument S)) → Each (LiteralConforms answer accepts types) (flat_map (literal_of declared) given) ↔ ((a : Argument S) → Contains given a → Fit declared a)
       each_fits declared given = (
-        λ h a there. (each_option (Fits answer accepts types) (asked_at a) (argument_named declared a.0.item)).0
-            ((each_contained (λ b. Each (Fits answer accepts types) (literal_of declared b)) given).0 ((each_flat (Fits answer accepts types) (literal_of declared) given).0 h) a there),
-        λ h. (each_flat (Fits answer accepts types) (literal_of declared) given).1
-            ((each_contained (λ b. Each (Fits answer accepts types) (literal_of declared b)) given).1
-            (λ a there. (each_option (Fits answer accepts types) (asked_at a) (argument_named declared a.0.item)).1 (h a there))),
+        λ h a there. (each_option (LiteralConforms answer accepts types) (asked_argument a) (argument_named declared a.0.item)).0
+            ((each_contained (λ b. Each (LiteralConforms answer accepts types) (literal_of declared b)) given).0 ((each_flat (LiteralConforms answer accepts types) (literal_of declared) given).0 h) a there),
+        λ h. (each_flat (LiteralConforms answer accepts types) (literal_of declared) given).1
+            ((each_contained (λ b. Each (LiteralConforms answer accepts types) (literal_of declared b)) given).1
+            (λ a there. (each_option (LiteralConforms answer accepts types) (asked_argument a) (argument_named declared a.0.item)).1 (h a there))),
       )
 
-      among : (declared : Option (List (Declared S))) (given : List (Argument S)) → Each (Fits answer accepts types) (literals_among declared given) ↔ ForSome declared (λ ds. (a : Argument S) → Contains given a → Fit ds a)
+      among : (declared : Option (List (Declared S))) (given : List (Argument S)) → Each (LiteralConforms answer accepts types) (literals_among declared given) ↔ ForSome declared (λ ds. (a : Argument S) → Contains given a → Fit ds a)
       among None given = (λ h x is. absurd (none-some x is), λ h. tt)
       among (Some ds) given = (λ h x is. subst (λ xs. (a : Argument S) → Contains given a → Fit xs a) (same_Some ds x is) ((each_fits ds given).0 h), λ h. (each_fits ds given).1 (h ds refl))
 
 module _ {S C : Type 0} (answer : S → ScalarAnswer) (accepts : C → InputValue S → Type 0) (subject : Subject S C) (parts : List (Part S C)) where
   abbrev FitHere : Asked S → Type 0
-  FitHere = Fits answer accepts subject.schema.types
+  FitHere = LiteralConforms answer accepts subject.schema.types
 
   -- nothing is told of arguments exactly where those that are declared conform
   pub arguments_none : Tell (arguments_of_correct_type_faults answer accepts subject) parts [] ↔ ((g : GivenPart S) → Contains parts (Given g) → ArgumentsFit answer accepts subject.schema.types g)
@@ -130,23 +130,23 @@ module _ {S C : Type 0} (answer : S → ScalarAnswer) (accepts : C → InputValu
       one (Given g) ts us h k = misfits_one answer accepts subject.schema.types (literals_among g.declared g.given) ts us h k
       one _ ts us h k = h ∙ sym k
 
-  default_fits : (v : VariablePart S) → Each FitHere (default_of subject.schema v) ↔ DefaultFits answer accepts subject.schema v
+  default_fits : (v : VariablePart S) → Each FitHere (defaults_asked subject.schema v) ↔ DefaultFits answer accepts subject.schema v
   default_fits v = either (is_some (known subject.schema v.type_of.item.name))
     where
-      either : (b : Bool) → Each FitHere (if b then option_to_list (option_map (asked_of v) v.default) else []) ↔ (b ≡ true → ForSome v.default (λ default. FitHere (asked_of v default)))
-      either true = (λ h there. (each_option FitHere (asked_of v) v.default).0 h, λ h. (each_option FitHere (asked_of v) v.default).1 (h refl))
+      either : (b : Bool) → Each FitHere (if b then option_to_list (option_map (asked_default v) v.default) else []) ↔ (b ≡ true → ForSome v.default (λ default. FitHere (asked_default v default)))
+      either true = (λ h there. (each_option FitHere (asked_default v) v.default).0 h, λ h. (each_option FitHere (asked_default v) v.default).1 (h refl))
       either false = (λ h there. absurd (false≢true there), λ h. tt)
 
   -- nothing is told of defaults exactly where those of known types conform
   pub defaults_none : Tell (default_values_of_correct_type_faults answer accepts subject) parts [] ↔ ((v : VariablePart S) → Contains parts (VariableDefined v) → DefaultFits answer accepts subject.schema v)
   defaults_none = (
-    λ h v there. (default_fits v).0 ((fits_each answer accepts subject.schema.types (default_of subject.schema v)).0
+    λ h v there. (default_fits v).0 ((fits_each answer accepts subject.schema.types (defaults_asked subject.schema v)).0
         ((each_contained (λ p. default_values_of_correct_type_faults answer accepts subject p []) parts).0 ((tell_none (default_values_of_correct_type_faults answer accepts subject) parts).0 h) (VariableDefined v) there)),
     λ h. (tell_none (default_values_of_correct_type_faults answer accepts subject) parts).1 ((each_contained (λ p. default_values_of_correct_type_faults answer accepts subject p []) parts).1 (at h)),
   )
     where
       at : ((v : VariablePart S) → Contains parts (VariableDefined v) → DefaultFits answer accepts subject.schema v) → (p : Part S C) → Contains parts p → default_values_of_correct_type_faults answer accepts subject p []
-      at h (VariableDefined v) there = (fits_each answer accepts subject.schema.types (default_of subject.schema v)).1 ((default_fits v).1 (h v there))
+      at h (VariableDefined v) there = (fits_each answer accepts subject.schema.types (defaults_asked subject.schema v)).1 ((default_fits v).1 (h v there))
       at h _ there = refl
 
   -- what is told of defaults is determined
@@ -154,5 +154,5 @@ module _ {S C : Type 0} (answer : S → ScalarAnswer) (accepts : C → InputValu
   defaults_one = tell_one (default_values_of_correct_type_faults answer accepts subject) one parts
     where
       one : (p : Part S C) (ts us : Places) → default_values_of_correct_type_faults answer accepts subject p ts → default_values_of_correct_type_faults answer accepts subject p us → ts ≡ us
-      one (VariableDefined v) ts us h k = misfits_one answer accepts subject.schema.types (default_of subject.schema v) ts us h k
+      one (VariableDefined v) ts us h k = misfits_one answer accepts subject.schema.types (defaults_asked subject.schema v) ts us h k
       one _ ts us h k = h ∙ sym k

@@ -13,13 +13,13 @@ use Rattle.graphql_visitors.specs.Rules.{Relation}
 use Rattle.graphql_rules.specs.Literals.{Asked, Misfits}
 
 module _ {S : Type 0} where
-  abbrev pub asked_at : Argument S → Declared S → Asked S
-  asked_at a d = record { type_of = d.arg_type; literal = a.1 }
+  abbrev pub asked_argument : Argument S → Declared S → Asked S
+  asked_argument a d = record { type_of = d.arg_type; literal = a.1 }
 
   -- the value of an argument, where the argument is declared
   abbrev pub literal_of : List (Declared S) → Argument S → List (Asked S)
   literal_of declared a =
-      option_to_list (option_map (asked_at a) (argument_named declared a.0.item))
+      option_to_list (option_map (asked_argument a) (argument_named declared a.0.item))
 
   -- no type is asked for in what an unknown field or directive is given
   abbrev pub literals_among : Option (List (Declared S)) → List (Argument S) → List (Asked S)

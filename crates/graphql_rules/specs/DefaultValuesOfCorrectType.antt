@@ -12,17 +12,17 @@ use Rattle.graphql_visitors.specs.Rules.{Relation}
 use Rattle.graphql_rules.specs.Literals.{Asked, Misfits}
 
 -- at the variable's own type, with its wraps
-abbrev pub asked_of : {S : Type 0} → VariablePart S → Placed (InputValue S) → Asked S
-asked_of v default = record { type_of = v.type_of.item; literal = default }
+abbrev pub asked_default : {S : Type 0} → VariablePart S → Placed (InputValue S) → Asked S
+asked_default v default = record { type_of = v.type_of.item; literal = default }
 
 module _ {S C : Type 0} (schema : Declarations S C) where
   -- the default, where there is one and the variable's type is known
-  abbrev pub default_of : VariablePart S → List (Asked S)
-  default_of v = if is_some (known schema v.type_of.item.name)
-      then option_to_list (option_map (asked_of v) v.default) else []
+  abbrev pub defaults_asked : VariablePart S → List (Asked S)
+  defaults_asked v = if is_some (known schema v.type_of.item.name)
+      then option_to_list (option_map (asked_default v) v.default) else []
 
   abbrev pub defaults_at : Part S C → List (Asked S)
-  defaults_at (VariableDefined v) = default_of v
+  defaults_at (VariableDefined v) = defaults_asked v
   defaults_at _ = []
 
 module _ {S C : Type 0} (answer : S → ScalarAnswer) (accepts : C → InputValue S → Type 0) where

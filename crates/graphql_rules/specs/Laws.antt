@@ -22,9 +22,9 @@ use Rattle.graphql_visitors.specs.Subjects.{Subject}
 use Rattle.graphql_rules.specs.ScalarLeafs.{is_leaf}
 use Rattle.graphql_scalars.specs.ScalarAnswers.{ScalarAnswer}
 use Rattle.graphql_values.specs.declared.input_value.InputValue.{InputValue}
-use Rattle.graphql_rules.specs.ArgumentsOfCorrectType.{asked_at}
-use Rattle.graphql_rules.specs.DefaultValuesOfCorrectType.{asked_of}
-use Rattle.graphql_rules.specs.Literals.{Fits}
+use Rattle.graphql_rules.specs.ArgumentsOfCorrectType.{asked_argument}
+use Rattle.graphql_rules.specs.DefaultValuesOfCorrectType.{asked_default}
+use Rattle.graphql_rules.specs.Literals.{LiteralConforms}
 
 module _ {S C : Type 0} where
   -- a rule says nothing of these parts
@@ -86,9 +86,11 @@ module _ {S C : Type 0} (answer : S → ScalarAnswer) (accepts : C → InputValu
   -- the value of each argument that is declared conforms to the type that is declared
   abbrev pub ArgumentsFit : List (MetaType S C) → GivenPart S → Type 0
   ArgumentsFit types g = ForSome g.declared (λ declared. (a : Argument S) → Contains g.given a
-      → ForSome (argument_named declared a.0.item) (λ d. Fits answer accepts types (asked_at a d)))
+      → ForSome (argument_named declared a.0.item)
+      (λ d. LiteralConforms answer accepts types (asked_argument a d)))
 
   -- the default, where there is one and the variable's type is known, conforms to that type
   abbrev pub DefaultFits : Declarations S C → VariablePart S → Type 0
   DefaultFits schema v = IsSome (known schema v.type_of.item.name)
-      → ForSome v.default (λ default. Fits answer accepts schema.types (asked_of v default))
+      → ForSome v.default
+      (λ default. LiteralConforms answer accepts schema.types (asked_default v default))

@@ -19,14 +19,15 @@ pub record Asked (S : Type 0) : Type 0 where
 -- by what a scalar answers, what the check of a type accepts, and the types of a schema
 module _ {S C : Type 0} (answer : S → ScalarAnswer) (accepts : C → InputValue S → Type 0)
     (types : List (MetaType S C)) where
-  abbrev pub Fits : Asked S → Type 0
-  Fits a = Conforms answer accepts types Literal a.type_of a.literal.item
+  abbrev pub LiteralConforms : Asked S → Type 0
+  LiteralConforms a = Conforms answer accepts types Literal a.type_of a.literal.item
 
   -- no error where a literal conforms, and one at its start where it does not
-  abbrev pub Judged : Asked S → Places → Type 0
-  Judged a told =
-      (Fits a × (told ≡ [])) ⊎ ((Fits a → ⊥) × (told ≡ (a.literal.span.start ∷ []) ∷ []))
+  abbrev pub LiteralJudged : Asked S → Places → Type 0
+  LiteralJudged a told =
+      (LiteralConforms a × (told ≡ []))
+      ⊎ ((LiteralConforms a → ⊥) × (told ≡ (a.literal.span.start ∷ []) ∷ []))
 
   -- those of the literals that do not conform, in order
   abbrev pub Misfits : List (Asked S) → Places → Type 0
-  Misfits = Tell Judged
+  Misfits = Tell LiteralJudged

@@ -9,7 +9,7 @@ ghost use Rattle.graphql_occurrences.specs.PartsOf.{parts_of};
 ghost use Rattle.graphql_schema.specs.Declarations.{declarations_of};
 ghost use Rattle.graphql_visitors.specs.Reports.{ReportsBy};
 ghost use Rattle.graphql_visitors.specs.Subjects.{seen_in};
-ghost use Rattle.graphql_rules.specs.DefaultValuesOfCorrectType.{default_of, defaults_at};
+ghost use Rattle.graphql_rules.specs.DefaultValuesOfCorrectType.{defaults_asked, defaults_at};
 ghost use Rattle.graphql_rules.specs.Literals.{Misfits};
 
 use crate::literals::{Role, report_literal};
@@ -83,7 +83,7 @@ fn report_variable<'a, 't, S: SchemaScalar>(
     variable: &'a (Spanning<TextRef<'t>>, VariableDefinition<'t, S>),
 )
     ensures { ReportsBy (Misfits S.answer S.Check.accepts context.old.schema.now.types
-        (default_of (declarations_of context.old.schema.now) (variable_part variable.now)))
+        (defaults_asked (declarations_of context.old.schema.now) (variable_part variable.now)))
         context.old context.new }
 {
     let (name, definition) = variable;

@@ -2,7 +2,7 @@
 
 ghost use Rattle.graphql_literal_checks.specs.Judged.{asked_for};
 ghost use Rattle.graphql_visitors.specs.Reports.{ReportsBy};
-ghost use Rattle.graphql_rules.specs.Literals.{Judged};
+ghost use Rattle.graphql_rules.specs.Literals.{LiteralJudged};
 
 use graphql_literal_checks::validate_literal_value;
 use graphql_names::{Type, TypeModifier};
@@ -30,7 +30,7 @@ pub(crate) fn report_literal<'a, 't, S: SchemaScalar, N: AsStr, M: AsSlice<TypeM
     asked: &Type<N, M>,
     literal: &Spanning<InputValue<S>>,
 )
-    ensures { ReportsBy (Judged S.answer S.Check.accepts context.old.schema.now.types
+    ensures { ReportsBy (LiteralJudged S.answer S.Check.accepts context.old.schema.now.types
         (record { type_of = asked_for N.text M.items asked.now; literal = literal.now }))
         context.old context.new }
 {

@@ -2,7 +2,7 @@
 
 ghost use Rattle.std.specs.Prelude.{◌≡◌, ℕ, List, IfOk, map, unwrap_or};
 ghost use Rattle.std.specs.List.{flat_map, list_all};
-ghost use Rattle.graphql_literal_checks.specs.InputFields.{has_name};
+ghost use Rattle.graphql_names.specs.NameSets.{has_name};
 ghost use Rattle.graphql_names.specs.Names.{is_one_of};
 ghost use Rattle.graphql_schema.specs.Executable as spec;
 ghost use Rattle.graphql_visitors.specs.Reports.{Reports};

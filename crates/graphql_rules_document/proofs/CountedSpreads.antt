@@ -25,7 +25,7 @@ use Rattle.graphql_schema.specs.Declarations.{Declarations}
 use Rattle.graphql_schema.specs.Lookups.{own_name}
 use Rattle.graphql_occurrences.specs.DeclaredLookups.{field_arguments, field_in, field_type, known, referred, root_of}
 use Rattle.graphql_occurrences.specs.Lookups.{location_of}
-use Rattle.graphql_occurrences.specs.Occurrences.{directives_parts, fragment_parts, given_parts, operation_parts, selection_parts, set_parts, under, type_inside, variable_parts}
+use Rattle.graphql_occurrences.specs.Occurrences.{directives_parts, fragment_parts, given_parts, operation_parts, selection_parts, set_parts, parts_under, type_inside, variable_parts}
 use Rattle.graphql_occurrences.specs.Parts.{Part, AField, ASpread, AnInline, Condition}
 use Rattle.graphql_occurrences.proofs.OccurrenceEquations.{parts_field, parts_spread, parts_inline}
 use Rattle.graphql_written_out.specs.Written.{listed}
@@ -125,7 +125,7 @@ module _ {S C : Type 0} (schema : Declarations S C) where
 
     field-split : (x : Placed (Field S)) (parent : MetaType S C) → selection_parts schema (selection.Field x) parent ≡ front-field x parent ++ own-parts x parent
     unfolding front-field own-parts
-    field-split x parent = parts_field schema x parent ∙ ap (λ set. front-field x parent ++ under schema (referred schema (field_type (field_in parent x.item.name.item))) set) (set-of x.item.selection_set)
+    field-split x parent = parts_field schema x parent ∙ ap (λ set. front-field x parent ++ parts_under schema (referred schema (field_type (field_in parent x.item.name.item))) set) (set-of x.item.selection_set)
 
     declared-in : (x : Placed (Field S)) (parent : MetaType S C) → AreKnown schema (front-field x parent) → IsSome (field_in parent x.item.name.item)
     unfolding front-field

@@ -14,7 +14,7 @@ use Rattle.graphql_tree.specs.declared.document.Definition.{Definition}
 use Rattle.graphql_tree.specs.declared.document.Definition.TheVariants as definition
 use Rattle.graphql_schema.specs.Declarations.{Declarations}
 use Rattle.graphql_schema.specs.Lookups.{own_name}
-use Rattle.graphql_occurrences.specs.Events.{events, definition_events, seen, top}
+use Rattle.graphql_occurrences.specs.Events.{events, definition_events, seen_event, top}
 use Rattle.graphql_occurrences.specs.Lookups.{root_of}
 use Rattle.graphql_occurrences.specs.Nodes.{Seen, Event, Enter, Leave, Inner, AtDocument, AtOperation, AtFragment, fragment_head, nulled, operation_head, placed_as, value_head, value_head_layer}
 use Rattle.graphql_occurrences.specs.Parts.{InputPlace, Part, Use, VariableDefined, Condition, AField, ASpread, AnInline, ADirective, Given, ObjectOf, VariableUsed}
@@ -126,12 +126,12 @@ module _ {S C : Type 0} (schema : Declarations S C) where
 
   with_definition : (os : List (OperationScope S)) (fs : List FragmentScope) (d : Definition S) → with_events (between os fs) (definition_events schema d) ≡ between (os ++ operations_here d) (fs ++ fragments_here d)
   with_definition os fs (definition.Operation o) =
-      let last = seen (top (option_map own_name (root_of schema o.item.operation_type))) (Leave (AtOperation (placed_as o (operation_head o.item)))) in
+      let last = seen_event (top (option_map own_name (root_of schema o.item.operation_type))) (Leave (AtOperation (placed_as o (operation_head o.item)))) in
       fold_append with_event (between os fs) (within_operation schema o) (last ∷ [])
       ∙ ap (λ w. with_event w last) (within (within_operation schema o) _ (operation_tells schema o) (between os fs))
       ∙ ap (λ gs. between (os ++ operations_here (definition.Operation o)) gs) (sym (append-nil fs))
   with_definition os fs (definition.Fragment f) =
-      let last = seen (top (Some f.item.type_condition.item)) (Leave (AtFragment (placed_as f (fragment_head f.item)))) in
+      let last = seen_event (top (Some f.item.type_condition.item)) (Leave (AtFragment (placed_as f (fragment_head f.item)))) in
       fold_append with_event (between os fs) (within_fragment schema f) (last ∷ [])
       ∙ ap (λ w. with_event w last) (within (within_fragment schema f) _ (fragment_tells schema f) (between os fs))
       ∙ ap (λ ps. between ps (fs ++ fragments_here (definition.Fragment f))) (sym (append-nil os))
@@ -151,5 +151,5 @@ module _ {S C : Type 0} (schema : Declarations S C) where
   pub gathered_is : (ds : List (Definition S)) → scopes_gathered (fold with_event nothing (events schema ds)) ≡ scopes_in schema ds
   unfolding events
   gathered_is ds =
-      let last : Seen S C = seen (top None) (Leave (AtDocument ds)) in
+      let last : Seen S C = seen_event (top None) (Leave (AtDocument ds)) in
       ap scopes_gathered (fold_append with_event (between [] []) (flat_map (definition_events schema) ds) (last ∷ []) ∙ ap (λ w. with_event w last) (with_definitions [] [] ds))

@@ -15,7 +15,7 @@ use Rattle.graphql_schema.specs.Types.{fields_of}
 use Rattle.graphql_schema.specs.Declarations.{Declarations}
 use Rattle.graphql_schema.proofs.Executables.{has_type_found}
 use Rattle.graphql_schema.specs.Faults.{IsFaultless, has_type, refers, is_composite}
-use Rattle.graphql_schema.specs.Lookups.{input_names, interfaces_of, is_scalar, members_of, output_names, references_of}
+use Rattle.graphql_schema.specs.Lookups.{input_names, interfaces_of, is_scalar, union_members, output_names, references_of}
 use Rattle.graphql_schema.specs.declared.faults.kind.FaultKind.TheVariants as fault
 use Rattle.graphql_occurrences.specs.DeclaredLookups.{known, typename_field}
 use Rattle.graphql_rules_document.specs.Counted.{FieldTypesAreKnown}
@@ -51,7 +51,7 @@ module _ {S C : Type 0} where
         output = list_any-from_Contains nat_list_eq_equiv f.field_type.name (output_names m) (contains-map (λ (g : Field S). g.field_type.name) (fields_of m) f there)
 
         among : is_one_of (references_of m) f.field_type.name ≡ true
-        among = append-left (output_names m ++ input_names m ++ members_of m) (interfaces_of m) (append-left (output_names m ++ input_names m) (members_of m) (append-left (output_names m) (input_names m) output))
+        among = append-left (output_names m ++ input_names m ++ union_members m) (interfaces_of m) (append-left (output_names m ++ input_names m) (union_members m) (append-left (output_names m) (input_names m) output))
 
     pub field-types-are-known : FieldTypesAreKnown schema
     field-types-are-known m name f inside e = cases (bytes_eq name (codes "__typename") && is_composite m) e

@@ -1,6 +1,6 @@
 -- What the visitor of a rule over all operations and fragments tells over a document.
 use Rattle.std.proofs.Common.{◌≡◌, true, false, List, [], ◌∷◌, ◌++◌, None, refl, sym, ap, ◌∙◌, append-nil}
-use Rattle.graphql_occurrences.specs.Events.{events, seen, top}
+use Rattle.graphql_occurrences.specs.Events.{events, seen_event, top}
 use Rattle.graphql_occurrences.specs.Nodes.{AtDocument, Enter, Seen}
 use Rattle.graphql_occurrences.specs.declared.event.Event.{Event}
 use Rattle.graphql_rule_errors.specs.Places.{Places}
@@ -52,4 +52,4 @@ module _ {S C R : Type 0} (says : ScopeRule S C) where
     pub told_over_document : (v w : Once R) (ts : List Places) → v.is_asked ≡ false
         → Runs (once says) subject v (events subject.schema subject.document) w ts → joined ts ≡ said_of says subject
     unfolding events
-    told_over_document v w ts fresh runs = told_at_first v w (seen (top None) (Enter (AtDocument subject.document))) _ ts fresh runs
+    told_over_document v w ts fresh runs = told_at_first v w (seen_event (top None) (Enter (AtDocument subject.document))) _ ts fresh runs

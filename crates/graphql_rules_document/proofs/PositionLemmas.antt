@@ -4,12 +4,12 @@ use Rattle.std.proofs.Math.Seq.{get_or-append_seam, take-append_seam}
 use Rattle.std.proofs.lemmas.List.{length_push, reverse-append, reverse-reverse}
 use Rattle.std.proofs.lemmas.Option.{slice_get_read}
 use Rattle.graphql_schema.specs.Subtypes.{is_named_subtype, is_subtype, is_wrapped_subtype}
-use Rattle.graphql_schema.specs.Types.{TypeOf}
+use Rattle.graphql_schema.specs.Types.{TypeOf, refuses_null}
 use Rattle.graphql_schema.specs.declared.meta.MetaType.{MetaType}
 use Rattle.graphql_names.specs.TypeReference.{is_non_null, nullable, outermost}
 use Rattle.graphql_names.specs.declared.type_modifier.TypeModifier.{TypeModifier}
 use Rattle.graphql_names.specs.declared.type_modifier.TypeModifier.TheVariants as modifier
-use Rattle.graphql_rules_document.specs.VariablesInAllowedPosition.{refuses_null, with_null, without_null}
+use Rattle.graphql_rules_document.specs.VariablesInAllowedPosition.{with_null, without_null}
 
 module _ (ms within : List TypeModifier) (m : TypeModifier) (are : ms ≡ within ++ m ∷ []) (count : length within + 1 ≡ length ms) where
   last_at : length ms - 1 ≡ length within

@@ -1,7 +1,7 @@
 -- What the scopes that are lent stand for.
 use Rattle.std.specs.Prelude.{map}
 use Rattle.std.specs.Option.{option_map}
-use Rattle.graphql_occurrences.specs.Lent.{input_of}
+use Rattle.graphql_occurrences.specs.Lent.{lent_input}
 use Rattle.graphql_occurrences.specs.Occurrences.{variable_part}
 use Rattle.graphql_occurrences.specs.Parts as part
 use Rattle.graphql_rules_document.specs.Scopes as spec
@@ -13,7 +13,7 @@ use Rattle.graphql_rules_document.specs.declared.scopes.Use.{Use}
 
 -- the use of a variable that a lent one stands for
 abbrev pub use_of : Use → part.Use
-use_of u = record { name = u.name.now; place = u.place; at = option_map input_of u.at }
+use_of u = record { name = u.name.now; place = u.place; at = option_map lent_input u.at }
 
 -- the spread that a lent one stands for
 abbrev pub spread_of : Spread → spec.Spread

@@ -1,7 +1,6 @@
 pub mod SpreadNames
 pub mod Counted
 pub mod SettledLaws
-pub mod NameSets
 pub mod NoUnusedFragments
 pub mod NoUndefinedVariables
 pub mod NoUnusedVariables

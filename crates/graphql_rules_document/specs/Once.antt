@@ -4,7 +4,7 @@ use Rattle.graphql_schema.specs.declared.meta.MetaType.{MetaType}
 use Rattle.graphql_rule_errors.specs.Places.{Places}
 use Rattle.graphql_rules_document.specs.declared.once.Once.{Once}
 use Rattle.graphql_rules_document.specs.Scopes.{FragmentScope, OperationScope, scopes_in}
-use Rattle.graphql_visitors.specs.Runs.{Step}
+use Rattle.graphql_visitors.specs.Runs.{VisitorStep}
 use Rattle.graphql_visitors.specs.Subjects.{Subject}
 
 -- the places of the errors, by the types of a schema, and by what the operations and the fragments
@@ -25,5 +25,5 @@ module _ {S C : Type 0} (says : ScopeRule S C) where
   told_by subject true = []
 
   -- the rule is asked at the first event, which is that the document is entered, and not again
-  abbrev pub once : {R : Type 0} → Step (Once R) S C
+  abbrev pub once : {R : Type 0} → VisitorStep (Once R) S C
   once subject v e w told = (w ≡ record v { is_asked = true }) × (told ≡ told_by subject v.is_asked)

@@ -4,22 +4,18 @@ use Rattle.std.specs.Prelude.{◌++◌, ◌&&◌, ◌||◌, Bool, true, false, n
 use Rattle.std.specs.Prelude.{None, if◌then◌else◌}
 use Rattle.std.specs.List.{flat_map}
 use Rattle.graphql_names.specs.Names.{named}
-use Rattle.graphql_names.specs.TypeReference.{is_non_null, nullable, outermost}
+use Rattle.graphql_names.specs.TypeReference.{nullable}
 use Rattle.graphql_names.specs.declared.type_modifier.TypeModifier.TheVariants as modifier
 use Rattle.graphql_values.specs.InputValues.{Placed}
 use Rattle.graphql_values.specs.declared.input_value.InputValue.{InputValue}
 use Rattle.graphql_values.specs.declared.input_value.InputValue.TheVariants as value
-use Rattle.graphql_schema.specs.Types.{TypeOf}
+use Rattle.graphql_schema.specs.Types.{TypeOf, refuses_null}
 use Rattle.graphql_schema.specs.declared.meta.MetaType.{MetaType}
 use Rattle.graphql_schema.specs.Subtypes.{is_subtype}
 use Rattle.graphql_occurrences.specs.Parts.{InputPlace, Use, VariablePart}
 use Rattle.graphql_rules_document.specs.Reached.{uses_from}
 use Rattle.graphql_rules_document.specs.Scopes.{FragmentScope, OperationScope}
 use Rattle.graphql_rule_errors.specs.Places.{Places, error_if}
-
--- no `null` is among its values
-abbrev pub refuses_null : TypeOf → Bool
-refuses_null t = is_non_null (outermost t.modifiers)
 
 -- the same type with `null`
 abbrev pub with_null : TypeOf → TypeOf

@@ -4,7 +4,7 @@ ghost use Rattle.std.specs.Prelude.{◌≡◌, OnOk, fold};
 ghost use Rattle.std.specs.Option.{option_map};
 ghost use Rattle.graphql_text.specs.Memory.{GivesBy};
 ghost use Rattle.graphql_tree.specs.Documents.{variables_in as variables_given};
-ghost use Rattle.graphql_occurrences.specs.Events.{seen};
+ghost use Rattle.graphql_occurrences.specs.Events.{seen_event};
 ghost use Rattle.graphql_occurrences.specs.Lent.{around_of, event_of, node_of};
 ghost use Rattle.graphql_occurrences.specs.Nodes.{AtFragment, AtFragmentSpread, AtOperation};
 ghost use Rattle.graphql_occurrences.specs.Nodes.{AtValue, Enter, Leave, fragment_head};
@@ -221,7 +221,8 @@ impl<'a, 't, S> Gathering<'a, 't, S> {
         event: &Event<'a, 't, S>,
     ) -> Result<(), AllocError>
         ensures { OnOk result (gathered self.new
-            ≡ with_event (gathered self.old) (seen (around_of around.now) (event_of event.now))) }
+            ≡ with_event (gathered self.old)
+            (seen_event (around_of around.now) (event_of event.now))) }
     {
         match event {
             Event::Enter(node) => self.enter(around, node),

@@ -5,7 +5,7 @@ ghost use Rattle.std.specs.Str.{bytes_eq};
 ghost use Rattle.graphql_names.specs.Names.{Bytes, is_one_of};
 ghost use Rattle.graphql_occurrences.specs.Occurrences.{variable_part};
 ghost use Rattle.graphql_rules_document.specs.Lent.{use_of};
-ghost use Rattle.graphql_rules_document.specs.NameSets.{has_name};
+ghost use Rattle.graphql_names.specs.NameSets.{has_name};
 
 use crate::Use;
 use graphql_text::{Spanning, TextRef};

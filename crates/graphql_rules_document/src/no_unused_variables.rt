@@ -5,7 +5,7 @@ ghost use Rattle.std.specs.List.{flat_map};
 ghost use Rattle.graphql_names.specs.Names.{Bytes, is_one_of};
 ghost use Rattle.graphql_occurrences.specs.Occurrences.{variable_part};
 ghost use Rattle.graphql_rules_document.specs.Lent.{fragment_of, operation_of};
-ghost use Rattle.graphql_rules_document.specs.NameSets.{has_name};
+ghost use Rattle.graphql_names.specs.NameSets.{has_name};
 ghost use Rattle.graphql_rules_document.specs.NoUnusedVariables as spec;
 ghost use Rattle.graphql_rule_errors.specs.Places.{Reports, error_if};
 

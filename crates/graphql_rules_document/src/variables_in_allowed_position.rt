@@ -6,7 +6,8 @@ ghost use Rattle.std.specs.List.{flat_map};
 ghost use Rattle.std.specs.Option.{option_map};
 ghost use Rattle.graphql_text.specs.Memory.{Gives};
 ghost use Rattle.graphql_schema.specs.Subtypes.{is_subtype};
-ghost use Rattle.graphql_occurrences.specs.Lent.{input_of, literal_of};
+ghost use Rattle.graphql_schema.specs.Types.{refuses_null};
+ghost use Rattle.graphql_occurrences.specs.Lent.{lent_input, literal_of};
 ghost use Rattle.graphql_occurrences.specs.Occurrences.{variable_part};
 ghost use Rattle.graphql_rules_document.specs.Lent.{fragment_of, operation_of, use_of};
 ghost use Rattle.graphql_rules_document.specs.FirstVariables.{variable_at};
@@ -131,7 +132,8 @@ fn report_at<'t, S, C>(
     errors: &mut Items<RuleError>,
 ) -> Result<(), AllocError>
     ensures { OnOk result (Reports (error_if
-        (not (spec.is_allowed schema.now.types (variable_part variable.now) (input_of place.entry)))
+        (not (spec.is_allowed schema.now.types (variable_part variable.now)
+        (lent_input place.entry)))
         (variable.now.0.span.start ∷ used.now.place ∷ [])) errors.old errors.new) }
 {
     if is_allowed(schema, variable, place) {
@@ -148,7 +150,7 @@ fn is_allowed<'t, S, C>(
     place: InputPlace<'_>,
 ) -> bool
     ensures { result
-        ≡ spec.is_allowed schema.now.types (variable_part variable.now) (input_of place.entry) }
+        ≡ spec.is_allowed schema.now.types (variable_part variable.now) (lent_input place.entry) }
 {
     let defined = TypeLiteral::of_document(&variable.1.var_type.item);
     if place.is_only_field {
@@ -203,7 +205,7 @@ fn is_below_without_null<S, C>(
 
 /// Whether `null` is no value of the type.
 fn refuses_null(literal: TypeLiteral<'_>) -> bool
-    ensures { result ≡ spec.refuses_null (literal_of literal.entry) }
+    ensures { result ≡ refuses_null (literal_of literal.entry) }
 {
     borrowed(literal).is_non_null()
 }
@@ -236,7 +238,7 @@ fn borrowed<'a>(literal: TypeLiteral<'a>) -> BorrowedType<'a>
 /// The type that is asked for at a place: without `null` at the one field of an input object. An
 /// error is want of memory.
 fn expected_at<'a>(alloc: Global, place: InputPlace<'a>) -> Result<Type<TextRef<'a>>, AllocError>
-    ensures { Gives result (spec.expected_at (input_of place.entry)) }
+    ensures { Gives result (spec.expected_at (lent_input place.entry)) }
 {
     let mut modifiers = Items::new(alloc);
     modifiers.extend_from_slice(place.asked.modifiers)?;

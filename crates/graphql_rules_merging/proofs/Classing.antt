@@ -15,7 +15,7 @@ use Rattle.graphql_schema.specs.Lookups.{own_name, is_object}
 use Rattle.graphql_tree.specs.declared.document.Fragment.{Fragment}
 use Rattle.graphql_merging.specs.Members.{declared}
 use Rattle.graphql_merging.specs.Merging.{SameField, SameShapes, Agree, are_different_objects}
-use Rattle.graphql_merging.specs.Selected.{seen}
+use Rattle.graphql_merging.specs.Selected.{member_of}
 use Rattle.graphql_merging.specs.declared.table.SetTable.{SetTable}
 use Rattle.graphql_merging.specs.declared.table.WrittenField.{WrittenField}
 use Rattle.graphql_merging.specs.declared.table.WrittenSet.{WrittenSet}
@@ -23,7 +23,7 @@ use Rattle.graphql_merging.proofs.Nested.{one-only, in-nothing}
 use Rattle.graphql_merging.proofs.Standing.{agreement-is-mutual}
 use Rattle.graphql_bundles.specs.Groups.{fields_in, is_declared, key_at, object_name}
 use Rattle.graphql_bundles.proofs.Alike.{same-field-by-a-third, shapes-third}
-use Rattle.graphql_rules_merging.specs.Classes.{AreAlike, HasClass, HasPlace, IsNumbered, AreNumbered, AreAllNumbered, numbers_of}
+use Rattle.graphql_rules_merging.specs.Classes.{AgreeAnywhere, HasClass, HasPlace, IsNumbered, AreNumbered, AreAllNumbered, numbers_of}
 use Rattle.graphql_rules_merging.specs.declared.classes.Draft.{Draft}
 use Rattle.graphql_rules_merging.specs.declared.field_numbers.FieldNumbers.{FieldNumbers}
 
@@ -87,13 +87,13 @@ other-objects m n x y e f = cases (is_object m) (is_object n) (own_name m) (own_
 module _ {S C : Type 0} (eq : S → S → Bool) (types : List (MetaType S C)) where
   -- as if both had one parent names and arguments are compared, and shapes as they are
   pub alike-by : (f g : WrittenField S C) → key_at f ≡ key_at g
-      → Agree eq types false (seen [] (record { parent = g.selected.parent; field = f.selected.field })) (seen [] g.selected)
-      → Agree eq types true (seen [] f.selected) (seen [] g.selected) → AreAlike eq types f g
+      → Agree eq types false (member_of [] (record { parent = g.selected.parent; field = f.selected.field })) (member_of [] g.selected)
+      → Agree eq types true (member_of [] f.selected) (member_of [] g.selected) → AgreeAnywhere eq types f g
   alike-by f g key written shapes = record { key = key; field = written.0 (not-other g.selected.parent.now); shape = shapes.1 }
 
   -- alike, they agree
-  pub alike-agree : (fragments : List (Fragment S)) (x : Bool) (f g : WrittenField S C) → AreAlike eq types f g
-      → Agree eq types x (seen fragments f.selected) (seen fragments g.selected)
+  pub alike-agree : (fragments : List (Fragment S)) (x : Bool) (f g : WrittenField S C) → AgreeAnywhere eq types f g
+      → Agree eq types x (member_of fragments f.selected) (member_of fragments g.selected)
   alike-agree fragments x f g alike = ((λ _. alike.field), alike.shape)
 
   module _ (third : SameByAThird eq) where
@@ -102,22 +102,22 @@ module _ {S C : Type 0} (eq : S → S → Bool) (types : List (MetaType S C)) wh
     known (Some s) e = (s, refl)
 
     -- two that are like a third, which is declared
-    alike-third : (h f g : WrittenField S C) → is_declared h ≡ true → AreAlike eq types h f → AreAlike eq types h g → AreAlike eq types f g
+    alike-third : (h f g : WrittenField S C) → is_declared h ≡ true → AgreeAnywhere eq types h f → AgreeAnywhere eq types h g → AgreeAnywhere eq types f g
     alike-third h f g is one other =
-        let s = known (declared (seen [] h.selected)) is in record {
+        let s = known (declared (member_of [] h.selected)) is in record {
           key = sym one.key ∙ other.key;
-          field = same-field-by-a-third S C eq third types (seen [] f.selected) (seen [] g.selected) (seen [] h.selected) (turned h f one.field) (turned h g other.field);
-          shape = shapes-third types (declared (seen [] f.selected)) (declared (seen [] g.selected)) s.0 (of h f s.0 s.1 one.shape) (of h g s.0 s.1 other.shape);
+          field = same-field-by-a-third S C eq third types (member_of [] f.selected) (member_of [] g.selected) (member_of [] h.selected) (turned h f one.field) (turned h g other.field);
+          shape = shapes-third types (declared (member_of [] f.selected)) (declared (member_of [] g.selected)) s.0 (of h f s.0 s.1 one.shape) (of h g s.0 s.1 other.shape);
         }
       where
-        turned : (h f : WrittenField S C) → SameField eq types (seen [] h.selected) (seen [] f.selected) → SameField eq types (seen [] f.selected) (seen [] h.selected)
+        turned : (h f : WrittenField S C) → SameField eq types (member_of [] h.selected) (member_of [] f.selected) → SameField eq types (member_of [] f.selected) (member_of [] h.selected)
         turned h f same = (sym same.0, (same.1.1, same.1.0))
 
-        of : (h f : WrittenField S C) (s : TypeOf) → declared (seen [] h.selected) ≡ Some s
-            → SameShapes types (declared (seen [] h.selected)) (declared (seen [] f.selected)) → SameShapes types (declared (seen [] f.selected)) (Some s)
+        of : (h f : WrittenField S C) (s : TypeOf) → declared (member_of [] h.selected) ≡ Some s
+            → SameShapes types (declared (member_of [] h.selected)) (declared (member_of [] f.selected)) → SameShapes types (declared (member_of [] f.selected)) (Some s)
         of h f s e shape =
-            subst (SameShapes types (declared (seen [] f.selected))) e
-            (agreement-is-mutual S C eq types true (seen [] h.selected) (seen [] f.selected) ((λ q. absurd (false≢true (sym q))), shape)).1
+            subst (SameShapes types (declared (member_of [] f.selected))) e
+            (agreement-is-mutual S C eq types true (member_of [] h.selected) (member_of [] f.selected) ((λ q. absurd (false≢true (sym q))), shape)).1
 
     -- what is so of each field by itself the numbers of each two tell
     pub numbers-tell : (table : SetTable S C) (draft : Draft S C)
@@ -143,12 +143,12 @@ module _ {S C : Type 0} (eq : S → S → Bool) (types : List (MetaType S C)) wh
         one-head h k e = cc
 
         of-class : (f g : WrittenField S C) (m n : ℕ) → HasClass eq types m draft.heads f → HasClass eq types n draft.heads g
-            → m ≡ n → (m ≡ 0 → ⊥) → AreAlike eq types f g
+            → m ≡ n → (m ≡ 0 → ⊥) → AgreeAnywhere eq types f g
         of-class f g m n (inl none) other same some = absurd (some none)
         of-class f g m n (inr one) (inl none) same some = absurd (some (same ∙ none))
         of-class f g m n (inr one) (inr other) same some =
             let head = one-head one.0 other.0 (sym one.1 ∙ ap (λ c. slice_get draft.heads (c - 1)) same ∙ other.1) in
-            alike-third one.0 f g one.3 one.2 (subst (λ (h : WrittenField S C). AreAlike eq types h g) (sym head) other.2)
+            alike-third one.0 f g one.3 one.2 (subst (λ (h : WrittenField S C). AgreeAnywhere eq types h g) (sym head) other.2)
 
   -- what is seen of the numbers of a field
   pub numbered-by : (draft : Draft S C) (f : WrittenField S C) (m : FieldNumbers) (key : List ℕ) (parent : Option (List ℕ)) (heads : List (WrittenField S C))

@@ -6,11 +6,11 @@ use Rattle.graphql_text.specs.declared.position.SourcePosition.{SourcePosition}
 use Rattle.graphql_schema.specs.declared.meta.MetaType.{MetaType}
 use Rattle.graphql_merging.specs.Members.{Member}
 use Rattle.graphql_merging.specs.Pieces.{Pieces, PieceField}
-use Rattle.graphql_merging.specs.Told.{Names, AddsErrors, Fits}
+use Rattle.graphql_merging.specs.Told.{Names, AddsErrors, AgreeIfOneKey}
 use Rattle.graphql_merging.proofs.Nested.{one-only}
 use Rattle.graphql_merging.proofs.Reports.{adds-nothing, adds-both, adds-one, adds-none}
 use Rattle.graphql_rules_merging.specs.declared.agenda.SetPair.{SetPair}
-use Rattle.graphql_rules_merging.specs.Agenda.{PairOf, Begins}
+use Rattle.graphql_rules_merging.specs.Agenda.{PairOf, ListsPairs}
 use Rattle.graphql_rules_merging.specs.Comparing.{with_each, between, later, Stage, members_in, HasOneKey, own_sets, DoAgree, Compares}
 use Rattle.graphql_rules_merging.proofs.Begun.{begins_none, begins_of_none, begins_of_both, begins_of_one}
 
@@ -52,20 +52,20 @@ module _ {S C : Type 0} (eq : S → S → Bool) (types : List (MetaType S C)) (t
 
   pub compares_none : (s : Stage) → Compares eq types t x [] s s
   compares_none s = record {
-    told = adds-nothing (Fits eq types x) s.told;
+    told = adds-nothing (AgreeIfOneKey eq types x) s.told;
     begun = begins_of_none t (own_sets x) (λ p. HasOneKey p × DoAgree eq types x p) HasOneKey s.listed;
   }
 
   pub compares_both : (ps qs : List FieldPair) (s u v : Stage) → Compares eq types t x ps s u → Compares eq types t x qs u v → Compares eq types t x (ps ++ qs) s v
   compares_both ps qs s u v f g = record {
-    told = subst (λ ms. AddsErrors (Fits eq types x) ms s.told v.told) (sym (map-append {B = Member S C × Member S C} members_in ps qs))
-        (adds-both (Fits eq types x) (map members_in ps) (map members_in qs) s.told u.told v.told f.told g.told);
+    told = subst (λ ms. AddsErrors (AgreeIfOneKey eq types x) ms s.told v.told) (sym (map-append {B = Member S C × Member S C} members_in ps qs))
+        (adds-both (AgreeIfOneKey eq types x) (map members_in ps) (map members_in qs) s.told u.told v.told f.told g.told);
     begun = begins_of_both t (own_sets x) (λ p. HasOneKey p × DoAgree eq types x p) HasOneKey ps qs s.listed u.listed v.listed f.begun g.begun;
   }
 
   pub compares_unlike : (p : FieldPair) (s : Stage) → (HasOneKey p → ⊥) → Compares eq types t x (p ∷ []) s s
   compares_unlike p s unlike = record {
-    told = adds-none (Fits eq types x) p.0.member p.1.member s.told (λ key. absurd (unlike key));
+    told = adds-none (AgreeIfOneKey eq types x) p.0.member p.1.member s.told (λ key. absurd (unlike key));
     begun = begins_none t (Must p) (May p) s.listed
         (λ k h. absurd (unlike (subst HasOneKey (sym (one-only p h.0 h.1)) h.2.0)));
   }
@@ -73,14 +73,14 @@ module _ {S C : Type 0} (eq : S → S → Bool) (types : List (MetaType S C)) (t
   pub compares_differ : (p : FieldPair) (s u : Stage) (e : List SourcePosition) → HasOneKey p → (DoAgree eq types x p → ⊥) → Names e p.0.member p.1.member
       → u.told ≡ s.told ++ e ∷ [] → u.listed ≡ s.listed → Compares eq types t x (p ∷ []) s u
   compares_differ p s u e key differ names told same = record {
-    told = adds-one (Fits eq types x) p.0.member p.1.member s.told u.told e (λ fits. differ (fits key)) names told;
-    begun = subst (Begins t (Must p) (May p) s.listed) (sym same)
+    told = adds-one (AgreeIfOneKey eq types x) p.0.member p.1.member s.told u.told e (λ fits. differ (fits key)) names told;
+    begun = subst (ListsPairs t (Must p) (May p) s.listed) (sym same)
         (begins_none t (Must p) (May p) s.listed (λ k h. absurd (differ (subst (DoAgree eq types x) (sym (one-only p h.0 h.1)) h.2.1))));
   }
 
   pub compares_agree : (p : FieldPair) (s u : Stage) → HasOneKey p → DoAgree eq types x p → u.told ≡ s.told
-      → Begins t (λ k. k ≡ own_sets x p) (λ k. k ≡ own_sets x p) s.listed u.listed → Compares eq types t x (p ∷ []) s u
+      → ListsPairs t (λ k. k ≡ own_sets x p) (λ k. k ≡ own_sets x p) s.listed u.listed → Compares eq types t x (p ∷ []) s u
   compares_agree p s u key agree same begun = record {
-    told = subst (λ told. AddsErrors (Fits eq types x) (map members_in (p ∷ [])) s.told told) (sym same) (adds-none (Fits eq types x) p.0.member p.1.member s.told (λ _. agree));
+    told = subst (λ told. AddsErrors (AgreeIfOneKey eq types x) (map members_in (p ∷ [])) s.told told) (sym same) (adds-none (AgreeIfOneKey eq types x) p.0.member p.1.member s.told (λ _. agree));
     begun = begins_of_one t (own_sets x) (λ q. HasOneKey q × DoAgree eq types x q) HasOneKey p s.listed u.listed key begun;
   }

@@ -8,7 +8,7 @@ use Rattle.graphql_schema.specs.declared.meta.MetaType.{MetaType}
 use Rattle.graphql_rule_errors.specs.Places.{Places}
 use Rattle.graphql_merging.specs.Sets.{Set, members_of, directs_of}
 use Rattle.graphql_merging.specs.Pieces.{Pieces, PieceField, IsPieceOf, HasOwnPieces}
-use Rattle.graphql_merging.specs.Told.{Tells, nothing, Fits, later_pairs}
+use Rattle.graphql_merging.specs.Told.{Tells, nothing, AgreeIfOneKey, later_pairs}
 use Rattle.graphql_merging.specs.Done.{all_sets, IsTold}
 use Rattle.graphql_merging.specs.Contract.{IsSound, IsDirect, IsComplete}
 use Rattle.graphql_merging.proofs.Contracts.{done-meets, any-among}
@@ -45,7 +45,7 @@ module _ {S C : Type 0} (eq : S → S → Bool) (types : List (MetaType S C)) (t
     -- the errors of its direct fields are among those that are told
     abbrev Directs : Set S C → Type 0
     Directs set =
-        (es : Places) × Tells (Fits eq types false) (later_pairs (directs_of types set)) es
+        (es : Places) × Tells (AgreeIfOneKey eq types false) (later_pairs (directs_of types set)) es
         × ((e : List SourcePosition) → Contains es e → Contains stage.told e)
 
     -- its direct fields are those of a set that was begun with itself
@@ -55,7 +55,7 @@ module _ {S C : Type 0} (eq : S → S → Bool) (types : List (MetaType S C)) (t
 
     directs-none : (set : Set S C) → directs_of types set ≡ [] → Directs set
     directs-none set e =
-        ([], subst (λ ms. Tells (Fits eq types false) (later_pairs ms) []) (sym e) nothing, λ e i. in-nothing e i)
+        ([], subst (λ ms. Tells (AgreeIfOneKey eq types false) (later_pairs ms) []) (sym e) nothing, λ e i. in-nothing e i)
 
     -- what is told of a set that was begun with itself
     pub opened_told : (set : Set S C) → IsGoneThrough set ⊎ (directs_of types set ≡ []) → Directs set
@@ -68,7 +68,7 @@ module _ {S C : Type 0} (eq : S → S → Bool) (types : List (MetaType S C)) (t
             let c = finished.compared pair k in
             let fields = ap (map members_in) (fields_of_same eq types t pair refl) in
             let all = fields ∙ later_members (t.direct h.0) ∙ ap later_pairs h.2 in
-            (c.told.0, subst (λ ps. Tells (Fits eq types false) ps c.told.0) all c.told.1, c.told.2)
+            (c.told.0, subst (λ ps. Tells (AgreeIfOneKey eq types false) ps c.told.0) all c.told.1, c.told.2)
 
         nothing-there : IsEmptyPiece t h.0 → Directs set
         nothing-there e = directs-none set (sym h.2 ∙ ap (map (λ (f : PieceField S C). f.member)) e.0)

@@ -10,13 +10,13 @@ use Rattle.graphql_rule_errors.specs.Places.{Places}
 use Rattle.graphql_merging.specs.Members.{Member}
 use Rattle.graphql_merging.specs.Merging.{Agree, apart}
 use Rattle.graphql_merging.specs.Pieces.{Pieces, PieceField}
-use Rattle.graphql_merging.specs.Told.{Tells, Fits, later_pairs}
+use Rattle.graphql_merging.specs.Told.{Tells, AgreeIfOneKey, later_pairs}
 use Rattle.graphql_merging.proofs.Nested.{in-nothing}
 use Rattle.graphql_merging.proofs.DirectFields.{nothing-told-fits}
 use Rattle.graphql_merging.proofs.Standing.{agree-self, agreement-is-mutual}
 use Rattle.graphql_rules_merging.specs.declared.agenda.SetPair.{SetPair}
 use Rattle.graphql_rules_merging.specs.Agenda.{pair_of, Listed, IsListed, IsEmptyPiece, IsBegun}
-use Rattle.graphql_rules_merging.specs.Comparing.{with_each, between, later, Stage, members_in, HasOneKey, own_sets, fields_of, DoAgree}
+use Rattle.graphql_rules_merging.specs.Comparing.{with_each, between, later, Stage, members_in, HasOneKey, own_sets, field_pairs, DoAgree}
 use Rattle.graphql_rules_merging.specs.Finished.{IsCompared, IsFinished}
 use Rattle.graphql_rules_merging.proofs.Pairs.{pair_either_way, pair_holds}
 use Rattle.graphql_rules_merging.proofs.Lists.{here, map_has, between_has, later_cases}
@@ -106,13 +106,13 @@ module _ {S C : Type 0} (eq : S → S → Bool) (types : List (MetaType S C)) (t
           es-none : c.told.0 ≡ []
           es-none = none-in c.told.0 (λ e k. subst (λ told. Contains told e) none (c.told.2 e k))
 
-          fits : (a b : PieceField S C) → Contains (fields_of t pair) (a, b) → Fits eq types pair.around a.member b.member
-          fits a b k = nothing-told-fits S C eq types pair.around (map members_in (fields_of t pair))
-              (subst (Tells (Fits eq types pair.around) (map members_in (fields_of t pair))) es-none c.told.1) a.member b.member
-              (map_has {B = Member S C × Member S C} members_in (fields_of t pair) (a, b) k)
+          fits : (a b : PieceField S C) → Contains (field_pairs t pair) (a, b) → AgreeIfOneKey eq types pair.around a.member b.member
+          fits a b k = nothing-told-fits S C eq types pair.around (map members_in (field_pairs t pair))
+              (subst (Tells (AgreeIfOneKey eq types pair.around) (map members_in (field_pairs t pair))) es-none c.told.1) a.member b.member
+              (map_has {B = Member S C × Member S C} members_in (field_pairs t pair) (a, b) k)
 
           cases : (same : Bool) → eqb pair.left pair.right ≡ same
-              → ((a b : PieceField S C) → Contains (cond same (later (t.direct pair.left)) (between (t.direct pair.left) (t.direct pair.right))) (a, b) → Fits eq types pair.around a.member b.member)
+              → ((a b : PieceField S C) → Contains (cond same (later (t.direct pair.left)) (between (t.direct pair.left) (t.direct pair.right))) (a, b) → AgreeIfOneKey eq types pair.around a.member b.member)
               → DoAgree eq types pair.around (f, g)
           cases false e fit = fit f g (between_has (t.direct pair.left) (t.direct pair.right) f g i j) key
           cases true e fit = elim (later_cases (t.direct pair.left) f g i (subst (λ q. Contains (t.direct q) g) (sym ((Decides-eqb pair.left pair.right).0 e)) j)) [

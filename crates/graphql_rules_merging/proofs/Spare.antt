@@ -9,9 +9,9 @@ use Rattle.graphql_merging.specs.declared.table.WrittenSet.{WrittenSet}
 use Rattle.graphql_schema.specs.declared.meta.MetaType.{MetaType}
 use Rattle.graphql_bundles.proofs.Counts.{fields-at, nothing}
 use Rattle.graphql_rules_merging.specs.declared.agenda.SetPair.{SetPair}
-use Rattle.graphql_rules_merging.specs.Agenda.{pair_of, Begins, Listed, Takes}
+use Rattle.graphql_rules_merging.specs.Agenda.{pair_of, ListsPairs, Listed, Takes}
 use Rattle.graphql_rules_merging.specs.Comparing.{DoAgree, LeadsTo}
-use Rattle.graphql_rules_merging.specs.Counted.{fields_at, twice_compared}
+use Rattle.graphql_rules_merging.specs.Counted.{field_count_at, twice_compared}
 use Rattle.graphql_rules_merging.proofs.Weights.{all-weigh, places-weigh, total, totals-fewer, totals-less, up-to, weight}
 
 -- in each pair that waits the first number is no greater
@@ -37,7 +37,7 @@ module _ {S C : Type 0} (t : Pieces S C) where
   led-ordered P pair k (inr (inr i)) = ordered-pair i.0.0.own i.0.1.own _ k i.5
 
   pub ordered-first : (definitions : ℕ) (none listed : Listed) → ((pair : SetPair) → (none.waits pair ≡ false) × (none.given pair ≡ false))
-      → Begins t (λ pair. (k : ℕ) × (k < definitions) × (pair ≡ pair_of k k false)) (λ pair. (k : ℕ) × (k < definitions) × (pair ≡ pair_of k k false)) none listed
+      → ListsPairs t (λ pair. (k : ℕ) × (k < definitions) × (pair ≡ pair_of k k false)) (λ pair. (k : ℕ) × (k < definitions) × (pair ≡ pair_of k k false)) none listed
       → AreOrdered listed
   ordered-first definitions none listed is h pair w = elim (h.waits pair w) [
     | inl j ↦ absurd (false≢true (sym (is pair).0 ∙ j))
@@ -45,7 +45,7 @@ module _ {S C : Type 0} (t : Pieces S C) where
   ]
 
   pub ordered-more : (eq : S → S → Bool) (types : List (MetaType S C)) (pair : SetPair) (old mid new : Listed) → Takes pair old mid
-      → Begins t (LeadsTo t (DoAgree eq types pair.around) pair) (LeadsTo t (λ p. Unit {0}) pair) mid new
+      → ListsPairs t (LeadsTo t (DoAgree eq types pair.around) pair) (LeadsTo t (λ p. Unit {0}) pair) mid new
       → AreOrdered old → AreOrdered new
   ordered-more eq types pair old mid new taken h ordered k w = elim (h.waits k w) [
     | inl j ↦ ordered k (taken.waits k j)
@@ -55,7 +55,7 @@ module _ {S C : Type 0} (t : Pieces S C) where
 module _ {S C : Type 0} (table : SetTable S C) where
   -- what a pair may take that is not given out yet
   abbrev free : Listed → Bool → ℕ → ℕ → ℕ
-  free listed x p q = cond (listed.given (record { left = p; right = q; around = x })) 0 (weight (fields_at table) p q)
+  free listed x p q = cond (listed.given (record { left = p; right = q; around = x })) 0 (weight (field_count_at table) p q)
 
   -- what all may take
   abbrev pub spare : Listed → ℕ
@@ -65,7 +65,7 @@ module _ {S C : Type 0} (table : SetTable S C) where
   at-most true n = omega arith
   at-most false n = omega arith
 
-  all-fields : up-to (fields_at table) (length table.sets) ≡ fields_written table.sets
+  all-fields : up-to (field_count_at table) (length table.sets) ≡ fields_written table.sets
   unfolding fields_written
   all-fields =
       (λ i. up-to (λ k. length (fields-at table k i)) (length table.sets))
@@ -75,7 +75,7 @@ module _ {S C : Type 0} (table : SetTable S C) where
   pub spare-first : (listed : Listed) → spare listed ≤ 2 * (fields_written table.sets * fields_written table.sets)
   spare-first listed =
       let n = length table.sets in
-      let w = fields_at table in
+      let w = field_count_at table in
       let one = totals-fewer (weight w) (free listed true) (λ p q. at-most (listed.given (record { left = p; right = q; around = true })) (weight w p q)) n in
       let other = totals-fewer (weight w) (free listed false) (λ p q. at-most (listed.given (record { left = p; right = q; around = false })) (weight w p q)) n in
       let all = all-weigh w n ∙ ap (λ m. m * m) all-fields in
@@ -93,7 +93,7 @@ module _ {S C : Type 0} (table : SetTable S C) where
       kept : (x : Bool) (p q : ℕ) → free new x p q ≤ free old x p q
       kept x p q =
           let k : SetPair = record { left = p; right = q; around = x } in
-          still (old.given k) (new.given k) (weight (fields_at table) p q) (λ g. same k ∙ taken.kept k g)
+          still (old.given k) (new.given k) (weight (field_count_at table) p q) (λ g. same k ∙ taken.kept k g)
 
       strictly : (x : Bool) → pair.around ≡ x → total (free new x) (length table.sets) + twice_compared table pair ≤ total (free old x) (length table.sets)
       strictly x e =

@@ -11,11 +11,11 @@ use Rattle.graphql_schema.specs.declared.meta.MetaType.{MetaType}
 use Rattle.graphql_rule_errors.specs.Places.{Places}
 use Rattle.graphql_merging.specs.Members.{Member}
 use Rattle.graphql_merging.specs.Pieces.{Pieces, PieceField}
-use Rattle.graphql_merging.specs.Told.{Names, Tells, Fits}
+use Rattle.graphql_merging.specs.Told.{Names, Tells, AgreeIfOneKey}
 use Rattle.graphql_merging.proofs.DirectFields.{to-In, from-In, tells-sound}
 use Rattle.graphql_rules_merging.specs.declared.agenda.SetPair.{SetPair}
-use Rattle.graphql_rules_merging.specs.Agenda.{pair_of, Listed, IsListed, Takes, NoneWaits, IsBegun, IsFull, Begins}
-use Rattle.graphql_rules_merging.specs.Comparing.{between, later, Stage, members_in, fields_of, LeadsTo, ComparesSets}
+use Rattle.graphql_rules_merging.specs.Agenda.{pair_of, Listed, IsListed, Takes, NoneWaits, IsBegun, IsFull, ListsPairs}
+use Rattle.graphql_rules_merging.specs.Comparing.{between, later, Stage, members_in, field_pairs, LeadsTo, ComparesSets}
 use Rattle.graphql_rules_merging.specs.Finished.{IsReached, of_definition, other_way, by_fragment, by_fields, IsCompared, IsFound, IsFinished}
 use Rattle.graphql_rules_merging.proofs.Pairs.{pair_keeps}
 use Rattle.graphql_rules_merging.proofs.Lists.{map_of, between_of, later_of}
@@ -32,7 +32,7 @@ module _ {S C : Type 0} (t : Pieces S C) (definitions : ℕ) where
       reached-pair i.0 pair.left pair.around k i.3 (by_fragment pair.right pair.left i.0 pair.around (other_way pair.left pair.right pair.around h) i.1)
   reached-led pair k h (inr (inr i)) = reached-pair i.0.0.own i.0.1.own _ k i.5 (by_fields pair.left pair.right i.0.0 i.0.1 pair.around h i.1 i.2 i.3)
 
-  fields-stand : (pair : SetPair) (p : PieceField S C × PieceField S C) → Contains (fields_of t pair) p → Contains (t.direct pair.left) p.0 × Contains (t.direct pair.right) p.1
+  fields-stand : (pair : SetPair) (p : PieceField S C × PieceField S C) → Contains (field_pairs t pair) p → Contains (t.direct pair.left) p.0 × Contains (t.direct pair.right) p.1
   fields-stand pair p h = cases (eqb pair.left pair.right) refl h
     where
       cases : (same : Bool) → eqb pair.left pair.right ≡ same → Contains (cond same (later (t.direct pair.left)) (between (t.direct pair.left) (t.direct pair.right))) p
@@ -41,7 +41,7 @@ module _ {S C : Type 0} (t : Pieces S C) (definitions : ℕ) where
       cases false e i = between_of (t.direct pair.left) (t.direct pair.right) p i
 
 module _ {S C : Type 0} (eq : S → S → Bool) (types : List (MetaType S C)) (t : Pieces S C) (definitions : ℕ) where
-  one-key : (x : Bool) (a b : Member S C) → (Fits eq types x a b → ⊥) → a.head.key ≡ b.head.key
+  one-key : (x : Bool) (a b : Member S C) → (AgreeIfOneKey eq types x a b → ⊥) → a.head.key ≡ b.head.key
   one-key x a b h = cases (bytes_eq a.head.key b.head.key) refl
     where
       cases : (r : Bool) → bytes_eq a.head.key b.head.key ≡ r → a.head.key ≡ b.head.key
@@ -50,15 +50,15 @@ module _ {S C : Type 0} (eq : S → S → Bool) (types : List (MetaType S C)) (t
 
   -- what is told of two sets that are reached
   found-fields : (pair : SetPair) (es : Places) → IsReached t definitions pair.left pair.right pair.around
-      → Tells (Fits eq types pair.around) (map members_in (fields_of t pair)) es → (e : List SourcePosition) → Contains es e → IsFound eq types t definitions e
+      → Tells (AgreeIfOneKey eq types pair.around) (map members_in (field_pairs t pair)) es → (e : List SourcePosition) → Contains es e → IsFound eq types t definitions e
   found-fields pair es reached tells e i =
-      let r = tells-sound (Fits eq types pair.around) (map members_in (fields_of t pair)) es tells e (to-In e es i) in
-      let m = map_of {B = Member S C × Member S C} members_in (fields_of t pair) (r.0, r.1) (from-In {X = Member S C × Member S C} (r.0, r.1) (map members_in (fields_of t pair)) r.2) in
+      let r = tells-sound (AgreeIfOneKey eq types pair.around) (map members_in (field_pairs t pair)) es tells e (to-In e es i) in
+      let m = map_of {B = Member S C × Member S C} members_in (field_pairs t pair) (r.0, r.1) (from-In {X = Member S C × Member S C} (r.0, r.1) (map members_in (field_pairs t pair)) r.2) in
       let f = m.0.0 in
       let g = m.0.1 in
       let stand = fields-stand t definitions pair m.0 m.1 in
-      let unfit : Fits eq types pair.around f.member g.member → ⊥ =
-      subst (λ (p : Member S C × Member S C). Fits eq types pair.around p.0 p.1 → ⊥) (sym m.2) r.3 in
+      let unfit : AgreeIfOneKey eq types pair.around f.member g.member → ⊥ =
+      subst (λ (p : Member S C × Member S C). AgreeIfOneKey eq types pair.around p.0 p.1 → ⊥) (sym m.2) r.3 in
       let names : Names e f.member g.member = subst (λ (p : Member S C × Member S C). Names e p.0 p.1) (sym m.2) r.4 in
       let key = one-key pair.around f.member g.member unfit in
       (pair.left, pair.right, pair.around, f, g, reached, stand.0, stand.1, key, (λ agree. unfit (λ _. agree)), names)
@@ -77,7 +77,7 @@ module _ {S C : Type 0} (eq : S → S → Bool) (types : List (MetaType S C)) (t
   abbrev pub OfDefinition : SetPair → Type 0
   OfDefinition pair = (k : ℕ) × (k < definitions) × (pair ≡ pair_of k k false)
 
-  pub underway_first : (none listed : Listed) → ((pair : SetPair) → (none.waits pair ≡ false) × (none.given pair ≡ false)) → Begins t OfDefinition OfDefinition none listed
+  pub underway_first : (none listed : Listed) → ((pair : SetPair) → (none.waits pair ≡ false) × (none.given pair ≡ false)) → ListsPairs t OfDefinition OfDefinition none listed
       → IsUnderway (record { told = []; listed = listed })
   underway_first none listed is h = record {
     begun = (λ k small. h.each (pair_of k k false) (k, small, refl));

@@ -1,6 +1,6 @@
 -- What a visitor of the rule tells over a document.
 use Rattle.std.proofs.Common.{◌≡◌, ℕ, Bool, true, false, List, [], ◌∷◌, ◌++◌, None, refl, sym, ap, subst, ◌∙◌, append-nil}
-use Rattle.graphql_occurrences.specs.Events.{events, seen, top}
+use Rattle.graphql_occurrences.specs.Events.{events, seen_event, top}
 use Rattle.graphql_occurrences.specs.Nodes.{AtDocument, Enter, Seen}
 use Rattle.graphql_rule_errors.specs.declared.rule_error.RuleError.{RuleError}
 use Rattle.graphql_rule_errors.specs.Places.{Places, places}
@@ -68,7 +68,7 @@ module _ {S C : Type 0} (eq : S → S → Bool) (subject : Subject S C) where
 
   pub told_over_document : (v w : OverlappingFieldsCanBeMerged) (ts : List Places) → v.is_asked ≡ false → Runs (asks_once eq) subject v (events subject.schema subject.document) w ts → RuleTold eq subject (joined ts)
   unfolding events
-  told_over_document v w ts fresh runs = told_at_first v w (seen (top None) (Enter (AtDocument subject.document))) _ ts fresh runs
+  told_over_document v w ts fresh runs = told_at_first v w (seen_event (top None) (Enter (AtDocument subject.document))) _ ts fresh runs
 
   same_count : (v w : OverlappingFieldsCanBeMerged) (es : List (Seen S C)) (ts : List Places) → v.is_asked ≡ true → Runs (asks_once eq) subject v es w ts → w.comparisons ≡ v.comparisons
   same_count v w [] [] asked runs = ap (λ (x : OverlappingFieldsCanBeMerged). x.comparisons) runs
@@ -87,4 +87,4 @@ module _ {S C : Type 0} (eq : S → S → Bool) (subject : Subject S C) where
   pub counted_over_document : (v w : OverlappingFieldsCanBeMerged) (ts : List Places) → v.is_asked ≡ false
       → Runs (asks_once eq) subject v (events subject.schema subject.document) w ts → IsCounted subject v.comparisons w.comparisons
   unfolding events
-  counted_over_document v w ts fresh runs = counted_at_first v w (seen (top None) (Enter (AtDocument subject.document))) _ ts fresh runs
+  counted_over_document v w ts fresh runs = counted_at_first v w (seen_event (top None) (Enter (AtDocument subject.document))) _ ts fresh runs

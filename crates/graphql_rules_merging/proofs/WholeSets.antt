@@ -9,13 +9,13 @@ use Rattle.graphql_schema.specs.Lookups.{own_name, is_object}
 use Rattle.graphql_merging.specs.Members.{Member}
 use Rattle.graphql_merging.specs.Merging.{apart}
 use Rattle.graphql_merging.specs.Pieces.{Pieces, PieceField}
-use Rattle.graphql_merging.specs.Told.{AddsErrors, Fits}
+use Rattle.graphql_merging.specs.Told.{AddsErrors, AgreeIfOneKey}
 use Rattle.graphql_merging.proofs.Nested.{in-nothing}
 use Rattle.graphql_merging.proofs.Reports.{adds-nothing}
 use Rattle.graphql_merging.proofs.Standing.{apart-self, agreement-is-mutual}
 use Rattle.graphql_rules_merging.specs.declared.agenda.SetPair.{SetPair}
-use Rattle.graphql_rules_merging.specs.Agenda.{pair_of, Listed, PairOf, IsEmptyPiece, IsBegun, Begins}
-use Rattle.graphql_rules_merging.specs.Comparing.{between, later, Stage, members_in, HasOneKey, own_sets, OwnSets, fields_of, LeadsTo, DoAgree, ComparesSets}
+use Rattle.graphql_rules_merging.specs.Agenda.{pair_of, Listed, PairOf, IsEmptyPiece, IsBegun, ListsPairs}
+use Rattle.graphql_rules_merging.specs.Comparing.{between, later, Stage, members_in, HasOneKey, own_sets, OwnSets, field_pairs, LeadsTo, DoAgree, ComparesSets}
 use Rattle.graphql_rules_merging.proofs.Pairs.{pair_either_way, pair_holds}
 use Rattle.graphql_rules_merging.proofs.Lists.{map_has, map_of, between_has, between_of, later_of, later_cases}
 use Rattle.graphql_rules_merging.proofs.Begun.{begins_none, begins_both, begins_as}
@@ -59,9 +59,9 @@ module _ {S C : Type 0} (eq : S → S → Bool) (types : List (MetaType S C)) (t
 
   -- the own sets of fields, each with itself, and then those of each two
   pub begins_within : {A : Type 0} (x : Bool) (s : A → PieceField S C) (ws : List A) (old mid new : Listed)
-      → Begins t (PairOf (λ w. pair_of (s w).own (s w).own x) (λ w. Unit {0}) ws) (PairOf (λ w. pair_of (s w).own (s w).own x) (λ w. Unit {0}) ws) old mid
-      → Begins t (PairOf (own_sets x) (Agreeing x) (later (map s ws))) (PairOf (own_sets x) HasOneKey (later (map s ws))) mid new
-      → Begins t (OwnSets x (DoAgree eq types x) (map s ws) (map s ws)) (OwnSets x Any (map s ws) (map s ws)) old new
+      → ListsPairs t (PairOf (λ w. pair_of (s w).own (s w).own x) (λ w. Unit {0}) ws) (PairOf (λ w. pair_of (s w).own (s w).own x) (λ w. Unit {0}) ws) old mid
+      → ListsPairs t (PairOf (own_sets x) (Agreeing x) (later (map s ws))) (PairOf (own_sets x) HasOneKey (later (map s ws))) mid new
+      → ListsPairs t (OwnSets x (DoAgree eq types x) (map s ws) (map s ws)) (OwnSets x Any (map s ws) (map s ws)) old new
   begins_within {A} x s ws old mid new =
       begins_both t (PairOf (λ w. pair_of (s w).own (s w).own x) (λ w. Unit {0}) ws) (PairOf (λ w. pair_of (s w).own (s w).own x) (λ w. Unit {0}) ws)
       (PairOf (own_sets x) (Agreeing x) (later (map s ws))) (PairOf (own_sets x) HasOneKey (later (map s ws)))
@@ -86,8 +86,8 @@ module _ {S C : Type 0} (eq : S → S → Bool) (types : List (MetaType S C)) (t
 
   -- the own sets of each field of the one list and each of the other
   pub begins_between : (x : Bool) (fs gs : List (PieceField S C)) (old new : Listed)
-      → Begins t (PairOf (own_sets x) (Agreeing x) (between fs gs)) (PairOf (own_sets x) HasOneKey (between fs gs)) old new
-      → Begins t (OwnSets x (DoAgree eq types x) fs gs) (OwnSets x Any fs gs) old new
+      → ListsPairs t (PairOf (own_sets x) (Agreeing x) (between fs gs)) (PairOf (own_sets x) HasOneKey (between fs gs)) old new
+      → ListsPairs t (OwnSets x (DoAgree eq types x) fs gs) (OwnSets x Any fs gs) old new
   begins_between x fs gs old new =
       begins_as t (PairOf (own_sets x) (Agreeing x) (between fs gs)) (PairOf (own_sets x) HasOneKey (between fs gs))
       (OwnSets x (DoAgree eq types x) fs gs) (OwnSets x Any fs gs) old new
@@ -105,8 +105,8 @@ module _ {S C : Type 0} (eq : S → S → Bool) (types : List (MetaType S C)) (t
     Own P = OwnSets pair.around P (t.direct pair.left) (t.direct pair.right)
 
     -- the fragments in the one set, those in the other, and the own sets of the fields
-    pub begins_sets : (old one two new : Listed) → Begins t Left Left old one → Begins t Right Right one two
-        → Begins t (Own (DoAgree eq types pair.around)) (Own Any) two new → Begins t (LeadsTo t (DoAgree eq types pair.around) pair) (LeadsTo t Any pair) old new
+    pub begins_sets : (old one two new : Listed) → ListsPairs t Left Left old one → ListsPairs t Right Right one two
+        → ListsPairs t (Own (DoAgree eq types pair.around)) (Own Any) two new → ListsPairs t (LeadsTo t (DoAgree eq types pair.around) pair) (LeadsTo t Any pair) old new
     begins_sets old one two new f g h =
         begins_both t Left Left (λ k. Right k ⊎ Own (DoAgree eq types pair.around) k) (λ k. Right k ⊎ Own Any k)
         (LeadsTo t (DoAgree eq types pair.around) pair) (LeadsTo t Any pair) old one new (λ k i. i) (λ k i. inl i) (λ k i. inr i) f
@@ -116,10 +116,10 @@ module _ {S C : Type 0} (eq : S → S → Bool) (types : List (MetaType S C)) (t
     abbrev Choice : Bool → List (PieceField S C × PieceField S C)
     Choice same = cond same (later (t.direct pair.left)) (between (t.direct pair.left) (t.direct pair.right))
 
-    pub fields_of_same : pair.left ≡ pair.right → fields_of t pair ≡ later (t.direct pair.left)
+    pub fields_of_same : pair.left ≡ pair.right → field_pairs t pair ≡ later (t.direct pair.left)
     fields_of_same e = ap Choice ((Decides-eqb pair.left pair.right).1 e)
 
-    pub fields_of_other : (pair.left ≡ pair.right → ⊥) → fields_of t pair ≡ between (t.direct pair.left) (t.direct pair.right)
+    pub fields_of_other : (pair.left ≡ pair.right → ⊥) → field_pairs t pair ≡ between (t.direct pair.left) (t.direct pair.right)
     fields_of_other differ = cases (eqb pair.left pair.right) refl
       where
         cases : (same : Bool) → eqb pair.left pair.right ≡ same → Choice same ≡ between (t.direct pair.left) (t.direct pair.right)
@@ -130,7 +130,7 @@ module _ {S C : Type 0} (eq : S → S → Bool) (types : List (MetaType S C)) (t
     between-none [] = refl
     between-none (x ∷ xs) = between-none xs
 
-    no-fields : IsEmptyPiece t pair.left ⊎ IsEmptyPiece t pair.right → fields_of t pair ≡ []
+    no-fields : IsEmptyPiece t pair.left ⊎ IsEmptyPiece t pair.right → field_pairs t pair ≡ []
     no-fields empty = cases (eqb pair.left pair.right) refl empty
       where
         cases : (same : Bool) → eqb pair.left pair.right ≡ same → IsEmptyPiece t pair.left ⊎ IsEmptyPiece t pair.right → Choice same ≡ []
@@ -142,7 +142,7 @@ module _ {S C : Type 0} (eq : S → S → Bool) (types : List (MetaType S C)) (t
     -- there is nothing to compare where one of the two is empty
     pub compares_empty : (s : Stage) → IsEmptyPiece t pair.left ⊎ IsEmptyPiece t pair.right → ComparesSets eq types t pair s s
     compares_empty s empty = record {
-      told = subst (λ ps. AddsErrors (Fits eq types pair.around) (map members_in ps) s.told s.told) (sym (no-fields empty)) (adds-nothing (Fits eq types pair.around) s.told);
+      told = subst (λ ps. AddsErrors (AgreeIfOneKey eq types pair.around) (map members_in ps) s.told s.told) (sym (no-fields empty)) (adds-nothing (AgreeIfOneKey eq types pair.around) s.told);
       begun = begins_none t (LeadsTo t (DoAgree eq types pair.around) pair) (LeadsTo t Any pair) s.listed (λ k h. led k empty h);
     }
       where
@@ -164,34 +164,34 @@ module _ {S C : Type 0} (eq : S → S → Bool) (types : List (MetaType S C)) (t
     WithLeft ns = PairOf (λ r. pair_of r pair.left pair.around) (λ r. Unit {0}) ns
 
     own-lists : (fs gs hs ks : List (PieceField S C)) (old new : Listed) → fs ≡ hs → gs ≡ ks
-        → Begins t (OwnSets pair.around (DoAgree eq types pair.around) fs gs) (OwnSets pair.around Any fs gs) old new
-        → Begins t (OwnSets pair.around (DoAgree eq types pair.around) hs ks) (OwnSets pair.around Any hs ks) old new
+        → ListsPairs t (OwnSets pair.around (DoAgree eq types pair.around) fs gs) (OwnSets pair.around Any fs gs) old new
+        → ListsPairs t (OwnSets pair.around (DoAgree eq types pair.around) hs ks) (OwnSets pair.around Any hs ks) old new
     own-lists fs gs hs ks old new e f h =
-        subst (λ zs. Begins t (OwnSets pair.around (DoAgree eq types pair.around) hs zs) (OwnSets pair.around Any hs zs) old new) f
-        (subst (λ zs. Begins t (OwnSets pair.around (DoAgree eq types pair.around) zs gs) (OwnSets pair.around Any zs gs) old new) e h)
+        subst (λ zs. ListsPairs t (OwnSets pair.around (DoAgree eq types pair.around) hs zs) (OwnSets pair.around Any hs zs) old new) f
+        (subst (λ zs. ListsPairs t (OwnSets pair.around (DoAgree eq types pair.around) zs gs) (OwnSets pair.around Any zs gs) old new) e h)
 
     module _ (ns ms : List ℕ) (fs : List (PieceField S C)) (s u : Stage) (one two : Listed)
         (on_left : ns ≡ t.inner pair.left) (on_right : ms ≡ t.inner pair.right) (fields : fs ≡ t.direct pair.left)
-        (f : Begins t (WithRight ns) (WithRight ns) s.listed one) (g : Begins t (WithLeft ms) (WithLeft ms) one two) where
-      begun-sets : Begins t (Own (DoAgree eq types pair.around)) (Own Any) two u.listed → Begins t (LeadsTo t (DoAgree eq types pair.around) pair) (LeadsTo t Any pair) s.listed u.listed
+        (f : ListsPairs t (WithRight ns) (WithRight ns) s.listed one) (g : ListsPairs t (WithLeft ms) (WithLeft ms) one two) where
+      begun-sets : ListsPairs t (Own (DoAgree eq types pair.around)) (Own Any) two u.listed → ListsPairs t (LeadsTo t (DoAgree eq types pair.around) pair) (LeadsTo t Any pair) s.listed u.listed
       begun-sets h =
-          begins_sets s.listed one two u.listed (subst (λ zs. Begins t (WithRight zs) (WithRight zs) s.listed one) on_left f)
-          (subst (λ zs. Begins t (WithLeft zs) (WithLeft zs) one two) on_right g) h
+          begins_sets s.listed one two u.listed (subst (λ zs. ListsPairs t (WithRight zs) (WithRight zs) s.listed one) on_left f)
+          (subst (λ zs. ListsPairs t (WithLeft zs) (WithLeft zs) one two) on_right g) h
 
       -- a set is compared with itself
-      pub compares_itself : pair.left ≡ pair.right → AddsErrors (Fits eq types pair.around) (map members_in (later fs)) s.told u.told
-          → Begins t (OwnSets pair.around (DoAgree eq types pair.around) fs fs) (OwnSets pair.around Any fs fs) two u.listed → ComparesSets eq types t pair s u
+      pub compares_itself : pair.left ≡ pair.right → AddsErrors (AgreeIfOneKey eq types pair.around) (map members_in (later fs)) s.told u.told
+          → ListsPairs t (OwnSets pair.around (DoAgree eq types pair.around) fs fs) (OwnSets pair.around Any fs fs) two u.listed → ComparesSets eq types t pair s u
       compares_itself same told h = record {
-        told = subst (λ ps. AddsErrors (Fits eq types pair.around) (map members_in ps) s.told u.told) (ap later fields ∙ sym (fields_of_same same)) told;
+        told = subst (λ ps. AddsErrors (AgreeIfOneKey eq types pair.around) (map members_in ps) s.told u.told) (ap later fields ∙ sym (fields_of_same same)) told;
         begun = begun-sets (own-lists fs fs (t.direct pair.left) (t.direct pair.right) two u.listed fields (fields ∙ ap t.direct same) h);
       }
 
       -- a set is compared with another
       pub compares_other : (gs : List (PieceField S C)) → gs ≡ t.direct pair.right → (pair.left ≡ pair.right → ⊥)
-          → AddsErrors (Fits eq types pair.around) (map members_in (between fs gs)) s.told u.told
-          → Begins t (PairOf (own_sets pair.around) (Agreeing pair.around) (between fs gs)) (PairOf (own_sets pair.around) HasOneKey (between fs gs)) two u.listed
+          → AddsErrors (AgreeIfOneKey eq types pair.around) (map members_in (between fs gs)) s.told u.told
+          → ListsPairs t (PairOf (own_sets pair.around) (Agreeing pair.around) (between fs gs)) (PairOf (own_sets pair.around) HasOneKey (between fs gs)) two u.listed
           → ComparesSets eq types t pair s u
       compares_other gs others differ told h = record {
-        told = subst (λ ps. AddsErrors (Fits eq types pair.around) (map members_in ps) s.told u.told) ((λ i. between (fields i) (others i)) ∙ sym (fields_of_other differ)) told;
+        told = subst (λ ps. AddsErrors (AgreeIfOneKey eq types pair.around) (map members_in ps) s.told u.told) ((λ i. between (fields i) (others i)) ∙ sym (fields_of_other differ)) told;
         begun = begun-sets (own-lists fs gs (t.direct pair.left) (t.direct pair.right) two u.listed fields others (begins_between pair.around fs gs two u.listed h));
       }

@@ -75,7 +75,7 @@ module _ {S C : Type 0} (t : Pieces S C) where
   IsFull pair = (IsEmptyPiece pair.left → ⊥) × (IsEmptyPiece pair.right → ⊥)
 
   -- pairs are listed beside others: each that must be is begun, and none waits but those that may
-  pub record Begins (Must May : SetPair → Type 0) (old new : Listed) : Type 0 where
+  pub record ListsPairs (Must May : SetPair → Type 0) (old new : Listed) : Type 0 where
     pub still : (pair : SetPair) → IsListed old pair → IsListed new pair
     pub each : (pair : SetPair) → Must pair → IsBegun new pair
     pub waits : (pair : SetPair) → new.waits pair ≡ true

@@ -7,7 +7,7 @@ use Rattle.std.specs.Str.{bytes_eq}
 use Rattle.graphql_schema.specs.declared.meta.MetaType.{MetaType}
 use Rattle.graphql_merging.specs.Members.{declared}
 use Rattle.graphql_merging.specs.Merging.{SameField, SameShapes, are_different_objects}
-use Rattle.graphql_merging.specs.Selected.{seen}
+use Rattle.graphql_merging.specs.Selected.{member_of}
 use Rattle.graphql_merging.specs.declared.table.SetTable.{SetTable}
 use Rattle.graphql_merging.specs.declared.table.WrittenField.{WrittenField}
 use Rattle.graphql_bundles.specs.Groups.{fields_in, is_declared, key_at, object_name}
@@ -44,17 +44,18 @@ module _ {S C : Type 0} where
 
 module _ {S C : Type 0} (eq : S → S → Bool) (types : List (MetaType S C)) where
   -- two fields of one response key that agree, whatever stands around them
-  pub record AreAlike (f g : WrittenField S C) : Type 0 where
+  pub record AgreeAnywhere (f g : WrittenField S C) : Type 0 where
     pub key : key_at f ≡ key_at g
-    pub field : SameField eq types (seen [] f.selected) (seen [] g.selected)
-    pub shape : SameShapes types (declared (seen [] f.selected)) (declared (seen [] g.selected))
+    pub field : SameField eq types (member_of [] f.selected) (member_of [] g.selected)
+    pub shape : SameShapes types (declared (member_of [] f.selected))
+        (declared (member_of [] g.selected))
 
   -- a field without a class, or one that is like the head of its class, which is declared
   abbrev pub HasClass : ℕ → List (WrittenField S C) → WrittenField S C → Type 0
   HasClass class heads f =
       (class ≡ 0)
       ⊎ ((h : WrittenField S C) × (slice_get heads (class - 1) ≡ Some h)
-      × AreAlike h f × (is_declared h ≡ true))
+      × AgreeAnywhere h f × (is_declared h ≡ true))
 
   -- what is tried is so of a field
   pub record IsNumbered (draft : Draft S C) (f : WrittenField S C) : Type 0 where
@@ -66,7 +67,7 @@ module _ {S C : Type 0} (eq : S → S → Bool) (types : List (MetaType S C)) wh
   -- what the numbers of two fields tell
   pub record DoTell (m n : FieldNumbers) (f g : WrittenField S C) : Type 0 where
     pub keys : TellKeys m n f g
-    pub classes : m.class ≡ n.class → (m.class ≡ 0 → ⊥) → AreAlike f g
+    pub classes : m.class ≡ n.class → (m.class ≡ 0 → ⊥) → AgreeAnywhere f g
     pub parents : TellParents m n f g
 
   -- they tell this of each field of one list and each of another

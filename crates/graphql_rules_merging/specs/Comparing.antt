@@ -7,11 +7,11 @@ use Rattle.graphql_rule_errors.specs.Places.{Places}
 use Rattle.graphql_merging.specs.Members.{Member}
 use Rattle.graphql_merging.specs.Merging.{Agree, apart}
 use Rattle.graphql_merging.specs.Pieces.{Pieces, PieceField}
-use Rattle.graphql_merging.specs.Told.{AddsErrors, Fits}
+use Rattle.graphql_merging.specs.Told.{AddsErrors, AgreeIfOneKey}
 use Rattle.graphql_bundles.specs.Conflicts.{places}
 use Rattle.graphql_rules_merging.specs.declared.agenda.SetPair.{SetPair}
 use Rattle.graphql_rules_merging.specs.declared.progress.Progress.{Progress}
-use Rattle.graphql_rules_merging.specs.Agenda.{pair_of, Listed, listed_of, PairOf, Begins}
+use Rattle.graphql_rules_merging.specs.Agenda.{pair_of, Listed, listed_of, PairOf, ListsPairs}
 
 -- one with each of others
 abbrev pub with_each : {A : Type 0} → A → List A → List (A × A)
@@ -62,8 +62,8 @@ module _ {S C : Type 0} where
   module _ (t : Pieces S C) where
     -- the pairs of fields that two sets hold: of one set with itself each with each that stands
     -- later
-    abbrev pub fields_of : SetPair → List (PieceField S C × PieceField S C)
-    fields_of pair = if eqb pair.left pair.right then later (t.direct pair.left)
+    abbrev pub field_pairs : SetPair → List (PieceField S C × PieceField S C)
+    field_pairs pair = if eqb pair.left pair.right then later (t.direct pair.left)
         else between (t.direct pair.left) (t.direct pair.right)
 
     -- two sets lead to a pair of sets: a fragment in the one with the other, or the own sets of two
@@ -84,13 +84,15 @@ module _ {S C : Type 0} (eq : S → S → Bool) (types : List (MetaType S C)) wh
     -- sets of those that agree are begun
     pub record Compares (x : Bool) (ps : List (PieceField S C × PieceField S C))
         (old new : Stage) : Type 0 where
-      pub told : AddsErrors (Fits eq types x) (map members_in ps) old.told new.told
-      pub begun : Begins t (PairOf (own_sets x) (λ p. HasOneKey p × DoAgree x p) ps)
+      pub told : AddsErrors (AgreeIfOneKey eq types x) (map members_in ps) old.told new.told
+      pub begun : ListsPairs t (PairOf (own_sets x) (λ p. HasOneKey p × DoAgree x p) ps)
           (PairOf (own_sets x) HasOneKey ps) old.listed new.listed
 
     -- two sets are compared: their fields are told, and the pairs to which they lead are begun
     pub record ComparesSets (pair : SetPair) (old new : Stage) : Type 0 where
-      pub told : AddsErrors (Fits eq types pair.around) (map members_in (fields_of t pair)) old.told
+      pub told : AddsErrors (AgreeIfOneKey eq types pair.around)
+          (map members_in (field_pairs t pair)) old.told
           new.told
-      pub begun : Begins t (LeadsTo t (DoAgree pair.around) pair) (LeadsTo t (λ p. Unit {0}) pair)
+      pub begun : ListsPairs t (LeadsTo t (DoAgree pair.around) pair)
+          (LeadsTo t (λ p. Unit {0}) pair)
           old.listed new.listed

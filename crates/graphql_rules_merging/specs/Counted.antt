@@ -6,11 +6,11 @@ use Rattle.graphql_rules_merging.specs.declared.agenda.SetPair.{SetPair}
 
 module _ {S C : Type 0} (table : SetTable S C) where
   -- how many fields stand directly in a set
-  abbrev pub fields_at : ℕ → ℕ
-  fields_at number = length (fields_in table number)
+  abbrev pub field_count_at : ℕ → ℕ
+  field_count_at number = length (fields_in table number)
 
   -- twice the comparisons of two sets, at most: one set with itself has each two fields once
   abbrev pub twice_compared : SetPair → ℕ
   twice_compared pair =
-      if nat_eq pair.left pair.right then fields_at pair.left * fields_at pair.left
-      else 2 * (fields_at pair.left * fields_at pair.right)
+      if nat_eq pair.left pair.right then field_count_at pair.left * field_count_at pair.left
+      else 2 * (field_count_at pair.left * field_count_at pair.right)

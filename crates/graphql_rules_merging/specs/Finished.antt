@@ -7,12 +7,13 @@ use Rattle.graphql_schema.specs.declared.meta.MetaType.{MetaType}
 use Rattle.graphql_rule_errors.specs.Places.{Places}
 use Rattle.graphql_merging.specs.Merging.{apart}
 use Rattle.graphql_merging.specs.Pieces.{Pieces, PieceField}
-use Rattle.graphql_merging.specs.Told.{Names, Tells, Fits}
+use Rattle.graphql_merging.specs.Told.{Names, Tells, AgreeIfOneKey}
 use Rattle.graphql_bundles.specs.Ends.{IsEnd}
 use Rattle.graphql_rules_merging.specs.declared.agenda.SetPair.{SetPair}
 use Rattle.graphql_rules_merging.specs.Alone.{AllStandAlone}
 use Rattle.graphql_rules_merging.specs.Agenda.{pair_of, IsListed, IsBegun}
-use Rattle.graphql_rules_merging.specs.Comparing.{Stage, members_in, HasOneKey, fields_of, LeadsTo}
+use Rattle.graphql_rules_merging.specs.Comparing.{Stage, members_in, HasOneKey, field_pairs}
+use Rattle.graphql_rules_merging.specs.Comparing.{LeadsTo}
 use Rattle.graphql_rules_merging.specs.Comparing.{DoAgree}
 
 module _ {S C : Type 0} (t : Pieces S C) (definitions : ℕ) where
@@ -32,7 +33,7 @@ module _ {S C : Type 0} (eq : S → S → Bool) (types : List (MetaType S C)) (t
     pub begun : (other : SetPair) → LeadsTo t (DoAgree eq types pair.around) pair other
         → IsBegun t stage.listed other
     pub told : (es : Places)
-        × Tells (Fits eq types pair.around) (map members_in (fields_of t pair)) es
+        × Tells (AgreeIfOneKey eq types pair.around) (map members_in (field_pairs t pair)) es
         × ((e : List SourcePosition) → Contains es e → Contains stage.told e)
 
   module _ (definitions : ℕ) where

@@ -7,7 +7,7 @@ use Rattle.graphql_merging.specs.Contract.{IsComplete, IsDirect, IsSound}
 use Rattle.graphql_merging.specs.FieldNodes.{document_nodes}
 use Rattle.graphql_merging.specs.Sets.{document_sets}
 use Rattle.graphql_tree.specs.Definitions.{fragments_listed}
-use Rattle.graphql_visitors.specs.Runs.{Step}
+use Rattle.graphql_visitors.specs.Runs.{VisitorStep}
 use Rattle.graphql_visitors.specs.Subjects.{Subject}
 use Rattle.graphql_rules_merging.specs.declared.overlapping_fields_can_be_merged.OverlappingFieldsCanBeMerged.{OverlappingFieldsCanBeMerged}
 
@@ -47,7 +47,7 @@ module _ {S C : Type 0} (eq : S → S → Bool) (subject : Subject S C) where
 
 module _ {S C : Type 0} (eq : S → S → Bool) where
   -- the rule is asked at the first event, which is that the document is entered, and not again
-  abbrev pub asks_once : Step OverlappingFieldsCanBeMerged S C
+  abbrev pub asks_once : VisitorStep OverlappingFieldsCanBeMerged S C
   asks_once subject v e w told =
       (w.is_asked ≡ true) × ToldBy eq subject v.is_asked told
       × CountedBy subject v.is_asked v.comparisons w.comparisons

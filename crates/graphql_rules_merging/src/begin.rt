@@ -4,7 +4,7 @@ ghost use Rattle.std.specs.Prelude.{◌≡◌, ◌↔◌, List, IsTrue, OnOk};
 ghost use Rattle.graphql_tree.specs.declared.document.Fragment.{Fragment};
 ghost use Rattle.graphql_merging.specs.Tables.{pieces_of, piece_field};
 ghost use Rattle.graphql_rules_merging.specs.Agenda.{listed_of, pair_of, PairOf, IsEmptyPiece};
-ghost use Rattle.graphql_rules_merging.specs.Agenda.{Begins};
+ghost use Rattle.graphql_rules_merging.specs.Agenda.{ListsPairs};
 
 use crate::agenda::Agenda;
 use graphql_merging::{SetTable, WrittenField};
@@ -30,7 +30,7 @@ pub(crate) fn begin_sets<S, C>(
     around: bool,
 ) -> Result<(), AllocError>
     ensures { OnOk result ((fragments : List (Fragment S))
-        → Begins (pieces_of fragments table.now) (λ pair. pair ≡ pair_of left right around)
+        → ListsPairs (pieces_of fragments table.now) (λ pair. pair ≡ pair_of left right around)
         (λ pair. pair ≡ pair_of left right around) (listed_of agenda.old) (listed_of agenda.new)) }
 {
     if is_empty_set(table, left) {
@@ -51,7 +51,7 @@ pub(crate) fn begin_with<S, C>(
     around: bool,
 ) -> Result<(), AllocError>
     ensures { OnOk result ((fragments : List (Fragment S))
-        → Begins (pieces_of fragments table.now)
+        → ListsPairs (pieces_of fragments table.now)
         (PairOf (λ number. pair_of number other around) (λ number. Unit {0}) numbers.now)
         (PairOf (λ number. pair_of number other around) (λ number. Unit {0}) numbers.now)
         (listed_of agenda.old) (listed_of agenda.new)) }
@@ -70,7 +70,7 @@ pub(crate) fn begin_own_sets<S, C>(
     around: bool,
 ) -> Result<(), AllocError>
     ensures { OnOk result ((fragments : List (Fragment S))
-        → Begins (pieces_of fragments table.now)
+        → ListsPairs (pieces_of fragments table.now)
         (PairOf (λ field. pair_of field.own field.own around) (λ field. Unit {0}) fields.now)
         (PairOf (λ field. pair_of field.own field.own around) (λ field. Unit {0}) fields.now)
         (listed_of agenda.old) (listed_of agenda.new)) }

@@ -5,7 +5,8 @@ ghost use Rattle.std.specs.Prelude.{◌≡◌, ℕ, true, IfOk, IsTrue};
 ghost use Rattle.std.specs.List.{Contains};
 ghost use Rattle.graphql_merging.specs.declared.table.WrittenField.{WrittenField};
 ghost use Rattle.graphql_bundles.specs.Groups as groups;
-ghost use Rattle.graphql_rules_merging.specs.Classes.{AreAlike, AreAllNumbered, HasClass, HasPlace};
+ghost use Rattle.graphql_rules_merging.specs.Classes.{AgreeAnywhere, AreAllNumbered, HasClass};
+ghost use Rattle.graphql_rules_merging.specs.Classes.{HasPlace};
 ghost use Rattle.graphql_rules_merging.specs.Classes.{IsNumbered};
 
 use crate::field_numbers::{FieldNumbers, numbers_at};
@@ -44,7 +45,8 @@ fn is_like<'d, 'a, S: PartialEq, C>(
     head: &WrittenField<'d, 'a, S, C>,
     field: &WrittenField<'d, 'a, S, C>,
 ) -> Result<bool, AllocError>
-    ensures { IfOk result (λ alike. IsTrue alike → AreAlike S.eq schema.now.types head.now field.now
+    ensures { IfOk result
+        (λ alike. IsTrue alike → AgreeAnywhere S.eq schema.now.types head.now field.now
         × (groups.is_declared head.now ≡ true)) }
 {
     let declared = is_declared(head);

@@ -4,7 +4,7 @@ ghost use Rattle.std.specs.Prelude.{◌≡◌, ◌||◌, List, get_or, not, IsTr
 ghost use Rattle.std.specs.Str.{bytes_eq};
 ghost use Rattle.graphql_tree.specs.declared.document.Fragment.{Fragment};
 ghost use Rattle.graphql_merging.specs.Merging.{apart};
-ghost use Rattle.graphql_merging.specs.Selected.{seen};
+ghost use Rattle.graphql_merging.specs.Selected.{member_of};
 ghost use Rattle.graphql_bundles.specs.Groups as groups;
 ghost use Rattle.graphql_rules_merging.specs.Classes.{TellKeys, TellParents, unnumbered};
 
@@ -76,7 +76,8 @@ pub(crate) fn are_excused<S, C>(
 ) -> bool
     requires { TellParents one other left.now right.now }
     ensures { (fragments : List (Fragment S)) → result
-        ≡ (around || apart (seen fragments left.now.selected) (seen fragments right.now.selected)) }
+        ≡ (around || apart (member_of fragments left.now.selected)
+        (member_of fragments right.now.selected)) }
 {
     if one.parent != 0 && other.parent != 0 {
         return around || one.parent != other.parent;

@@ -5,7 +5,7 @@ ghost use Rattle.graphql_tree.specs.declared.document.Fragment.{Fragment};
 ghost use Rattle.graphql_merging.specs.FieldNodes.{fields_written};
 ghost use Rattle.graphql_merging.specs.Tables.{pieces_of};
 ghost use Rattle.graphql_bundles.specs.Conflicts.{places};
-ghost use Rattle.graphql_rules_merging.specs.Agenda.{listed_of, pair_of, Begins};
+ghost use Rattle.graphql_rules_merging.specs.Agenda.{listed_of, pair_of, ListsPairs};
 ghost use Rattle.graphql_rules_merging.specs.Comparing.{Stage};
 ghost use Rattle.graphql_rules_merging.specs.Finished.{IsFinished};
 
@@ -26,7 +26,8 @@ fn begin_definitions<S, C>(
     agenda: &mut Agenda,
     definitions: usize,
 ) -> Result<(), AllocError>
-    ensures { OnOk result ((fragments : List (Fragment S)) → Begins (pieces_of fragments table.now)
+    ensures { OnOk result
+        ((fragments : List (Fragment S)) → ListsPairs (pieces_of fragments table.now)
         (λ pair. (k : ℕ) × (k < definitions) × (pair ≡ pair_of k k false))
         (λ pair. (k : ℕ) × (k < definitions) × (pair ≡ pair_of k k false))
         (listed_of agenda.old) (listed_of agenda.new)) }

@@ -3,8 +3,8 @@
 ghost use Rattle.std.specs.Prelude.{◌≡◌, ◌+◌, ◌*◌, ◌≤◌, List, length, map, OnOk};
 ghost use Rattle.graphql_tree.specs.declared.document.Fragment.{Fragment};
 ghost use Rattle.graphql_merging.specs.Tables.{pieces_of, piece_field};
-ghost use Rattle.graphql_merging.specs.Told.{AddsErrors, Fits};
-ghost use Rattle.graphql_rules_merging.specs.Agenda.{Begins};
+ghost use Rattle.graphql_merging.specs.Told.{AddsErrors, AgreeIfOneKey};
+ghost use Rattle.graphql_rules_merging.specs.Agenda.{ListsPairs};
 ghost use Rattle.graphql_rules_merging.specs.Classes.{AreNumbered, AreAllNumbered};
 ghost use Rattle.graphql_rules_merging.specs.Counted.{twice_compared};
 ghost use Rattle.graphql_rules_merging.specs.Comparing.{ComparesSets, DoAgree, OwnSets, later};
@@ -34,10 +34,10 @@ fn compare_itself<S: Eq, C>(
     ensures counted { let all = length fields.now in
         OnOk result (2 * progress.new.comparisons ≤ 2 * progress.old.comparisons + all * all) }
     ensures compared { OnOk result ((fragments : List (Fragment S))
-        → AddsErrors (Fits S.eq
+        → AddsErrors (AgreeIfOneKey S.eq
         schema.now.types around) (map members_in (later (map (piece_field fragments) fields.now)))
         (stage_of progress.old).told (stage_of progress.new).told
-        × Begins
+        × ListsPairs
         (pieces_of fragments table.now) (OwnSets around (DoAgree S.eq schema.now.types around)
         (map (piece_field fragments) fields.now) (map (piece_field fragments) fields.now)) (OwnSets
         around (λ p. Unit {0}) (map (piece_field fragments) fields.now) (map (piece_field fragments)

@@ -14,14 +14,14 @@ use Rattle.graphql_scalars.specs.declared.default_scalar.DefaultScalarValue.TheV
 use Rattle.graphql_values.specs.InputValues.{Pair, Placed}
 use Rattle.graphql_values.specs.SameValue.{SameItems, SameValue, more_items, no_items, same_null}
 use Rattle.graphql_values.specs.SameValue.{same_scalar, same_enum, same_variable, same_list}
-use Rattle.graphql_values.specs.SameValue.{same_object, under}
+use Rattle.graphql_values.specs.SameValue.{same_object, values_named}
 use Rattle.graphql_values.specs.declared.input_value.InputValue.{InputValue}
 use Rattle.graphql_values.specs.declared.input_value.InputValue.TheVariants as value
 use Rattle.graphql_arguments.specs.ArgumentValues.{Given, value_named}
 use Rattle.graphql_arguments.specs.SameArguments.{SameArguments, SameGiven, SameInOrder}
 use Rattle.graphql_arguments.proofs.SameOrders.{in-order-same}
 use Rattle.graphql_field_results.specs.declared.resolved.Resolved.TheVariants as resolved
-use Rattle.graphql_sample.specs.Sample.{Answer, answer, changes, field_layer, found, found_by}
+use Rattle.graphql_sample.specs.Sample.{Answer, answer, changes, field_layer, human_found, found_by}
 use Rattle.graphql_sample.specs.Sample.{human_of, named_of, one_more, text_given, text_given_in}
 use Rattle.graphql_sample.specs.Sample.{text_layer, text_of, text_of_scalar, text_within}
 use Rattle.graphql_sample.specs.declared.records.SampleRecord.{SampleRecord}
@@ -69,13 +69,13 @@ same-first xs ys (more_items x y more others same rest) = same-text x.item y.ite
 -- the first field of a name is the first of those of the name
 first-named : (name : Bytes) (ps : List (Pair (InputValue S)))
     → option_and_then (λ p. text_of p.1.item) (find (λ p. bytes_eq p.0.item name) ps)
-    ≡ first-text (under name ps)
+    ≡ first-text (values_named name ps)
 first-named name [] = refl
 first-named name (p ∷ ps) = either (bytes_eq p.0.item name) (first-named name ps)
   where
     either : (b : Bool)
         → option_and_then (λ q. text_of q.1.item) (find (λ q. bytes_eq q.0.item name) ps)
-        ≡ first-text (under name ps)
+        ≡ first-text (values_named name ps)
         → option_and_then (λ q. text_of q.1.item)
         (cond b (Some p) (find (λ q. bytes_eq q.0.item name) ps))
         ≡ first-text (map (λ q. q.1) (cond b (p ∷ filter (λ q. bytes_eq q.0.item name) ps)
@@ -94,7 +94,7 @@ same-within name v w (same_list xs ys h) =
     ap (field_layer name) (value.outs-List xs) ∙ sym (ap (field_layer name) (value.outs-List ys))
 same-within name v w (same_object ps qs h) =
     ap (field_layer name) (value.outs-Object ps) ∙ first-named name ps
-    ∙ same-first (under name ps) (under name qs) (h name)
+    ∙ same-first (values_named name ps) (values_named name qs) (h name)
     ∙ sym (ap (field_layer name) (value.outs-Object qs) ∙ first-named name qs)
 
 same-in : (name : Bytes) (u v : Option (InputValue S)) → SameGiven ghosts.eq u v
@@ -110,7 +110,7 @@ same-given-in a b h argument name =
     same-in name (value_named a argument) (value_named b argument) (h argument)
 
 module _ (records : List SampleRecord) (a b : Given S) (same : SameArguments ghosts.eq a b) where
-  found-alike : found records a ≡ found records b
+  found-alike : human_found records a ≡ human_found records b
   found-alike =
       ap (λ id. found_by records id (text_given_in a (codes "by") (codes "name")))
       (same-given-in a b same (codes "by") (codes "id"))

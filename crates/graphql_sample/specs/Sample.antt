@@ -33,17 +33,18 @@ sample_records = record { records = ann ∷ bob ∷ []; root_calls = 0 }
 abbrev pub Answer : Type 0
 Answer = Resolved DefaultScalarValue SampleNode
 
-abbrev pub word : Bytes → Answer
-word text = resolved.Scalar (scalar.String text)
+abbrev pub text_answer : Bytes → Answer
+text_answer text = resolved.Scalar (scalar.String text)
 
 -- the place of the first human of an id
-abbrev pub place_of : List SampleRecord → Bytes → Option ℕ
-place_of records id = position (λ r. bytes_eq id r.id) records
+abbrev pub record_index : List SampleRecord → Bytes → Option ℕ
+record_index records id = position (λ r. bytes_eq id r.id) records
 
 -- the first human of an id, null where there is none
 abbrev pub human_of : List SampleRecord → Bytes → Answer
 human_of records id =
-    option_map_or (λ place. resolved.Node (node.Human place)) (place_of records id) resolved.Null
+    option_map_or (λ place. resolved.Node (node.Human place))
+    (record_index records id) resolved.Null
 
 abbrev pub type_name : SampleNode → Bytes
 type_name node.Root = codes "Query"
@@ -51,8 +52,8 @@ type_name (node.Human place) = codes "Human"
 
 abbrev pub of_human : List SampleRecord → SampleRecord → Bytes → Answer
 of_human records r field =
-    if bytes_eq field (codes "id") then word r.id else
-    if bytes_eq field (codes "name") then option_map_or word r.name resolved.Null else
+    if bytes_eq field (codes "id") then text_answer r.id else
+    if bytes_eq field (codes "name") then option_map_or text_answer r.name resolved.Null else
     if bytes_eq field (codes "friend") then option_map_or (human_of records) r.friend resolved.Null
     else resolved.Null
 
@@ -111,14 +112,14 @@ abbrev pub found_by : List SampleRecord → Option Bytes → Option Bytes → An
 found_by records id name = option_map_or (λ place. resolved.Node (node.Human place))
     (place_found records id name) resolved.Null
 
-abbrev pub found : List SampleRecord → Given DefaultScalarValue → Answer
-found records given = found_by records (text_given_in given (codes "by") (codes "id"))
+abbrev pub human_found : List SampleRecord → Given DefaultScalarValue → Answer
+human_found records given = found_by records (text_given_in given (codes "by") (codes "id"))
     (text_given_in given (codes "by") (codes "name"))
 
 abbrev pub of_root : List SampleRecord → Bytes → Given DefaultScalarValue → Answer
 of_root records field given =
     if bytes_eq field (codes "hero") then human_of records (codes "h1") else
-    if bytes_eq field (codes "find") then found records given else resolved.Null
+    if bytes_eq field (codes "find") then human_found records given else resolved.Null
 
 -- what a node answers for a field: null for a field that it lacks, and at a place beyond the
 -- records
@@ -128,18 +129,19 @@ answer records (node.Human place) field given =
     option_map_or (λ r. of_human records r field) (slice_get records place) resolved.Null
 
 -- the same human, of this name
-abbrev pub named : Option Bytes → SampleRecord → SampleRecord
-named name r = record { id = r.id; name = name; friend = r.friend }
+abbrev pub human_named : Option Bytes → SampleRecord → SampleRecord
+human_named name r = record { id = r.id; name = name; friend = r.friend }
 
 -- the human at a place has this name
 abbrev pub named_at : List SampleRecord → Option Bytes → ℕ → List SampleRecord
 named_at records name place =
-    option_map_or (λ r. slice_set records place (named name r)) (slice_get records place) records
+    option_map_or (λ r. slice_set records place (human_named name r))
+    (slice_get records place) records
 
 -- the first human of an id has this name; none where there is no id
 abbrev pub named_of : List SampleRecord → Option Bytes → Option Bytes → List SampleRecord
 named_of records id name =
-    option_map_or (named_at records name) (option_and_then (place_of records) id) records
+    option_map_or (named_at records name) (option_and_then (record_index records) id) records
 
 -- `rename`: the human of the argument `id`, null where there is none
 abbrev pub renamed_answer : List SampleRecord → Given DefaultScalarValue → Answer

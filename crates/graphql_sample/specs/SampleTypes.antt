@@ -20,8 +20,8 @@ use Rattle.graphql_schema.specs.Faults.{Roots}
 abbrev pub Wraps : Type 0
 Wraps = List TypeModifier
 
-abbrev pub nullable : Wraps
-nullable = []
+abbrev pub no_wraps : Wraps
+no_wraps = []
 
 abbrev pub non_null : Wraps
 non_null = modifier.NonNull ∷ []
@@ -37,9 +37,9 @@ argument name type_name wraps =
     }
 
 -- a field of a name, and of the type of a name within wraps
-abbrev pub field : Bytes → Bytes → Wraps → List (Argument DefaultScalarValue)
+abbrev pub a_field : Bytes → Bytes → Wraps → List (Argument DefaultScalarValue)
     → Field DefaultScalarValue
-field name type_name wraps arguments =
+a_field name type_name wraps arguments =
     record {
       name = name;
       description = None;
@@ -53,39 +53,42 @@ object name fields =
     record { name = name; description = None; fields = fields; interface_names = [] }
 
 -- what a row of a table stands for
-abbrev pub argument_of : Bor Bytes × Bor Bytes × Bor Wraps → Argument DefaultScalarValue
-argument_of row = argument row.0.now row.1.now row.2.now
+abbrev pub row_argument : Bor Bytes × Bor Bytes × Bor Wraps → Argument DefaultScalarValue
+row_argument row = argument row.0.now row.1.now row.2.now
 
-abbrev pub field_of : Bor Bytes
+abbrev pub row_field : Bor Bytes
     × Bor Bytes
     × Bor Wraps
     × Bor (List (Bor Bytes × Bor Bytes × Bor Wraps)) → Field DefaultScalarValue
-field_of row = field row.0.now row.1.now row.2.now (map argument_of row.3.now)
+row_field row = a_field row.0.now row.1.now row.2.now (map row_argument row.3.now)
 
 -- `hero: Human`
 abbrev pub query : List (Field DefaultScalarValue)
-query = field (codes "hero") (codes "Human") nullable [] ∷ []
+query = a_field (codes "hero") (codes "Human") no_wraps [] ∷ []
 
 -- `hero: Human`, `find(by: By!): Human`
 abbrev pub query_by : List (Field DefaultScalarValue)
-query_by = field (codes "hero") (codes "Human") nullable [] ∷ field (codes "find") (codes "Human")
-    nullable (argument (codes "by") (codes "By") non_null ∷ []) ∷ []
+query_by = a_field (codes "hero") (codes "Human") no_wraps []
+    ∷ a_field (codes "find") (codes "Human")
+    no_wraps (argument (codes "by") (codes "By") non_null ∷ []) ∷ []
 
 -- `id: String`, `name: String`
 abbrev pub by_fields : List (Argument DefaultScalarValue)
-by_fields = argument (codes "id") (codes "String") nullable
-    ∷ argument (codes "name") (codes "String") nullable ∷ []
+by_fields = argument (codes "id") (codes "String") no_wraps
+    ∷ argument (codes "name") (codes "String") no_wraps ∷ []
 
 -- `id: String!`, `name: String!`, `friend: Human`
 abbrev pub human : List (Field DefaultScalarValue)
 human =
-    field (codes "id") (codes "String") non_null [] ∷ field (codes "name") (codes "String") non_null
-    [] ∷ field (codes "friend") (codes "Human") nullable [] ∷ []
+    a_field (codes "id") (codes "String") non_null []
+    ∷ a_field (codes "name") (codes "String") non_null
+    [] ∷ a_field (codes "friend") (codes "Human") no_wraps [] ∷ []
 
 -- `rename(id: String!, name: String!): Human`
 abbrev pub mutation : List (Field DefaultScalarValue)
 mutation =
-    field (codes "rename") (codes "Human") nullable (argument (codes "id") (codes "String") non_null
+    a_field (codes "rename") (codes "Human") no_wraps
+    (argument (codes "id") (codes "String") non_null
     ∷ argument (codes "name") (codes "String") non_null ∷ []) ∷ []
 
 module _ {C : Type 0} where

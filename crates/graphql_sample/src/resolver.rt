@@ -35,7 +35,7 @@ pub struct SampleResolver;
 
 /// The place of the first human of this `id`.
 pub(crate) fn place_of(records: &[SampleRecord], id: &str) -> Option<usize>
-    ensures { result ≡ spec.place_of records.now id.now }
+    ensures { result ≡ spec.record_index records.now id.now }
 {
     records.iter().position(|record| id == record.id.as_str())
 }
@@ -52,7 +52,7 @@ fn human_of(records: &[SampleRecord], id: &str) -> Answer
 
 /// A text as an answer. An error is want of memory.
 fn word(alloc: Global, text: &Text) -> FieldResult<Answer, DefaultScalarValue>
-    ensures { Answered (Ok (spec.word text.now)) result }
+    ensures { Answered (Ok (spec.text_answer text.now)) result }
 {
     Ok(Resolved::Scalar(DefaultScalarValue::String(text.clone()?)))
 }
@@ -119,7 +119,7 @@ fn found_by(records: &[SampleRecord], id: Option<&Text>, name: Option<&Text>) ->
 /// The first human who has the `id` or the name that the argument `by` is of, `Null` where there is
 /// none.
 fn found(records: &[SampleRecord], arguments: &Arguments<'_, DefaultScalarValue>) -> Answer
-    ensures { result ≡ spec.found records.now (arguments_told arguments.now) }
+    ensures { result ≡ spec.human_found records.now (arguments_told arguments.now) }
 {
     let id = text_given_in(arguments, "by", "id");
     let name = text_given_in(arguments, "by", "name");

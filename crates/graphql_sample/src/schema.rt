@@ -60,7 +60,7 @@ const MUTATION: &[FieldRow] = &[("rename", "Human", NULLABLE, RENAME)];
 
 /// The argument of this row. An error is want of memory.
 fn argument(alloc: Global, row: ArgumentRow) -> Result<Argument<DefaultScalarValue>, AllocError>
-    ensures { Gives result (spec.argument_of row.entry) }
+    ensures { Gives result (spec.row_argument row.entry) }
 {
     let name = Text::from_str(alloc, row.0)?;
     Ok(Argument::new(name, type_reference(alloc, row.1, row.2)?))
@@ -71,7 +71,7 @@ fn arguments(
     alloc: Global,
     rows: &[ArgumentRow],
 ) -> Result<NamedItems<Argument<DefaultScalarValue>>, AllocError>
-    ensures { Gives result (map spec.argument_of rows.now) }
+    ensures { Gives result (map spec.row_argument rows.now) }
 {
     let mut items = Items::new(alloc);
     'rows: for row in rows {
@@ -82,7 +82,7 @@ fn arguments(
 
 /// The field of this row. An error is want of memory.
 fn field(alloc: Global, row: FieldRow) -> Result<Field<DefaultScalarValue>, AllocError>
-    ensures { Gives result (spec.field_of row.entry) }
+    ensures { Gives result (spec.row_field row.entry) }
 {
     Ok(Field {
         name: Text::from_str(alloc, row.0)?,
@@ -99,7 +99,7 @@ fn object(
     name: &str,
     rows: &[FieldRow],
 ) -> Result<ObjectMeta<DefaultScalarValue>, AllocError>
-    ensures { Gives result (spec.object name.now (map spec.field_of rows.now)) }
+    ensures { Gives result (spec.object name.now (map spec.row_field rows.now)) }
 {
     let mut fields = Items::new(alloc);
     'rows: for row in rows {
@@ -124,7 +124,7 @@ fn metadata(
     checks: StandardChecks,
     query: &[FieldRow],
 ) -> Result<Items<Meta>, AllocError>
-    ensures { Gives result (spec.types_of (map spec.field_of query.now) checks.int checks.string
+    ensures { Gives result (spec.types_of (map spec.row_field query.now) checks.int checks.string
         checks.boolean checks.id checks.introspection) }
 {
     let mut types = Items::new(alloc);

@@ -13,7 +13,7 @@ use Rattle.std.proofs.lemmas.Str.Parse.{IsNumeralModel, numerals_by_value, tells
 use mir.Syntax.{w32}
 use Rattle.graphql_text.specs.declared.token.ScalarToken.TheVariants as token
 use Rattle.graphql_scalars.specs.declared.default_scalar.DefaultScalarValue.TheVariants as scalar
-use Rattle.graphql_scalars.specs.Literals.{int_or, refusal_of}
+use Rattle.graphql_scalars.specs.Literals.{int_or, unexpected_token}
 use Rattle.graphql_scalars.specs.IntValue.{natural_up_to, int_value}
 use Rattle.graphql_scalars.specs.Laws.{IsReadBack}
 
@@ -128,4 +128,4 @@ decimal_value (negsuc n) fits =
     value_of_minus (decimal (suc n)) ∙ ap (option_map (λ n. neg_ℤ (pos n))) (decimal_natural (suc n) 2147483648 small (omega (arith, fits.sfits)))
 
 pub integer_reads : (z : ℤ) → FitsSigned w32 z → IsReadBack z
-integer_reads z fits = ap (λ o. int_or scalar.Int o (refusal_of (token.Int (signed_decimal z)))) (decimal_value z fits)
+integer_reads z fits = ap (λ o. int_or scalar.Int o (unexpected_token (token.Int (signed_decimal z)))) (decimal_value z fits)

@@ -11,7 +11,7 @@ use Rattle.graphql_text.specs.Strings.{is_escape}
 use Rattle.graphql_text.specs.Grammar.{Piece, character, escaped, code, ArePieces, IsPiece, IsCode, spelling, spellings, hex_value, is_string_character}
 use Rattle.graphql_scalars.specs.StringValue.{hex_digit, character as code_point, code_character, escaped_character, escape, code_at, escape_or_refusal, and_then, letters, preceded_by, decoded_behind, decoded_characters, string_value}
 use Rattle.graphql_scalars.specs.declared.default_scalar.DefaultScalarValue.TheVariants as scalar_value
-use Rattle.graphql_scalars.specs.Literals.{text_of}
+use Rattle.graphql_scalars.specs.Literals.{scalar_of_text}
 use Rattle.graphql_scalars.proofs.IntLemmas.{different, unlike}
 use Rattle.graphql_scalars.specs.Laws.{meaning, HasMeaning, StringsMeanTheirPieces}
 
@@ -132,4 +132,4 @@ decoded_pieces (x ∷ xs) are = decoded_piece x (spellings xs) (piece_has_meanin
 pub strings_mean_their_pieces : StringsMeanTheirPieces
 unfolding string_value
 strings_mean_their_pieces text pieces are spelled =
-    ap (λ r. text_of scalar_value.String (r >>= (λ cs. Ok (encode_utf8_all cs)))) (ap decoded_characters spelled ∙ decoded_pieces pieces are)
+    ap (λ r. scalar_of_text scalar_value.String (r >>= (λ cs. Ok (encode_utf8_all cs)))) (ap decoded_characters spelled ∙ decoded_pieces pieces are)

@@ -12,8 +12,8 @@ use Rattle.graphql_scalars.specs.StringValue.{string_value}
 
 module _ {S : Type 0} where
   -- the token is none that is expected
-  abbrev pub refusal_of : ScalarToken → Result S ParseError
-  refusal_of t = Err (UnexpectedToken (scalar_source t))
+  abbrev pub unexpected_token : ScalarToken → Result S ParseError
+  unexpected_token t = Err (UnexpectedToken (scalar_source t))
 
   -- the scalar of the integer, if there is one
   abbrev pub int_or : (ℤ → S) → Option ℤ → Result S ParseError → Result S ParseError
@@ -21,18 +21,18 @@ module _ {S : Type 0} where
   int_or of_int None refusal = refusal
 
   -- the scalar of a text, by the source text of a string
-  abbrev pub text_of : (List ℕ → S) → Result (List ℕ) ParseError → Result S ParseError
-  text_of of_text decoded = decoded >>= (λ t. Ok (of_text t))
+  abbrev pub scalar_of_text : (List ℕ → S) → Result (List ℕ) ParseError → Result S ParseError
+  scalar_of_text of_text decoded = decoded >>= (λ t. Ok (of_text t))
 
   -- strings alone
   abbrev pub reads_text : (List ℕ → S) → ScalarToken → Result S ParseError
-  reads_text of_text (token.String source) = text_of of_text (string_value source)
-  reads_text of_text (token.Int source) = refusal_of (token.Int source)
-  reads_text of_text (token.Float source) = refusal_of (token.Float source)
+  reads_text of_text (token.String source) = scalar_of_text of_text (string_value source)
+  reads_text of_text (token.Int source) = unexpected_token (token.Int source)
+  reads_text of_text (token.Float source) = unexpected_token (token.Float source)
 
   -- integers of 32 bits alone
   abbrev pub reads_int : (ℤ → S) → ScalarToken → Result S ParseError
-  reads_int of_int (token.String source) = refusal_of (token.String source)
+  reads_int of_int (token.String source) = unexpected_token (token.String source)
   reads_int of_int (token.Int source) =
-      int_or of_int (int_value source) (refusal_of (token.Int source))
-  reads_int of_int (token.Float source) = refusal_of (token.Float source)
+      int_or of_int (int_value source) (unexpected_token (token.Int source))
+  reads_int of_int (token.Float source) = unexpected_token (token.Float source)

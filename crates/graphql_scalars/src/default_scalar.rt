@@ -79,7 +79,7 @@ impl Clone for DefaultScalarValue {
 /// Writes an integer in decimal, a boolean as `true` or `false`, and a text as it stands, without
 /// quotes.
 impl fmt::Display for DefaultScalarValue {
-    ghost output = { λ scalar. Some (plain_text (spec.answer scalar)) };
+    ghost output = { λ scalar. Some (plain_text (spec.scalar_answer scalar)) };
 
     fn fmt<W: fmt::Write>(&self, f: &mut fmt::Formatter<W>) -> fmt::Result {
         match self {
@@ -120,7 +120,7 @@ impl ScalarValue for DefaultScalarValue {
 
     ghost of_text = { String };
 
-    ghost answer = { spec.answer };
+    ghost answer = { spec.scalar_answer };
 
     ghost clones = { λ x y is. is };
 

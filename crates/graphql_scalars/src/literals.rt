@@ -14,7 +14,7 @@ use std::alloc::Global;
 
 /// The refusal of a token, by its source text.
 pub(crate) fn refusal<S>(alloc: Global, token: &ScalarToken<'_>) -> ParseScalarResult<S>
-    ensures { Meets IsMemory result (spec.refusal_of token.now) }
+    ensures { Meets IsMemory result (spec.unexpected_token token.now) }
 {
     match token.to_string(alloc) {
         Ok(source) => Err(ParseError::UnexpectedToken(Text::from_string(source))),
@@ -24,7 +24,7 @@ pub(crate) fn refusal<S>(alloc: Global, token: &ScalarToken<'_>) -> ParseScalarR
 
 /// The scalar of a string with this source text.
 fn text_scalar<S: ScalarValue>(alloc: Global, source: &str) -> ParseScalarResult<S>
-    ensures { Meets IsMemory result (spec.text_of S.of_text (string_value source.now)) }
+    ensures { Meets IsMemory result (spec.scalar_of_text S.of_text (string_value source.now)) }
 {
     match string_value(alloc, source) {
         Ok(text) => Ok(S::from_string(text.into_string())),
@@ -39,7 +39,7 @@ fn int_scalar<S: ScalarValue>(
     token: &ScalarToken<'_>,
 ) -> ParseScalarResult<S>
     ensures { Meets IsMemory result
-        (spec.int_or S.of_int (int_value source.now) (spec.refusal_of token.now)) }
+        (spec.int_or S.of_int (int_value source.now) (spec.unexpected_token token.now)) }
 {
     match int_value(source) {
         Some(value) => Ok(S::from_int(value)),
@@ -73,7 +73,7 @@ impl<S: ScalarValue> ParseScalarValue<S> for i32 {
 
 /// Reads nothing: `true` and `false` are names, and no scalar tokens (3.5.4 Boolean).
 impl<S: ScalarValue> ParseScalarValue<S> for bool {
-    ghost reads = { spec.refusal_of };
+    ghost reads = { spec.unexpected_token };
 
     fn from_str(alloc: Global, token: &ScalarToken<'_>) -> ParseScalarResult<S> {
         refusal(alloc, token)

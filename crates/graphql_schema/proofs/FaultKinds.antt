@@ -19,7 +19,7 @@ use Rattle.graphql_schema.specs.declared.faults.demand.Demand.{Demand}
 use Rattle.graphql_schema.specs.declared.faults.demand.Demand.TheVariants as demand
 use Rattle.graphql_schema.specs.Lookups.{own_name, type_named, is_object, is_scalar, is_interface, is_input_object}
 use Rattle.graphql_schema.specs.Faults.{Roots, root_names, order, error_of, refusal_of, has_fault, has_type, refers, is_bad_one_of, is_composite, scopes_of, IsAbsent, IsFirstFault}
-use Rattle.graphql_schema.specs.Demands.{is_unmet, asked_of, misses, is_referred}
+use Rattle.graphql_schema.specs.Demands.{is_unmet, references_asked, misses, is_referred}
 
 -- what holds of the kinds in the order holds of each kind
 pub of_each_kind : (P : FaultKind → Type 0) → All P order → (kind : FaultKind) → P kind
@@ -93,8 +93,8 @@ module _ {S C : Type 0} (types : List (MetaType S C)) (roots : Roots) where
     asks-unmet demand.Interface name = ap not (has is_interface name)
     asks-unmet demand.Scalar name = ap not (has is_scalar name)
 
-    reference : (wanted : Demand) (name : Bytes) → (refers (asked_of wanted) types name && asks wanted name) ≡ is_referred wanted types name
-    reference wanted name = ap (λ b. refers (asked_of wanted) types name && b) (asks-unmet wanted name)
+    reference : (wanted : Demand) (name : Bytes) → (refers (references_asked wanted) types name && asks wanted name) ≡ is_referred wanted types name
+    reference wanted name = ap (λ b. refers (references_asked wanted) types name && b) (asks-unmet wanted name)
 
     missing : (wanted : Demand) (names : List Bytes) (name : Bytes) → (is_one_of names name && asks wanted name) ≡ misses wanted types names name
     missing wanted names name = ap (λ b. is_one_of names name && b) (asks-unmet wanted name)

@@ -7,7 +7,7 @@ use Rattle.graphql_schema.specs.declared.error.SchemaError.{SchemaError}
 use Rattle.graphql_schema.specs.declared.faults.kind.FaultKind.{FaultKind}
 use Rattle.graphql_schema.specs.declared.faults.kind.FaultKind.TheVariants as fault
 use Rattle.graphql_names.specs.Names.{Bytes, stands_twice, is_one_of, is_named}
-use Rattle.graphql_schema.specs.Lookups.{own_name, is_object, is_scalar, is_interface, is_input_object, interfaces_of, members_of, output_names, input_names, references_of}
+use Rattle.graphql_schema.specs.Lookups.{own_name, is_object, is_scalar, is_interface, is_input_object, interfaces_of, union_members, output_names, input_names, references_of}
 use Rattle.graphql_schema.specs.Completed.{completed}
 use Rattle.graphql_schema.specs.Faults.{Roots, scopes_of, is_bad_one_of, is_composite, has_type, refers, order, has_fault, IsAbsent, IsFirstFault, IsFaultless}
 use Rattle.graphql_names.proofs.NameLemmas.{stands_twice-IsPermutation}
@@ -31,7 +31,7 @@ module _ {S C : Type 0} (xs ys : List (MetaType S C)) (moved : IsPermutation xs 
   has_fault-moved roots fault.NotInputType name = rw (refers-moved input_names name, has_type-moved is_composite name) refl
   has_fault-moved roots fault.BadRoot name = rw (has_type-moved is_object name) refl
   has_fault-moved roots fault.BadMember name =
-      rw (refers-moved members_of name, has_type-moved is_object name, refers-moved interfaces_of name, has_type-moved is_interface name) refl
+      rw (refers-moved union_members name, has_type-moved is_object name, refers-moved interfaces_of name, has_type-moved is_interface name) refl
   has_fault-moved roots fault.BadOneOf name = has_type-moved is_bad_one_of name
 
   absent-moved : (roots : Roots) (kind : FaultKind) → IsAbsent ys roots kind → IsAbsent xs roots kind

@@ -7,7 +7,8 @@ use Rattle.graphql_schema.specs.declared.faults.demand.Demand.{Demand}
 use Rattle.graphql_schema.specs.declared.faults.demand.Demand.TheVariants as demand
 use Rattle.graphql_names.specs.Names.{Bytes, is_one_of, passes}
 use Rattle.graphql_schema.specs.Lookups.{type_named, is_object, is_scalar, is_interface}
-use Rattle.graphql_schema.specs.Lookups.{is_input_object, interfaces_of, members_of, output_names}
+use Rattle.graphql_schema.specs.Lookups.{is_input_object, interfaces_of, union_members}
+use Rattle.graphql_schema.specs.Lookups.{output_names}
 use Rattle.graphql_schema.specs.Lookups.{input_names, references_of}
 use Rattle.graphql_schema.specs.Faults.{is_composite, refers}
 
@@ -22,13 +23,13 @@ module _ {S C : Type 0} where
   is_unmet demand.Scalar found = not (passes is_scalar found)
 
   -- the references of a type of which it is asked
-  abbrev pub asked_of : Demand → MetaType S C → List Bytes
-  asked_of demand.Known m = references_of m
-  asked_of demand.Output m = output_names m
-  asked_of demand.Input m = input_names m
-  asked_of demand.Object m = members_of m
-  asked_of demand.Interface m = interfaces_of m
-  asked_of demand.Scalar m = []
+  abbrev pub references_asked : Demand → MetaType S C → List Bytes
+  references_asked demand.Known m = references_of m
+  references_asked demand.Output m = output_names m
+  references_asked demand.Input m = input_names m
+  references_asked demand.Object m = union_members m
+  references_asked demand.Interface m = interfaces_of m
+  references_asked demand.Scalar m = []
 
   -- it is one of the names, and its type is not what is asked for
   abbrev pub misses : Demand → List (MetaType S C) → List Bytes → Bytes → Bool
@@ -37,4 +38,4 @@ module _ {S C : Type 0} where
   -- one of the types refers to it where that is asked, and its type is not what is asked for
   abbrev pub is_referred : Demand → List (MetaType S C) → Bytes → Bool
   is_referred wanted types name =
-      refers (asked_of wanted) types name && is_unmet wanted (type_named types name)
+      refers (references_asked wanted) types name && is_unmet wanted (type_named types name)

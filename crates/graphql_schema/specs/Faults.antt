@@ -18,7 +18,8 @@ use Rattle.graphql_names.specs.declared.name_map.NameMapError.{NameMapError}
 use Rattle.graphql_names.specs.declared.name_map.NameMapError.TheVariants as repeat
 use Rattle.graphql_names.specs.Names.{Bytes, stands_twice, is_one_of, is_named}
 use Rattle.graphql_schema.specs.Lookups.{own_name, is_object, is_scalar, is_interface}
-use Rattle.graphql_schema.specs.Lookups.{is_input_object, interfaces_of, members_of, output_names}
+use Rattle.graphql_schema.specs.Lookups.{is_input_object, interfaces_of, union_members}
+use Rattle.graphql_schema.specs.Lookups.{output_names}
 use Rattle.graphql_schema.specs.Lookups.{input_names, references_of}
 
 -- the refusal of types of which two have one name
@@ -107,7 +108,7 @@ module _ {S C : Type 0} where
   has_fault types roots fault.BadRoot name =
       is_one_of (root_names roots) name && not (has_type is_object types name)
   has_fault types roots fault.BadMember name =
-      refers members_of types name && not (has_type is_object types name)
+      refers union_members types name && not (has_type is_object types name)
       || refers interfaces_of types name && not (has_type is_interface types name)
   has_fault types roots fault.BadOneOf name = has_type is_bad_one_of types name
 

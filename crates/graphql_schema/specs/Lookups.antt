@@ -9,7 +9,7 @@ use Rattle.graphql_schema.specs.declared.meta.MetaType.TheVariants as meta
 use Rattle.graphql_schema.specs.declared.meta.type_kind.TypeKind.{TypeKind}
 use Rattle.graphql_schema.specs.declared.meta.type_kind.TypeKind.TheVariants as kind
 use Rattle.graphql_schema.specs.Types.{fields_of, input_fields_of, arguments_of}
-pub use Rattle.graphql_schema.specs.Types.{own_name, interfaces_of, members_of}
+pub use Rattle.graphql_schema.specs.Types.{own_name, interfaces_of, union_members}
 use Rattle.graphql_names.specs.Names.{Bytes, named}
 
 module _ {S C : Type 0} where
@@ -78,4 +78,4 @@ module _ {S C : Type 0} where
 
   -- the names of all types that it refers to
   abbrev pub references_of : MetaType S C → List Bytes
-  references_of m = output_names m ++ input_names m ++ members_of m ++ interfaces_of m
+  references_of m = output_names m ++ input_names m ++ union_members m ++ interfaces_of m

@@ -1,7 +1,7 @@
 -- What a schema says of its types (GraphQL October 2021, 3.4 Types).
-use Rattle.std.specs.Prelude.{◌++◌, List, [], ◌∷◌, Option, Some, None, unwrap_or}
+use Rattle.std.specs.Prelude.{◌++◌, List, [], ◌∷◌, Bool, Option, Some, None, unwrap_or}
 use Rattle.graphql_text.specs.declared.text.Text.{Text}
-use Rattle.graphql_names.specs.TypeReference.{nullable}
+use Rattle.graphql_names.specs.TypeReference.{nullable, is_non_null, outermost}
 use Rattle.graphql_names.specs.declared.type_modifier.TypeModifier.{TypeModifier}
 use Rattle.graphql_names.specs.declared.type_modifier.TypeModifier.TheVariants as modifier
 use Rattle.graphql_names.specs.declared.type_reference.«Type».{«Type»}
@@ -18,6 +18,10 @@ arguments_of field = unwrap_or field.arguments []
 -- a reference to a type that can have any name
 abbrev pub TypeOf : Type 0
 TypeOf = «Type» Text (List TypeModifier)
+
+-- no `null` is among its values
+abbrev pub refuses_null : TypeOf → Bool
+refuses_null t = is_non_null (outermost t.modifiers)
 
 -- the reference to the type of a name, without `null`
 abbrev pub reference_to : Text → TypeOf
@@ -70,9 +74,9 @@ module _ {S C : Type 0} where
   interfaces_of _ = []
 
   -- the members of a union (3.8 Unions)
-  abbrev pub members_of : MetaType S C → List Text
-  members_of (meta.Union m) = m.of_type_names
-  members_of _ = []
+  abbrev pub union_members : MetaType S C → List Text
+  union_members (meta.Union m) = m.of_type_names
+  union_members _ = []
 
   -- the values that an enum declares (3.9 Enums)
   abbrev pub values_of : MetaType S C → List EnumValue

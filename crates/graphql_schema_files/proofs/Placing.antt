@@ -8,7 +8,7 @@ use Rattle.graphql_schema_files.specs.DeclarationPlaces.{ArgumentKeeps, FieldKee
 use Rattle.graphql_schema_files.proofs.FirstPlaces.{first_or_none}
 use Rattle.graphql_schema_files.specs.DraftedTypes.{DefaultMeans, IsDefault}
 use Rattle.graphql_schema_files.specs.Outlines.{OutlinesData, OutlinesShape}
-use Rattle.graphql_schema_files.specs.SpelledTexts.{Finds, Value}
+use Rattle.graphql_schema_files.specs.SpelledTexts.{FindsMeant, Value}
 use Rattle.graphql_schema_files.specs.Shapes.{schema_of}
 use Rattle.graphql_schema_files.specs.declared.drafts.ArgumentDraft.{ArgumentDraft}
 use Rattle.graphql_schema_files.specs.declared.drafts.FieldDraft.{FieldDraft}
@@ -27,7 +27,7 @@ default_found (Some text) (Some value) means = (value, means)
 default_found None (Some value) means = absurd means
 default_found (Some text) None means = absurd means
 
-pub default_told : (text : Option Bytes) (found : Option (Option Value)) (told : Bool) → told ≡ is_some found → Finds DefaultMeans IsDefault text found → IsTrue told ↔ IsDefault text
+pub default_told : (text : Option Bytes) (found : Option (Option Value)) (told : Bool) → told ≡ is_some found → FindsMeant DefaultMeans IsDefault text found → IsTrue told ↔ IsDefault text
 default_told text (Some value) told is finds = subst (λ b. IsTrue b ↔ IsDefault text) (sym is) (holds (default_found text value finds))
 default_told text None told is finds = subst (λ b. IsTrue b ↔ IsDefault text) (sym is) (fails finds)
 

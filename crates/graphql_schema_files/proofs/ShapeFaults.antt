@@ -11,10 +11,10 @@ use Rattle.graphql_schema_files.specs.SchemaFiles.{ReadsData, ReadsShape}
 use Rattle.graphql_schema_files.specs.SpelledTexts.{Value}
 use Rattle.graphql_schema_files.specs.declared.drafts.SchemaDraft.{SchemaDraft}
 use Rattle.graphql_schema_files.specs.declared.schema_file_error.SchemaFileError.TheVariants as fault
-use Rattle.graphql_json.specs.Parts.{◌>>=◌, each, list_of, or_none, text_at, text_if, text_of}
+use Rattle.graphql_json.specs.Parts.{◌>>=◌, each_read, list_read, or_none, text_at, text_if, text_of, unless}
 use Rattle.graphql_names.specs.Names.{Bytes}
-use Rattle.graphql_schema_files.specs.Shapes.{argument_of, arguments_in, field_of, fields_in, kind_in, listed_in, schema_of, type_of, types_in}
-use Rattle.graphql_schema_files.specs.ShapeFaults.{argument_fault, at_member, field_fault, fields_fault, file_fault, first_fault, found_fault, in_argument, in_field, in_names, in_type, items_fault, key_of, listed_fault, list_fault, list_if_fault, name_fault, parts_fault, text_fault, text_if_fault, type_fault, unless}
+use Rattle.graphql_schema_files.specs.Shapes.{argument_draft, argument_drafts, field_draft, field_drafts, kind_in, listed_in, schema_of, type_draft, types_in}
+use Rattle.graphql_schema_files.specs.ShapeFaults.{argument_fault, at_member, field_fault, fields_fault, file_fault, first_fault, found_fault, in_argument, in_field, in_names, in_type, items_fault, key_of, listed_fault, list_fault, list_if_fault, name_fault, parts_fault, text_fault, text_if_fault, type_fault}
 use Rattle.graphql_schema_files.specs.declared.drafts.ArgumentDraft.{ArgumentDraft}
 use Rattle.graphql_schema_files.specs.declared.drafts.FieldDraft.{FieldDraft}
 use Rattle.graphql_schema_files.specs.declared.drafts.TypeDraft.{TypeDraft}
@@ -59,18 +59,18 @@ mapped g (Some f) found e = e
 -- ---- lists, whose items are read so
 
 module _ {A : Type 0} (within : ℕ → ShapeFault → ShapeFault) (fault_of : Data → Option ShapeFault) (read : Data → Option A) (opposed : (d : Data) → Opposed (fault_of d) (read d)) where
-  each_so : (i : ℕ) (ds : Items) → Opposed (first_fault within fault_of i ds) (each read ds)
+  each_so : (i : ℕ) (ds : Items) → Opposed (first_fault within fault_of i ds) (each_read read ds)
   each_so i no_items = refl
   each_so i (item d ds) =
-      both (option_map (within i) (fault_of d)) (first_fault within fault_of (i + 1) ds) (read d) (λ x. each read ds >>= λ xs. Some (x ∷ xs))
+      both (option_map (within i) (fault_of d)) (first_fault within fault_of (i + 1) ds) (read d) (λ x. each_read read ds >>= λ xs. Some (x ∷ xs))
       (mapped (within i) (fault_of d) (read d) (opposed d))
-      (λ x. last (first_fault within fault_of (i + 1) ds) (each read ds) (λ xs. x ∷ xs) (each_so (i + 1) ds))
+      (λ x. last (first_fault within fault_of (i + 1) ds) (each_read read ds) (λ xs. x ∷ xs) (each_so (i + 1) ds))
 
-  items_so : (m : Member) (o : Option Items) → Opposed (items_fault within fault_of m o) (o >>= each read)
+  items_so : (m : Member) (o : Option Items) → Opposed (items_fault within fault_of m o) (o >>= each_read read)
   items_so m None = refl
   items_so m (Some ds) = each_so 0 ds
 
-  list_so : (m : Member) (o : Option Data) → Opposed (items_fault within fault_of m (o >>= as_array)) (o >>= list_of read)
+  list_so : (m : Member) (o : Option Data) → Opposed (items_fault within fault_of m (o >>= as_array)) (o >>= list_read read)
   list_so m None = refl
   list_so m (Some v) = items_so m (as_array v)
 
@@ -101,7 +101,7 @@ type_made kind name fields listed = record { kind = kind; name = name; fields = 
 abbrev schema_made : Bytes → Option Bytes → List TypeDraft → SchemaDraft
 schema_made query mutation types = record { query = query; mutation = mutation; types = types }
 
-argument_so : (d : Data) → Opposed (argument_fault d) (argument_of d)
+argument_so : (d : Data) → Opposed (argument_fault d) (argument_draft d)
 argument_so null = refl
 argument_so (boolean b) = refl
 argument_so (number n) = refl
@@ -113,7 +113,7 @@ argument_so (object ms) =
     (text_at (key_of member.Name) d) (text_at (key_of member.TypeText) d) (text_if (key_of member.DefaultText) d)
     argument_made (text_so member.Name d) (text_so member.TypeText d) (text_if_so member.DefaultText d)
 
-field_so : (d : Data) → Opposed (field_fault d) (field_of d)
+field_so : (d : Data) → Opposed (field_fault d) (field_draft d)
 field_so null = refl
 field_so (boolean b) = refl
 field_so (number n) = refl
@@ -122,13 +122,13 @@ field_so (array ds) = refl
 field_so (object ms) =
     let d = object ms in
     three_so (text_fault member.Name d) (text_fault member.TypeText d) (list_if_fault in_argument argument_fault member.Arguments d)
-    (text_at (key_of member.Name) d) (text_at (key_of member.TypeText) d) (arguments_in d)
+    (text_at (key_of member.Name) d) (text_at (key_of member.TypeText) d) (argument_drafts d)
     field_made (text_so member.Name d) (text_so member.TypeText d)
-    (list_if_so in_argument argument_fault argument_of argument_so member.Arguments (get (key_of member.Arguments) d))
+    (list_if_so in_argument argument_fault argument_draft argument_so member.Arguments (get (key_of member.Arguments) d))
 
-fields_so : (k : DraftKind) (d : Data) → Opposed (fields_fault k d) (fields_in k d)
-fields_so kind.Object d = list_so in_field field_fault field_of field_so member.Fields (get (key_of member.Fields) d)
-fields_so kind.Interface d = list_so in_field field_fault field_of field_so member.Fields (get (key_of member.Fields) d)
+fields_so : (k : DraftKind) (d : Data) → Opposed (fields_fault k d) (field_drafts k d)
+fields_so kind.Object d = list_so in_field field_fault field_draft field_so member.Fields (get (key_of member.Fields) d)
+fields_so kind.Interface d = list_so in_field field_fault field_draft field_so member.Fields (get (key_of member.Fields) d)
 fields_so kind.Union d = refl
 
 listed_so : (k : DraftKind) (d : Data) → Opposed (listed_fault k d) (listed_in k d)
@@ -137,14 +137,14 @@ listed_so kind.Interface d = list_if_so (in_names member.Interfaces) name_fault 
 listed_so kind.Union d = list_so (in_names member.Members) name_fault text_of name_so member.Members (get (key_of member.Members) d)
 
 parts_so : (k : Option DraftKind) (d : Data)
-    → Opposed (parts_fault k d) (k >>= λ kind. text_at (codes "name") d >>= λ name. fields_in kind d >>= λ fields. listed_in kind d >>= λ listed. Some (type_made kind name fields listed))
+    → Opposed (parts_fault k d) (k >>= λ kind. text_at (codes "name") d >>= λ name. field_drafts kind d >>= λ fields. listed_in kind d >>= λ listed. Some (type_made kind name fields listed))
 parts_so None d = refl
 parts_so (Some k) d =
     three_so (text_fault member.Name d) (fields_fault k d) (listed_fault k d)
-    (text_at (key_of member.Name) d) (fields_in k d) (listed_in k d)
+    (text_at (key_of member.Name) d) (field_drafts k d) (listed_in k d)
     (type_made k) (text_so member.Name d) (fields_so k d) (listed_so k d)
 
-type_so : (d : Data) → Opposed (type_fault d) (type_of d)
+type_so : (d : Data) → Opposed (type_fault d) (type_draft d)
 type_so null = refl
 type_so (boolean b) = refl
 type_so (number n) = refl
@@ -163,7 +163,7 @@ file_so (object ms) =
     three_so (text_fault member.Query d) (text_if_fault member.Mutation d) (list_fault in_type type_fault member.Types d)
     (text_at (key_of member.Query) d) (text_if (key_of member.Mutation) d) (types_in d)
     schema_made (text_so member.Query d) (text_if_so member.Mutation d)
-    (list_so in_type type_fault type_of type_so member.Types (get (key_of member.Types) d))
+    (list_so in_type type_fault type_draft type_so member.Types (get (key_of member.Types) d))
 
 -- bytes that are no JSON have no fault of the shape
 pub no_shape : (o : Option Data) → o ≡ None → None ≡ o >>= file_fault

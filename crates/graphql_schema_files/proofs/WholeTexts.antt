@@ -19,13 +19,13 @@ use Rattle.graphql_grammar.specs.Ahead.{mk}
 use Rattle.graphql_grammar.specs.Relations.{Rel, end_of}
 use Rattle.graphql_grammar.specs.Cursor.{IsStart, IsLexical, NoEnd}
 use Rattle.graphql_grammar.specs.Faults.{Reading, Spelled}
-use Rattle.graphql_language.specs.Literals.{Values, Types, Missing, NextType, NextValue}
+use Rattle.graphql_language.specs.Literals.{LiteralOf, Types, Missing, NextType, NextValue}
 use Rattle.graphql_language.specs.Parser.{State, Rule, Fails, CallsFresh, Calls, RefusesAgain}
 use Rattle.graphql_value_syntax.specs.ReadTypes.{TypeRef}
 use Rattle.graphql_value_syntax.specs.ReadValues.{value}
 use Rattle.graphql_value_syntax.specs.Types.{no_scalar}
 use Rattle.graphql_value_syntax.proofs.ValueLaws.{law_value}
-use Rattle.graphql_schema_files.specs.SpelledTexts.{Finds, IsSpelled, IsType, IsLiteral, HasType, HasLiteral, Value}
+use Rattle.graphql_schema_files.specs.SpelledTexts.{FindsMeant, IsSpelled, IsType, IsLiteral, HasType, HasLiteral, Value}
 
 -- ---- the end of a text
 
@@ -119,7 +119,7 @@ abbrev Next : Rule (At Value)
 Next = NextValue DefaultScalarValue reads scalar.Boolean true
 
 abbrev Constants : Reading DefaultScalarValue → Rel (At Value)
-Constants = Values scalar.Boolean true
+Constants = LiteralOf scalar.Boolean true
 
 left_of : Outcome (At Value) → List Located
 left_of (Ok p) = p.1.ahead
@@ -160,6 +160,6 @@ no_value text e = not_lexical reads Constants text e
 
 -- nothing, by a fault that is not want of memory
 pub nothing_found : {A B : Type 0} (Means : A → B → Type 0) (IsSound : A → Type 0) (x : A) (e : Fault) (r : Result (Option B) AllocError)
-    → IfOk r (λ found. (found ≡ None) × (e.item ≢ Memory)) → (e.item ≢ Memory → IsSound x → ⊥) → IfOk r (Finds Means IsSound x)
-nothing_found Means IsSound x e (Ok found) told none = subst (Finds Means IsSound x) (sym told.0) (none told.1)
+    → IfOk r (λ found. (found ≡ None) × (e.item ≢ Memory)) → (e.item ≢ Memory → IsSound x → ⊥) → IfOk r (FindsMeant Means IsSound x)
+nothing_found Means IsSound x e (Ok found) told none = subst (FindsMeant Means IsSound x) (sym told.0) (none told.1)
 nothing_found Means IsSound x e (Err f) told none = tt

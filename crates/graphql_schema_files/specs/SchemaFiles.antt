@@ -7,7 +7,7 @@ use Rattle.serde_json.specs.Data.{Data}
 use Rattle.graphql_text.specs.Memory.{Answers}
 use Rattle.graphql_lines.specs.Request.{data_of}
 use Rattle.graphql_names.specs.Names.{Bytes}
-use Rattle.graphql_scalars.specs.DefaultScalar.{answer}
+use Rattle.graphql_scalars.specs.DefaultScalar.{scalar_answer}
 use Rattle.graphql_scalars.specs.declared.default_scalar.DefaultScalarValue.TheVariants as scalar
 use Rattle.graphql_schema.specs.declared.meta.MetaType.{MetaType}
 use Rattle.graphql_schema.specs.declared.root_node.RootNode.{RootNode}
@@ -54,12 +54,12 @@ IsMemory e = e ≡ fault.Memory
 module _ {C : Type 0} (accepts : C → Value → Type 0) where
   -- its defaults conform in the schema
   abbrev pub DefaultsConform : SchemaDraft → SchemaType S C → Type 0
-  DefaultsConform file schema = All (DraftConforms answer accepts schema.types) file.types
+  DefaultsConform file schema = All (DraftConforms scalar_answer accepts schema.types) file.types
 
   -- the first default of the file that does not conform in the schema
   abbrev pub IsFirstUnfit : SchemaDraft → SchemaType S C → SchemaFileError → Type 0
   IsFirstUnfit file schema (fault.UnfitDefault place) =
-      IsFirst (IsUnfitType answer accepts schema.types) file.types (Some place)
+      IsFirst (IsUnfitType scalar_answer accepts schema.types) file.types (Some place)
   IsFirstUnfit file schema _ = ⊥
 
   -- a root node over the schema, or the first default that does not conform in it

@@ -1,10 +1,10 @@
 -- Which member of a file of a schema has not its shape. Of an object the members are looked at in
 -- the order in which the shape names them, and of a list the items in their order.
-use Rattle.std.specs.Prelude.{◌+◌, ℕ, Bool, Option, Some, None, is_some, codes, if◌then◌else◌}
-use Rattle.std.specs.Option.{option_map, option_or}
+use Rattle.std.specs.Prelude.{◌+◌, ℕ, Option, Some, None, is_some, codes, if◌then◌else◌}
+use Rattle.std.specs.Option.{option_map}
 use Rattle.serde_json.specs.Data.{Data, Items, no_items, item}
 use Rattle.serde_json.specs.Find.{as_array, as_object, get}
-use Rattle.graphql_json.specs.Parts.{◌>>=◌, array_at, text_at, text_if, text_of}
+use Rattle.graphql_json.specs.Parts.{◌>>=◌, array_at, text_at, text_if, text_of, ◌or_else◌, unless}
 use Rattle.graphql_lines.specs.Request.{data_of}
 use Rattle.graphql_names.specs.Names.{Bytes}
 use Rattle.graphql_schema_files.specs.Shapes.{kind_in}
@@ -15,11 +15,6 @@ use Rattle.graphql_schema_files.specs.declared.wanted.Member.TheVariants as memb
 use Rattle.graphql_schema_files.specs.declared.wanted.Wanted.{Wanted}
 use Rattle.graphql_schema_files.specs.declared.wanted.Wanted.TheVariants as wanted
 use Rattle.graphql_schema_files.specs.declared.wanted.ShapeFault.{ShapeFault}
-
--- the first of two steps that finds something
-infixr 10 ◌or_else◌
-abbrev pub ◌or_else◌ : {A : Type 0} → Option A → Option A → Option A
-first or_else second = option_or first second
 
 -- the name of a member
 abbrev pub key_of : Member → Bytes
@@ -104,10 +99,6 @@ in_type i fault = record {
 }
 
 -- ---- objects, texts and lists
-
--- the fault, where the shape is not right
-abbrev pub unless : Bool → ShapeFault → Option ShapeFault
-unless right fault = if right then None else Some fault
 
 abbrev pub object_fault : Data → Option ShapeFault
 object_fault d = unless (is_some (as_object d)) (here wanted.Object)

@@ -42,6 +42,6 @@ abbrev pub HasLiteral : Bytes → Type 0
 HasLiteral text = (v : Value) × IsLiteral text v
 
 -- what something means, or nothing where it is not sound
-abbrev pub Finds : {A B : Type 0} → (A → B → Type 0) → (A → Type 0) → A → Option B → Type 0
-Finds Means IsSound x (Some y) = Means x y
-Finds Means IsSound x None = IsSound x → ⊥
+abbrev pub FindsMeant : {A B : Type 0} → (A → B → Type 0) → (A → Type 0) → A → Option B → Type 0
+FindsMeant Means IsSound x (Some y) = Means x y
+FindsMeant Means IsSound x None = IsSound x → ⊥

@@ -4,7 +4,7 @@ ghost use Rattle.std.specs.Prelude.{◌≡◌, IfOk};
 ghost use Rattle.std.specs.List.{All, AllZip};
 ghost use Rattle.graphql_text.specs.Memory.{Gives};
 ghost use Rattle.graphql_schema_files.specs.DraftedTypes as spec;
-ghost use Rattle.graphql_schema_files.specs.SpelledTexts.{Finds};
+ghost use Rattle.graphql_schema_files.specs.SpelledTexts.{FindsMeant};
 
 use crate::texts::{literal_in, type_in};
 use crate::{ArgumentDraft, DraftKind, FieldDraft, TypeDraft};
@@ -22,7 +22,7 @@ pub(crate) fn default_of(
     alloc: Global,
     text: &Option<TextRef<'_>>,
 ) -> Result<Option<Option<InputValue>>, AllocError>
-    ensures { IfOk result (Finds spec.DefaultMeans spec.IsDefault text.now) }
+    ensures { IfOk result (FindsMeant spec.DefaultMeans spec.IsDefault text.now) }
 {
     match text {
         Some(text) => match literal_in(alloc, text)? {
@@ -38,7 +38,7 @@ fn argument_of(
     alloc: Global,
     draft: &ArgumentDraft<'_>,
 ) -> Result<Option<Argument<DefaultScalarValue>>, AllocError>
-    ensures { IfOk result (Finds spec.ArgumentMeans spec.ArgumentIsSound draft.now) }
+    ensures { IfOk result (FindsMeant spec.ArgumentMeans spec.ArgumentIsSound draft.now) }
 {
     let name = Text::from_str(alloc, draft.name.as_str())?;
     let Some(arg_type) = type_in(alloc, &draft.type_text)? else {
@@ -61,7 +61,7 @@ fn arguments_of(
     drafts: &[ArgumentDraft<'_>],
 ) -> Result<Option<Items<Argument<DefaultScalarValue>>>, AllocError>
     ensures { IfOk result
-        (Finds (AllZip spec.ArgumentMeans) (All spec.ArgumentIsSound) drafts.now) }
+        (FindsMeant (AllZip spec.ArgumentMeans) (All spec.ArgumentIsSound) drafts.now) }
 {
     let mut arguments = Items::with_capacity(alloc, drafts.len())?;
     'drafts: for draft in drafts {
@@ -80,7 +80,7 @@ fn arguments_in(
     draft: &FieldDraft<'_>,
 ) -> Result<Option<Items<Argument<DefaultScalarValue>>>, AllocError>
     ensures { IfOk result
-        (Finds (AllZip spec.ArgumentMeans) (All spec.ArgumentIsSound) draft.now.arguments) }
+        (FindsMeant (AllZip spec.ArgumentMeans) (All spec.ArgumentIsSound) draft.now.arguments) }
 {
     arguments_of(alloc, draft.arguments.as_slice())
 }
@@ -90,7 +90,7 @@ fn field_of(
     alloc: Global,
     draft: &FieldDraft<'_>,
 ) -> Result<Option<Field<DefaultScalarValue>>, AllocError>
-    ensures { IfOk result (Finds spec.FieldMeans spec.FieldIsSound draft.now) }
+    ensures { IfOk result (FindsMeant spec.FieldMeans spec.FieldIsSound draft.now) }
 {
     let name = Text::from_str(alloc, draft.name.as_str())?;
     let Some(field_type) = type_in(alloc, &draft.type_text)? else {
@@ -113,7 +113,7 @@ fn fields_of(
     alloc: Global,
     drafts: &[FieldDraft<'_>],
 ) -> Result<Option<Items<Field<DefaultScalarValue>>>, AllocError>
-    ensures { IfOk result (Finds (AllZip spec.FieldMeans) (All spec.FieldIsSound) drafts.now) }
+    ensures { IfOk result (FindsMeant (AllZip spec.FieldMeans) (All spec.FieldIsSound) drafts.now) }
 {
     let mut fields = Items::with_capacity(alloc, drafts.len())?;
     'drafts: for draft in drafts {
@@ -132,7 +132,7 @@ fn fields_in(
     draft: &TypeDraft<'_>,
 ) -> Result<Option<Items<Field<DefaultScalarValue>>>, AllocError>
     ensures { IfOk result
-        (Finds (AllZip spec.FieldMeans) (All spec.FieldIsSound) draft.now.fields) }
+        (FindsMeant (AllZip spec.FieldMeans) (All spec.FieldIsSound) draft.now.fields) }
 {
     fields_of(alloc, draft.fields.as_slice())
 }
@@ -186,7 +186,7 @@ fn type_of<C: Drop>(
     alloc: Global,
     draft: &TypeDraft<'_>,
 ) -> Result<Option<MetaType<DefaultScalarValue, C>>, AllocError>
-    ensures { IfOk result (Finds spec.TypeMeans spec.TypeIsSound draft.now) }
+    ensures { IfOk result (FindsMeant spec.TypeMeans spec.TypeIsSound draft.now) }
 {
     let name = Text::from_str(alloc, draft.name.as_str())?;
     let listed = names_of(alloc, draft.listed.as_slice())?;
@@ -203,7 +203,7 @@ fn types_of<C: Drop>(
     alloc: Global,
     drafts: &[TypeDraft<'_>],
 ) -> Result<Option<Items<MetaType<DefaultScalarValue, C>>>, AllocError>
-    ensures { IfOk result (Finds (AllZip spec.TypeMeans) (All spec.TypeIsSound) drafts.now) }
+    ensures { IfOk result (FindsMeant (AllZip spec.TypeMeans) (All spec.TypeIsSound) drafts.now) }
 {
     let mut types = Items::with_capacity(alloc, drafts.len())?;
     'drafts: for draft in drafts {

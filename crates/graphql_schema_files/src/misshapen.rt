@@ -3,6 +3,7 @@
 ghost use Rattle.std.specs.Prelude.{◌≡◌};
 ghost use Rattle.graphql_text.specs.Memory.{Gives};
 ghost use Rattle.serde_json.specs.View.{items_view, view};
+ghost use Rattle.graphql_json.specs.Parts.{unless};
 ghost use Rattle.graphql_schema_files.specs.ShapeFaults as spec;
 ghost use Rattle.graphql_schema_files.specs.declared.wanted.Member.TheVariants as member;
 
@@ -64,7 +65,7 @@ fn at_member(member: Member, wanted: Wanted) -> ShapeFault
 
 /// The fault, where the shape is not right.
 fn unless(right: bool, fault: ShapeFault) -> Option<ShapeFault>
-    ensures { result ≡ spec.unless right fault }
+    ensures { result ≡ unless right fault }
 {
     if right { None } else { Some(fault) }
 }

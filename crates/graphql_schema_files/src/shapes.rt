@@ -3,7 +3,7 @@
 ghost use Rattle.std.specs.Prelude.{◌≡◌};
 ghost use Rattle.graphql_text.specs.Memory.{Gives};
 ghost use Rattle.serde_json.specs.View.{items_view, view};
-ghost use Rattle.graphql_json.specs.Parts.{each};
+ghost use Rattle.graphql_json.specs.Parts.{each_read};
 ghost use Rattle.graphql_schema_files.specs.Shapes as spec;
 
 use crate::drafts::{ArgumentDraft, DraftKind, FieldDraft, SchemaDraft, TypeDraft};
@@ -14,7 +14,7 @@ use std::alloc::{AllocError, Global};
 
 /// The argument that JSON describes, if it has the shape of one.
 fn argument_of(json: &Value) -> Option<ArgumentDraft<'_>>
-    ensures { result ≡ spec.argument_of (view json.now) }
+    ensures { result ≡ spec.argument_draft (view json.now) }
 {
     let name = text_at(json, "name")?;
     let type_text = text_at(json, "type")?;
@@ -31,7 +31,7 @@ fn arguments_of<'a>(
     alloc: Global,
     items: &'a [Value],
 ) -> Result<Option<Items<ArgumentDraft<'a>>>, AllocError>
-    ensures { Gives result (each spec.argument_of (items_view items.now)) }
+    ensures { Gives result (each_read spec.argument_draft (items_view items.now)) }
 {
     let mut arguments = Items::with_capacity(alloc, items.len())?;
     'items: for item in items {
@@ -48,7 +48,7 @@ fn arguments_in<'a>(
     alloc: Global,
     json: &'a Value,
 ) -> Result<Option<Items<ArgumentDraft<'a>>>, AllocError>
-    ensures { Gives result (spec.arguments_in (view json.now)) }
+    ensures { Gives result (spec.argument_drafts (view json.now)) }
 {
     match json.get("args") {
         Some(value) => match value.as_array() {
@@ -61,7 +61,7 @@ fn arguments_in<'a>(
 
 /// The field that JSON describes, if it has the shape of one. An error is want of memory.
 fn field_of<'a>(alloc: Global, json: &'a Value) -> Result<Option<FieldDraft<'a>>, AllocError>
-    ensures { Gives result (spec.field_of (view json.now)) }
+    ensures { Gives result (spec.field_draft (view json.now)) }
 {
     let Some(name) = text_at(json, "name") else {
         return Ok(None);
@@ -84,7 +84,7 @@ fn fields_of<'a>(
     alloc: Global,
     items: &'a [Value],
 ) -> Result<Option<Items<FieldDraft<'a>>>, AllocError>
-    ensures { Gives result (each spec.field_of (items_view items.now)) }
+    ensures { Gives result (each_read spec.field_draft (items_view items.now)) }
 {
     let mut fields = Items::with_capacity(alloc, items.len())?;
     'items: for item in items {
@@ -124,7 +124,7 @@ fn fields_in<'a>(
     kind: DraftKind,
     json: &'a Value,
 ) -> Result<Option<Items<FieldDraft<'a>>>, AllocError>
-    ensures { Gives result (spec.fields_in kind (view json.now)) }
+    ensures { Gives result (spec.field_drafts kind (view json.now)) }
 {
     if let DraftKind::Union = kind {
         return Ok(Some(Items::new(alloc)));
@@ -151,7 +151,7 @@ fn listed_in<'a>(
 
 /// The type that JSON describes, if it has the shape of one. An error is want of memory.
 fn type_of<'a>(alloc: Global, json: &'a Value) -> Result<Option<TypeDraft<'a>>, AllocError>
-    ensures { Gives result (spec.type_of (view json.now)) }
+    ensures { Gives result (spec.type_draft (view json.now)) }
 {
     let Some(kind) = kind_in(json) else {
         return Ok(None);
@@ -178,7 +178,7 @@ fn types_of<'a>(
     alloc: Global,
     items: &'a [Value],
 ) -> Result<Option<Items<TypeDraft<'a>>>, AllocError>
-    ensures { Gives result (each spec.type_of (items_view items.now)) }
+    ensures { Gives result (each_read spec.type_draft (items_view items.now)) }
 {
     let mut types = Items::with_capacity(alloc, items.len())?;
     'items: for item in items {

@@ -48,7 +48,7 @@ fn owned(alloc: Global, found: Type<TextRef<'_>>) -> Result<Type<Text>, AllocErr
 /// The type reference that a text is, as a whole (GraphQL October 2021, 2.11 Type References);
 /// `None` where it is none. An error is want of memory.
 pub fn type_of_text(alloc: Global, text: &str) -> Result<Option<Type<Text>>, AllocError>
-    ensures { IfOk result (spec.Finds spec.IsType spec.HasType text.now) }
+    ensures { IfOk result (spec.FindsMeant spec.IsType spec.HasType text.now) }
 {
     let mut parser = match Parser::new(alloc, text) {
         Ok(parser) => parser,
@@ -68,7 +68,7 @@ pub fn type_of_text(alloc: Global, text: &str) -> Result<Option<Type<Text>>, All
 /// The value that a text is, as a whole, in which no variable stands (GraphQL October 2021, 2.9
 /// Input Values); `None` where it is none. An error is want of memory.
 pub fn literal_of_text(alloc: Global, text: &str) -> Result<Option<InputValue>, AllocError>
-    ensures { IfOk result (spec.Finds spec.IsLiteral spec.HasLiteral text.now) }
+    ensures { IfOk result (spec.FindsMeant spec.IsLiteral spec.HasLiteral text.now) }
 {
     let mut parser = match Parser::new(alloc, text) {
         Ok(parser) => parser,
@@ -87,7 +87,7 @@ pub fn literal_of_text(alloc: Global, text: &str) -> Result<Option<InputValue>, 
 
 /// The type reference that a text is, which is lent. An error is want of memory.
 pub(crate) fn type_in(alloc: Global, text: &TextRef<'_>) -> Result<Option<Type<Text>>, AllocError>
-    ensures { IfOk result (spec.Finds spec.IsType spec.HasType text.now) }
+    ensures { IfOk result (spec.FindsMeant spec.IsType spec.HasType text.now) }
 {
     type_of_text(alloc, text.as_str())
 }
@@ -97,7 +97,7 @@ pub(crate) fn literal_in(
     alloc: Global,
     text: &TextRef<'_>,
 ) -> Result<Option<InputValue>, AllocError>
-    ensures { IfOk result (spec.Finds spec.IsLiteral spec.HasLiteral text.now) }
+    ensures { IfOk result (spec.FindsMeant spec.IsLiteral spec.HasLiteral text.now) }
 {
     literal_of_text(alloc, text.as_str())
 }

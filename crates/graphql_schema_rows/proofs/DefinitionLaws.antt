@@ -22,7 +22,7 @@ use Rattle.graphql_value_syntax.specs.Directives.{DefaultOf}
 use Rattle.graphql_value_syntax.proofs.DirectiveLaws.{law_directives}
 use Rattle.graphql_value_syntax.proofs.ValueLaws.{law_name, law_value}
 use Rattle.graphql_value_syntax.proofs.TypeLaws.{law_type}
-use Rattle.graphql_schema_rows.specs.ReadDefinitions.{argument, argument_of, arguments, description, enum_value, field, field_of, head, head_of, value_of}
+use Rattle.graphql_schema_rows.specs.ReadDefinitions.{argument, argument_definition, arguments, description, enum_value, field, field_definition, head, head_of, value_definition}
 use Rattle.graphql_schema_rows.specs.Definitions.{ArgumentOf, ArgumentsOf, DescriptionOf, FieldOf, HeadOf, ValueOf}
 
 -- what a definition begins with
@@ -73,7 +73,7 @@ module _ {S : Type 0} (reads : ScalarToken → Result S ParseError) (of_bool : B
       (λ w. law_bind Bad Good refl (law_name Bad Good)
       (λ m. law_bind Bad Good refl (law_expect Bad Good k.Colon refl)
       (λ u. law_bind Bad Good refl (law_type Bad Good _)
-      (λ t. law_made Bad Good (λ d. argument_of w m t d) law_default)))))
+      (λ t. law_made Bad Good (λ d. argument_definition w m t d) law_default)))))
 
   takes_argument : Takes (argument reads of_bool)
   takes_argument i x j r = let l = uses_law Bad Good law_argument i x j r in omega arith
@@ -98,11 +98,11 @@ module _ {S : Type 0} (reads : ScalarToken → Result S ParseError) (of_bool : B
       (λ m. law_bind Bad Good refl law_some_arguments
       (λ args. law_bind Bad Good refl (law_expect Bad Good k.Colon refl)
       (λ u. law_bind Bad Good refl (law_type Bad Good _)
-      (λ t. law_made Bad Good (λ ds. field_of w m args t ds) (law_directives reads of_bool true _)))))))
+      (λ t. law_made Bad Good (λ ds. field_definition w m args t ds) (law_directives reads of_bool true _)))))))
 
   pub law_enum_value : (n : ℕ) → Law Bad Good true definition_starts definition_stops (ValueOf S reads of_bool) n (enum_value reads of_bool)
   unfolding enum_value
   law_enum_value n = law_wider Bad Good definition_starts definition_stops refl refl
       (law_bind Bad Good refl (law_description Bad Good)
       (λ w. law_bind Bad Good refl (law_value_name Bad Good)
-      (λ m. law_made Bad Good (λ ds. value_of w m ds) (law_directives reads of_bool true _))))
+      (λ m. law_made Bad Good (λ ds. value_definition w m ds) (law_directives reads of_bool true _))))

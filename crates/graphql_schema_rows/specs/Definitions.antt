@@ -14,8 +14,9 @@ use Rattle.graphql_grammar.specs.Relations.{TokenOf}
 use Rattle.graphql_grammar.specs.Steps.{name_of}
 use Rattle.graphql_value_syntax.specs.Directives.{DefaultOf, DirectivesOf, NameOf, Sign}
 use Rattle.graphql_value_syntax.specs.Types.{TypeOf}
-use Rattle.graphql_schema_rows.specs.ReadDefinitions.{Written, argument_of, field_of, head_of}
-use Rattle.graphql_schema_rows.specs.ReadDefinitions.{value_of}
+use Rattle.graphql_schema_rows.specs.ReadDefinitions.{Written, argument_definition}
+use Rattle.graphql_schema_rows.specs.ReadDefinitions.{field_definition, head_of}
+use Rattle.graphql_schema_rows.specs.ReadDefinitions.{value_definition}
 use Rattle.graphql_schema_rows.specs.declared.written.ArgumentDefinition.{ArgumentDefinition}
 use Rattle.graphql_schema_rows.specs.declared.written.FieldDefinition.{FieldDefinition}
 use Rattle.graphql_schema_rows.specs.declared.written.HeadDefinition.{HeadDefinition}
@@ -37,7 +38,8 @@ module _ (S : Type 0) (reads : ScalarToken → Result S ParseError) (of_bool : B
   -- InputValueDefinition : Description? Name `:` Type DefaultValue?
   abbrev pub ArgumentOf : List Located → ArgumentDefinition S → Type 0
   ArgumentOf = Then DescriptionOf (λ w. Then NameOf (λ n. Then (Sign k.Colon) (λ u.
-      Then TypeOf (λ t. Made (λ d. argument_of w n t d) (OptionOf (DefaultOf S reads of_bool))))))
+      Then TypeOf (λ t. Made (λ d. argument_definition w n t d)
+      (OptionOf (DefaultOf S reads of_bool))))))
 
   -- ArgumentsDefinition : `(` InputValueDefinition+ `)`
   abbrev pub ArgumentsOf : List Located → List (ArgumentDefinition S) → Type 0
@@ -47,12 +49,12 @@ module _ (S : Type 0) (reads : ScalarToken → Result S ParseError) (of_bool : B
   abbrev pub FieldOf : List Located → FieldDefinition S → Type 0
   FieldOf = Then DescriptionOf (λ w. Then NameOf
       (λ n. Then (OptionOf ArgumentsOf) (λ args. Then (Sign k.Colon) (λ u. Then TypeOf (λ t.
-      Made (λ ds. field_of w n args t ds) (DirectivesOf S reads of_bool true))))))
+      Made (λ ds. field_definition w n args t ds) (DirectivesOf S reads of_bool true))))))
 
   -- EnumValueDefinition : Description? EnumValue Directives?
   abbrev pub ValueOf : List Located → ValueDefinition S → Type 0
   ValueOf = Then DescriptionOf (λ w. Then (TokenOf enum_names name_of)
-      (λ n. Made (λ ds. value_of w n ds) (DirectivesOf S reads of_bool true)))
+      (λ n. Made (λ ds. value_definition w n ds) (DirectivesOf S reads of_bool true)))
 
 -- which tokens spell which definition, by what scalars mean
 module _ (S : Type 0) where

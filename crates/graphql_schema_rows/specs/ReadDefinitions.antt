@@ -24,22 +24,23 @@ Written = Option (At Token)
 
 -- what a definition is made of
 module _ {S : Type 0} where
-  abbrev pub argument_of : Written → List ℕ → At TypeRef → Option (At (InputValue S))
+  abbrev pub argument_definition : Written → List ℕ → At TypeRef → Option (At (InputValue S))
       → ArgumentDefinition S
-  argument_of w n t d = record {
+  argument_definition w n t d = record {
     description = w;
     name = n;
     arg_type = t.item;
     default_value = option_map (λ v. v.item) d;
   }
 
-  abbrev pub field_of : Written → List ℕ → Option (List (ArgumentDefinition S)) → At TypeRef
+  abbrev pub field_definition : Written → List ℕ → Option (List (ArgumentDefinition S)) → At TypeRef
       → Option (List (At (Directive S))) → FieldDefinition S
-  field_of w n args t ds =
+  field_definition w n args t ds =
       record { description = w; name = n; arguments = args; field_type = t.item; directives = ds }
 
-  abbrev pub value_of : Written → List ℕ → Option (List (At (Directive S))) → ValueDefinition S
-  value_of w n ds = record { description = w; name = n; directives = ds }
+  abbrev pub value_definition : Written → List ℕ → Option (List (At (Directive S)))
+      → ValueDefinition S
+  value_definition w n ds = record { description = w; name = n; directives = ds }
 
 abbrev pub head_of : Written → List ℕ → HeadDefinition
 head_of w n = record { description = w; name = n }
@@ -65,7 +66,7 @@ module _ {S : Type 0} (reads : ScalarToken → Result S ParseError) (of_bool : B
     expect k.Colon
     t ← type_ref
     d ← optional (only k.Equals) (default_value reads of_bool)
-    pure (argument_of w n t d)
+    pure (argument_definition w n t d)
 
   abbrev pub arguments : Parser (List (ArgumentDefinition S))
   arguments = some_between k.ParenOpen k.ParenClose argument
@@ -78,14 +79,14 @@ module _ {S : Type 0} (reads : ScalarToken → Result S ParseError) (of_bool : B
     expect k.Colon
     t ← type_ref
     ds ← directives reads of_bool true
-    pure (field_of w n args t ds)
+    pure (field_definition w n args t ds)
 
   unfoldable pub enum_value : Parser (ValueDefinition S)
   enum_value = do
     w ← description
     n ← name_in enum_names
     ds ← directives reads of_bool true
-    pure (value_of w n ds)
+    pure (value_definition w n ds)
 
 -- it, and then the end of the text
 abbrev pub whole : {A : Type 0} → Parser A → Parser A

@@ -78,7 +78,7 @@ module _ {S C : Type 0} where
   })
 
   -- a type of this head, of what its rows mean, and of the names that it lists
-  pub record IsOf {A : Type 0} (Means : Bor Bytes → A → Type 0)
+  pub record IsMadeOf {A : Type 0} (Means : Bor Bytes → A → Type 0)
       (make : Head → List A → List Bytes → MetaType S C)
       (head : Bor Bytes) (rows listed : List (Bor Bytes)) (m : MetaType S C) : Type 0 where
     pub own : Head
@@ -111,9 +111,9 @@ module _ {S : Type 0} (reads : Reading S) (of_bool : Bool → S) (answer : S →
     -- of the given check where it is an enum or an input object
     abbrev pub IsType : TypeRow → C → MetaType S C → Type 0
     IsType (row.Object head interfaces rows) check m =
-        IsOf (FieldMeans reads of_bool answer) object head rows.now interfaces.now m
+        IsMadeOf (FieldMeans reads of_bool answer) object head rows.now interfaces.now m
     IsType (row.Interface head interfaces rows) check m =
-        IsOf (FieldMeans reads of_bool answer) interface head rows.now interfaces.now m
+        IsMadeOf (FieldMeans reads of_bool answer) interface head rows.now interfaces.now m
     IsType (row.Union head members) check m = IsMade NameMeans union_type head members.now m
     IsType (row.Enum head rows) check m =
         IsMade (ValueMeans reads of_bool answer) (enumeration check) head rows.now m
@@ -132,15 +132,15 @@ module _ {S : Type 0} (reads : Reading S) (of_bool : Bool → S) (answer : S →
       ⊎ (RefusedAt RefusesName listed e)
 
   -- why a row is no type
-  abbrev pub IsRefused : TypeRow → RowFault → Type 0
-  IsRefused (row.Object head interfaces rows) e = RefusesFields head interfaces.now rows.now e
-  IsRefused (row.Interface head interfaces rows) e = RefusesFields head interfaces.now rows.now e
-  IsRefused (row.Union head members) e = Refuses RefusesName head members.now e
-  IsRefused (row.Enum head rows) e =
+  abbrev pub IsNoType : TypeRow → RowFault → Type 0
+  IsNoType (row.Object head interfaces rows) e = RefusesFields head interfaces.now rows.now e
+  IsNoType (row.Interface head interfaces rows) e = RefusesFields head interfaces.now rows.now e
+  IsNoType (row.Union head members) e = Refuses RefusesName head members.now e
+  IsNoType (row.Enum head rows) e =
       Refuses (RefusesValue reads of_bool answer head.now) head rows.now e
-  IsRefused (row.InputObject head rows) e =
+  IsNoType (row.InputObject head rows) e =
       Refuses (RefusesArgument reads of_bool head.now) head rows.now e
-  IsRefused (row.OneOf head rows) e =
+  IsNoType (row.OneOf head rows) e =
       Refuses (RefusesArgument reads of_bool head.now) head rows.now e
 
   -- the rows before this one are types, and it is refused
@@ -151,4 +151,4 @@ module _ {S : Type 0} (reads : Reading S) (of_bool : Bool → S) (answer : S →
     pub is : rows ≡ before ++ this ∷ after
     pub types : List (MetaType S C)
     pub made : AllZip IsTypeOf before types
-    pub refused : IsRefused this.row e
+    pub refused : IsNoType this.row e

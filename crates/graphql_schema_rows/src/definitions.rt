@@ -41,7 +41,7 @@ fn made_argument<'a, S: Drop>(
     default_value: Option<Spanning<InputValue<S>>>,
 ) -> Result<ArgumentDefinition<'a, S>, AllocError>
     ensures { Gives result
-        (spec.argument_of description.entry name.entry arg_type.entry default_value) }
+        (spec.argument_definition description.entry name.entry arg_type.entry default_value) }
 {
     let name = Text::from_str(alloc, name.as_str())?;
     let arg_type = owned(alloc, arg_type.item)?;
@@ -67,7 +67,7 @@ fn made_field<'a, S: Drop>(
     directives: Option<Items<Spanning<Directive<'a, S>>>>,
 ) -> Result<FieldDefinition<'a, S>, AllocError>
     ensures { Gives result
-        (spec.field_of description.entry name.entry arguments.entry field_type.entry
+        (spec.field_definition description.entry name.entry arguments.entry field_type.entry
         directives.entry) }
 {
     let name = Text::from_str(alloc, name.as_str())?;
@@ -88,7 +88,7 @@ fn made_value<'a, S: Drop>(
     name: TextRef<'_>,
     directives: Option<Items<Spanning<Directive<'a, S>>>>,
 ) -> Result<ValueDefinition<'a, S>, AllocError>
-    ensures { Gives result (spec.value_of description.entry name.entry directives.entry) }
+    ensures { Gives result (spec.value_definition description.entry name.entry directives.entry) }
 {
     let name = Text::from_str(alloc, name.as_str())?;
     Ok(ValueDefinition {

@@ -79,7 +79,7 @@ pub fn type_of_row<S: ScalarValue + Drop, C: Drop>(
     check: C,
 ) -> Result<MetaType<S, C>, RowFault>
     ensures { Answers (spec.IsType S.reads S.of_bool S.answer row.entry check)
-        (spec.IsRefused S.reads S.of_bool S.answer row.entry) row_specs.IsMemory result }
+        (spec.IsNoType S.reads S.of_bool S.answer row.entry) row_specs.IsMemory result }
 {
     match row {
         TypeRow::Object(name, interfaces, fields) => object(alloc, name, interfaces, fields),

@@ -25,7 +25,7 @@ pub fn object<S: ScalarValue + Drop, C: Drop>(
     interfaces: &[&str],
     rows: &[&str],
 ) -> Result<MetaType<S, C>, RowFault>
-    ensures { Answers (spec.IsOf (row_specs.FieldMeans S.reads S.of_bool S.answer) spec.object
+    ensures { Answers (spec.IsMadeOf (row_specs.FieldMeans S.reads S.of_bool S.answer) spec.object
         head.entry rows.now interfaces.now)
         (spec.RefusesFields S.reads S.of_bool S.answer head.entry interfaces.now rows.now)
         row_specs.IsMemory result }
@@ -50,7 +50,8 @@ pub fn interface<S: ScalarValue + Drop, C: Drop>(
     interfaces: &[&str],
     rows: &[&str],
 ) -> Result<MetaType<S, C>, RowFault>
-    ensures { Answers (spec.IsOf (row_specs.FieldMeans S.reads S.of_bool S.answer) spec.interface
+    ensures { Answers
+        (spec.IsMadeOf (row_specs.FieldMeans S.reads S.of_bool S.answer) spec.interface
         head.entry rows.now interfaces.now)
         (spec.RefusesFields S.reads S.of_bool S.answer head.entry interfaces.now rows.now)
         row_specs.IsMemory result }

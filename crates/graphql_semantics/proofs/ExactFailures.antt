@@ -19,7 +19,7 @@ use Rattle.graphql_semantics.specs.Engines.{Engine}
 use Rattle.graphql_semantics.specs.Outcomes.{Outcome, show_place, together}
 use Rattle.graphql_semantics.specs.Completion.{Members, at_list, at_name, at_required, blame_at, complete, complete_result, is_required, leaf_if, misfit_error, own_null, run_if}
 use Rattle.graphql_semantics.specs.Evaluation.{Group, at_declared, evaluate, found_in, group, highest, keyed, run, sets_below}
-use Rattle.graphql_semantics.specs.Failing.{IsNull, IsScalar, IsList, IsNode, IsMisfit, FailsAt, misfit, required_null, required, item, Answers, node, required_node, item_node, ReasonAt, NodeAt, Fails, resolver, answer, below}
+use Rattle.graphql_semantics.specs.Failing.{IsNull, IsScalar, IsList, IsNode, IsMisfit, FailsAt, misfit, required_null, required, item, AnswersNode, node, required_node, item_node, ReasonAt, NodeAt, Fails, resolver, answer, below}
 use Rattle.graphql_semantics.specs.Laws.{FailuresAreExact}
 use Rattle.graphql_semantics.proofs.Elements.{here, later, none-in, cons-cases, only-one}
 use Rattle.graphql_semantics.proofs.Heights.{no-found, top, top-found, top-under}
@@ -48,7 +48,7 @@ module _ {S N : Type 0} (run_on : N → Outcome S (Members S)) (blame : FieldErr
 
   -- a failure comes of the answer, or from below a node in it
   abbrev pub Comes : List TypeModifier → Resolved S N → Type 0
-  Comes wraps r = ((error : FieldError S) × FailsAt name is_leaf is_possible wraps r error × (f ≡ blame error)) ⊎ ((m : N) × Answers name is_leaf is_possible wraps r m × Contains (run_on m).failures f)
+  Comes wraps r = ((error : FieldError S) × FailsAt name is_leaf is_possible wraps r error × (f ≡ blame error)) ⊎ ((m : N) × AnswersNode name is_leaf is_possible wraps r m × Contains (run_on m).failures f)
 
   as-misfit : (wraps : List TypeModifier) (r : Resolved S N) → IsMisfit name is_leaf is_possible wraps r → Contains (blame (misfit_error name wraps) ∷ []) f → Comes wraps r
   as-misfit wraps r m h = inl (misfit_error name wraps, misfit wraps r m, sym (only-one (blame (misfit_error name wraps)) f h))
@@ -125,7 +125,7 @@ module _ {S N : Type 0} (run_on : N → Outcome S (Members S)) (blame : FieldErr
   told-failure (required wraps r error kept h) e = told-required wraps r (out-Resolved S N r) refl kept (told-failure h e)
   told-failure (item size wraps r x items error is c h) e = told-item size wraps r x items is c (told-failure h e)
 
-  pub told-below : {wraps : List TypeModifier} {r : Resolved S N} {m : N} → Answers name is_leaf is_possible wraps r m → Contains (run_on m).failures f → Told (come wraps r)
+  pub told-below : {wraps : List TypeModifier} {r : Resolved S N} {m : N} → AnswersNode name is_leaf is_possible wraps r m → Contains (run_on m).failures f → Told (come wraps r)
   told-below (node r m is t) h = rw (is, t) h
   told-below (required_node wraps r m kept a) h = told-required wraps r (out-Resolved S N r) refl kept (told-below a h)
   told-below (item_node size wraps r x items m is c a) h = told-item size wraps r x items is c (told-below a h)

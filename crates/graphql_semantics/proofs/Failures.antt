@@ -21,7 +21,7 @@ use Rattle.graphql_field_results.specs.declared.resolved.Resolved.TheOpen.{Resol
 use Rattle.graphql_semantics.specs.Engines.{Engine}
 use Rattle.graphql_semantics.specs.Outcomes.{Outcome, both, fails, outcome_map, show_place, shown, together}
 use Rattle.graphql_semantics.specs.Completion.{Members, at_list, at_name, at_required, blame_at, complete, complete_result, is_required, leaf_if, misfit_error, own_null, object_members, run_if}
-use Rattle.graphql_semantics.specs.Evaluation.{Group, Runs, answer_of, at_declared, at_type, evaluate, found_in, group, highest, keyed, run, sets_below}
+use Rattle.graphql_semantics.specs.Evaluation.{Group, RunOfSets, field_outcome, at_declared, at_type, evaluate, found_in, group, highest, keyed, run, sets_below}
 use Rattle.graphql_semantics.specs.Failing.{AreAt, IsAccounted, IsAt}
 use Rattle.graphql_semantics.specs.Laws.{FailuresStandBelow, NoDataFails}
 use Rattle.graphql_semantics.proofs.GroupKeys.{HasField, keys-have_fields}

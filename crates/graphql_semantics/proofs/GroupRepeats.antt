@@ -6,7 +6,7 @@ use Rattle.std.specs.Cmp.Lexicographic.{nat_list_eq_equiv}
 use Rattle.graphql_names.specs.Names.{Bytes}
 use Rattle.graphql_written_out.specs.Fields.{Found}
 use Rattle.graphql_written_out.specs.Groups.{keys_after}
-use Rattle.graphql_written_out.specs.Repeats.{Adds, nothing, kept, again}
+use Rattle.graphql_written_out.specs.Repeats.{AddsButRepeats, nothing, kept, again}
 use Rattle.graphql_semantics.proofs.Elements.{none-in, cons-cases}
 
 same_name : (k : Bytes) → bytes_eq k k ≡ true
@@ -55,7 +55,7 @@ module _ {S : Type 0} where
           (λ d. ih (done ++ z.head.key ∷ []) d) (cons-cases z x zs c))
 
   -- the keys are the same, in the same order
-  pub adds-keys : (done : List Bytes) {old xs new : List (Found S)} → Adds (Found S) old xs new → keys_after done new ≡ keys_after done (old ++ xs)
+  pub adds-keys : (done : List Bytes) {old xs new : List (Found S)} → AddsButRepeats (Found S) old xs new → keys_after done new ≡ keys_after done (old ++ xs)
   adds-keys done (nothing {old = old}) = ap (keys_after done) (sym (append-nil old))
   adds-keys done (kept {old = old} {xs = xs} x a) = adds-keys done a ∙ ap (keys_after done) (append_assoc old (x ∷ []) xs)
   adds-keys done (again {old = old} {xs = xs} x c a) = adds-keys done a ∙ drop-again old xs x done c

@@ -8,7 +8,7 @@ use Rattle.graphql_names.specs.Names.{Bytes}
 use Rattle.graphql_written_out.specs.Trees.{Tree}
 use Rattle.graphql_written_out.specs.Fields.{Found, fields}
 use Rattle.graphql_written_out.specs.Groups.{keys, under, groups}
-use Rattle.graphql_written_out.specs.Repeats.{Adds, Repeats}
+use Rattle.graphql_written_out.specs.Repeats.{AddsButRepeats, Repeats}
 use Rattle.graphql_semantics.specs.Engines.{Engine}
 use Rattle.graphql_semantics.specs.Evaluation.{Group, found_in, highest, sets_below}
 use Rattle.graphql_semantics.proofs.GroupRepeats.{adds-keys}
@@ -61,19 +61,19 @@ module _ {S N : Type 0} (e : Engine S N) {P A B : Type 0} (w : Walk e P A B) whe
       ∙ sym (w.steps m place object node ts)
 
   abbrev SameRuns : ℕ → Type 0
-  SameRuns n = (place : P) (object : Bytes) (node : N) (old xs new : List (Tree S)) → Adds (Tree S) old xs new
+  SameRuns n = (place : P) (object : Bytes) (node : N) (old xs new : List (Tree S)) → AddsButRepeats (Tree S) old xs new
       → w.run n place object node new ≡ w.run n place object node (old ++ xs)
 
   module _ (n : ℕ) (same : SameRuns n) (place : P) (object : Bytes) (node : N) where
     abbrev over : Group S → B
     over = w.of_group (w.run n) place object node
 
-    group-adds : (key : Bytes) (old xs new : List (Found S)) → Adds (Found S) old xs new → over (key, new) ≡ over (key, old ++ xs)
+    group-adds : (key : Bytes) (old xs new : List (Found S)) → AddsButRepeats (Found S) old xs new → over (key, new) ≡ over (key, old ++ xs)
     group-adds key old xs new a =
         w.depends (w.run n) (w.run n) place object node key new (old ++ xs) (adds-first a)
         (λ p o m. same p o m _ _ _ (adds-map (λ (y : Found S). y.below) a) ∙ ap (w.run n p o m) (sym (map-append (λ (y : Found S). y.below) old xs)))
 
-    module _ (old xs new : List (Found S)) (a : Adds (Found S) old xs new) where
+    module _ (old xs new : List (Found S)) (a : AddsButRepeats (Found S) old xs new) where
       member-same : (key : Bytes) → over (key, under new key) ≡ over (key, under (old ++ xs) key)
       member-same key =
           group-adds key (under old key) (under xs key) (under new key) (adds-filter (λ (x : Found S). bytes_eq key x.head.key) a)

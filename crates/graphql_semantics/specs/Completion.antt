@@ -4,7 +4,7 @@ use Rattle.std.specs.Prelude.{Bool, true, false, List, [], ◌∷◌, ◌++◌, 
 use Rattle.std.specs.Prelude.{codes}
 use Rattle.graphql_names.specs.Names.{Bytes}
 use Rattle.graphql_text.specs.declared.position.SourcePosition.{SourcePosition}
-use Rattle.graphql_names.specs.TypeReference.{written}
+use Rattle.graphql_names.specs.TypeReference.{written_type}
 use Rattle.graphql_names.specs.declared.type_modifier.TypeModifier.{TypeModifier}
 use Rattle.graphql_names.specs.declared.type_modifier.TypeModifier.TheVariants as modifier
 use Rattle.graphql_output_values.specs.Objects.{Pair}
@@ -30,7 +30,8 @@ own_null = reason (codes "Null at a non-null place")
 
 -- an answer that does not fit a type of this name within these wraps, the outermost first
 abbrev pub misfit_error : {S : Type 0} → Bytes → List TypeModifier → FieldError S
-misfit_error name wraps = reason (codes "Answer does not fit type " ++ written name (reverse wraps))
+misfit_error name wraps = reason
+    (codes "Answer does not fit type " ++ written_type name (reverse wraps))
 
 -- whether null is kept out, by the wraps of a type, the outermost first
 abbrev pub is_required : List TypeModifier → Bool

@@ -20,8 +20,8 @@ use Rattle.graphql_semantics.specs.Outcomes.{together}
 use Rattle.graphql_semantics.specs.Completion.{Members, blame_at, complete_result, is_required}
 
 -- what sets of selections give on a node of an object type, at a path
-abbrev pub Runs : Type 0 → Type 0 → Type 0
-Runs S N = List Bytes → Bytes → N → List (Tree S) → Outcome S (Members S)
+abbrev pub RunOfSets : Type 0 → Type 0 → Type 0
+RunOfSets S N = List Bytes → Bytes → N → List (Tree S) → Outcome S (Members S)
 
 -- the selection sets of fields
 abbrev pub sets_below : {S : Type 0} → List (Found S) → List (Tree S)
@@ -48,22 +48,22 @@ module _ {S N : Type 0} (e : Engine S N) where
   at_declared (Some type) run blame answer = at_type run blame type answer
 
   -- the answer of a field at its path
-  abbrev pub answer_of : (N → Outcome S (Members S)) → List Bytes → Bytes → N → Head S
+  abbrev pub field_outcome : (N → Outcome S (Members S)) → List Bytes → Bytes → N → Head S
       → Outcome S (Value S)
-  answer_of run path object node head =
+  field_outcome run path object node head =
       at_declared (e.declared object head.name) run (blame_at path head.place)
       (e.answer node object head.name (e.arguments object head))
 
   -- a group has one answer, that of its first field, with the selections of all its fields
-  abbrev pub group : Runs S N → List Bytes → Bytes → N → Bytes → List (Found S)
+  abbrev pub group : RunOfSets S N → List Bytes → Bytes → N → Bytes → List (Found S)
       → Outcome S (Value S)
   group run path object node key [] = no_value
   group run path object node key (x ∷ xs) =
-      answer_of (λ m. run (path ++ key ∷ []) (e.concrete m) m (sets_below (x ∷ xs)))
+      field_outcome (λ m. run (path ++ key ∷ []) (e.concrete m) m (sets_below (x ∷ xs)))
       (path ++ key ∷ []) object node x.head
 
   -- what a group gives, under its key
-  abbrev pub keyed : Runs S N → List Bytes → Bytes → N → Group S → Outcome S (Pair (Value S))
+  abbrev pub keyed : RunOfSets S N → List Bytes → Bytes → N → Group S → Outcome S (Pair (Value S))
   keyed run path object node g = outcome_map (λ x. (g.0, x)) (group run path object node g.0 g.1)
 
   -- the fields of sets for an object type
@@ -71,7 +71,7 @@ module _ {S N : Type 0} (e : Engine S N) where
   found_in object = flat_map (fields e.drops (e.is_below object))
 
   -- to a depth of selection sets
-  abbrev pub run : ℕ → Runs S N
+  abbrev pub run : ℕ → RunOfSets S N
   run zero path object node sets = gives []
   run (suc n) path object node sets =
       together (map (keyed (run n) path object node) (groups (found_in object sets)))
@@ -82,5 +82,5 @@ highest [] = 0
 highest (t ∷ ts) = max (height t) (highest ts)
 
 -- what sets of selections give: any depth that suffices gives the same
-abbrev pub evaluate : {S N : Type 0} → Engine S N → Runs S N
+abbrev pub evaluate : {S N : Type 0} → Engine S N → RunOfSets S N
 evaluate e path object node sets = run e (highest sets) path object node sets

@@ -70,14 +70,14 @@ module _ {S N : Type 0} (name : Bytes) (is_leaf : Bool) (is_possible : N → Boo
         → FailsAt (modifier.List size ∷ wraps) r error
 
   -- a node that is answered at a type, itself or an item, and can stand there
-  pub data Answers : List TypeModifier → Resolved S N → N → Type 0 where
-    node : (r : Resolved S N) (m : N) → IsNode r m → is_possible m ≡ true → Answers [] r m
+  pub data AnswersNode : List TypeModifier → Resolved S N → N → Type 0 where
+    node : (r : Resolved S N) (m : N) → IsNode r m → is_possible m ≡ true → AnswersNode [] r m
     required_node : (wraps : List TypeModifier) (r : Resolved S N) (m : N) → (IsNull r → ⊥)
-        → Answers wraps r m → Answers (modifier.NonNull ∷ wraps) r m
+        → AnswersNode wraps r m → AnswersNode (modifier.NonNull ∷ wraps) r m
     item_node : (size : Option ℕ) (wraps : List TypeModifier) (r x : Resolved S N)
         (items : List (Resolved S N)) (m : N) → IsList r items → Contains items x
-        → Answers wraps x m
-        → Answers (modifier.List size ∷ wraps) r m
+        → AnswersNode wraps x m
+        → AnswersNode (modifier.List size ∷ wraps) r m
 
 module _ {S N : Type 0} (e : Engine S N) where
   abbrev pub ReasonAt : TypeOf → Resolved S N → FieldError S → Type 0
@@ -85,7 +85,7 @@ module _ {S N : Type 0} (e : Engine S N) where
       (λ m. e.is_possible type.name (e.concrete m)) (reverse type.modifiers)
 
   abbrev pub NodeAt : TypeOf → Resolved S N → N → Type 0
-  NodeAt type = Answers type.name (e.is_leaf type.name)
+  NodeAt type = AnswersNode type.name (e.is_leaf type.name)
       (λ m. e.is_possible type.name (e.concrete m)) (reverse type.modifiers)
 
   -- something fails of what sets of selections ask of a node of an object type, at a path: always

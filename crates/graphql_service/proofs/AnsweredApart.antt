@@ -4,7 +4,7 @@ use Rattle.graphql_names.specs.Names.{Bytes}
 use Rattle.graphql_tree.specs.declared.document.OperationType.{OperationType}
 use Rattle.graphql_tree.specs.declared.document.OperationType.TheVariants as kind
 use Rattle.graphql_streams.specs.Lines.{last_line, lines, whole_lines}
-use Rattle.graphql_streams.specs.Runs.{Answered, Run}
+use Rattle.graphql_streams.specs.Runs.{LineAnswered, Run}
 use Rattle.graphql_streams.proofs.RunLemmas.{run_more}
 use Rattle.graphql_streams.proofs.StreamLemmas.{last_more, whole_more}
 use Rattle.graphql_requests.specs.Operations.{mutation_root}
@@ -84,7 +84,7 @@ module _ {S C N X : Type 0} (a : Answerer S C N X) where
       x.operation.item r old).after) root
 
   answered-left : (line : Bytes) → (AsksMutation a line → ⊥) → (old new : X) (text : Bytes)
-      → Answered (AnswersLine a) old line text new → new ≡ old
+      → LineAnswered (AnswersLine a) old line text new → new ≡ old
   answered-left [] none old new text (nothing, same) = same
   answered-left (b ∷ bs) none old new text h = line-left (b ∷ bs) none old new text h.answer
 

@@ -24,7 +24,7 @@ use Rattle.graphql_lines.specs.declared.refusal.LineRefusal.{LineRefusal}
 use Rattle.graphql_lines.specs.declared.refusal.LineRefusal.TheVariants.{LineTooLong, NotARequest, BadNumber, Memory}
 use Rattle.graphql_lines.specs.declared.request.GraphQLRequest.{GraphQLRequest}
 use Rattle.graphql_answers.specs.Lines.{IsLine, line_of}
-use Rattle.graphql_answers.specs.Responses.{refusal_of, response_of}
+use Rattle.graphql_answers.specs.Responses.{refusal_response, response_of}
 use Rattle.graphql_service.specs.Answers.{Answerer, Appends, Asks, asked_by, given, IsNoRequest, IsAnswer, LeavesBroken, no_request, not_executed, executed_to}
 use Rattle.graphql_service.specs.Laws.{IsLineOfDistinctKeys}
 use Rattle.graphql_service.specs.Serving.{AnswersLine}
@@ -93,15 +93,15 @@ module _ {S C N X : Type 0} (a : Answerer S C N X) (line : Bytes) where
   due Memory within h = absurd h
 
   pub too_long : (c : X) (old new : Bytes) → a.limit < length line
-      → new ≡ old ++ line_of (refusal_of (told_of_line a.limit LineTooLong)) → Appends (Answer c c) old new
+      → new ≡ old ++ line_of (refusal_response (told_of_line a.limit LineTooLong)) → Appends (Answer c c) old new
   too_long c old new longer e =
-      (line_of (refusal_of (told_of_line a.limit LineTooLong)), e, no_request LineTooLong longer refl refl)
+      (line_of (refusal_response (told_of_line a.limit LineTooLong)), e, no_request LineTooLong longer refl refl)
 
   pub no_request_answer : (refusal : LineRefusal) (c : X) (old new : Bytes) → length line ≤ a.limit
       → IsDue a.scalars.of_bool a.scalars.of_int a.scalars.of_text (λ (q : Request). q.variables) (request_of line) refusal
-      → new ≡ old ++ line_of (refusal_of (told_of_line a.limit refusal)) → Appends (Answer c c) old new
+      → new ≡ old ++ line_of (refusal_response (told_of_line a.limit refusal)) → Appends (Answer c c) old new
   no_request_answer refusal c old new within h e =
-      (line_of (refusal_of (told_of_line a.limit refusal)), e, no_request refusal (due refusal within h) refl refl)
+      (line_of (refusal_response (told_of_line a.limit refusal)), e, no_request refusal (due refusal within h) refl refl)
 
   -- a request that holds what the line asks: its query, its operation's name and its values are those of the line
   module _ (asked : Request) (request : GraphQLRequest S) (query : Bytes) (name : Option Bytes)
@@ -136,10 +136,10 @@ module _ {S C N X : Type 0} (a : Answerer S C N X) (line : Bytes) where
     pub refused_answer : (refusal : GraphQLError) (c after : X) (old new : Bytes)
         → IsRefused a.scalars (asked_with query name (get_by_text request.variables)) a.by_rules refusal
         → LeftUnanswered a.scalars (asked_with query name (get_by_text request.variables)) a.resolver refusal c after
-        → new ≡ old ++ line_of (refusal_of (told_of_request refusal)) → (refusal ≡ request_error.Memory → ⊥)
+        → new ≡ old ++ line_of (refusal_response (told_of_request refusal)) → (refusal ≡ request_error.Memory → ⊥)
         → Appends (Answer c after) old new
     refused_answer refusal c after old new h left e is = (
-      line_of (refusal_of (told_of_request refusal)),
+      line_of (refusal_response (told_of_request refusal)),
       e,
       not_executed refusal (record {
         request = asked;
@@ -192,8 +192,8 @@ module _ {S C N X : Type 0} (a : Answerer S C N X) (line : Bytes) where
   -- an answer is one line
   pub answer_is_line : ((v : Value ScalarAnswer) → IsLine (line_of v)) → (old new : X) (answered : Bytes) → Answer old new answered
       → IsLine answered
-  answer_is_line lines old new answered (no_request refusal h e kept) = subst IsLine (sym e) (lines (refusal_of (told_of_line a.limit refusal)))
-  answer_is_line lines old new answered (not_executed refusal h e kept) = subst IsLine (sym e) (lines (refusal_of (told_of_request refusal)))
+  answer_is_line lines old new answered (no_request refusal h e kept) = subst IsLine (sym e) (lines (refusal_response (told_of_line a.limit refusal)))
+  answer_is_line lines old new answered (not_executed refusal h e kept) = subst IsLine (sym e) (lines (refusal_response (told_of_request refusal)))
   answer_is_line lines old new answered (executed_to found errors h e) = subst IsLine (sym e) (lines (response_of a.scalars.answer found errors))
 
   -- the answer that is written behind others is one line, with distinct keys

@@ -19,7 +19,7 @@ use Rattle.graphql_field_results.specs.declared.field_error.FieldError.{FieldErr
 use Rattle.graphql_field_results.specs.declared.resolved.Resolved.{Resolved}
 use Rattle.graphql_semantics.specs.Completion.{Members, object_members}
 use Rattle.graphql_semantics.specs.Laws.{AnswersTellDistinctKeys, DataHaveDistinctKeys, FailuresTellDistinctKeys, TellsDistinctKeys}
-use Rattle.graphql_introspection.specs.Nodes.{Answer}
+use Rattle.graphql_introspection.specs.Nodes.{PartAnswer}
 use Rattle.graphql_execution_walk.specs.Asked.{AskedAnswer, map_answer, or_asked, own_answer, told_of_itself}
 use Rattle.graphql_execution_walk.specs.Engines.{Resolves, engine_over}
 use Rattle.graphql_execution_walk.specs.declared.asked.Asked.{Asked}
@@ -35,7 +35,7 @@ pub record AlwaysTells {S N X : Type 0} (answer : X → Resolves S N) (changes :
   pub roots : (c : X) (field : Bytes) (given : Given S) → TellsInDistinctKeys (changes.answer c field given)
 
 -- what the schema answers is no error
-told-or : {S N C : Type 0} (told : Option (Answer S C)) (answer : AskedAnswer S N C) → TellsInDistinctKeys answer
+told-or : {S N C : Type 0} (told : Option (PartAnswer S C)) (answer : AskedAnswer S N C) → TellsInDistinctKeys answer
     → TellsInDistinctKeys (or_asked told answer)
 told-or (Some told) answer h = record { beside = tt }
 told-or None answer h = h

@@ -12,7 +12,7 @@ use Rattle.graphql_lines.specs.declared.refusal.LineRefusal.{LineRefusal}
 use Rattle.graphql_lines.specs.declared.refusal.LineRefusal.TheVariants.{LineTooLong}
 use Rattle.graphql_lines.specs.declared.request.GraphQLRequest.{GraphQLRequest}
 use Rattle.graphql_answers.specs.Lines.{IsLine, PlainHasDistinctKeys, ValuesAreLines, line_of}
-use Rattle.graphql_answers.specs.Responses.{plain_answer_of, refusal_of}
+use Rattle.graphql_answers.specs.Responses.{plain_answer_of, refusal_response}
 use Rattle.graphql_service.specs.PlainRequests.{HasNoPlainText, IsPlainTextWithin, PlainError}
 use Rattle.graphql_service.specs.PlainRequests as error
 use Rattle.graphql_service.specs.Answers.{Answerer, Appends, Asks}
@@ -26,15 +26,15 @@ module _ {S C N X : Type 0} (a : Answerer S C N X) (size_limit : ℕ) (line : By
   Told = IsPlainAnswer a size_limit line
 
   pub long_told : (old new : Bytes) → a.limit < length line
-      → new ≡ old ++ line_of (refusal_of (told_of_line a.limit LineTooLong)) → Appends Told old new
+      → new ≡ old ++ line_of (refusal_response (told_of_line a.limit LineTooLong)) → Appends Told old new
   long_told old new longer e =
-      (line_of (refusal_of (told_of_line a.limit LineTooLong)), e, asks_nothing LineTooLong longer refl)
+      (line_of (refusal_response (told_of_line a.limit LineTooLong)), e, asks_nothing LineTooLong longer refl)
 
   pub no_request_told : (refusal : LineRefusal) (old new : Bytes) → length line ≤ a.limit
       → IsDue a.scalars.of_bool a.scalars.of_int a.scalars.of_text (λ (q : Request). q.variables) (request_of line) refusal
-      → new ≡ old ++ line_of (refusal_of (told_of_line a.limit refusal)) → Appends Told old new
+      → new ≡ old ++ line_of (refusal_response (told_of_line a.limit refusal)) → Appends Told old new
   no_request_told refusal old new within h e =
-      (line_of (refusal_of (told_of_line a.limit refusal)), e, asks_nothing refusal (due a line refusal within h) refl)
+      (line_of (refusal_response (told_of_line a.limit refusal)), e, asks_nothing refusal (due a line refusal within h) refl)
 
   -- of a request that holds what the line asks
   module _ (asked : Request) (request : GraphQLRequest S)
@@ -59,10 +59,10 @@ module _ {S C N X : Type 0} (a : Answerer S C N X) (size_limit : ℕ) (line : By
     )
 
     pub refusal_told : (why : PlainError) (old new : Bytes) → HasNoPlainText a.scalars held a.by_rules size_limit why
-        → new ≡ old ++ line_of (refusal_of (told_of_plain size_limit why)) → (why ≡ error.Memory → ⊥)
+        → new ≡ old ++ line_of (refusal_response (told_of_plain size_limit why)) → (why ≡ error.Memory → ⊥)
         → Appends Told old new
     refusal_told why old new h e is = (
-      line_of (refusal_of (told_of_plain size_limit why)),
+      line_of (refusal_response (told_of_plain size_limit why)),
       e,
       not_plain why (record {
         request = asked;
@@ -75,18 +75,18 @@ module _ {S C N X : Type 0} (a : Answerer S C N X) (size_limit : ℕ) (line : By
     )
 
   -- the answer that is written behind others is one line, with distinct keys
-  module _ (lines : ValuesAreLines) (errors_distinct : (errors : List RuleError) → HasDistinctKeysThroughout (refusal_of errors))
+  module _ (lines : ValuesAreLines) (errors_distinct : (errors : List RuleError) → HasDistinctKeysThroughout (refusal_response errors))
       (plain_distinct : PlainHasDistinctKeys) where
     as_line : (text : Bytes) → Told text → IsLine text
-    as_line text (asks_nothing refusal h e) = subst IsLine (sym e) (lines (refusal_of (told_of_line a.limit refusal)))
-    as_line text (not_plain why h e) = subst IsLine (sym e) (lines (refusal_of (told_of_plain size_limit why)))
+    as_line text (asks_nothing refusal h e) = subst IsLine (sym e) (lines (refusal_response (told_of_line a.limit refusal)))
+    as_line text (not_plain why h e) = subst IsLine (sym e) (lines (refusal_response (told_of_plain size_limit why)))
     as_line text (plain_to plain h e) = subst IsLine (sym e) (lines (plain_answer_of plain))
 
     of_distinct_keys : (text : Bytes) → Told text → IsLineOfDistinctKeys text
     of_distinct_keys text (asks_nothing refusal h e) =
-        record { found = refusal_of (told_of_line a.limit refusal); is = e; distinct = errors_distinct (told_of_line a.limit refusal) }
+        record { found = refusal_response (told_of_line a.limit refusal); is = e; distinct = errors_distinct (told_of_line a.limit refusal) }
     of_distinct_keys text (not_plain why h e) =
-        record { found = refusal_of (told_of_plain size_limit why); is = e; distinct = errors_distinct (told_of_plain size_limit why) }
+        record { found = refusal_response (told_of_plain size_limit why); is = e; distinct = errors_distinct (told_of_plain size_limit why) }
     of_distinct_keys text (plain_to plain h e) = record { found = plain_answer_of plain; is = e; distinct = plain_distinct plain }
 
     pub told_as_line : (before after : Bytes) → Appends Told before after → Appends (AnswersPlain a size_limit line) before after

@@ -12,7 +12,7 @@ use Rattle.graphql_executor.specs.Requests.{GraphQLError}
 use Rattle.graphql_executor.specs.Requests as error
 use Rattle.graphql_lines.specs.declared.refusal.LineRefusal.{LineRefusal}
 use Rattle.graphql_answers.specs.Lines.{line_of}
-use Rattle.graphql_answers.specs.Responses.{refusal_of, response_of}
+use Rattle.graphql_answers.specs.Responses.{refusal_response, response_of}
 use Rattle.graphql_service.specs.Answers.{Answerer, Appends, IsAnswer, IsNoRequest, IsNotExecuted, LeavesBroken, asked_by, executed_to, given, no_request, not_executed}
 use Rattle.graphql_service.specs.Reading.{Executes}
 use Rattle.graphql_service.specs.Texts.{told_of_line, told_of_request}
@@ -28,16 +28,16 @@ module _ {S C N X : Type 0} (a : Answerer S C N X) (line : Bytes) where
   Writes old new before after = Appends (λ text. IsAnswer a line old text new) before after
 
   pub line-refused : (refusal : LineRefusal) (c : X) (before after : Bytes)
-      → after ≡ before ++ line_of (refusal_of (told_of_line a.limit refusal))
+      → after ≡ before ++ line_of (refusal_response (told_of_line a.limit refusal))
       → IsNoRequest a line refusal → Writes c c before after
   line-refused refusal c before after e h =
-      (line_of (refusal_of (told_of_line a.limit refusal)), e, no_request refusal h refl refl)
+      (line_of (refusal_response (told_of_line a.limit refusal)), e, no_request refusal h refl refl)
 
   pub request-refused : (why : GraphQLError) (c : X) (before after : Bytes)
-      → after ≡ before ++ line_of (refusal_of (told_of_request why))
+      → after ≡ before ++ line_of (refusal_response (told_of_request why))
       → IsNotExecuted a line why → Writes c c before after
   request-refused why c before after e h =
-      (line_of (refusal_of (told_of_request why)), e, not_executed why h refl refl)
+      (line_of (refusal_response (told_of_request why)), e, not_executed why h refl refl)
 
   module _ (r : AcceptedRequest S) (x : Executes a line r) where
     -- the values are those that the line gives

@@ -21,7 +21,7 @@ use Rattle.graphql_executor.specs.Resolvers.{Resolver}
 use Rattle.graphql_lines.specs.Request.{Request, request_of}
 use Rattle.graphql_lines.specs.Variables.{fields_of, input_of}
 use Rattle.graphql_answers.specs.Lines.{line_of}
-use Rattle.graphql_answers.specs.Responses.{refusal_of, response_of}
+use Rattle.graphql_answers.specs.Responses.{refusal_response, response_of}
 use Rattle.graphql_service.specs.Texts.{told_of_line, told_of_request}
 use Rattle.graphql_service.specs.declared.service.Service.{Service}
 
@@ -104,10 +104,10 @@ module _ {S C N X : Type 0} (a : Answerer S C N X) (line : Bytes) where
   -- errors, with the context that the operation leaves
   pub data IsAnswer (old : X) (answered : Bytes) (new : X) : Type 0 where
     no_request : (refusal : LineRefusal) → IsNoRequest refusal
-        → answered ≡ line_of (refusal_of (told_of_line a.limit refusal)) → new ≡ old
+        → answered ≡ line_of (refusal_response (told_of_line a.limit refusal)) → new ≡ old
         → IsAnswer old answered new
     not_executed : (refusal : GraphQLError) → IsNotExecuted refusal
-        → answered ≡ line_of (refusal_of (told_of_request refusal)) → new ≡ old
+        → answered ≡ line_of (refusal_response (told_of_request refusal)) → new ≡ old
         → IsAnswer old answered new
     executed_to : (found : Value S) (errors : List (ExecutionError S))
         → IsExecuted old found errors new

@@ -8,7 +8,7 @@ use Rattle.graphql_tree.specs.declared.document.Definition.{Definition}
 use Rattle.graphql_tree.specs.declared.document.Operation.{Operation}
 use Rattle.graphql_field_results.specs.declared.execution_error.ExecutionError.{ExecutionError}
 use Rattle.graphql_answers.specs.Lines.{line_of}
-use Rattle.graphql_answers.specs.Responses.{refusal_of, response_of}
+use Rattle.graphql_answers.specs.Responses.{refusal_response, response_of}
 use Rattle.graphql_executor.specs.Answered.{IsExecutable}
 use Rattle.graphql_executor.specs.Fitting.{FitsAnswer}
 use Rattle.graphql_lines.specs.Request.{Request}
@@ -24,10 +24,10 @@ module _ {S C N X : Type 0} (a : Answerer S C N X) (line : Bytes) (old : X) wher
   IsRefusalLine answered =
       ((refusal : LineRefusal)
       × IsNoRequest a line refusal
-      × (answered ≡ line_of (refusal_of (told_of_line a.limit refusal))))
+      × (answered ≡ line_of (refusal_response (told_of_line a.limit refusal))))
       ⊎ ((refusal : GraphQLError)
       × IsNotExecuted a line refusal
-      × (answered ≡ line_of (refusal_of (told_of_request refusal))))
+      × (answered ≡ line_of (refusal_response (told_of_request refusal))))
 
   -- the line of data and errors: the data fit what the operation selects, so that no null stands at
   -- a place that is declared without null, and there is an error exactly where something fails

@@ -9,7 +9,7 @@ use Rattle.graphql_executor.specs.Resolvers.{Resolver}
 use Rattle.graphql_lines.specs.Request.{Request}
 use Rattle.graphql_lines.specs.declared.refusal.LineRefusal.{LineRefusal}
 use Rattle.graphql_answers.specs.Lines.{IsLine, line_of}
-use Rattle.graphql_answers.specs.Responses.{plain_answer_of, refusal_of}
+use Rattle.graphql_answers.specs.Responses.{plain_answer_of, refusal_response}
 use Rattle.graphql_service.specs.PlainRequests.{HasNoPlainText, IsPlainTextWithin, PlainError}
 use Rattle.graphql_service.specs.PlainRequests as error
 use Rattle.graphql_service.specs.Answers.{Answerer, Asks, IsNoRequest, answerer_of, asked_by}
@@ -38,9 +38,11 @@ module _ {S C N X : Type 0} (a : Answerer S C N X) (size_limit : ℕ) where
     -- the answer line: of the refusal that is due, or of the plain text
     pub data IsPlainAnswer (answered : Bytes) : Type 0 where
       asks_nothing : (refusal : LineRefusal) → IsNoRequest a line refusal
-          → answered ≡ line_of (refusal_of (told_of_line a.limit refusal)) → IsPlainAnswer answered
+          → answered ≡ line_of (refusal_response (told_of_line a.limit refusal))
+          → IsPlainAnswer answered
       not_plain : (why : PlainError) → HasNoPlain why
-          → answered ≡ line_of (refusal_of (told_of_plain size_limit why)) → IsPlainAnswer answered
+          → answered ≡ line_of (refusal_response (told_of_plain size_limit why))
+          → IsPlainAnswer answered
       plain_to : (plain : Bytes) → HasPlain plain → answered ≡ line_of (plain_answer_of plain)
           → IsPlainAnswer answered
 

@@ -20,12 +20,12 @@ over schema records (Ok plain) =
 over schema records (Err failure) = Err failure
 
 -- two files and at most one word behind them, or the sample's where there is no word
-abbrev pub arguments_of : Option Word → Option Word → Option Word → Option Word
+abbrev pub program_arguments : Option Word → Option Word → Option Word → Option Word
     → Result (Option Arguments) Failure
-arguments_of None records word more = Ok None
-arguments_of (Some schema) (Some records) word None = over schema records (asks_for_plain word)
-arguments_of (Some schema) (Some records) word (Some more) = Err Usage
-arguments_of (Some schema) None word more = Err Usage
+program_arguments None records word more = Ok None
+program_arguments (Some schema) (Some records) word None = over schema records (asks_for_plain word)
+program_arguments (Some schema) (Some records) word (Some more) = Err Usage
+program_arguments (Some schema) None word more = Err Usage
 
 -- the sample's are answered
 abbrev pub is_plain : Option Arguments → Bool

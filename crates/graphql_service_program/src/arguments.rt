@@ -41,7 +41,7 @@ pub fn arguments_of(
     word: Option<String>,
     more: Option<String>,
 ) -> Result<Option<Arguments>, Failure>
-    ensures { result ≡ spec.arguments_of schema records word more }
+    ensures { result ≡ spec.program_arguments schema records word more }
 {
     match (schema, records, word, more) {
         (None, _, _, _) => Ok(None),

@@ -25,7 +25,7 @@ use Rattle.graphql_mutation.specs.Serial.{Mutation, root_group, root_groups}
 use Rattle.graphql_executor.specs.Fitting.{MembersFitAt}
 use Rattle.graphql_service.specs.Answers.{Answerer}
 use Rattle.graphql_service.specs.FittingLines.{IsFittingLine}
-use Rattle.graphql_service_tests.specs.KeptOut.{AllKeepNullOut, KeepsNullOut, KeepsNullOutAtRoot, asked_of}
+use Rattle.graphql_service_tests.specs.KeptOut.{AllKeepNullOut, KeepsNullOut, KeepsNullOutAtRoot, mutation_asked}
 
 -- whether one layer of a value is null
 abbrev null-layer : {S X Y : Type 0} → Value-F S X Y → Bool
@@ -102,7 +102,7 @@ module _ {S N X : Type 0} (m : Mutation S N X) (query : Bytes) (node : N) (sets 
 
 module _ {S C N X : Type 0} (a : Answerer S C N X) (line : Bytes) (old : X) {answered : Bytes} where
   same-types : (is : IsFittingLine a line old answered) (c : X) (of name : Bytes)
-      → ((asked_of a line old is).engine c).declared of name ≡ declared_type a.schema.types of name
+      → ((mutation_asked a line old is).engine c).declared of name ≡ declared_type a.schema.types of name
   unfolding engine_over
   same-types is c of name = refl
 
@@ -112,7 +112,7 @@ module _ {S C N X : Type 0} (a : Answerer S C N X) (line : Bytes) (old : X) {ans
     | inr found ↦ inr (
       found.0,
       found.1,
-      at-root (asked_of a line old is) a.schema.query (asked.Own a.resolver.root)
+      at-root (mutation_asked a line old is) a.schema.query (asked.Own a.resolver.root)
           (written (fragments_listed is.document) is.operation.item.selection_set ∷ []) old (declared_type a.schema.types)
           (same-types is) is.root found.0 found.2,
     )

@@ -7,28 +7,28 @@ use Rattle.graphql_values.specs.declared.input_value.InputValue.{InputValue, out
 use Rattle.graphql_values.specs.declared.input_value.InputValue.TheOpen.{InputValue-F}
 use Rattle.graphql_values.specs.declared.input_value.InputValue.TheVariants as value
 
-abbrev pub scalar_layer : {S X : Type 0} → InputValue-F S X → Bool
-scalar_layer InputValue-F.Null = false
-scalar_layer (InputValue-F.Scalar scalar) = true
-scalar_layer (InputValue-F.Enum name) = false
-scalar_layer (InputValue-F.Variable name) = false
-scalar_layer (InputValue-F.List items) = false
-scalar_layer (InputValue-F.Object pairs) = false
+abbrev pub is_scalar_layer : {S X : Type 0} → InputValue-F S X → Bool
+is_scalar_layer InputValue-F.Null = false
+is_scalar_layer (InputValue-F.Scalar scalar) = true
+is_scalar_layer (InputValue-F.Enum name) = false
+is_scalar_layer (InputValue-F.Variable name) = false
+is_scalar_layer (InputValue-F.List items) = false
+is_scalar_layer (InputValue-F.Object pairs) = false
 
 abbrev pub is_scalar : {S : Type 0} → InputValue S → Bool
-is_scalar {S} v = scalar_layer (out-InputValue S v)
+is_scalar {S} v = is_scalar_layer (out-InputValue S v)
 
 module _ {S : Type 0} (eq : S → S → Bool) where
   pub same_kind : (a b : InputValue S) → SameValue S eq a b → is_scalar a ≡ is_scalar b
   same_kind a b same_null = refl
   same_kind a b (same_scalar x y h) =
-      ap scalar_layer (value.outs-Scalar x) ∙ sym (ap scalar_layer (value.outs-Scalar y))
+      ap is_scalar_layer (value.outs-Scalar x) ∙ sym (ap is_scalar_layer (value.outs-Scalar y))
   same_kind a b (same_enum name) = refl
   same_kind a b (same_variable name) = refl
   same_kind a b (same_list xs ys h) =
-      ap scalar_layer (value.outs-List xs) ∙ sym (ap scalar_layer (value.outs-List ys))
+      ap is_scalar_layer (value.outs-List xs) ∙ sym (ap is_scalar_layer (value.outs-List ys))
   same_kind a b (same_object xs ys h) =
-      ap scalar_layer (value.outs-Object xs) ∙ sym (ap scalar_layer (value.outs-Object ys))
+      ap is_scalar_layer (value.outs-Object xs) ∙ sym (ap is_scalar_layer (value.outs-Object ys))
 
   pub scalar_again : (a b : InputValue S) → SameValue S eq a b → is_scalar a ≡ true
       → is_scalar b ≡ true

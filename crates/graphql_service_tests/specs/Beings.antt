@@ -30,21 +30,21 @@ own_name being.Ann = codes "Ann"
 own_name being.Rex = codes "Rex"
 own_name being.Tom = codes "Tom"
 
-abbrev pub one : Being → Answer
-one b = Ok (resolved.Node b)
+abbrev pub being_answer : Being → Answer
+being_answer b = Ok (resolved.Node b)
 
-abbrev pub word : Bytes → Answer
-word text = Ok (resolved.Scalar (scalar.String text))
+abbrev pub text_answer : Bytes → Answer
+text_answer text = Ok (resolved.Scalar (scalar.String text))
 
 abbrev pub flag : Resolved DefaultScalarValue Being
 flag = resolved.Scalar (scalar.Boolean true)
 
-abbrev pub both : Being → Being → Resolved DefaultScalarValue Being
-both a b = resolved.List (resolved.Node a ∷ resolved.Node b ∷ [])
+abbrev pub two_beings : Being → Being → Resolved DefaultScalarValue Being
+two_beings a b = resolved.List (resolved.Node a ∷ resolved.Node b ∷ [])
 
 -- a dog twice, and a cat and the dog
 abbrev pub packs : Resolved DefaultScalarValue Being
-packs = resolved.List (both being.Rex being.Rex ∷ both being.Tom being.Rex ∷ [])
+packs = resolved.List (two_beings being.Rex being.Rex ∷ two_beings being.Tom being.Rex ∷ [])
 
 -- a flag, and none
 abbrev pub flags : Resolved DefaultScalarValue Being
@@ -61,28 +61,28 @@ given_kind given name = kind_or_absent (value_named given name)
 -- `shown`: of which kind the argument `value` is
 abbrev pub of_root_by : Bytes → Bytes → Answer
 of_root_by shown field =
-    if bytes_eq field (codes "human") then one being.Ann else
-    if bytes_eq field (codes "dog") then one being.Rex else
-    if bytes_eq field (codes "pet") then one being.Tom else
-    if bytes_eq field (codes "pets") then Ok (both being.Rex being.Tom) else
+    if bytes_eq field (codes "human") then being_answer being.Ann else
+    if bytes_eq field (codes "dog") then being_answer being.Rex else
+    if bytes_eq field (codes "pet") then being_answer being.Tom else
+    if bytes_eq field (codes "pets") then Ok (two_beings being.Rex being.Tom) else
     if bytes_eq field (codes "packs") then Ok packs else
-    if bytes_eq field (codes "self") then one being.Root else
-    if bytes_eq field (codes "impossible") then one being.Ann else
+    if bytes_eq field (codes "self") then being_answer being.Root else
+    if bytes_eq field (codes "impossible") then being_answer being.Ann else
     if bytes_eq field (codes "broken") then Err (reason (codes "No such flag")) else
     if bytes_eq field (codes "flags") then Ok flags else
     if bytes_eq field (codes "grid") then Ok (resolved.List (flags ∷ resolved.Null ∷ [])) else
     if bytes_eq field (codes "one") then Ok flag else
-    if bytes_eq field (codes "given") then word shown else
-    if bytes_eq field (codes "many") then word shown else
-    if bytes_eq field (codes "shape") then word shown else Ok resolved.Null
+    if bytes_eq field (codes "given") then text_answer shown else
+    if bytes_eq field (codes "many") then text_answer shown else
+    if bytes_eq field (codes "shape") then text_answer shown else Ok resolved.Null
 
 abbrev pub of_root : Bytes → Given DefaultScalarValue → Answer
 of_root field given = of_root_by (given_kind given (codes "value")) field
 
 abbrev pub of_being : Bytes → Bytes → Answer
 of_being own field =
-    if bytes_eq field (codes "name") then word own else
-    if bytes_eq field (codes "owner") then one being.Ann else
+    if bytes_eq field (codes "name") then text_answer own else
+    if bytes_eq field (codes "owner") then being_answer being.Ann else
     if bytes_eq field (codes "lives") then Err (reason (codes "Nobody counts"))
     else Ok resolved.Null
 

@@ -13,8 +13,8 @@ abbrev pub number : ℤ → Resolved DefaultScalarValue Unit
 number count = resolved.Scalar (scalar.Int count)
 
 -- `lose` answers null, each other field the count
-abbrev pub told : ℤ → Bytes → Resolved DefaultScalarValue Unit
-told count field = if bytes_eq field (codes "lose") then resolved.Null else number count
+abbrev pub count_answer : ℤ → Bytes → Resolved DefaultScalarValue Unit
+count_answer count field = if bytes_eq field (codes "lose") then resolved.Null else number count
 
 -- up to the greatest integer of 32 bits
 abbrev pub one_more : ℤ → ℤ
@@ -23,6 +23,6 @@ one_more count = saturate_signed w32 (count +ℤ pos 1)
 -- each field of a mutation counts one up, and tells the new count
 abbrev pub changes : Changes DefaultScalarValue Unit ℤ
 changes = record {
-  answer = λ count field given. Ok (told (one_more count) field);
+  answer = λ count field given. Ok (count_answer (one_more count) field);
   after = λ count field given. one_more count;
 }

@@ -38,19 +38,19 @@ AllKeepNullOut declared groups members = AllZip (KeepsNullOut declared) groups m
 module _ {S C N X : Type 0} (a : Answerer S C N X) (line : Bytes) (old : X) {answered : Bytes}
     (is : IsFittingLine a line old answered) where
   -- the root of the operation that is executed
-  abbrev pub root_of : Bytes
-  root_of = unwrap_or is.root a.schema.query
+  abbrev pub run_root : Bytes
+  run_root = unwrap_or is.root a.schema.query
 
   -- what it asks there
-  abbrev pub asked_of : Mutation S (Asked S N C) X
-  asked_of =
+  abbrev pub mutation_asked : Mutation S (Asked S N C) X
+  mutation_asked =
       let values = final_value (given a.scalars is.request)
       (variables_in is.operation.item.variable_definitions) in
       mutation_over a.scalars.of_text a.scalars.of_bool a.scalars.answer a.schema values
       a.resolver.type_of a.resolver.answer a.resolver.changes
 
   abbrev pub groups_of : List (Group S)
-  groups_of = root_groups asked_of root_of old
+  groups_of = root_groups mutation_asked run_root old
       (written (fragments_listed is.document) is.operation.item.selection_set ∷ [])
 
   -- the data are null and there is an error; or they have a member for each group, and null nowhere
@@ -60,4 +60,4 @@ module _ {S C N X : Type 0} (a : Answerer S C N X) (line : Bytes) (old : X) {ans
       ((is.found ≡ value.Null) × (is.errors ≡ [] → ⊥))
       ⊎ ((members : Members S)
       × (is.found ≡ object_members members)
-      × AllKeepNullOut (declared_type a.schema.types root_of) groups_of members)
+      × AllKeepNullOut (declared_type a.schema.types run_root) groups_of members)

@@ -18,8 +18,8 @@ abbrev pub type_name : Person → Bytes
 type_name person.Root = codes "Query"
 type_name person.Luke = codes "Human"
 
-abbrev pub word : Bytes → Answer
-word text = Ok (resolved.Scalar (scalar.String text))
+abbrev pub text_answer : Bytes → Answer
+text_answer text = Ok (resolved.Scalar (scalar.String text))
 
 abbrev pub of_root : Bytes → Answer
 of_root field =
@@ -27,8 +27,8 @@ of_root field =
 
 abbrev pub of_luke : Bytes → Answer
 of_luke field =
-    if bytes_eq field (codes "id") then word (codes "1000") else
-    if bytes_eq field (codes "name") then word (codes "Luke") else Ok resolved.Null
+    if bytes_eq field (codes "id") then text_answer (codes "1000") else
+    if bytes_eq field (codes "name") then text_answer (codes "Luke") else Ok resolved.Null
 
 abbrev pub answer : Person → Bytes → Answer
 answer person.Root field = of_root field

@@ -6,11 +6,11 @@ use Rattle.graphql_field_results.specs.declared.execution_error.ExecutionError.{
 use Rattle.graphql_service.specs.PlainRequests.{Memory, PlainError}
 
 -- the data and the errors of an operation
-abbrev pub Answer : Type 0 → Type 0
-Answer S = Value S × List (ExecutionError S)
+abbrev pub Response : Type 0 → Type 0
+Response S = Value S × List (ExecutionError S)
 
 -- the same data, errors in both or in neither, and the same context afterwards
-abbrev pub AreResponsesAlike : {S X : Type 0} → Answer S → X → Answer S → X → Type 0
+abbrev pub AreResponsesAlike : {S X : Type 0} → Response S → X → Response S → X → Type 0
 AreResponsesAlike one new other after =
     (one.0 ≡ other.0) × ((one.1 ≡ []) ↔ (other.1 ≡ [])) × (new ≡ after)
 

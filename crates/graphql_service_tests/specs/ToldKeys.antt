@@ -9,7 +9,7 @@ use Rattle.graphql_field_results.specs.Answered.{TellsInDistinctKeys}
 use Rattle.graphql_field_results.specs.Reasons.{reason_alone}
 use Rattle.graphql_field_results.specs.declared.resolved.Resolved.{Resolved}
 use Rattle.graphql_field_results.specs.declared.resolved.Resolved.TheVariants as resolved
-use Rattle.graphql_service_tests.specs.Beings.{Answer, answer, both, flag, flags, given_kind}
+use Rattle.graphql_service_tests.specs.Beings.{Answer, answer, two_beings, flag, flags, given_kind}
 use Rattle.graphql_service_tests.specs.Beings.{of_being, of_root_by, own_name, packs}
 use Rattle.graphql_service_tests.specs.declared.executor.beings.Being.{Being}
 use Rattle.graphql_service_tests.specs.declared.executor.beings.Being.TheVariants as being
@@ -38,7 +38,7 @@ root-tells shown field =
     either (bytes_eq field (codes "human")) _ _ (fine (resolved.Node being.Ann))
     (either (bytes_eq field (codes "dog")) _ _ (fine (resolved.Node being.Rex))
     (either (bytes_eq field (codes "pet")) _ _ (fine (resolved.Node being.Tom))
-    (either (bytes_eq field (codes "pets")) _ _ (fine (both being.Rex being.Tom))
+    (either (bytes_eq field (codes "pets")) _ _ (fine (two_beings being.Rex being.Tom))
     (either (bytes_eq field (codes "packs")) _ _ (fine packs)
     (either (bytes_eq field (codes "self")) _ _ (fine (resolved.Node being.Root))
     (either (bytes_eq field (codes "impossible")) _ _ (fine (resolved.Node being.Ann))

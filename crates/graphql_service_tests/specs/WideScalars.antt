@@ -34,8 +34,8 @@ reads (token.String source) = as_read (default.reads (token.String source))
 reads (token.Float source) = as_read (default.reads (token.Float source))
 
 -- a wide integer answers its digits
-abbrev pub answer : WideScalar → ScalarAnswer
-answer (wide.Int n) = integer n
-answer (wide.Long digits) = text digits
-answer (wide.String t) = text t
-answer (wide.Boolean b) = boolean b
+abbrev pub wide_answer : WideScalar → ScalarAnswer
+wide_answer (wide.Int n) = integer n
+wide_answer (wide.Long digits) = text digits
+wide_answer (wide.String t) = text t
+wide_answer (wide.Boolean b) = boolean b

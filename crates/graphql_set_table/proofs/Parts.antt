@@ -19,7 +19,7 @@ use Rattle.graphql_written_out.proofs.Layers.{deep, deep-Field, deep-Spread, dee
 use Rattle.graphql_merging.specs.Members.{Member, inside}
 use Rattle.graphql_merging.specs.Sets.{Set}
 use Rattle.graphql_merging.proofs.DirectFields.{In}
-use Rattle.graphql_set_table.specs.SetsAt.{SetAt, FieldAt, Opened, fields_opened, fields_of, fragment_set, inner_opened, inner_of}
+use Rattle.graphql_set_table.specs.SetsAt.{SetAt, FieldAt, Opened, fields_opened, fields_selected, fragment_set, inner_opened, inner_of}
 use Rattle.graphql_set_table.proofs.Rows.{in-left, in-right, in-either, in-flat_map, in-flat_map-from}
 
 module _ {S C : Type 0} (fragments : List (Fragment S)) where
@@ -44,7 +44,7 @@ module _ {S C : Type 0} (schema : Declarations S C) (fragments : List (Fragment 
       opened x = flat_map of_field (fields_opened parent x) ++ flat_map of_inner (inner_opened schema fragments parent x)
 
       abbrev part : Selection S → List X
-      part x = flat_map of_field (fields_of parent x) ++ flat_map of_inner (inner_of schema fragments parent x)
+      part x = flat_map of_field (fields_selected parent x) ++ flat_map of_inner (inner_of schema fragments parent x)
 
       abbrev Splits : Selection S → Type 0
       Splits x = (rest : Tree S) → read (deep fragments x rest) ≡ part x ++ read rest
@@ -83,22 +83,22 @@ module _ {S C : Type 0} (schema : Declarations S C) (fragments : List (Fragment 
 
       -- what is read is of a field or of a fragment in the set
       pub read-found : (xs : List (Selection S)) (y : X) → In y (read (written fragments xs))
-          → ((f : FieldAt S C) × In f (flat_map (fields_of parent) xs) × In y (of_field f)) ⊎ ((s : SetAt S C) × In s (flat_map (inner_of schema fragments parent) xs) × In y (of_inner s))
+          → ((f : FieldAt S C) × In f (flat_map (fields_selected parent) xs) × In y (of_field f)) ⊎ ((s : SetAt S C) × In s (flat_map (inner_of schema fragments parent) xs) × In y (of_inner s))
       read-found xs y i =
           let r = in-flat_map part y xs (subst (In y) (read-written xs) i) in
-          elim (in-either y (flat_map of_field (fields_of parent r.0)) (flat_map of_inner (inner_of schema fragments parent r.0)) r.2) [
-            | inl j ↦ (let q = in-flat_map of_field y (fields_of parent r.0) j in inl (q.0, in-flat_map-from (fields_of parent) q.0 r.0 xs r.1 q.1, q.2))
+          elim (in-either y (flat_map of_field (fields_selected parent r.0)) (flat_map of_inner (inner_of schema fragments parent r.0)) r.2) [
+            | inl j ↦ (let q = in-flat_map of_field y (fields_selected parent r.0) j in inl (q.0, in-flat_map-from (fields_selected parent) q.0 r.0 xs r.1 q.1, q.2))
             | inr j ↦ (let q = in-flat_map of_inner y (inner_of schema fragments parent r.0) j in inr (q.0, in-flat_map-from (inner_of schema fragments parent) q.0 r.0 xs r.1 q.1, q.2))
           ]
 
-      pub read-field : (xs : List (Selection S)) (y : X) (f : FieldAt S C) → In f (flat_map (fields_of parent) xs) → In y (of_field f) → In y (read (written fragments xs))
+      pub read-field : (xs : List (Selection S)) (y : X) (f : FieldAt S C) → In f (flat_map (fields_selected parent) xs) → In y (of_field f) → In y (read (written fragments xs))
       read-field xs y f i j =
-          let r = in-flat_map (fields_of parent) f xs i in
+          let r = in-flat_map (fields_selected parent) f xs i in
           subst (In y) (sym (read-written xs))
-          (in-flat_map-from part y r.0 xs r.1 (in-left y _ (flat_map of_inner (inner_of schema fragments parent r.0)) (in-flat_map-from of_field y f (fields_of parent r.0) r.2 j)))
+          (in-flat_map-from part y r.0 xs r.1 (in-left y _ (flat_map of_inner (inner_of schema fragments parent r.0)) (in-flat_map-from of_field y f (fields_selected parent r.0) r.2 j)))
 
       pub read-inner : (xs : List (Selection S)) (y : X) (s : SetAt S C) → In s (flat_map (inner_of schema fragments parent) xs) → In y (of_inner s) → In y (read (written fragments xs))
       read-inner xs y s i j =
           let r = in-flat_map (inner_of schema fragments parent) s xs i in
           subst (In y) (sym (read-written xs))
-          (in-flat_map-from part y r.0 xs r.1 (in-right y (flat_map of_field (fields_of parent r.0)) _ (in-flat_map-from of_inner y s (inner_of schema fragments parent r.0) r.2 j)))
+          (in-flat_map-from part y r.0 xs r.1 (in-right y (flat_map of_field (fields_selected parent r.0)) _ (in-flat_map-from of_inner y s (inner_of schema fragments parent r.0) r.2 j)))

@@ -26,9 +26,9 @@ use Rattle.graphql_merging.specs.declared.table.WrittenSet.{WrittenSet}
 use Rattle.graphql_set_table.specs.declared.open_set.OpenSet.{OpenSet}
 use Rattle.graphql_set_table.specs.FragmentNumbers.{fragment_number}
 use Rattle.graphql_set_table.specs.Numbered.{IsNumberOf, IsFieldOf, IsSetOf, DefinitionsFirst, field_at}
-use Rattle.graphql_set_table.specs.Reading.{Extends, Adds, Reads, ReadsOnce, nodes_in, set_at, sets_at}
+use Rattle.graphql_set_table.specs.Reading.{Extends, AddsItems, ReadsSet, ReadsOnce, nodes_in, set_at, sets_at}
 use Rattle.graphql_set_table.specs.SetsAt.{SetAt, FieldAt, own_set, definition_set}
-use Rattle.graphql_set_table.specs.SetsAt.{fields_opened, fields_of, inner_opened, inner_of}
+use Rattle.graphql_set_table.specs.SetsAt.{fields_opened, fields_selected, inner_opened, inner_of}
 use Rattle.graphql_set_table.proofs.NumberLemmas.{meant-number}
 use Rattle.graphql_set_table.proofs.Rows.{zip-append, zip-weaker, slice_get-left, slice_get-last}
 
@@ -44,19 +44,19 @@ module _ {A : Type 0} where
   extends-at xs ys h k x e = ap (λ l. slice_get l k) h.1 ∙ slice_get-left xs h.0 k x e
 
 module _ {A B : Type 0} (R : A → B → Type 0) where
-  adds-none : (xs : List A) → Adds R xs xs []
+  adds-none : (xs : List A) → AddsItems R xs xs []
   adds-none xs = ([], sym (append-nil xs), tt)
 
-  adds-one : (xs ys : List A) (x : A) (y : B) → ys ≡ xs ++ x ∷ [] → R x y → Adds R xs ys (y ∷ [])
+  adds-one : (xs ys : List A) (x : A) (y : B) → ys ≡ xs ++ x ∷ [] → R x y → AddsItems R xs ys (y ∷ [])
   adds-one xs ys x y e r = (x ∷ [], e, (r, tt))
 
-  adds-both : (xs ys zs : List A) (us vs : List B) → Adds R xs ys us → Adds R ys zs vs → Adds R xs zs (us ++ vs)
+  adds-both : (xs ys zs : List A) (us vs : List B) → AddsItems R xs ys us → AddsItems R ys zs vs → AddsItems R xs zs (us ++ vs)
   adds-both xs ys zs us vs h k =
       let grown = k.1 ∙ ap (λ (l : List A). l ++ k.0) h.1 ∙ append_assoc xs h.0 k.0 in
       (h.0 ++ k.0, grown, zip-append R h.0 us k.0 vs h.2 k.2)
 
 adds-weaker : {A B : Type 0} (R Q : A → B → Type 0) → ((x : A) (y : B) → R x y → Q x y)
-    → (xs ys : List A) (us : List B) → Adds R xs ys us → Adds Q xs ys us
+    → (xs ys : List A) (us : List B) → AddsItems R xs ys us → AddsItems Q xs ys us
 adds-weaker R Q weaker xs ys us h = (h.0, h.1, zip-weaker R Q weaker h.0 us h.2)
 
 module _ {S C : Type 0} (schema : Declarations S C) where
@@ -84,7 +84,7 @@ module _ {S C : Type 0} (schema : Declarations S C) where
 
   -- ---- one after the other
 
-  pub reads-nothing : (all : List (SetAt S C)) (w : WrittenSet S C) → Reads schema all all w w [] []
+  pub reads-nothing : (all : List (SetAt S C)) (w : WrittenSet S C) → ReadsSet schema all all w w [] []
   reads-nothing all w = record {
     numbered = extends-itself all;
     of_fields = adds-none (IsFieldOf all schema) w.fields;
@@ -93,8 +93,8 @@ module _ {S C : Type 0} (schema : Declarations S C) where
 
   pub reads-both : (all mid more : List (SetAt S C)) (u v w : WrittenSet S C)
       (fs gs : List (FieldAt S C)) (ss ts : List (SetAt S C))
-      → Reads schema all mid u v fs ss → Reads schema mid more v w gs ts
-      → Reads schema all more u w (fs ++ gs) (ss ++ ts)
+      → ReadsSet schema all mid u v fs ss → ReadsSet schema mid more v w gs ts
+      → ReadsSet schema all more u w (fs ++ gs) (ss ++ ts)
   reads-both all mid more u v w fs gs ss ts h k = record {
     numbered = extends-both all mid more h.numbered k.numbered;
     of_fields =
@@ -134,7 +134,7 @@ module _ {S C : Type 0} (schema : Declarations S C) where
       → new ≡ ahead ++ o ∷ [] → set_at o ≡ own_set schema (record { parent = parent; field = x })
       → w.own ≡ length ahead → field_at w.selected ≡ record { parent = parent; field = x }
       → fields ≡ old.fields ++ w ∷ []
-      → Reads schema (sets_at ahead) (sets_at new) old (record { fields = fields; inner = old.inner })
+      → ReadsSet schema (sets_at ahead) (sets_at new) old (record { fields = fields; inner = old.inner })
       (record { parent = parent; field = x } ∷ []) []
   reads-field ahead new o parent x old w fields e is count same grown =
       let f : FieldAt S C = record { parent = parent; field = x } in
@@ -163,7 +163,7 @@ module _ {S C : Type 0} (schema : Declarations S C) where
       (x : Placed (InlineFragment S)) (old : WrittenSet S C) (number : ℕ) (inner : List ℕ)
       → new ≡ ahead ++ o ∷ [] → set_at o ≡ record { scope = scope; selections = x.item.selection_set }
       → number ≡ length ahead → inner ≡ old.inner ++ number ∷ []
-      → Reads schema (sets_at ahead) (sets_at new) old (record { fields = old.fields; inner = inner })
+      → ReadsSet schema (sets_at ahead) (sets_at new) old (record { fields = old.fields; inner = inner })
       [] (record { scope = scope; selections = x.item.selection_set } ∷ [])
   reads-inline ahead new o scope x old number inner e is count grown =
       let set : SetAt S C = record { scope = scope; selections = x.item.selection_set } in
@@ -191,13 +191,13 @@ module _ {S C : Type 0} (schema : Declarations S C) where
         (spread : Placed (FragmentSpread S)) → DefinitionsFirst schema document all
         → x ≡ selection.FragmentSpread spread → new.fields ≡ old.fields
         → new.inner ≡ old.inner ++ option_to_list (fragment_number document spread.item.name.item)
-        → Reads schema all all old new (fields_of parent x) (inner_of schema (fragments_listed document) parent x)
+        → ReadsSet schema all all old new (fields_selected parent x) (inner_of schema (fragments_listed document) parent x)
     reads-spread all old new x spread first is same grown = record {
       numbered = extends-itself all;
       of_fields =
-          let none : [] ≡ fields_of parent x =
-          sym (ap (fields_of parent) is ∙ ap (fields_opened parent) (selection.outs-FragmentSpread spread)) in
-          subst (Adds (IsFieldOf all schema) old.fields new.fields) none ([], same ∙ sym (append-nil old.fields), tt);
+          let none : [] ≡ fields_selected parent x =
+          sym (ap (fields_selected parent) is ∙ ap (fields_opened parent) (selection.outs-FragmentSpread spread)) in
+          subst (AddsItems (IsFieldOf all schema) old.fields new.fields) none ([], same ∙ sym (append-nil old.fields), tt);
       of_inner =
           let name = spread.item.name.item in
           let meant = fragments_listed document in
@@ -205,31 +205,31 @@ module _ {S C : Type 0} (schema : Declarations S C) where
           let same : opened ≡ inner_of schema meant parent x
           = sym (ap (inner_of schema meant parent) is
           ∙ ap (inner_opened schema meant parent) (selection.outs-FragmentSpread spread)) in
-          subst (Adds (IsNumberOf all) old.inner new.inner) same
+          subst (AddsItems (IsNumberOf all) old.inner new.inner) same
           (option_to_list (fragment_number document name), grown, meant-number schema document all first name);
     }
 
     -- one selection more
     pub reads-more : (all mid more : List (SetAt S C)) (u v w : WrittenSet S C) (xs : List (Selection S)) (i : ℕ)
         (x : Selection S) → i < length xs → x ≡ get_or xs i x
-        → Reads schema all mid u v (flat_map (fields_of parent) (take i xs))
+        → ReadsSet schema all mid u v (flat_map (fields_selected parent) (take i xs))
         (flat_map (inner_of schema (fragments_listed document) parent) (take i xs))
-        → Reads schema mid more v w (fields_of parent x) (inner_of schema (fragments_listed document) parent x)
-        → Reads schema all more u w (flat_map (fields_of parent) (take (i + 1) xs))
+        → ReadsSet schema mid more v w (fields_selected parent x) (inner_of schema (fragments_listed document) parent x)
+        → ReadsSet schema all more u w (flat_map (fields_selected parent) (take (i + 1) xs))
         (flat_map (inner_of schema (fragments_listed document) parent) (take (i + 1) xs))
     reads-more all mid more u v w xs i x within is h k =
         let grown : take (i + 1) xs ≡ take i xs ++ x ∷ []
         = take_more xs i x within ∙ ap (λ y. take i xs ++ y ∷ []) (sym is) in
         let inner_in = inner_of schema (fragments_listed document) parent in
-        let fields = one-more (fields_of parent) (take i xs) x (take (i + 1) xs) grown in
+        let fields = one-more (fields_selected parent) (take i xs) x (take (i + 1) xs) grown in
         let inner = one-more inner_in (take i xs) x (take (i + 1) xs) grown in
         let both =
-        reads-both all mid more u v w (flat_map (fields_of parent) (take i xs)) (fields_of parent x)
+        reads-both all mid more u v w (flat_map (fields_selected parent) (take i xs)) (fields_selected parent x)
         (flat_map inner_in (take i xs)) (inner_in x) h k in
         record {
           numbered = both.numbered;
-          of_fields = subst (Adds (IsFieldOf more schema) u.fields w.fields) fields both.of_fields;
-          of_inner = subst (Adds (IsNumberOf more) u.inner w.inner) inner both.of_inner;
+          of_fields = subst (AddsItems (IsFieldOf more schema) u.fields w.fields) fields both.of_fields;
+          of_inner = subst (AddsItems (IsNumberOf more) u.inner w.inner) inner both.of_inner;
         }
       where
         one-more : {X Y : Type 0} (f : X → List Y) (xs : List X) (x : X) (more : List X) → more ≡ xs ++ x ∷ []

@@ -14,12 +14,12 @@ use Rattle.graphql_tree.proofs.SelectionInduction.{selection_ind}
 use Rattle.graphql_schema.specs.declared.meta.MetaType.{MetaType}
 use Rattle.graphql_schema.specs.Declarations.{Declarations}
 use Rattle.graphql_written_out.specs.Trees.{Tree, none, field, inline, height}
-use Rattle.graphql_written_out.specs.Written.{listed, fragment_meant, written, one, Settled}
+use Rattle.graphql_written_out.specs.Written.{listed, fragment_meant, written, written_selection, Settled}
 use Rattle.graphql_written_out.proofs.Layers.{deep-Field, one-deep, height-one, height-of-Inline, height-of-Spread}
 use Rattle.graphql_merging.specs.Members.{Member, Scope, members}
 use Rattle.graphql_merging.specs.Sets.{Set, members_of, directs_in, directs_of, sets_in, sets_of}
 use Rattle.graphql_merging.proofs.DirectFields.{In, from-In}
-use Rattle.graphql_set_table.specs.SetsAt.{SetAt, FieldAt, fields_opened, fields_of, fields_under, fields_at, fragment_set, own_set, inner_opened, inner_of, inner_under, inner_at}
+use Rattle.graphql_set_table.specs.SetsAt.{SetAt, FieldAt, fields_opened, fields_selected, fields_under, fields_at, fragment_set, own_set, inner_opened, inner_of, inner_under, inner_at}
 use Rattle.graphql_set_table.proofs.Rows.{in-either, in-flat_map}
 use Rattle.graphql_set_table.proofs.Parts.{written_set, member_of, read-written, read-found, read-field, read-inner}
 
@@ -92,13 +92,13 @@ module _ {S C : Type 0} (schema : Declarations S C) where
     none-inner (s ∷ ss) = none-inner ss
 
     singles : (parent : MetaType S C) (xs : List (Selection S))
-        → flat_map (λ x. flat_map (λ f. member_of fragments f ∷ []) (fields_of parent x) ++ flat_map (λ s. []) (inner_of schema fragments parent x)) xs
-        ≡ map (member_of fragments) (flat_map (fields_of parent) xs)
+        → flat_map (λ x. flat_map (λ f. member_of fragments f ∷ []) (fields_selected parent x) ++ flat_map (λ s. []) (inner_of schema fragments parent x)) xs
+        ≡ map (member_of fragments) (flat_map (fields_selected parent) xs)
     singles parent [] = refl
     singles parent (x ∷ xs) =
-        (λ i. (flat_map_single (member_of fragments) (fields_of parent x) i ++ none-inner (inner_of schema fragments parent x) i) ++ singles parent xs i)
-        ∙ ap (λ ms. ms ++ map (member_of fragments) (flat_map (fields_of parent) xs)) (append-nil (map (member_of fragments) (fields_of parent x)))
-        ∙ sym (map-append (member_of fragments) (fields_of parent x) (flat_map (fields_of parent) xs))
+        (λ i. (flat_map_single (member_of fragments) (fields_selected parent x) i ++ none-inner (inner_of schema fragments parent x) i) ++ singles parent xs i)
+        ∙ ap (λ ms. ms ++ map (member_of fragments) (flat_map (fields_selected parent) xs)) (append-nil (map (member_of fragments) (fields_selected parent x)))
+        ∙ sym (map-append (member_of fragments) (fields_selected parent x) (flat_map (fields_selected parent) xs))
 
     directs-under : (scope : Scope S C) (xs : List (Selection S)) → directs_in schema.types scope (written fragments xs) ≡ map (member_of fragments) (fields_under scope xs)
     directs-under None xs = directs-unknown (written fragments xs)
@@ -127,52 +127,52 @@ module _ {S C : Type 0} (schema : Declarations S C) where
 
     -- ---- heights
 
-    one-lower : (x : Selection S) (xs : List (Selection S)) → In x xs → height (one fragments x) ≤ height (written fragments xs)
+    one-lower : (x : Selection S) (xs : List (Selection S)) → In x xs → height (written_selection fragments x) ≤ height (written fragments xs)
     one-lower x xs i =
         let at = from-In x xs i in
-        subst (λ y. height (one fragments y) ≤ height (written fragments xs)) at.2 (height-one fragments xs at.0 x at.1)
+        subst (λ y. height (written_selection fragments y) ≤ height (written fragments xs)) at.2 (height-one fragments xs at.0 x at.1)
 
-    field-height : (x : Placed (Field S)) → height (written fragments (listed x.item.selection_set)) < height (one fragments (selection.Field x))
+    field-height : (x : Placed (Field S)) → height (written fragments (listed x.item.selection_set)) < height (written_selection fragments (selection.Field x))
     field-height x = rw (one-deep, deep-Field fragments x none) (omega arith)
 
     module _ (parent : MetaType S C) where
       abbrev FieldsLower : Selection S → Type 0
-      FieldsLower x = (f : FieldAt S C) → In f (fields_of parent x) → height (written fragments (listed f.field.item.selection_set)) < height (one fragments x)
+      FieldsLower x = (f : FieldAt S C) → In f (fields_selected parent x) → height (written fragments (listed f.field.item.selection_set)) < height (written_selection fragments x)
 
       fields-lower : (x : Selection S) → FieldsLower x
       fields-lower = selection_ind FieldsLower
           (λ x h f i. elim (subst (In f) (ap (fields_opened parent) (selection.outs-Field x)) i) [
-            | inl e ↦ subst (λ (g : FieldAt S C). height (written fragments (listed g.field.item.selection_set)) < height (one fragments (selection.Field x))) (sym e) (field-height x)
+            | inl e ↦ subst (λ (g : FieldAt S C). height (written fragments (listed g.field.item.selection_set)) < height (written_selection fragments (selection.Field x))) (sym e) (field-height x)
             | inr n ↦ absurd n
           ])
           (λ x f i. absurd (subst (In f) (ap (fields_opened parent) (selection.outs-FragmentSpread x)) i))
           (λ x h f i. absurd (subst (In f) (ap (fields_opened parent) (selection.outs-InlineFragment x)) i))
 
       abbrev InnerLower : Selection S → Type 0
-      InnerLower x = (s : SetAt S C) → In s (inner_of schema fragments parent x) → height (written fragments s.selections) < height (one fragments x)
+      InnerLower x = (s : SetAt S C) → In s (inner_of schema fragments parent x) → height (written fragments s.selections) < height (written_selection fragments x)
 
       meant-lower : (x : Placed (FragmentSpread S)) (s : SetAt S C) (o : Option (Fragment S)) → fragment_meant fragments x.item.name.item ≡ o → In s (option_to_list (option_map (fragment_set schema) o))
-          → height (written fragments s.selections) < height (one fragments (selection.FragmentSpread x))
+          → height (written fragments s.selections) < height (written_selection fragments (selection.FragmentSpread x))
       meant-lower x s None e i = absurd i
       meant-lower x s (Some f) e (inr n) = absurd n
       meant-lower x s (Some f) e (inl same) =
-          subst (λ (z : SetAt S C). height (written fragments z.selections) < height (one fragments (selection.FragmentSpread x))) (sym same) (height-of-Spread fragments settled x f e)
+          subst (λ (z : SetAt S C). height (written fragments z.selections) < height (written_selection fragments (selection.FragmentSpread x))) (sym same) (height-of-Spread fragments settled x f e)
 
       inner-lower : (x : Selection S) → InnerLower x
       inner-lower = selection_ind InnerLower
           (λ x h s i. absurd (subst (In s) (ap (inner_opened schema fragments parent) (selection.outs-Field x)) i))
           (λ x s i. meant-lower x s (fragment_meant fragments x.item.name.item) refl (subst (In s) (ap (inner_opened schema fragments parent) (selection.outs-FragmentSpread x)) i))
           (λ x h s i. elim (subst (In s) (ap (inner_opened schema fragments parent) (selection.outs-InlineFragment x)) i) [
-            | inl e ↦ subst (λ (z : SetAt S C). height (written fragments z.selections) < height (one fragments (selection.InlineFragment x))) (sym e) (height-of-Inline fragments x)
+            | inl e ↦ subst (λ (z : SetAt S C). height (written fragments z.selections) < height (written_selection fragments (selection.InlineFragment x))) (sym e) (height-of-Inline fragments x)
             | inr n ↦ absurd n
           ])
 
     field-less : (scope : Scope S C) (xs : List (Selection S)) (f : FieldAt S C) → In f (fields_under scope xs) → height (written fragments (listed f.field.item.selection_set)) < height (written fragments xs)
     field-less None xs f i = absurd i
     field-less (Some parent) xs f i =
-        let r = in-flat_map (fields_of parent) f xs i in
-        let low : height (written fragments (listed f.field.item.selection_set)) < height (one fragments r.0) = fields-lower parent r.0 f r.2 in
-        let high : height (one fragments r.0) ≤ height (written fragments xs) = one-lower r.0 xs r.1 in
+        let r = in-flat_map (fields_selected parent) f xs i in
+        let low : height (written fragments (listed f.field.item.selection_set)) < height (written_selection fragments r.0) = fields-lower parent r.0 f r.2 in
+        let high : height (written_selection fragments r.0) ≤ height (written fragments xs) = one-lower r.0 xs r.1 in
         omega (arith, low, high)
 
     -- the own set of a field is less high than the set in which it stands
@@ -183,8 +183,8 @@ module _ {S C : Type 0} (schema : Declarations S C) where
     inner-less None xs s i = absurd i
     inner-less (Some parent) xs s i =
         let r = in-flat_map (inner_of schema fragments parent) s xs i in
-        let low : height (written fragments s.selections) < height (one fragments r.0) = inner-lower parent r.0 s r.2 in
-        let high : height (one fragments r.0) ≤ height (written fragments xs) = one-lower r.0 xs r.1 in
+        let low : height (written fragments s.selections) < height (written_selection fragments r.0) = inner-lower parent r.0 s r.2 in
+        let high : height (written_selection fragments r.0) ≤ height (written fragments xs) = one-lower r.0 xs r.1 in
         omega (arith, low, high)
 
     -- and so is that of a fragment in it

@@ -23,20 +23,20 @@ abbrev pub Extends : {A : Type 0} → List A → List A → Type 0
 Extends old new = (more : List _) × (new ≡ old ++ more)
 
 -- items are added that are, one by one, as these say
-abbrev pub Adds : {A B : Type 0} → (A → B → Type 0) → List A → List A → List B → Type 0
-Adds R old new said = (more : List _) × (new ≡ old ++ more) × AllZip R more said
+abbrev pub AddsItems : {A B : Type 0} → (A → B → Type 0) → List A → List A → List B → Type 0
+AddsItems R old new said = (more : List _) × (new ≡ old ++ more) × AllZip R more said
 
 -- how many fields are written in these sets, however deep
 unfoldable pub nodes_in : {S C : Type 0} → List (SetAt S C) → ℕ
 nodes_in = sum_by (λ set. set_nodes set.selections)
 
 -- a set takes up these fields and these sets of fragments, for which more sets have numbers
-pub record Reads {S C : Type 0} (schema : Declarations S C) (all_old all_new : List (SetAt S C))
+pub record ReadsSet {S C : Type 0} (schema : Declarations S C) (all_old all_new : List (SetAt S C))
     (old new : WrittenSet S C) (fields : List (FieldAt S C))
     (inner : List (SetAt S C)) : Type 0 where
   pub numbered : Extends all_old all_new
-  pub of_fields : Adds (IsFieldOf all_new schema) old.fields new.fields fields
-  pub of_inner : Adds (IsNumberOf all_new) old.inner new.inner inner
+  pub of_fields : AddsItems (IsFieldOf all_new schema) old.fields new.fields fields
+  pub of_inner : AddsItems (IsNumberOf all_new) old.inner new.inner inner
 
 -- of so many fields none is taken up twice: they go into the set, or are in sets that have numbers
 -- from then on

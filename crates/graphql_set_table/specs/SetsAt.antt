@@ -39,12 +39,12 @@ module _ {S C : Type 0} where
   fields_opened parent (Selection-F.InlineFragment x) = []
 
   -- the field that a selection is, if it is one
-  abbrev pub fields_of : MetaType S C → Selection S → List (FieldAt S C)
-  fields_of parent x = fields_opened parent (out-Selection S x)
+  abbrev pub fields_selected : MetaType S C → Selection S → List (FieldAt S C)
+  fields_selected parent x = fields_opened parent (out-Selection S x)
 
   abbrev pub fields_under : Scope S C → List (Selection S) → List (FieldAt S C)
   fields_under None selections = []
-  fields_under (Some parent) selections = flat_map (fields_of parent) selections
+  fields_under (Some parent) selections = flat_map (fields_selected parent) selections
 
   -- the fields that stand directly in a set, in order; of an unknown type there are none
   abbrev pub fields_at : SetAt S C → List (FieldAt S C)

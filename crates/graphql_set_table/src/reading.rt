@@ -10,9 +10,9 @@ ghost use Rattle.graphql_merging.specs.Members.{inside};
 ghost use Rattle.graphql_tree.specs.Definitions.{fragments_listed};
 ghost use Rattle.graphql_set_table.specs.FragmentNumbers.{fragment_number};
 ghost use Rattle.graphql_set_table.specs.Numbered.{DefinitionsFirst, IsSetOf};
-ghost use Rattle.graphql_set_table.specs.Reading.{Extends, Reads, ReadsOnce, nodes_in, set_at};
+ghost use Rattle.graphql_set_table.specs.Reading.{Extends, ReadsSet, ReadsOnce, nodes_in, set_at};
 ghost use Rattle.graphql_set_table.specs.Reading.{sets_at};
-ghost use Rattle.graphql_set_table.specs.SetsAt.{fields_of, inner_of};
+ghost use Rattle.graphql_set_table.specs.SetsAt.{fields_selected, inner_of};
 
 use crate::fragment_numbers::FragmentNumbers;
 use crate::open_set::OpenSet;
@@ -32,7 +32,7 @@ fn read_field<'d, 'a, S, C>(
     written: &mut WrittenSet<'d, 'a, S, C>,
 ) -> Result<(), AllocError>
     ensures reads { let all_old = sets_at ahead.old in let all_new = sets_at ahead.new in
-        OnOk result (Reads (declarations_of schema.now) all_old all_new written.old written.new
+        OnOk result (ReadsSet (declarations_of schema.now) all_old all_new written.old written.new
         (record { parent = parent.now; field = field.now } ∷ []) []) }
     ensures once { let all_old = sets_at ahead.old in let all_new = sets_at ahead.new in
         let nodes = selection_nodes (Selection.Field field.now) in
@@ -55,7 +55,7 @@ fn read_inline<'d, 'a, S, C>(
 ) -> Result<(), AllocError>
     ensures reads { let all_old = sets_at ahead.old in let all_new = sets_at ahead.new in
         let scope = inside schema.now.types (Some parent.now) (condition_of fragment.now.item) in
-        OnOk result (Reads (declarations_of schema.now) all_old all_new written.old written.new
+        OnOk result (ReadsSet (declarations_of schema.now) all_old all_new written.old written.new
         [] (record { scope = scope; selections = fragment.now.item.selection_set } ∷ [])) }
     ensures once { let all_old = sets_at ahead.old in let all_new = sets_at ahead.new in
         let nodes = selection_nodes (Selection.InlineFragment fragment.now) in
@@ -98,8 +98,8 @@ fn read_selection<'d, 'a, S, C>(
     ensures reads { let all_old = sets_at ahead.old in let all_new = sets_at ahead.new in
         let declarations = declarations_of schema.now in
         let meant = fragments_listed fragments.now.document.now in
-        OnOk result (Reads declarations all_old all_new written.old written.new
-        (fields_of parent.now selection.now)
+        OnOk result (ReadsSet declarations all_old all_new written.old written.new
+        (fields_selected parent.now selection.now)
         (inner_of declarations meant parent.now selection.now)) }
     ensures once { let all_old = sets_at ahead.old in let all_new = sets_at ahead.new in
         OnOk result
@@ -128,8 +128,8 @@ fn read_selections<'d, 'a, S, C>(
     ensures reads { let all_old = sets_at ahead.old in let all_new = sets_at ahead.new in
         let declarations = declarations_of schema.now in
         let meant = fragments_listed fragments.now.document.now in
-        OnOk result (Reads declarations all_old all_new written.old written.new
-        (flat_map (fields_of parent.now) selections.now)
+        OnOk result (ReadsSet declarations all_old all_new written.old written.new
+        (flat_map (fields_selected parent.now) selections.now)
         (flat_map (inner_of declarations meant parent.now) selections.now)) }
     ensures once { let all_old = sets_at ahead.old in let all_new = sets_at ahead.new in
         OnOk result (ReadsOnce all_old all_new written.old written.new (set_nodes selections.now)) }

@@ -7,7 +7,7 @@ use Rattle.std.specs.declared.alloc.Global.{Global}
 use Rattle.std.proofs.lemmas.Map.Text.{hash_map_updates_text}
 use Rattle.std.proofs.lemmas.Slice.Eq.{bytes_eq-Decides}
 use Rattle.graphql_stores.specs.Keeping.{IsKept, KeepsAtMost, KeepsNoMore}
-use Rattle.graphql_stores.specs.Texts.{AddsAtMost, text_at}
+use Rattle.graphql_stores.specs.Texts.{AddsAtMost, stored_text}
 use Rattle.graphql_stores.specs.declared.kept_texts.KeptTexts.{KeptTexts}
 
 abbrev items_of : Option (Vec ℕ Global) → Option (List ℕ)
@@ -30,6 +30,6 @@ module _ {H : Type 0} where
 pub keeps-at-most : (old mid new : KeptTexts) (key text : List ℕ) → KeepsNoMore old mid
     → AddsAtMost mid.younger new.younger key text → new.older ≡ mid.older → KeepsAtMost old new key text
 keeps-at-most old mid new key text before adds same k t (inr o) =
-    inl (before k t (inr (ap (λ texts. text_at texts k) (sym same) ∙ o)))
+    inl (before k t (inr (ap (λ texts. stored_text texts k) (sym same) ∙ o)))
 keeps-at-most old mid new key text before adds same k t (inl y) =
     elim (adds k t y) [ inl h ↦ inl (before k t (inl h)) | inr h ↦ inr h ]

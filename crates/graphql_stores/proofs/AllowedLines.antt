@@ -7,7 +7,7 @@ use Rattle.graphql_stores.specs.declared.allowed_queries.AllowedQueries.{Allowed
 use Rattle.graphql_output_values.specs.DistinctKeys.{HasDistinctKeysThroughout}
 use Rattle.graphql_rule_errors.specs.declared.rule_error.RuleError.{RuleError}
 use Rattle.graphql_answers.specs.Lines.{ValuesAreLines}
-use Rattle.graphql_answers.specs.Responses.{refusal_of}
+use Rattle.graphql_answers.specs.Responses.{refusal_response}
 use Rattle.graphql_requests.specs.Asked.{ExecutableAreNotRefused}
 use Rattle.graphql_service.specs.Answers.{Answerer, Appends, IsAnswer, LeavesBroken, executed_to, no_request, not_executed}
 use Rattle.graphql_service.specs.PlainAnswers.{HasPlain}
@@ -86,7 +86,7 @@ module _ {S C N X : Type 0} (a : Answerer S C N X) (size_limit : ℕ) (store : A
 
   -- what is written where it is not allowed
   pub not-passed : {A E : Type 0} (r : Result A E) (c : X) (before after : Bytes) → ValuesAreLines
-      → ((errors : List RuleError) → HasDistinctKeysThroughout (refusal_of errors)) → (b : Bool) → b ≡ false
+      → ((errors : List RuleError) → HasDistinctKeysThroughout (refusal_response errors)) → (b : Bool) → b ≡ false
       → Passes a size_limit store line b → OnOk r (after ≡ before ++ not_allowed_line)
       → OnOk r (Appends (λ text. AnswersIfAllowed a size_limit store c line text c) before after)
   not-passed (Ok x) c before after lines distinct b is h e = (
@@ -94,8 +94,8 @@ module _ {S C N X : Type 0} (a : Answerer S C N X) (size_limit : ℕ) (store : A
     e,
     record {
       answer = not_allowed (subst (Passes a size_limit store line) is h) refl refl;
-      one_line = lines (refusal_of not_allowed_error);
-      distinct = record { found = refusal_of not_allowed_error; is = refl; distinct = distinct not_allowed_error };
+      one_line = lines (refusal_response not_allowed_error);
+      distinct = record { found = refusal_response not_allowed_error; is = refl; distinct = distinct not_allowed_error };
     },
   )
   not-passed (Err e) c before after lines distinct b is h k = tt

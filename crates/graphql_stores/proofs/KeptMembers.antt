@@ -19,7 +19,7 @@ use Rattle.graphql_lines.specs.Variables.{input_of}
 use Rattle.graphql_plain_print.specs.NameSets.{AreSame}
 use Rattle.graphql_plain_requests.specs.AcceptedAgain.{AreEqualOn}
 use Rattle.graphql_service.specs.Answers.{given}
-use Rattle.graphql_stores.specs.Stored.{members_of, with_query}
+use Rattle.graphql_stores.specs.Stored.{members_named, with_query}
 
 -- there is nothing in a list of no length
 pub empty-is : {A : Type 0} (xs : List A) → length xs ≡ 0 → xs ≡ []
@@ -54,10 +54,10 @@ one-view false e es kept same = same
 
 module _ (names : List Bytes) where
   -- they nest no deeper
-  pub kept-nests : (ms : Members) → members_depth (members_of names ms) ≤ members_depth ms
+  pub kept-nests : (ms : Members) → members_depth (members_named names ms) ≤ members_depth ms
   kept-nests no_members = omega arith
   kept-nests (member l e ms) =
-      one-nests (is_one_of names l) l e (members_of names ms) ms (kept-nests ms)
+      one-nests (is_one_of names l) l e (members_named names ms) ms (kept-nests ms)
 
   -- a name that is none of them is another than one that is
   apart : (k l : Bytes) → is_one_of names k ≡ true → is_one_of names l ≡ false
@@ -68,21 +68,21 @@ module _ (names : List Bytes) where
 
   -- what is found at one of the names stays
   pub kept-member : (k : Bytes) (ms : Members) → is_one_of names k ≡ true
-      → get_member k (members_of names ms) ≡ get_member k ms
+      → get_member k (members_named names ms) ≡ get_member k ms
   kept-member k no_members among = refl
   kept-member k (member l e ms) among =
-      one-found (is_one_of names l) k l e (members_of names ms) ms (kept-member k ms among)
+      one-found (is_one_of names l) k l e (members_named names ms) ms (kept-member k ms among)
       (λ away. apart k l among away)
 
   -- those of a map whose entries are tested by their names
   pub kept-view : (entries : List Entry)
       → members_view (filter (λ (e : Entry). is_one_of names (string_bytes e.0)) entries)
-      ≡ members_of names (members_view entries)
+      ≡ members_named names (members_view entries)
   kept-view [] = refl
   kept-view (e ∷ es) =
       one-view (is_one_of names (string_bytes e.0)) e
       (filter (λ (e : Entry). is_one_of names (string_bytes e.0)) es)
-      (members_of names (members_view es)) (kept-view es)
+      (members_named names (members_view es)) (kept-view es)
 
 -- the values of names that are kept are those that are given
 pub values-kept : {S C : Type 0} (s : Scalars S C) (request : Request) (plain : Bytes) (names used : List Bytes)

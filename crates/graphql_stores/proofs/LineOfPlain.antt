@@ -11,7 +11,7 @@ use Rattle.graphql_names.specs.Names.{Bytes}
 use Rattle.graphql_lines.specs.Request.{Request, data_of, name_in, request_in, variables_in}
 use Rattle.graphql_lines.specs.Variables.{members_of_variables}
 use Rattle.graphql_stores.specs.PlainLines.{AsksPlain, KeepsMembers, depth_of, members_of_plain, put_given}
-use Rattle.graphql_stores.specs.Stored.{members_of, with_query}
+use Rattle.graphql_stores.specs.Stored.{members_named, with_query}
 
 -- a fact of what may be given gives another
 pub on-some : {A : Type 0} (o : Option A) (P Q : A → Type 0) → ((a : A) → P a → Q a) → IfSome o P → IfSome o Q
@@ -114,7 +114,7 @@ asked_with query name variables =
     variables) name) query
 
 other-query : (plain query : Bytes) (names : List Bytes) (name : Option (Option Bytes)) (variables kept : Option Members)
-    (request : Request) → ((ms : Members) → variables ≡ Some ms → kept ≡ Some (members_of names ms))
+    (request : Request) → ((ms : Members) → variables ≡ Some ms → kept ≡ Some (members_named names ms))
     → asked_with (Some query) name variables ≡ Some request
     → (request.query ≡ query) × (asked_with (Some plain) name kept ≡ Some (with_query request plain names))
 other-query plain query names None variables kept request keeps e = absurd (cc)
@@ -192,8 +192,8 @@ of-object (object ns) ms e = ap (λ o. object (unwrap_or o ns)) e
 
 -- variables that are no object are null, and give no members
 pub no-object : (names : List Bytes) (d : Data) (ms : Members) → as_object d ≡ None
-    → members_of_variables d ≡ Some ms → Some no_members ≡ Some (members_of names ms)
-no-object names null ms none e = ap (λ (o : Option Members). Some (members_of names (unwrap_or o no_members))) e
+    → members_of_variables d ≡ Some ms → Some no_members ≡ Some (members_named names ms)
+no-object names null ms none e = ap (λ (o : Option Members). Some (members_named names (unwrap_or o no_members))) e
 no-object names (boolean b) ms none e = absurd (cc)
 no-object names (number n) ms none e = absurd (cc)
 no-object names (string s) ms none e = absurd (cc)

@@ -25,7 +25,7 @@ use Rattle.graphql_requests.specs.Faults.{refusal_of}
 use Rattle.graphql_requests.specs.Operations.{chosen}
 use Rattle.graphql_requests.specs.Refusals.{IsRead, IsReady, IsStopped, IsUnread, errors_of}
 use Rattle.graphql_requests.proofs.FaultLemmas.{fault-told}
-use Rattle.graphql_executor.specs.Answered.{Asking, IsExecutable, IsRefused, Reads}
+use Rattle.graphql_executor.specs.Answered.{Asking, IsExecutable, IsRefused, ReadsValid}
 use Rattle.graphql_executor.specs.Requests.{GraphQLError}
 use Rattle.graphql_executor.specs.Requests as error
 use Rattle.graphql_lines.specs.declared.request.GraphQLRequest.{GraphQLRequest}
@@ -93,7 +93,7 @@ module _ {S C N X : Type 0} (a : Answerer S C N X) (line : Bytes) (request : Gra
         asks = r;
         recorded = recorded;
         read =
-            subst (λ (x : List (Definition S)). Reads a.scalars (asking_of a request) x) (sym same)
+            subst (λ (x : List (Definition S)). ReadsValid a.scalars (asking_of a request) x) (sym same)
             (subst (λ x. IsRead a.scalars (declarations_of x) a.introspection_disabled
             (chars (string_bytes request.query)) document) its_schema
             (subst (λ b. IsRead a.scalars (declarations_of node.schema) b

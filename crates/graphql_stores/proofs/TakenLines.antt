@@ -11,7 +11,7 @@ use Rattle.std.proofs.lemmas.Bool.{eqb-true, true≢false}
 use Rattle.std.proofs.lemmas.Map.Text.{hash_set_updates_text}
 use Rattle.graphql_names.specs.Names.{Bytes}
 use Rattle.graphql_lines.specs.Request.{data_of}
-use Rattle.graphql_stores.specs.Told.{IsFine, plain_in, told}
+use Rattle.graphql_stores.specs.Told.{IsFine, plain_in, text_in_line}
 use Rattle.graphql_stores.specs.Stores.{AllowsMore, is_allowed}
 use Rattle.graphql_stores.specs.declared.allowed_queries.AllowedQueries.{AllowedQueries}
 
@@ -30,12 +30,12 @@ empty-taken store [] e = (tt, λ plain. or-false (is_allowed store plain))
 empty-taken store (b ∷ bs) e = absurd (let none = eqb-true (length (b ∷ bs)) 0 (sym e) in omega (arith, none))
 
 -- a line that tells a text is fine
-told-fine : (line text : Bytes) → told line ≡ Some text → IsFine line
+told-fine : (line text : Bytes) → text_in_line line ≡ Some text → IsFine line
 told-fine [] text e = tt
 told-fine (b ∷ bs) text e = ap is_some e
 
 line-told : (line : Bytes) (o : Option Bytes) → false ≡ nat_eq (length line) 0
-    → o ≡ option_and_then plain_in (data_of line) → told line ≡ o
+    → o ≡ option_and_then plain_in (data_of line) → text_in_line line ≡ o
 line-told [] o full e = absurd (true≢false (sym full))
 line-told (b ∷ bs) o full e = sym e
 
@@ -54,7 +54,7 @@ pub text-taken : (store new : AllowedQueries) (line : Bytes) (text : String Glob
     → bag.UpdatesBy string_eq (λ k. bytes_eq (string_bytes text) (string_bytes k)) store.texts new.texts true
     → IsFine line × AllowsMore store line new
 text-taken store new line text full e updates =
-    let is : told line ≡ Some (string_bytes text) = line-told line (Some (string_bytes text)) full e in (
+    let is : text_in_line line ≡ Some (string_bytes text) = line-told line (Some (string_bytes text)) full e in (
       told-fine line (string_bytes text) is,
       λ plain.
           added plain (string_bytes text) (is_allowed store plain) (is_allowed new plain)

@@ -5,7 +5,7 @@ use Rattle.graphql_names.specs.Names.{Bytes}
 use Rattle.graphql_stores.specs.Stores.{is_allowed}
 use Rattle.graphql_stores.specs.declared.allowed_queries.AllowedQueries.{AllowedQueries}
 use Rattle.graphql_answers.specs.Lines.{IsLine, line_of}
-use Rattle.graphql_answers.specs.Responses.{refusal_of}
+use Rattle.graphql_answers.specs.Responses.{refusal_response}
 use Rattle.graphql_lines.specs.Request.{Request}
 use Rattle.graphql_rule_errors.specs.declared.rule_error.RuleError.{RuleError}
 use Rattle.graphql_service.specs.Answers.{Answerer, Asks, IsAnswer, LeavesBroken, asked_by}
@@ -20,7 +20,7 @@ abbrev pub not_allowed_error : List RuleError
 not_allowed_error = said_at [] (codes "Query is not allowed")
 
 abbrev pub not_allowed_line : Bytes
-not_allowed_line = line_of (refusal_of not_allowed_error)
+not_allowed_line = line_of (refusal_response not_allowed_error)
 
 -- by what a service answers, the greatest size of a plain text, and a store
 module _ {S C N X : Type 0} (a : Answerer S C N X) (size_limit : ℕ) (store : AllowedQueries) where

@@ -7,7 +7,7 @@ use Rattle.graphql_output_values.specs.declared.value.Value.{Value}
 use Rattle.graphql_field_results.specs.declared.execution_error.ExecutionError.{ExecutionError}
 use Rattle.graphql_rule_errors.specs.declared.rule_error.RuleError.{RuleError}
 use Rattle.graphql_answers.specs.Lines.{line_of}
-use Rattle.graphql_answers.specs.Responses.{refusal_of, response_of}
+use Rattle.graphql_answers.specs.Responses.{refusal_response, response_of}
 
 -- the text is that of an object whose first key is `data`
 abbrev pub begins_with_data : Bytes → Bool
@@ -23,7 +23,7 @@ module _ {S : Type 0} (answer : S → ScalarAnswer) where
   -- their list ends the line
   abbrev pub LinesShowErrors : Type 0
   LinesShowErrors =
-      ((errors : List RuleError) → begins_with_data (line_of (refusal_of errors)) ≡ false)
+      ((errors : List RuleError) → begins_with_data (line_of (refusal_response errors)) ≡ false)
       × ((found : Value S) (errors : List (ExecutionError S))
       → begins_with_data (line_of (response_of answer found errors)) ≡ true)
       × ((found : Value S) (error : ExecutionError S) (errors : List (ExecutionError S))

@@ -1,12 +1,12 @@
 -- What is kept, and what comes of keeping.
 use Rattle.std.specs.Prelude.{◌≡◌, ◌⊎◌, ℕ, List, Some}
-use Rattle.graphql_stores.specs.Texts.{text_at}
+use Rattle.graphql_stores.specs.Texts.{stored_text}
 use Rattle.graphql_stores.specs.declared.kept_texts.KeptTexts.{KeptTexts}
 
 -- the text is kept under the key
 abbrev pub IsKept : KeptTexts → List ℕ → List ℕ → Type 0
 IsKept store key text =
-    (text_at store.younger key ≡ Some text) ⊎ (text_at store.older key ≡ Some text)
+    (stored_text store.younger key ≡ Some text) ⊎ (stored_text store.older key ≡ Some text)
 
 -- no text is kept
 abbrev pub KeepsNothing : KeptTexts → Type 0

@@ -5,7 +5,7 @@ use Rattle.serde_json.specs.Data.{Data, string, Members, no_members, put, depth}
 use Rattle.serde_json.specs.Find.{as_null}
 use Rattle.graphql_names.specs.Names.{Bytes}
 use Rattle.graphql_lines.specs.Request.{Request, request_of, variables_in}
-use Rattle.graphql_stores.specs.Stored.{members_of, with_query}
+use Rattle.graphql_stores.specs.Stored.{members_named, with_query}
 
 -- the members with this data put at a name, unless it is null or missing
 abbrev pub put_given : Bytes → Option Data → Members → Members
@@ -28,7 +28,8 @@ AsksPlain asked plain names key =
 -- of the members of variables that are given those of these names are kept
 abbrev pub KeepsMembers : List Bytes → Option Data → Option Data → Type 0
 KeepsMembers names given kept =
-    (ms : Members) → variables_in given ≡ Some ms → variables_in kept ≡ Some (members_of names ms)
+    (ms : Members) → variables_in given ≡ Some ms
+    → variables_in kept ≡ Some (members_named names ms)
 
 -- how deep data nests, if it is there
 abbrev pub depth_of : Option Data → ℕ

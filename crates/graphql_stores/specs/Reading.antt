@@ -9,7 +9,7 @@ use Rattle.graphql_lexer.specs.Records.{IsRecorded, Recorded}
 use Rattle.graphql_tree.specs.Definitions.{fragments_listed}
 use Rattle.graphql_tree.specs.declared.document.Definition.{Definition}
 use Rattle.graphql_written_out.specs.Written.{Settled}
-use Rattle.graphql_executor.specs.Answered.{Asking, Reads, asking}
+use Rattle.graphql_executor.specs.Answered.{Asking, ReadsValid, asking}
 use Rattle.graphql_lines.specs.Request.{HoldsRequest, Request}
 use Rattle.graphql_lines.specs.declared.request.GraphQLRequest.{GraphQLRequest}
 use Rattle.graphql_service.specs.Answers.{Answerer, Asks}
@@ -37,7 +37,7 @@ module _ {S C N X : Type 0} (a : Answerer S C N X) where
         (document : List (Definition S)) : Type 0 where
       pub asks : AsksRequest request
       pub recorded : IsRecorded (chars (string_bytes request.query)) records
-      pub read : Reads a.scalars (asking_of request) document
+      pub read : ReadsValid a.scalars (asking_of request) document
 
     -- it asks a request that is accepted, the spreads of whose document end
     pub record AsksAccepted (accepted : AcceptedRequest S) : Type 0 where

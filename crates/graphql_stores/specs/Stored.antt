@@ -12,10 +12,10 @@ use Rattle.graphql_stores.specs.declared.asked.Asked.{Asked}
 use Rattle.graphql_stores.specs.declared.asked.Asked.TheVariants as asked
 
 -- the members of these names
-abbrev pub members_of : List Bytes → Members → Members
-members_of names no_members = no_members
-members_of names (member name d ms) =
-    if is_one_of names name then member name d (members_of names ms) else members_of names ms
+abbrev pub members_named : List Bytes → Members → Members
+members_named names no_members = no_members
+members_named names (member name d ms) =
+    if is_one_of names name then member name d (members_named names ms) else members_named names ms
 
 -- the request that asks another text, with the same operation name, and of the values for variables
 -- those of these names
@@ -23,7 +23,7 @@ abbrev pub with_query : Request → Bytes → List Bytes → Request
 with_query request text names = record {
   query = text;
   operation_name = request.operation_name;
-  variables = members_of names request.variables;
+  variables = members_named names request.variables;
 }
 
 -- by what a service answers, and by the greatest size of a plain text

@@ -15,17 +15,17 @@ abbrev pub plain_in : Data → Option Bytes
 plain_in d = option_and_then as_str (get (codes "plain") d)
 
 -- the plain text that a line tells; an empty line tells none
-abbrev pub told : Bytes → Option Bytes
-told [] = None
-told (b ∷ bs) = option_and_then plain_in (data_of (b ∷ bs))
+abbrev pub text_in_line : Bytes → Option Bytes
+text_in_line [] = None
+text_in_line (b ∷ bs) = option_and_then plain_in (data_of (b ∷ bs))
 
 abbrev pub tells : Bytes → Bytes → Bool
-tells plain line = option_map_or (bytes_eq plain) (told line) false
+tells plain line = option_map_or (bytes_eq plain) (text_in_line line) false
 
 -- a line that is empty, or tells a plain text
 abbrev pub IsFine : Bytes → Type 0
 IsFine [] = Unit {0}
-IsFine (b ∷ bs) = IsSome (told (b ∷ bs))
+IsFine (b ∷ bs) = IsSome (text_in_line (b ∷ bs))
 
 -- the line of this number, counted from one, is the first that is not fine
 pub record FirstFault (ls : List Bytes) (number : ℕ) : Type 0 where

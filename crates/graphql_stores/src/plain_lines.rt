@@ -98,7 +98,7 @@ fn used_of(value: Value, printed: &Printed<'_>) -> Option<Value>
 /// The object of the members whose variables a plain text uses; none where there is none.
 fn used_members(members: Members, printed: &Printed<'_>) -> Option<Value>
     ensures values { variables_in (option_map view result)
-        ≡ Some (spec.members_of printed.now.used.keys (members_view members.entries)) }
+        ≡ Some (spec.members_named printed.now.used.keys (members_view members.entries)) }
     ensures nests { depth_of (option_map view result)
         ≤ depth (object (members_view members.entries)) }
 {

@@ -4,11 +4,11 @@ use Rattle.std.proofs.lemmas.Bool.{cases_lt}
 use Rattle.std.proofs.lemmas.List.{take_all}
 use Rattle.std.proofs.Math.Seq.{take-nil}
 use Rattle.graphql_streams.specs.Lines.{EndsHere, EndsLater, kept_of, last_line, whole_lines}
-use Rattle.graphql_streams.specs.Runs.{Answered, Broken, Bytes, Run, RunPartly}
+use Rattle.graphql_streams.specs.Runs.{LineAnswered, Broken, Bytes, Run, RunPartly}
 use Rattle.graphql_streams.specs.Waiting.{Made, MadePartly}
 
 module _ {S : Type 0} (answers : S → Bytes → Bytes → S → Type 0) where
-  pub run_one : (s t : S) (line text : Bytes) → Answered answers s line text t → Run answers s (line ∷ []) text t
+  pub run_one : (s t : S) (line text : Bytes) → LineAnswered answers s line text t → Run answers s (line ∷ []) text t
   run_one s t line text h = (t, text, [], h, sym (append-nil text), (refl, refl))
 
   pub run_more : (s m t : S) (xs ys : List Bytes) (a b : Bytes) → Run answers s xs a m → Run answers m ys b t → Run answers s (xs ++ ys) (a ++ b) t
@@ -72,12 +72,12 @@ module _ {S : Type 0} (answers : S → Bytes → Bytes → S → Type 0) where
   -- a line that is too long is decided by its front
   module _ (n : ℕ) where
     pub answered-whole : (s t : S) (xs text : Bytes) → ((line text : Bytes) (t : S) → n < length line → answers s (kept_of n line) text t → answers s line text t)
-        → Answered answers s (kept_of n xs) text t → Answered answers s xs text t
-    answered-whole s t [] text long h = subst (λ l. Answered answers s l text t) (take-nil (n + 1)) h
+        → LineAnswered answers s (kept_of n xs) text t → LineAnswered answers s xs text t
+    answered-whole s t [] text long h = subst (λ l. LineAnswered answers s l text t) (take-nil (n + 1)) h
     answered-whole s t (x ∷ xs) text long h = ⊎_elim
         (λ l. (let front : take (n + 1) (x ∷ xs) ≡ x ∷ take n xs = rw (next n) refl in
-        long (x ∷ xs) text t l (subst (λ z. answers s z text t) (sym front) (subst (λ z. Answered answers s z text t) front h))))
-        (λ l. subst (λ z. Answered answers s z text t) (take_all (n + 1) (x ∷ xs) (omega (arith, l))) h)
+        long (x ∷ xs) text t l (subst (λ z. answers s z text t) (sym front) (subst (λ z. LineAnswered answers s z text t) front h))))
+        (λ l. subst (λ z. LineAnswered answers s z text t) (take_all (n + 1) (x ∷ xs) (omega (arith, l))) h)
         (cases_lt n (length (x ∷ xs)))
       where
         next : (k : ℕ) → k + 1 ≡ suc k

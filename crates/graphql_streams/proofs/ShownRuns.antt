@@ -1,8 +1,8 @@
 -- A run over states is one over what they show, where each step is.
 use Rattle.std.proofs.Common.{sym, ap, subst, inl, inr, List, [], ◌∷◌, Option, Result, Ok, Err}
 use Rattle.std.specs.Prelude.{IfErr, OnOk}
-use Rattle.graphql_streams.specs.Runs.{Answered, Broken, Bytes, Run, RunPartly}
-use Rattle.graphql_streams.specs.Served.{Ends, ServedAll, Serves, Stopped, Stops}
+use Rattle.graphql_streams.specs.Runs.{LineAnswered, Broken, Bytes, Run, RunPartly}
+use Rattle.graphql_streams.specs.Served.{Ends, ServedAll, ServesLines, Stopped, Stops}
 use Rattle.graphql_streams.specs.declared.serve_error.ServeError.{ServeError}
 use Rattle.graphql_streams.specs.declared.serve_error.ServeError.TheVariants.{Read, Write, Memory}
 
@@ -11,8 +11,8 @@ module _ {S X : Type 0} (shown : S → X) (Stays : S → Type 0)
     (answers : S → Bytes → Bytes → S → Type 0) (shown_answers : X → Bytes → Bytes → X → Type 0)
     (by_answer : (s : S) (line text : Bytes) (t : S) → Stays s → answers s line text t
     → shown_answers (shown s) line text (shown t) × Stays t) where
-  answered-shown : (s t : S) (line text : Bytes) → Stays s → Answered answers s line text t
-      → Answered shown_answers (shown s) line text (shown t) × Stays t
+  answered-shown : (s t : S) (line text : Bytes) → Stays s → LineAnswered answers s line text t
+      → LineAnswered shown_answers (shown s) line text (shown t) × Stays t
   answered-shown s t [] text stays (none, same) = ((none, ap shown same), subst Stays (sym same) stays)
   answered-shown s t (b ∷ bs) text stays h = by_answer s (b ∷ bs) text t stays h
 
@@ -24,8 +24,8 @@ module _ {S X : Type 0} (shown : S → X) (Stays : S → Type 0)
       let later = run-shown m t ls others now.1 rest in
       ((shown m, first, others, now.0, is, later.0), later.1)
 
-  serves-shown : (s t : S) (ls : List Bytes) (old new : Option Bytes) → Stays s → Serves answers s ls old new t
-      → Serves shown_answers (shown s) ls old new (shown t) × Stays t
+  serves-shown : (s t : S) (ls : List Bytes) (old new : Option Bytes) → Stays s → ServesLines answers s ls old new t
+      → ServesLines shown_answers (shown s) ls old new (shown t) × Stays t
   serves-shown s t ls old new stays h =
       let r = run-shown s t ls h.text stays h.run in
       (record { text = h.text; run = r.0; writes = h.writes }, r.1)

@@ -7,7 +7,7 @@ use Rattle.std.specs.Io.KnownBytes.{Appends, Consumes, IsAtEnd}
 use Rattle.graphql_streams.specs.Counts.{HasRisen, risen}
 use Rattle.graphql_streams.specs.Lines.{kept_of, last_line, lines, whole_lines}
 use Rattle.graphql_streams.specs.Runs.{Bytes}
-use Rattle.graphql_streams.specs.Served.{Ends, Sent, ServedAll, Serves, Stops}
+use Rattle.graphql_streams.specs.Served.{Ends, Sent, ServedAll, ServesLines, Stops}
 use Rattle.graphql_streams.specs.Waiting.{Made, MadePartly, WroteSome}
 use Rattle.graphql_streams.specs.declared.serve_error.ServeError.{ServeError}
 use Rattle.graphql_streams.specs.declared.serve_error.ServeError.TheVariants.{Read, Write, Memory}
@@ -87,7 +87,7 @@ last_more begun (b ∷ xs) ys =
     [ true ↦ last_more [] xs ys | false ↦ last_more (begun ++ b ∷ []) xs ys ]
 
 module _ {S : Type 0} (answers : S → Bytes → Bytes → S → Type 0) where
-  serves_more : (s m t : S) (xs ys : List Bytes) (o w n : Option Bytes) → Serves answers s xs o w m → Serves answers m ys w n t → Serves answers s (xs ++ ys) o n t
+  serves_more : (s m t : S) (xs ys : List Bytes) (o w n : Option Bytes) → ServesLines answers s xs o w m → ServesLines answers m ys w n t → ServesLines answers s (xs ++ ys) o n t
   serves_more s m t xs ys o w n a b = record {
     text = a.text ++ b.text;
     run = run_more answers s m t xs ys a.text b.text a.run b.run;
@@ -95,7 +95,7 @@ module _ {S : Type 0} (answers : S → Bytes → Bytes → S → Type 0) where
   }
 
   -- the answers that were made, where none waited, were written
-  pub made-serves : (s t : S) (xs : List Bytes) (waiting bytes : Bytes) (o n : Option Bytes) → waiting ≡ [] → Made answers s xs waiting bytes t → Appends o n bytes → Serves answers s xs o n t
+  pub made-serves : (s t : S) (xs : List Bytes) (waiting bytes : Bytes) (o n : Option Bytes) → waiting ≡ [] → Made answers s xs waiting bytes t → Appends o n bytes → ServesLines answers s xs o n t
   made-serves s t xs waiting bytes o n none m w = record {
     text = m.text;
     run = m.run;
@@ -106,7 +106,7 @@ module _ {S : Type 0} (answers : S → Bytes → Bytes → S → Type 0) where
   pub record Goes (limit : ℕ) (line : Bytes) (s : S) (left rest old new : Option Bytes) (t : S) : Type 0 where
     pub bytes : Bytes
     pub reads : Consumes left rest bytes
-    pub serves : Serves answers s (whole_lines [] bytes) old new t
+    pub serves : ServesLines answers s (whole_lines [] bytes) old new t
     pub kept : line ≡ kept_of limit (last_line [] bytes)
 
   pub goes-first : (limit : ℕ) (kept : Bytes) (s : S) (left old : Option Bytes) → kept ≡ kept_of limit [] → Goes limit kept s left left old old s
@@ -122,19 +122,19 @@ module _ {S : Type 0} (answers : S → Bytes → Bytes → S → Type 0) where
     begun = last_line [] g.bytes
 
     pub goes-more : (then piece : Bytes) (t : S) (rest n : Option Bytes) → Consumes mid rest piece
-        → ((begun : Bytes) → kept ≡ kept_of limit begun → Serves answers m (whole_lines begun piece) w n t)
+        → ((begun : Bytes) → kept ≡ kept_of limit begun → ServesLines answers m (whole_lines begun piece) w n t)
         → ((begun : Bytes) → kept ≡ kept_of limit begun → then ≡ kept_of limit (last_line begun piece))
         → Goes limit then s left rest o n t
     goes-more then piece t rest n r f h = record {
       bytes = g.bytes ++ piece;
       reads = consumes_more left mid rest g.bytes piece g.reads r;
-      serves = subst (λ ls. Serves answers s ls o n t) (sym (whole_more [] g.bytes piece)) (serves_more s m t (whole_lines [] g.bytes) (whole_lines begun piece) o w n g.serves (f begun g.kept));
+      serves = subst (λ ls. ServesLines answers s ls o n t) (sym (whole_more [] g.bytes piece)) (serves_more s m t (whole_lines [] g.bytes) (whole_lines begun piece) o w n g.serves (f begun g.kept));
       kept = h begun g.kept ∙ ap (kept_of limit) (sym (last_more [] g.bytes piece));
     }
 
     -- the end of the source
     goes-end : (t : S) (rest n : Option Bytes) → Consumes mid rest [] → IsAtEnd rest
-        → ((begun : Bytes) → kept ≡ kept_of limit begun → Serves answers m (begun ∷ []) w n t) → ServedAll answers s left rest o n t
+        → ((begun : Bytes) → kept ≡ kept_of limit begun → ServesLines answers m (begun ∷ []) w n t) → ServedAll answers s left rest o n t
     goes-end t rest n r end f = record {
       bytes = g.bytes;
       reads = consumes_none left mid rest g.bytes g.reads r;
@@ -143,13 +143,13 @@ module _ {S : Type 0} (answers : S → Bytes → Bytes → S → Type 0) where
     }
 
     pub goes-end_if : {A E : Type 0} (result : Result A E) (t : S) (rest n : Option Bytes) → Consumes mid rest [] → IsAtEnd rest
-        → ((begun : Bytes) → kept ≡ kept_of limit begun → OnOk result (Serves answers m (begun ∷ []) w n t))
+        → ((begun : Bytes) → kept ≡ kept_of limit begun → OnOk result (ServesLines answers m (begun ∷ []) w n t))
         → OnOk result (ServedAll answers s left rest o n t)
     goes-end_if (Ok x) t rest n r end f = goes-end t rest n r end f
     goes-end_if (Err e) t rest n r end f = tt
 
   module _ (breaks : S → Bytes → S → Type 0) (failed : Type 0) where
-    stops_more : (e : ServeError) (s m t : S) (xs ys : List Bytes) (o w n : Option Bytes) → Serves answers s xs o w m → Stops answers breaks failed e m ys w n t → Stops answers breaks failed e s (xs ++ ys) o n t
+    stops_more : (e : ServeError) (s m t : S) (xs ys : List Bytes) (o w n : Option Bytes) → ServesLines answers s xs o w m → Stops answers breaks failed e m ys w n t → Stops answers breaks failed e s (xs ++ ys) o n t
     stops_more Read s m t xs ys o w n a b = absurd b
     stops_more Write s m t xs ys o w n a b = record {
       done = xs ++ b.done;
@@ -198,7 +198,7 @@ module _ {S : Type 0} (answers : S → Bytes → Bytes → S → Type 0) where
       stops-if made (Err e) f h w = made-stops made e f h w
 
       pub serves-if : (made : Result (Unit {0}) AllocError) (r : Result (Unit {0}) ServeError) → OnOk made (Made answers s xs waiting bytes t) → OnOk r ((made ≡ Ok tt) × Appends o n bytes)
-          → OnOk r (Serves answers s xs o n t)
+          → OnOk r (ServesLines answers s xs o n t)
       serves-if (Ok y) (Ok x) f w = made-serves s t xs waiting bytes o n none f w.1
       serves-if (Err y) (Ok x) f w = absurd (let p : Err y ≡ Ok tt = w.0 in cc)
       serves-if made (Err e) f w = tt

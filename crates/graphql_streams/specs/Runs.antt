@@ -8,16 +8,16 @@ Bytes = List ℕ
 module _ {S : Type 0} (answers : S → Bytes → Bytes → S → Type 0) where
   -- what a line is given, and the state that it leaves: an empty one gets nothing and changes
   -- nothing
-  abbrev pub Answered : S → Bytes → Bytes → S → Type 0
-  Answered s [] text t = (text ≡ []) × (t ≡ s)
-  Answered s (b ∷ bs) text t = answers s (b ∷ bs) text t
+  abbrev pub LineAnswered : S → Bytes → Bytes → S → Type 0
+  LineAnswered s [] text t = (text ≡ []) × (t ≡ s)
+  LineAnswered s (b ∷ bs) text t = answers s (b ∷ bs) text t
 
   -- what lines are given together, each in the state that those before it left
   abbrev pub Run : S → List Bytes → Bytes → S → Type 0
   Run s [] text t = (text ≡ []) × (t ≡ s)
   Run s (line ∷ ls) text t =
       (m : S) × (first : Bytes) × (others : Bytes)
-      × Answered s line first m × (text ≡ first ++ others) × Run m ls others t
+      × LineAnswered s line first m × (text ≡ first ++ others) × Run m ls others t
 
   -- `breaks`: from this state, want of memory at this line leaves that state
   module _ (breaks : S → Bytes → S → Type 0) where

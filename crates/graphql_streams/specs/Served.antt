@@ -37,7 +37,7 @@ pub record Sent (old new : Option Bytes) (bytes rest : Bytes) : Type 0 where
 -- a source has `left` before and `rest` after, a sink `old` and `new`, where they are known
 module _ {S : Type 0} (answers : S → Bytes → Bytes → S → Type 0) where
   -- these lines were answered, and their answers written
-  pub record Serves (s : S) (ls : List Bytes) (old new : Option Bytes) (t : S) : Type 0 where
+  pub record ServesLines (s : S) (ls : List Bytes) (old new : Option Bytes) (t : S) : Type 0 where
     pub text : Bytes
     pub run : Run answers s ls text t
     pub writes : Appends old new text
@@ -47,13 +47,13 @@ module _ {S : Type 0} (answers : S → Bytes → Bytes → S → Type 0) where
     pub bytes : Bytes
     pub reads : Consumes left rest bytes
     pub ended : IsAtEnd rest
-    pub serves : Serves s (lines bytes) old new t
+    pub serves : ServesLines s (lines bytes) old new t
 
   -- a read failed: each whole line of what was read was answered, and the answers written
   pub record ServedWhole (s : S) (left rest old new : Option Bytes) (t : S) : Type 0 where
     pub bytes : Bytes
     pub reads : Consumes left rest bytes
-    pub serves : Serves s (whole_lines [] bytes) old new t
+    pub serves : ServesLines s (whole_lines [] bytes) old new t
 
   -- a write failed: a front of the lines was answered, and a beginning of their answers is written
   pub record StopsAtWrite (s : S) (ls : List Bytes) (old new : Option Bytes) (t : S) : Type 0 where

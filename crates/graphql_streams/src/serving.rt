@@ -3,7 +3,7 @@
 ghost use Rattle.std.specs.Prelude.{◌≡◌, ◌<◌, ◌∷◌, [], ℕ, List, IfErr, OnOk, length};
 ghost use Rattle.graphql_streams.specs.Counts.{HasRisen};
 ghost use Rattle.graphql_streams.specs.Lines.{kept_of, last_line, whole_lines};
-ghost use Rattle.graphql_streams.specs.Served.{Ends, ServedAll, Serves, Stops, WritesAfter};
+ghost use Rattle.graphql_streams.specs.Served.{Ends, ServedAll, ServesLines, Stops, WritesAfter};
 ghost use Rattle.graphql_streams.specs.Served.{reads_after};
 
 use crate::line_engine::LineEngine;
@@ -29,7 +29,7 @@ fn answer_block<E: LineEngine, O: ByteSink>(
     requires holds { E.holds engine.old }
     requires none { buffers.old.answers.items ≡ [] }
     ensures ok { (begun : List ℕ) → buffers.old.line.items ≡ kept_of limit begun
-        → OnOk result (Serves E.answers engine.old (whole_lines begun block.now)
+        → OnOk result (ServesLines E.answers engine.old (whole_lines begun block.now)
         (O.written writer.old) (O.written writer.new) engine.new) }
     ensures kept { (begun : List ℕ) → buffers.old.line.items ≡ kept_of limit begun
         → OnOk result (buffers.new.line.items ≡ kept_of limit (last_line begun block.now)) }
@@ -58,7 +58,7 @@ fn answer_rest<E: LineEngine, O: ByteSink>(
     requires holds { E.holds engine.old }
     requires none { buffers.old.answers.items ≡ [] }
     ensures ok { (begun : List ℕ) → buffers.old.line.items ≡ kept_of limit begun
-        → OnOk result (Serves E.answers engine.old (begun ∷ [])
+        → OnOk result (ServesLines E.answers engine.old (begun ∷ [])
         (O.written writer.old) (O.written writer.new) engine.new) }
     ensures err { (begun : List ℕ) → buffers.old.line.items ≡ kept_of limit begun
         → IfErr result (λ e. Stops E.answers E.breaks

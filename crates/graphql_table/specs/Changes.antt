@@ -8,7 +8,7 @@ use Rattle.graphql_field_results.specs.declared.resolved.Resolved.TheVariants as
 use Rattle.graphql_mutation.specs.Mutations.{Changes}
 use Rattle.graphql_records.specs.Answers.{known_field}
 use Rattle.graphql_records.specs.Asked.{Asked}
-use Rattle.graphql_records.specs.Fields.{Answer}
+use Rattle.graphql_records.specs.Fields.{TableAnswer}
 use Rattle.graphql_records.specs.Settings.{Fault, root_answer, table_after}
 use Rattle.graphql_records.specs.Tables.{Table}
 use Rattle.graphql_records.specs.declared.table_node.TableNode.{TableNode}
@@ -22,7 +22,7 @@ module _ (types : List TableType) (mutation : Option Bytes) where
       (λ object. option_map (λ f. f.of_type) (known_field types object field)) mutation
 
   -- null for a field that the root lacks
-  abbrev pub changed_answer : Table → Bytes → Asked → Result Answer Fault
+  abbrev pub changed_answer : Table → Bytes → Asked → Result TableAnswer Fault
   changed_answer table field given =
       option_map_or (λ of_type. root_answer types table of_type given) (root_type field)
       (Ok resolved.Null)

@@ -5,7 +5,7 @@ use Rattle.graphql_text.specs.declared.token.Token.{Token}
 use Rattle.graphql_text.specs.declared.token.Token.TheVariants.{Name, EndOfFile}
 use Rattle.graphql_grammar.specs.Input.{At, Fault, peek}
 use Rattle.graphql_grammar.proofs.Leaves.{behind_next}
-use Rattle.graphql_language.specs.Leaves.{Leaves, ListsLeaveRest}
+use Rattle.graphql_language.specs.Leaves.{LeavesBehind, ListsLeaveRest}
 use Rattle.graphql_language.specs.Lists.{Function, Item, AnyItems, Delimited}
 use Rattle.graphql_language.specs.Parser.{State, Calls, NextName}
 use Rattle.graphql_language.specs.SpelledLists.{InFront, ListOf, ListsAreSpelled}
@@ -25,7 +25,7 @@ name_in_front s t name calls =
       after = read.after;
     }
 
-name_leaves : (s t : State) (r : Result (At (List ℕ)) Fault) → s.refused ≡ None → Calls NextName s r t → Leaves s.input r t
+name_leaves : (s t : State) (r : Result (At (List ℕ)) Fault) → s.refused ≡ None → Calls NextName s r t → LeavesBehind s.input r t
 name_leaves s t (Ok name) fresh calls = (behind_next (answered NextName s t name calls).2, (fresh_call NextName s t (Ok name) fresh calls).1)
 name_leaves s t (Err e) fresh calls = stopped NextName s t e (λ f told. told.2) fresh calls
 
@@ -43,5 +43,5 @@ module _ {F : Type 0} (function : Function F (At (List ℕ))) (f : F) where
 
     pub names_leave :
         ListsLeaveRest function → s.refused ≡ None
-        → (r : Result (At (List (At (List ℕ)))) Fault) → Delimited opening (AnyItems closing (Item function f)) s r t → Leaves s.input r t
+        → (r : Result (At (List (At (List ℕ)))) Fault) → Delimited opening (AnyItems closing (Item function f)) s r t → LeavesBehind s.input r t
     names_leave law fresh r list = law opening closing f (λ p q answer unfailed met. name_leaves p.now q.now answer unfailed (reads p q answer met)) s t r fresh list

@@ -18,7 +18,7 @@ use Rattle.graphql_visitors.specs.Rules.{told_at}
 use Rattle.graphql_visitors.specs.Runs.{Did, Runs, joined}
 use Rattle.graphql_visitors.specs.Subjects.{Subject, seen_in, subject_of}
 use Rattle.graphql_visitors.specs.declared.context.ValidatorContext.{ValidatorContext}
-use Rattle.graphql_validation.specs.Apart.{keeps_apart, asked_at, asked_places}
+use Rattle.graphql_validation.specs.Apart.{keeps_apart, told_if_asked, asked_places}
 use Rattle.graphql_validation.specs.declared.introspection.Introspection.{Introspection}
 
 module _ {S C : Type 0} where
@@ -26,7 +26,7 @@ module _ {S C : Type 0} where
   pub not_asked : (e : Event S) (v : Introspection) (c : ValidatorContext S C) → v.is_asked ≡ false → Did keeps_apart e v v c c
   not_asked e v c is = record {
     as_before = refl;
-    reported = λ m. ([], (refl, refl, sym (ap (λ b. places v.errors ++ asked_at b (subject_of c) (seen_in c e)) is ∙ append-nil (places v.errors))), reported_none c m);
+    reported = λ m. ([], (refl, refl, sym (ap (λ b. places v.errors ++ told_if_asked b (subject_of c) (seen_in c e)) is ∙ append-nil (places v.errors))), reported_none c m);
   }
 
   -- where it is, its errors stand in the context for as long as it tells more
@@ -50,7 +50,7 @@ module _ {S C : Type 0} where
               refl,
               same,
               ap places own ∙ r.errors.at ∙ ap {A = ValidatorContext S C} (λ x. places x.errors ++ told_at disable_introspection_faults (subject_of x) (seen_in x e)) out
-                  ∙ ap (λ q. places v.errors ++ asked_at q (subject_of a) (seen_in a e)) (sym is_asked),
+                  ∙ ap (λ q. places v.errors ++ told_if_asked q (subject_of a) (seen_in a e)) (sym is_asked),
             ),
             record {
               memory = sym (ap {A = ValidatorContext S C} (λ x. x.failed) out) ∙ r.memory;
@@ -63,7 +63,7 @@ module _ {S C : Type 0} where
     asked_over : Bool → List (Seen S C) → Places
     asked_over q es = cond q (flat_map (disable_introspection_faults subject) (flat_map parts_of es)) []
 
-    asked_more : (q : Bool) (e : Seen S C) (es : List (Seen S C)) → asked_at q subject e ++ asked_over q es ≡ asked_over q (e ∷ es)
+    asked_more : (q : Bool) (e : Seen S C) (es : List (Seen S C)) → told_if_asked q subject e ++ asked_over q es ≡ asked_over q (e ∷ es)
     unfolding asked_over
     asked_more true e es = sym (flat_map-append (disable_introspection_faults subject) (parts_of e) (flat_map parts_of es))
     asked_more false e es = refl
@@ -89,7 +89,7 @@ module _ {S C : Type 0} where
         apart_kept u w es ts h.2
         ∙ ap (λ q. places u.errors ++ asked_over q es) (h.1).1
         ∙ ap (λ z. z ++ asked_over v.is_asked es) (h.1).2
-        ∙ append_assoc (places v.errors) (asked_at v.is_asked subject e) (asked_over v.is_asked es)
+        ∙ append_assoc (places v.errors) (told_if_asked v.is_asked subject e) (asked_over v.is_asked es)
         ∙ ap (λ z. places v.errors ++ z) (asked_more v.is_asked e es)
 
     over_document : (q : Bool) → asked_over q (events subject.schema subject.document) ≡ asked_places q subject

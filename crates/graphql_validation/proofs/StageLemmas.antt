@@ -10,8 +10,8 @@ use Rattle.graphql_occurrences.specs.Events.{events}
 use Rattle.graphql_occurrences.specs.Nodes.{Seen}
 use Rattle.graphql_rule_errors.specs.Places.{Places, places}
 use Rattle.graphql_visitors.proofs.RuleLemmas.{runs_both, runs_local, runs_locally, runs_silent}
-use Rattle.graphql_visitors.specs.Rules.{Relation, Rule, Tell, both, local, locally, silent}
-use Rattle.graphql_visitors.specs.Runs.{Step, Runs, joined}
+use Rattle.graphql_visitors.specs.Rules.{Relation, Rule, Tell, both_steps, local, locally, silent}
+use Rattle.graphql_visitors.specs.Runs.{VisitorStep, Runs, joined}
 use Rattle.graphql_visitors.specs.Subjects.{Subject}
 use Rattle.graphql_visitors.specs.declared.multi.MultiVisitorCons.{MultiVisitorCons}
 use Rattle.graphql_visitors.specs.declared.multi.MultiVisitorNil.{MultiVisitorNil}
@@ -43,16 +43,16 @@ module _ {S C : Type 0} (subject : Subject S C) where
   document_events = events subject.schema subject.document
 
   -- over the document, a visitor that is made so tells these places, in some order
-  record Tells {V : Type 0} (step : Step V S C) (Made : V → Type 0) (told : Places) : Type 0 where
+  record Tells {V : Type 0} (step : VisitorStep V S C) (Made : V → Type 0) (told : Places) : Type 0 where
     all : (v w : V) (ts : List Places) → Made v → Runs step subject v document_events w ts → IsPermutation told (joined ts)
 
   tells_none : Tells silent (λ v. Unit {0}) []
   tells_none = record { all = λ v w ts made runs. subst (IsPermutation []) (sym (runs_silent subject v w document_events ts runs)) (IsPermutation-refl []) }
 
   -- one visitor's places, and those of others
-  module _ {A B : Type 0} (one : Step A S C) (others : Step B S C) (Made : A → Type 0) (MadeSo : B → Type 0) (here told : Places) where
+  module _ {A B : Type 0} (one : VisitorStep A S C) (others : VisitorStep B S C) (Made : A → Type 0) (MadeSo : B → Type 0) (here told : Places) where
     tells_before : ((v w : A) (ts : List Places) → Made v → Runs one subject v document_events w ts → joined ts ≡ here) → Tells others MadeSo told
-        → Tells (both one others) (λ v. Made v.first × MadeSo v.second) (here ++ told)
+        → Tells (both_steps one others) (λ v. Made v.first × MadeSo v.second) (here ++ told)
     tells_before first rest = record {
       all = λ v w ts made runs.
           let split = runs_both one others subject v w document_events ts runs in
@@ -62,7 +62,7 @@ module _ {S C : Type 0} (subject : Subject S C) where
     }
 
   -- a rule before other visitors
-  tells_rule : {A B : Type 0} (rule : Rule S C) (others : Step B S C) (Made : B → Type 0) (told : Places) → Tells others Made told → Tells (both (local {V = A} rule) others) (λ v. Unit {0} × Made v.second) (places_of subject rule ++ told)
+  tells_rule : {A B : Type 0} (rule : Rule S C) (others : VisitorStep B S C) (Made : B → Type 0) (told : Places) → Tells others Made told → Tells (both_steps (local {V = A} rule) others) (λ v. Unit {0} × Made v.second) (places_of subject rule ++ told)
   tells_rule rule others Made told rest =
       tells_before (local rule) others (λ v. Unit {0}) Made (places_of subject rule) told (λ v w ts made runs. runs_local rule subject v w document_events ts runs ∙ ap (flat_map (rule subject)) (events_told subject.schema subject.document)) rest
 
@@ -71,12 +71,12 @@ module _ {S C : Type 0} (subject : Subject S C) where
   IsMadeFor v = declarations_of v.overlaps.schema.now ≡ subject.schema
 
   -- the rule that keeps its answers before other visitors
-  tells_spreads : {B : Type 0} (others : Step B S C) (Made : B → Type 0) (told : Places) → Tells others Made told → Tells (both by_names others) (λ v. IsMadeFor v.first × Made v.second) (places_of subject possible_fragment_spreads_faults ++ told)
+  tells_spreads : {B : Type 0} (others : VisitorStep B S C) (Made : B → Type 0) (told : Places) → Tells others Made told → Tells (both_steps by_names others) (λ v. IsMadeFor v.first × Made v.second) (places_of subject possible_fragment_spreads_faults ++ told)
   tells_spreads others Made told rest = tells_before by_names others IsMadeFor Made (places_of subject possible_fragment_spreads_faults) told (spreads_told subject) rest
 
-  module _ {A B : Type 0} (Says : Relation S C) (others : Step B S C) where
+  module _ {A B : Type 0} (Says : Relation S C) (others : VisitorStep B S C) where
     -- a rule that asks checks before other visitors
-    asks_before : (v w : MultiVisitorCons A B) (ts : List Places) → Runs (both (locally {V = A} Says) others) subject v document_events w ts →
+    asks_before : (v w : MultiVisitorCons A B) (ts : List Places) → Runs (both_steps (locally {V = A} Says) others) subject v document_events w ts →
         (first : Places) × (rest : List Places) × Tell (Says subject) (parts subject) first × Runs others subject v.second document_events w.second rest × IsPermutation (first ++ joined rest) (joined ts)
     asks_before v w ts runs =
         let split = runs_both (locally Says) others subject v w document_events ts runs in (
@@ -94,11 +94,11 @@ module _ {S C : Type 0} (subject : Subject S C) where
         MultiVisitorCons A1 (MultiVisitorCons A2 (MultiVisitorCons A3 (MultiVisitorCons A4 (MultiVisitorCons A5 (MultiVisitorCons A6
         (MultiVisitorCons (PossibleFragmentSpreads S C) (MultiVisitorCons A8 (MultiVisitorCons A9 (MultiVisitorCons A10 (MultiVisitorCons A11 (MultiVisitorCons A12 MultiVisitorNil)))))))))))
 
-    abbrev local_step : Step LocalVisitors S C
+    abbrev local_step : VisitorStep LocalVisitors S C
     local_step =
-        both (local {V = A1} fields_on_correct_type_faults) (both (local {V = A2} scalar_leafs_faults) (both (local {V = A3} fragments_on_composite_types_faults) (both (local {V = A4} known_type_names_faults) (both (local {V = A5} variables_are_input_types_faults)
-        (both (local {V = A6} known_fragment_names_faults) (both by_names (both (local {V = A8} known_directives_faults) (both (local {V = A9} known_argument_names_faults)
-        (both (local {V = A10} provided_non_null_arguments_faults) (both (local {V = A11} unique_argument_names_faults) (both (local {V = A12} unique_input_field_names_faults) silent)))))))))))
+        both_steps (local {V = A1} fields_on_correct_type_faults) (both_steps (local {V = A2} scalar_leafs_faults) (both_steps (local {V = A3} fragments_on_composite_types_faults) (both_steps (local {V = A4} known_type_names_faults) (both_steps (local {V = A5} variables_are_input_types_faults)
+        (both_steps (local {V = A6} known_fragment_names_faults) (both_steps by_names (both_steps (local {V = A8} known_directives_faults) (both_steps (local {V = A9} known_argument_names_faults)
+        (both_steps (local {V = A10} provided_non_null_arguments_faults) (both_steps (local {V = A11} unique_argument_names_faults) (both_steps (local {V = A12} unique_input_field_names_faults) silent)))))))))))
 
     -- that of the rule that keeps its answers
     abbrev pub spreads_among : LocalVisitors → PossibleFragmentSpreads S C
@@ -112,12 +112,12 @@ module _ {S C : Type 0} (subject : Subject S C) where
         (tt, (tt, (tt, (tt, (tt, (tt, (made, (tt, (tt, (tt, (tt, (tt, tt)))))))))))) runs
 
     module _ (A B : Type 0) (answer : S → ScalarAnswer) (accepts : C → InputValue S → Type 0) where
-      abbrev first_step : Step (MultiVisitorCons A (MultiVisitorCons B LocalVisitors)) S C
-      first_step = both (locally {V = A} (arguments_of_correct_type_faults answer accepts)) (both (locally {V = B} (default_values_of_correct_type_faults answer accepts)) local_step)
+      abbrev first_step : VisitorStep (MultiVisitorCons A (MultiVisitorCons B LocalVisitors)) S C
+      first_step = both_steps (locally {V = A} (arguments_of_correct_type_faults answer accepts)) (both_steps (locally {V = B} (default_values_of_correct_type_faults answer accepts)) local_step)
 
       pub parts_told : (v w : MultiVisitorCons A (MultiVisitorCons B LocalVisitors)) (ts : List Places) → IsMadeFor (spreads_among v.second.second) → Runs first_step subject v document_events w ts → PartsTold answer accepts subject (joined ts)
       parts_told v w ts made runs =
-          let one = asks_before (arguments_of_correct_type_faults answer accepts) (both (locally {V = B} (default_values_of_correct_type_faults answer accepts)) local_step) v w ts runs in
+          let one = asks_before (arguments_of_correct_type_faults answer accepts) (both_steps (locally {V = B} (default_values_of_correct_type_faults answer accepts)) local_step) v w ts runs in
           let two = asks_before (default_values_of_correct_type_faults answer accepts) local_step v.second w.second one.1 one.3 in
           record {
             arguments = one.0;
@@ -134,7 +134,7 @@ module _ {S C : Type 0} (subject : Subject S C) where
 
       -- the same, where the rule against introspection keeps its errors apart before them
       pub parts_told_beside : (v w : MultiVisitorCons Introspection (MultiVisitorCons A (MultiVisitorCons B LocalVisitors))) (ts : List Places) → IsMadeFor (spreads_among v.second.second.second)
-          → Runs (both keeps_apart first_step) subject v document_events w ts → PartsTold answer accepts subject (joined ts)
+          → Runs (both_steps keeps_apart first_step) subject v document_events w ts → PartsTold answer accepts subject (joined ts)
       parts_told_beside v w ts made runs =
           let split = runs_both keeps_apart first_step subject v w document_events ts runs in
           let told = parts_told v.second w.second split.1 made split.3 in
@@ -149,7 +149,7 @@ module _ {S C : Type 0} (subject : Subject S C) where
 
       -- and what that rule keeps is what it tells of the document
       pub kept_beside : (q : Bool) (v w : MultiVisitorCons Introspection (MultiVisitorCons A (MultiVisitorCons B LocalVisitors))) (ts : List Places) → v.first ≡ record { is_asked = q; errors = [] }
-          → Runs (both keeps_apart first_step) subject v document_events w ts → places w.first.errors ≡ asked_places q subject
+          → Runs (both_steps keeps_apart first_step) subject v document_events w ts → places w.first.errors ≡ asked_places q subject
       kept_beside q v w ts made runs =
           let split = runs_both keeps_apart first_step subject v w document_events ts runs in
           kept_of_document subject q v.first w.first split.0 made split.2

@@ -5,11 +5,11 @@ use Rattle.std.proofs.lemmas.Bool.{false≢true}
 use Rattle.graphql_occurrences.specs.Nodes.{Seen}
 use Rattle.graphql_rule_errors.specs.Places.{Places}
 use Rattle.graphql_visitors.specs.Reports.{ReportsBy}
-use Rattle.graphql_visitors.specs.Runs.{Step, Runs, Visited, joined}
+use Rattle.graphql_visitors.specs.Runs.{VisitorStep, Runs, Visited, joined}
 use Rattle.graphql_visitors.specs.Subjects.{subject_of}
 use Rattle.graphql_visitors.specs.declared.context.ValidatorContext.{ValidatorContext}
 
-module _ {V S C : Type 0} (step : Step V S C) where
+module _ {V S C : Type 0} (step : VisitorStep V S C) where
   -- a visit, after which the context stands where it stood, is a report of what the visitor tells
   pub reports_visited : (P : Places → Type 0) (es : List (Seen S C)) (v w : V) (c d : ValidatorContext S C) → Visited step es v w c d → d.around ≡ c.around
       → ((ts : List Places) → Runs step (subject_of c) v es w ts → P (joined ts)) → ReportsBy P c d

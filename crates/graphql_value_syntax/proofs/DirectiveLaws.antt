@@ -15,7 +15,7 @@ use Rattle.graphql_grammar.proofs.Law.{Law, law_bind, law_made, law_wider}
 use Rattle.graphql_grammar.proofs.Choices.{law_expect, law_optional, law_located}
 use Rattle.graphql_grammar.proofs.Loops.{Takes, law_some_between, law_all}
 use Rattle.graphql_grammar.proofs.Recursion.{uses_law}
-use Rattle.graphql_value_syntax.specs.ReadValues.{named, value}
+use Rattle.graphql_value_syntax.specs.ReadValues.{name_and, value}
 use Rattle.graphql_value_syntax.specs.ReadDirectives.{some_of, arguments, directive, directives, variable_definition, variable_definitions}
 use Rattle.graphql_value_syntax.specs.Directives.{ArgumentsOf, DirectiveOf, DirectivesOf, VariableDefinitionOf, VariableDefinitionsOf, ArgumentOf, DefaultOf}
 use Rattle.graphql_value_syntax.proofs.ValueLaws.{law_name, law_placed_name, law_named, law_value, takes_named, named_at_end}
@@ -39,7 +39,7 @@ module _ {S : Type 0} (reads : ScalarToken → Result S ParseError) (of_bool : B
   pub law_arguments : (c : Bool) (n : ℕ) → Law Bad Good true (only k.ParenOpen) no_kind (ArgumentsOf S reads of_bool c) n (arguments reads of_bool c)
   unfolding arguments
   law_arguments c n = law_located Bad Good refl refl (law_made Bad Good (λ ps. record { items = ps })
-      (law_some_between k.ParenClose (named (value reads of_bool c)) refl (takes_named reads of_bool c) (named_at_end reads of_bool c) Bad Good names no_kind (ArgumentOf S reads of_bool c) refl refl
+      (law_some_between k.ParenClose (name_and (value reads of_bool c)) refl (takes_named reads of_bool c) (named_at_end reads of_bool c) Bad Good names no_kind (ArgumentOf S reads of_bool c) refl refl
       k.ParenOpen refl refl refl refl n (law_named reads of_bool c (n - 1) (law_value reads of_bool c (n - 1)))))
 
   pub law_directive : (c : Bool) (n : ℕ) → Law Bad Good true (only k.At) (only k.ParenOpen) (DirectiveOf S reads of_bool c) n (directive reads of_bool c)

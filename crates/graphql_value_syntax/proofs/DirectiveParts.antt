@@ -11,7 +11,7 @@ use Rattle.graphql_grammar.specs.Kinds.{only}
 use Rattle.graphql_grammar.specs.Input.{At, Input, Fault, Parser, ◌>>=◌, pure, peek}
 use Rattle.graphql_grammar.specs.Steps.{all, some_between}
 use Rattle.graphql_grammar.proofs.Parts.{then_read, then_refused, located_read, located_refused}
-use Rattle.graphql_value_syntax.specs.ReadValues.{named, value}
+use Rattle.graphql_value_syntax.specs.ReadValues.{name_and, value}
 use Rattle.graphql_value_syntax.specs.ReadDirectives.{some_of, arguments, directive, directives}
 
 some_of_found : {A : Type 0} (xs : List A) → xs ≢ [] → some_of xs ≡ Some xs
@@ -23,7 +23,7 @@ module _ {S : Type 0} (reads : ScalarToken → Result S ParseError) (of_bool : B
   Pairs = List (At (List ℕ) × At (InputValue S))
 
   abbrev pub pairs : Parser Pairs
-  pairs = some_between k.ParenOpen k.ParenClose (named (value reads of_bool is_const))
+  pairs = some_between k.ParenOpen k.ParenClose (name_and (value reads of_bool is_const))
 
   abbrev of_pairs : Pairs → Parser (Arguments S)
   of_pairs ps = pure (record { items = ps })

@@ -14,8 +14,8 @@ use Rattle.graphql_grammar.specs.Kinds.{only, names}
 use Rattle.graphql_grammar.specs.Input.{At, Parser}
 use Rattle.graphql_grammar.specs.Steps.{name, name_of, expect, located}
 use Rattle.graphql_grammar.proofs.Alike.{Even, even_weaker, even_pure, even_refuse, even_bind, even_made, even_located, even_when, even_token, even_optional, even_scalar, even_all, even_between, even_some_between, even_levels}
-use Rattle.graphql_value_syntax.specs.ReadValues.{named, word_of, word_or_scalar, variable_or, bare, value_from, value}
-use Rattle.graphql_value_syntax.specs.ReadTypes.{TypeRef, plain, wrapped, list_of, nullable, bare_type, type_from, type_ref}
+use Rattle.graphql_value_syntax.specs.ReadValues.{name_and, word_of, word_or_scalar, variable_or, value_level, value_from, value}
+use Rattle.graphql_value_syntax.specs.ReadTypes.{TypeRef, plain, with_wrap, list_type, nullable_type, bare_type, type_from, type_ref}
 use Rattle.graphql_value_syntax.specs.ReadDirectives.{some_of, arguments, directive, directives, variable_definition, variable_definitions}
 use Rattle.graphql_tree.specs.Unlocated.{without_place, unlocated_name, unlocated_argument, unlocated_arguments, unlocated_directive, unlocated_directives, unlocated_variable, unlocated_variables}
 
@@ -34,7 +34,7 @@ even_name = even_placed {see = λ n. n} (even_token names name_of)
 abbrev with_name : {A B : Type 0} → (A → B) → At (List ℕ) × A → At (List ℕ) × B
 with_name see x = (unlocated_name x.0, see x.1)
 
-even_named : {A B : Type 0} {see : A → B} {p q : Parser A} → Even see p q → Even (with_name see) (named p) (named q)
+even_named : {A B : Type 0} {see : A → B} {p q : Parser A} → Even see p q → Even (with_name see) (name_and p) (name_and q)
 even_named one = even_bind even_name (λ n o h. even_bind (even_expect k.Colon) (λ u w e. even_made (λ x. (n, x)) (λ x. (o, x)) (λ x y l. ap₂ (λ a b. (a, b)) h l) one))
 
 -- ---- values
@@ -48,8 +48,8 @@ module _ {S : Type 0} (reads : ScalarToken → Result S ParseError) (of_bool : B
   even_variable false = even_when (only k.Dollar)
       (even_bind (even_expect k.Dollar) (λ u w e. even_made v.Variable v.Variable (λ x y h. ap (λ n. unlocated (v.Variable n)) h) (even_token {see = λ n. n} names name_of))) even_word
 
-  even_bare : (is_const : Bool) (p : Parser (At (InputValue S))) → Even (without_place unlocated) p p → Even unlocated (bare reads of_bool is_const p) (bare reads of_bool is_const p)
-  unfolding bare
+  even_bare : (is_const : Bool) (p : Parser (At (InputValue S))) → Even (without_place unlocated) p p → Even unlocated (value_level reads of_bool is_const p) (value_level reads of_bool is_const p)
+  unfolding value_level
   even_bare is_const p one =
       even_when (only k.BracketOpen) (even_made v.List v.List (λ xs ys h. unlocated_list xs ∙ ap v.List h ∙ sym (unlocated_list ys)) (even_between one k.BracketClose k.BracketOpen))
       (even_when (only k.CurlyOpen) (even_made v.Object v.Object (λ ps qs h. unlocated_object ps ∙ ap v.Object h ∙ sym (unlocated_object qs)) (even_between (even_named one) k.CurlyClose k.CurlyOpen))
@@ -70,15 +70,15 @@ module _ {S : Type 0} (reads : ScalarToken → Result S ParseError) (of_bool : B
 abbrev as_it_is : TypeRef → TypeRef
 as_it_is t = t
 
-even_nullable : (p : Parser (At TypeRef)) → Even (without_place as_it_is) p p → Even as_it_is (nullable p) (nullable p)
+even_nullable : (p : Parser (At TypeRef)) → Even (without_place as_it_is) p p → Even as_it_is (nullable_type p) (nullable_type p)
 even_nullable p one = even_when (only k.BracketOpen)
-    (even_bind (even_expect k.BracketOpen) (λ u w e. even_bind one (λ t o h. even_made (λ w. list_of t) (λ w. list_of o) (λ x y l. ap (λ (z : At TypeRef). list_of z) h) (even_expect k.BracketClose))))
+    (even_bind (even_expect k.BracketOpen) (λ u w e. even_bind one (λ t o h. even_made (λ w. list_type t) (λ w. list_type o) (λ x y l. ap (λ (z : At TypeRef). list_type z) h) (even_expect k.BracketClose))))
     (even_made plain plain (λ x y h. ap plain h) (even_token {see = λ n. n} names name_of))
 
 even_bare_type : (p : Parser (At TypeRef)) → Even (without_place as_it_is) p p → Even as_it_is (bare_type p) (bare_type p)
 unfolding bare_type
 even_bare_type p one = even_bind (even_nullable p one) (λ t o h. even_when (only k.ExclamationMark)
-    (even_made (λ u. wrapped m.NonNull t) (λ u. wrapped m.NonNull o) (λ x y l. ap (wrapped m.NonNull) h) (even_expect k.ExclamationMark)) (even_pure h))
+    (even_made (λ u. with_wrap m.NonNull t) (λ u. with_wrap m.NonNull o) (λ x y l. ap (with_wrap m.NonNull) h) (even_expect k.ExclamationMark)) (even_pure h))
 
 even_type_from : (n : ℕ) → Even (without_place as_it_is) (type_from n) (type_from n)
 unfolding type_from

@@ -9,15 +9,15 @@ use Rattle.graphql_grammar.specs.Input.{At, Parser}
 use Rattle.graphql_grammar.specs.Steps.{name, name_of, located}
 use Rattle.graphql_grammar.specs.Faults.{Reading}
 use Rattle.graphql_grammar.proofs.Readings.{Twins, twins_pure, twins_refuse, twins_bind, twins_made, twins_located, twins_when, twins_token, twins_expect, twins_optional, twins_scalar, twins_all, twins_between, twins_some_between, twins_levels}
-use Rattle.graphql_value_syntax.specs.ReadValues.{named, word_of, word_or_scalar, variable_or, bare, value_from, value}
-use Rattle.graphql_value_syntax.specs.ReadTypes.{TypeRef, plain, wrapped, list_of, nullable, bare_type, type_from, type_ref}
+use Rattle.graphql_value_syntax.specs.ReadValues.{name_and, word_of, word_or_scalar, variable_or, value_level, value_from, value}
+use Rattle.graphql_value_syntax.specs.ReadTypes.{TypeRef, plain, with_wrap, list_type, nullable_type, bare_type, type_from, type_ref}
 use Rattle.graphql_value_syntax.specs.ReadDirectives.{some_of, arguments, directive, directives, variable_definition, variable_definitions}
 
 module _ {S : Type 0} (q r : Reading S) (of_bool : Bool → S) where
   pub twins_name : Twins q r (located name) (located name)
   twins_name = twins_located q r (twins_token q r names name_of)
 
-  twins_named : {A : Type 0} {p w : Parser A} → Twins q r p w → Twins q r (named p) (named w)
+  twins_named : {A : Type 0} {p w : Parser A} → Twins q r p w → Twins q r (name_and p) (name_and w)
   twins_named one = twins_bind q r twins_name (λ n o. twins_bind q r (twins_expect q r k.Colon) (λ u z. twins_made q r (λ x. (n, x)) (λ x. (o, x)) one))
 
   -- ---- values
@@ -29,8 +29,8 @@ module _ {S : Type 0} (q r : Reading S) (of_bool : Bool → S) where
   twins_variable true = twins_word
   twins_variable false = twins_when q r (only k.Dollar) (twins_bind q r (twins_expect q r k.Dollar) (λ u z. twins_made q r v.Variable v.Variable (twins_token q r names name_of))) twins_word
 
-  twins_bare : (is_const : Bool) (p w : Parser (At (InputValue S))) → Twins q r p w → Twins q r (bare q of_bool is_const p) (bare r of_bool is_const w)
-  unfolding bare
+  twins_bare : (is_const : Bool) (p w : Parser (At (InputValue S))) → Twins q r p w → Twins q r (value_level q of_bool is_const p) (value_level r of_bool is_const w)
+  unfolding value_level
   twins_bare is_const p w one =
       twins_when q r (only k.BracketOpen) (twins_made q r v.List v.List (twins_between q r one k.BracketClose k.BracketOpen))
       (twins_when q r (only k.CurlyOpen) (twins_made q r v.Object v.Object (twins_between q r (twins_named one) k.CurlyClose k.CurlyOpen)) (twins_variable is_const))
@@ -46,15 +46,15 @@ module _ {S : Type 0} (q r : Reading S) (of_bool : Bool → S) where
 
   -- ---- type references
 
-  twins_nullable : (p : Parser (At TypeRef)) → Twins q r p p → Twins q r (nullable p) (nullable p)
+  twins_nullable : (p : Parser (At TypeRef)) → Twins q r p p → Twins q r (nullable_type p) (nullable_type p)
   twins_nullable p one = twins_when q r (only k.BracketOpen)
-      (twins_bind q r (twins_expect q r k.BracketOpen) (λ u z. twins_bind q r one (λ t o. twins_made q r (λ w. list_of t) (λ w. list_of o) (twins_expect q r k.BracketClose))))
+      (twins_bind q r (twins_expect q r k.BracketOpen) (λ u z. twins_bind q r one (λ t o. twins_made q r (λ w. list_type t) (λ w. list_type o) (twins_expect q r k.BracketClose))))
       (twins_made q r plain plain (twins_token q r names name_of))
 
   twins_bare_type : (p : Parser (At TypeRef)) → Twins q r p p → Twins q r (bare_type p) (bare_type p)
   unfolding bare_type
   twins_bare_type p one = twins_bind q r (twins_nullable p one) (λ t o. twins_when q r (only k.ExclamationMark)
-      (twins_made q r (λ u. wrapped m.NonNull t) (λ u. wrapped m.NonNull o) (twins_expect q r k.ExclamationMark)) (twins_pure q r t o))
+      (twins_made q r (λ u. with_wrap m.NonNull t) (λ u. with_wrap m.NonNull o) (twins_expect q r k.ExclamationMark)) (twins_pure q r t o))
 
   twins_type_from : (n : ℕ) → Twins q r (type_from n) (type_from n)
   unfolding type_from

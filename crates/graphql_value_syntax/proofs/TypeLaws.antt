@@ -15,7 +15,7 @@ use Rattle.graphql_grammar.proofs.Stops.{Sentence}
 use Rattle.graphql_grammar.proofs.Law.{Law, law_bind, law_pure, law_made, law_is, law_fewer, law_same, law_zero, law_wider}
 use Rattle.graphql_grammar.proofs.Choices.{law_expect, law_when, law_located}
 use Rattle.graphql_grammar.proofs.Begins.{BeginsWith, begins_token, begins_bind, begins_when, begins_located, begins_same}
-use Rattle.graphql_value_syntax.specs.ReadTypes.{TypeRef, plain, wrapped, list_of, nullable, bare_type, type_ref}
+use Rattle.graphql_value_syntax.specs.ReadTypes.{TypeRef, plain, with_wrap, list_type, nullable_type, bare_type, type_ref}
 use Rattle.graphql_value_syntax.specs.Values.{spanned}
 use Rattle.graphql_value_syntax.specs.Types.{NullableOf, of_name, of_list, TypeOf, of_nullable, of_non_null}
 use Rattle.graphql_value_syntax.specs.Directives.{NameOf}
@@ -27,26 +27,26 @@ abbrev pub type_kinds : Kinds
 type_kinds = either (only k.BracketOpen) names
 
 abbrev ListOf : List Located → TypeRef → Type 0
-ListOf = Then (TokenOf {A = Unit {0}} (only k.BracketOpen) (λ v. tt {0})) (λ u. Then TypeOf (λ x. Made (λ w. list_of x) (TokenOf {A = Unit {0}} (only k.BracketClose) (λ v. tt {0}))))
+ListOf = Then (TokenOf {A = Unit {0}} (only k.BracketOpen) (λ v. tt {0})) (λ u. Then TypeOf (λ x. Made (λ w. list_type x) (TokenOf {A = Unit {0}} (only k.BracketClose) (λ v. tt {0}))))
 
 abbrev NullableIs : List Located → TypeRef → Type 0
 NullableIs = EitherOf ListOf (Made plain NameOf)
 
 abbrev Bang : TypeRef → List Located → TypeRef → Type 0
-Bang x = EitherOf (Made (λ u. wrapped m.NonNull x) (TokenOf {A = Unit {0}} (only k.ExclamationMark) (λ v. tt {0}))) (Nothing x)
+Bang x = EitherOf (Made (λ u. with_wrap m.NonNull x) (TokenOf {A = Unit {0}} (only k.ExclamationMark) (λ v. tt {0}))) (Nothing x)
 
 module _ (Bad : Located → Fault → Type 0) (Good : Located → Type 0) where
   abbrev pub TypeLaw : ℕ → Type 0
   TypeLaw n = Law Bad Good true type_kinds (only k.ExclamationMark) TypeOf n type_ref
 
-  law_nullable : (n : ℕ) → TypeLaw n → Law Bad Good true type_kinds no_kind NullableIs (suc n) (nullable type_ref)
+  law_nullable : (n : ℕ) → TypeLaw n → Law Bad Good true type_kinds no_kind NullableIs (suc n) (nullable_type type_ref)
   law_nullable n l = law_when Bad Good (only k.BracketOpen) refl refl
-      (law_bind Bad Good refl (law_expect Bad Good k.BracketOpen refl) (λ u. law_bind Bad Good refl (law_fewer Bad Good (omega arith) l) (λ x. law_made Bad Good (λ w. list_of x) (law_expect Bad Good k.BracketClose refl))))
+      (law_bind Bad Good refl (law_expect Bad Good k.BracketOpen refl) (λ u. law_bind Bad Good refl (law_fewer Bad Good (omega arith) l) (λ x. law_made Bad Good (λ w. list_type x) (law_expect Bad Good k.BracketClose refl))))
       (law_made Bad Good plain (law_name Bad Good))
 
-  law_bang : {n : ℕ} (x : TypeRef) → Law Bad Good false (only k.ExclamationMark) (only k.ExclamationMark) (Bang x) n (when (only k.ExclamationMark) (expect k.ExclamationMark >>= (λ u. pure (wrapped m.NonNull x))) (pure x))
+  law_bang : {n : ℕ} (x : TypeRef) → Law Bad Good false (only k.ExclamationMark) (only k.ExclamationMark) (Bang x) n (when (only k.ExclamationMark) (expect k.ExclamationMark >>= (λ u. pure (with_wrap m.NonNull x))) (pure x))
   law_bang x = law_wider Bad Good (only k.ExclamationMark) (only k.ExclamationMark) refl refl
-      (law_when Bad Good (only k.ExclamationMark) refl refl (law_made Bad Good (λ u. wrapped m.NonNull x) (law_expect Bad Good k.ExclamationMark refl)) (law_pure Bad Good x))
+      (law_when Bad Good (only k.ExclamationMark) refl refl (law_made Bad Good (λ u. with_wrap m.NonNull x) (law_expect Bad Good k.ExclamationMark refl)) (law_pure Bad Good x))
 
   law_bare : (n : ℕ) → TypeLaw n → Law Bad Good true type_kinds (only k.ExclamationMark) (Then NullableIs Bang) (suc n) (bare_type type_ref)
   unfolding bare_type
@@ -59,7 +59,7 @@ module _ (Bad : Located → Fault → Type 0) (Good : Located → Type 0) where
   type_sentence : Sentence Bad Good (Free (only k.ExclamationMark)) type_ref
   unfolding bare_type sees peek_kind peek token next
   type_sentence f e = let a : Located = record { item = t.Name (codes "a"); span = f } in let b : Located = record { item = t.ExclamationMark; span = f } in
-      record { more = a ∷ b ∷ []; tree = spanned a (wrapped m.NonNull (plain (codes "a"))) b; last = f.end; reads_on = λ zs h. type_unfolds (mk (a ∷ b ∷ zs) f e) }
+      record { more = a ∷ b ∷ []; tree = spanned a (with_wrap m.NonNull (plain (codes "a"))) b; last = f.end; reads_on = λ zs h. type_unfolds (mk (a ∷ b ∷ zs) f e) }
 
   -- ---- the grammar's own words
 
@@ -90,7 +90,7 @@ module _ (Bad : Located → Fault → Type 0) (Good : Located → Type 0) where
   bang_there d front back x y r (inl o) = let h = nullable_front front x r in let w = o.spells in
       subst (λ us. TypeOf (front ++ us) (record { item = y; span = span_in d (front ++ us) })) (sym w.alone) (subst (λ us. TypeOf (us ++ w.at ∷ []) (record { item = y; span = span_in d (us ++ w.at ∷ []) })) (sym h.2)
       (subst (λ z. TypeOf (h.0 ∷ (h.1 ++ w.at ∷ [])) (record { item = z; span = span_in d (h.0 ∷ (h.1 ++ w.at ∷ [])) })) (sym o.is)
-      (subst (λ s. TypeOf (h.0 ∷ (h.1 ++ w.at ∷ [])) (record { item = wrapped m.NonNull x; span = s })) (sym (closed_end h.0 w.at h.1)) (of_non_null h.0 w.at h.1 x (subst (λ us. NullableOf us x) h.2 r) w.of_kind))))
+      (subst (λ s. TypeOf (h.0 ∷ (h.1 ++ w.at ∷ [])) (record { item = with_wrap m.NonNull x; span = s })) (sym (closed_end h.0 w.at h.1)) (of_non_null h.0 w.at h.1 x (subst (λ us. NullableOf us x) h.2 r) w.of_kind))))
   bang_there d front back x y r (inr o) = let h = nullable_front front x r in
       subst (λ us. TypeOf us (record { item = y; span = span_in d us })) (sym (ap (λ us. front ++ us) o.empty ∙ append-nil front)) (subst (λ us. TypeOf us (record { item = y; span = span_in d us })) (sym h.2)
       (subst (λ z. TypeOf (h.0 ∷ h.1) (record { item = z; span = span_in d (h.0 ∷ h.1) })) (sym o.is) (of_nullable h.0 h.1 x (subst (λ us. NullableOf us x) h.2 r))))

@@ -11,9 +11,9 @@ use Rattle.graphql_grammar.specs.Steps.{name_of, located}
 use Rattle.graphql_grammar.specs.Faults.{BadScalar, GoodScalar}
 use Rattle.graphql_grammar.proofs.Choices.{law_token, law_scalar_or}
 use Rattle.graphql_grammar.proofs.Recursion.{Uses, Agree, agree_self, agree_fewer, agree_bind, agree_made, agree_located, agree_when, agree_token, agree_between, uses_law, unfolds, uses_fix}
-use Rattle.graphql_value_syntax.specs.ReadValues.{named, word_of, word_or_scalar, variable_or, bare, value_from, value}
+use Rattle.graphql_value_syntax.specs.ReadValues.{name_and, word_of, word_or_scalar, variable_or, value_level, value_from, value}
 
-pub agree_named : {A : Type 0} {n : ℕ} {p q : Parser A} → Agree true n p q → Agree true n (named p) (named q)
+pub agree_named : {A : Type 0} {n : ℕ} {p q : Parser A} → Agree true n p q → Agree true n (name_and p) (name_and q)
 agree_named {n = n} one =
     agree_bind (agree_located (agree_token names name_of refl))
     (λ key. agree_bind (agree_token (only k.Colon) (λ w. tt {0}) refl) (λ u. agree_made (λ x. (key, x)) (agree_fewer (omega arith) one)))
@@ -32,19 +32,19 @@ module _ {S : Type 0} (reads : ScalarToken → Result S ParseError) (of_bool : B
   pub single_uses : (is_const : Bool) → Uses true (variable_or reads of_bool is_const)
   single_uses is_const = (agree_variable_or 0 is_const).uses
 
-  agree_bare : (is_const : Bool) (n : ℕ) (p q : Parser _) → Agree true n p q → Agree true (suc n) (bare reads of_bool is_const p) (bare reads of_bool is_const q)
-  unfolding bare
+  agree_bare : (is_const : Bool) (n : ℕ) (p q : Parser _) → Agree true n p q → Agree true (suc n) (value_level reads of_bool is_const p) (value_level reads of_bool is_const q)
+  unfolding value_level
   agree_bare is_const n p q one =
       agree_when (only k.BracketOpen) (agree_made v.List (agree_between one k.BracketOpen k.BracketClose refl refl))
       (agree_when (only k.CurlyOpen) (agree_made v.Object (agree_between (agree_named one) k.CurlyOpen k.CurlyClose refl refl)) (agree_variable_or (suc n) is_const))
 
-  deeper : (is_const : Bool) (n : ℕ) (p q : Parser _) → Agree true n p q → Agree true (suc n) (located (bare reads of_bool is_const p)) (located (bare reads of_bool is_const q))
+  deeper : (is_const : Bool) (n : ℕ) (p q : Parser _) → Agree true n p q → Agree true (suc n) (located (value_level reads of_bool is_const p)) (located (value_level reads of_bool is_const q))
   deeper is_const n p q one = agree_located (agree_bare is_const n p q one)
 
-  pub value_unfolds : (is_const : Bool) (i : Input) → value reads of_bool is_const i ≡ located (bare reads of_bool is_const (value reads of_bool is_const)) i
+  pub value_unfolds : (is_const : Bool) (i : Input) → value reads of_bool is_const i ≡ located (value_level reads of_bool is_const (value reads of_bool is_const)) i
   unfolding value value_from
-  value_unfolds is_const i = unfolds (λ p. located (bare reads of_bool is_const p)) (value_from reads of_bool is_const) (λ j. refl) (λ n j. refl) (deeper is_const) i
+  value_unfolds is_const i = unfolds (λ p. located (value_level reads of_bool is_const p)) (value_from reads of_bool is_const) (λ j. refl) (λ n j. refl) (deeper is_const) i
 
   pub value_uses : (is_const : Bool) → Uses true (value reads of_bool is_const)
   unfolding value value_from
-  value_uses is_const = uses_fix (λ p. located (bare reads of_bool is_const p)) (value_from reads of_bool is_const) (λ j. refl) (λ n j. refl) (deeper is_const)
+  value_uses is_const = uses_fix (λ p. located (value_level reads of_bool is_const p)) (value_from reads of_bool is_const) (λ j. refl) (λ n j. refl) (deeper is_const)

@@ -11,7 +11,7 @@ use Rattle.graphql_values.specs.declared.input_value.InputValue.{InputValue}
 use Rattle.graphql_values.specs.declared.input_value.InputValue.TheVariants as v
 use Rattle.graphql_grammar.specs.declared.kind.Kind.{Kind}
 use Rattle.graphql_grammar.specs.declared.kind.Kind.TheVariants as k
-use Rattle.graphql_grammar.specs.Kinds.{Kinds, kind, only, either, no_kind, names, enum_names, within}
+use Rattle.graphql_grammar.specs.Kinds.{Kinds, kind, only, either, no_kind, names, enum_names, are_among}
 use Rattle.graphql_grammar.specs.Input.{At, Located, Fault, peek, peek_kind, next, refusal}
 use Rattle.graphql_grammar.specs.Steps.{sees, token, name, name_of, located}
 use Rattle.graphql_grammar.specs.Ahead.{mk, In, Free, refused_at, kind_ahead}
@@ -25,7 +25,7 @@ use Rattle.graphql_grammar.proofs.Choices.{law_token, law_expect, law_scalar_or,
 use Rattle.graphql_grammar.proofs.Loops.{Takes, law_between}
 use Rattle.graphql_grammar.proofs.Recursion.{Uses, agree_self}
 use Rattle.graphql_grammar.proofs.Begins.{BeginsWith, begins_token, begins_when, begins_located, begins_wider, begins_same}
-use Rattle.graphql_value_syntax.specs.ReadValues.{named, word_by, word_of, word_or_scalar, variable, variable_or, list, object, bare, value}
+use Rattle.graphql_value_syntax.specs.ReadValues.{name_and, word_by, word_of, word_or_scalar, variable, variable_or, list_literal, object_literal, value_level, value}
 use Rattle.graphql_value_syntax.specs.Directives.{NameOf}
 use Rattle.graphql_value_syntax.proofs.ValueDepth.{agree_named, value_unfolds, value_uses}
 use Rattle.graphql_value_syntax.specs.Values.{Is, spanned, ValueOf, of_true, of_false, of_null, of_enum, of_scalar, of_variable, of_list, of_object, ItemsOf, no_items, more_items, FieldsOf, no_fields, more_fields}
@@ -96,7 +96,7 @@ key_of us key r = let m = r.spells in let W : Span → At (List ℕ) = λ s. rec
 pub closed_end : (a b : Located) (ts : List Located) → span_of a (ts ++ b ∷ []) ≡ record { start = a.span.start; end = b.span.end }
 closed_end a b ts = ap (λ e. record { start = a.span.start; end = e }) (end-append a.span.end ts (b ∷ []))
 
-in_wider : (s u : Kinds) → within s u ≡ true → (xs : List Located) → In s xs → In u xs
+in_wider : (s u : Kinds) → are_among s u ≡ true → (xs : List Located) → In s xs → In u xs
 in_wider s u h xs is = within_is s u h (kind_ahead xs) is
 
 module _ {S : Type 0} (reads : ScalarToken → Result S ParseError) (of_bool : Bool → S) where
@@ -139,7 +139,7 @@ module _ {S : Type 0} (reads : ScalarToken → Result S ParseError) (of_bool : B
   takes_value c i x j r = let l = value_uses reads of_bool c i x j r in omega arith
 
   pub value_at_end : (c : Bool) (f : Span) (e : SourcePosition) → value reads of_bool c (mk [] f e) ≡ Err (refused_at f [])
-  unfolding bare sees peek_kind peek token refusal
+  unfolding value_level sees peek_kind peek token refusal
   value_at_end true f e = value_unfolds reads of_bool true (mk [] f e)
   value_at_end false f e = value_unfolds reads of_bool false (mk [] f e)
 
@@ -149,29 +149,29 @@ module _ {S : Type 0} (reads : ScalarToken → Result S ParseError) (of_bool : B
   abbrev ListOf : Bool → List Located → InputValue S → Type 0
   ListOf c = Made v.List (Between (AllOf (ValueOf S reads of_bool c)) k.BracketOpen k.BracketClose)
 
-  law_list : (c : Bool) (n : ℕ) → ValueLaw c n → Law Bad Good true (only k.BracketOpen) no_kind (ListOf c) (suc n) (list reads of_bool (value reads of_bool c))
+  law_list : (c : Bool) (n : ℕ) → ValueLaw c n → Law Bad Good true (only k.BracketOpen) no_kind (ListOf c) (suc n) (list_literal reads of_bool (value reads of_bool c))
   law_list c n l = law_made Bad Good v.List (law_between k.BracketClose (value reads of_bool c) refl (takes_value c) (value_at_end c) Bad Good value_kinds no_kind (ValueOf S reads of_bool c) refl refl
       k.BracketOpen refl refl refl (suc n) (law_fewer Bad Good (omega arith) l))
 
   -- a name, a colon and a value
-  pub law_named : (c : Bool) (n : ℕ) → ValueLaw c n → Law Bad Good true names no_kind (NamedOf (ValueOf S reads of_bool c)) n (named (value reads of_bool c))
+  pub law_named : (c : Bool) (n : ℕ) → ValueLaw c n → Law Bad Good true names no_kind (NamedOf (ValueOf S reads of_bool c)) n (name_and (value reads of_bool c))
   law_named c n l = law_bind Bad Good refl (law_placed_name Bad Good) (λ key. law_bind Bad Good refl (law_expect Bad Good k.Colon refl) (λ u. law_made Bad Good (λ x. (key, x)) (law_fewer Bad Good (omega arith) l)))
 
-  uses_named : (c : Bool) → Uses true (named (value reads of_bool c))
+  uses_named : (c : Bool) → Uses true (name_and (value reads of_bool c))
   uses_named c = (agree_named (agree_self {a = true} {n = 0} (value_uses reads of_bool c))).uses
 
-  pub takes_named : (c : Bool) → Takes (named (value reads of_bool c))
+  pub takes_named : (c : Bool) → Takes (name_and (value reads of_bool c))
   takes_named c i x j r = let l = uses_named c i x j r in omega arith
 
-  pub named_at_end : (c : Bool) (f : Span) (e : SourcePosition) → named (value reads of_bool c) (mk [] f e) ≡ Err (refused_at f [])
+  pub named_at_end : (c : Bool) (f : Span) (e : SourcePosition) → name_and (value reads of_bool c) (mk [] f e) ≡ Err (refused_at f [])
   unfolding sees peek_kind peek token refusal
   named_at_end c f e = refl
 
   abbrev ObjectOf : Bool → List Located → InputValue S → Type 0
   ObjectOf c = Made v.Object (Between (AllOf (NamedOf (ValueOf S reads of_bool c))) k.CurlyOpen k.CurlyClose)
 
-  law_object : (c : Bool) (n : ℕ) → ValueLaw c n → Law Bad Good true (only k.CurlyOpen) no_kind (ObjectOf c) (suc n) (object reads of_bool (value reads of_bool c))
-  law_object c n l = law_made Bad Good v.Object (law_between k.CurlyClose (named (value reads of_bool c)) refl (takes_named c) (named_at_end c) Bad Good names no_kind (NamedOf (ValueOf S reads of_bool c)) refl refl
+  law_object : (c : Bool) (n : ℕ) → ValueLaw c n → Law Bad Good true (only k.CurlyOpen) no_kind (ObjectOf c) (suc n) (object_literal reads of_bool (value reads of_bool c))
+  law_object c n l = law_made Bad Good v.Object (law_between k.CurlyClose (name_and (value reads of_bool c)) refl (takes_named c) (named_at_end c) Bad Good names no_kind (NamedOf (ValueOf S reads of_bool c)) refl refl
       k.CurlyOpen refl refl refl (suc n) (law_fewer Bad Good (omega arith) (law_named c n l)))
 
   -- ---- a value
@@ -179,8 +179,8 @@ module _ {S : Type 0} (reads : ScalarToken → Result S ParseError) (of_bool : B
   BareOf : Bool → List Located → InputValue S → Type 0
   BareOf c = EitherOf (ListOf c) (EitherOf (ObjectOf c) (VariableOr c))
 
-  law_bare : (c : Bool) (n : ℕ) → ValueLaw c n → Law Bad Good true value_kinds no_kind (BareOf c) (suc n) (bare reads of_bool c (value reads of_bool c))
-  unfolding bare BareOf
+  law_bare : (c : Bool) (n : ℕ) → ValueLaw c n → Law Bad Good true value_kinds no_kind (BareOf c) (suc n) (value_level reads of_bool c (value reads of_bool c))
+  unfolding value_level BareOf
   law_bare c n l = law_starts Bad Good (in_wider (either (only k.BracketOpen) (either (only k.CurlyOpen) simple_kinds)) value_kinds refl)
       (law_when Bad Good (only k.BracketOpen) refl refl (law_list c n l) (law_when Bad Good (only k.CurlyOpen) refl refl (law_object c n l) (law_variable_or c)))
 
@@ -188,15 +188,15 @@ module _ {S : Type 0} (reads : ScalarToken → Result S ParseError) (of_bool : B
   begins_or true = begins_wider (either (only k.Scalar) names) simple_kinds refl (begins_when (only k.Scalar) _ (begins_token names (word_of reads of_bool)))
   begins_or false = begins_wider (either (only k.Dollar) (either (only k.Scalar) names)) simple_kinds refl (begins_when (only k.Dollar) _ (begins_when (only k.Scalar) _ (begins_token names (word_of reads of_bool))))
 
-  begins_bare : (c : Bool) → BeginsWith value_kinds (bare reads of_bool c (value reads of_bool c))
-  unfolding bare
+  begins_bare : (c : Bool) → BeginsWith value_kinds (value_level reads of_bool c (value reads of_bool c))
+  unfolding value_level
   begins_bare c = begins_wider (either (only k.BracketOpen) (either (only k.CurlyOpen) simple_kinds)) value_kinds refl (begins_when (only k.BracketOpen) _ (begins_when (only k.CurlyOpen) _ (begins_or c)))
 
   value_begins : (c : Bool) → BeginsWith value_kinds (value reads of_bool c)
   value_begins c = begins_same (value_unfolds reads of_bool c) (begins_located (begins_bare c))
 
   value_sentence : (c : Bool) → Sentence Bad Good (Free no_kind) (value reads of_bool c)
-  unfolding bare sees peek_kind peek token next
+  unfolding value_level sees peek_kind peek token next
   value_sentence true f e = let a : Located = record { item = t.Name (codes "null"); span = f } in record { more = a ∷ []; tree = spanned a v.Null a; last = f.end; reads_on = λ zs h. value_unfolds reads of_bool true (mk (a ∷ zs) f e) }
   value_sentence false f e = let a : Located = record { item = t.Name (codes "null"); span = f } in record { more = a ∷ []; tree = spanned a v.Null a; last = f.end; reads_on = λ zs h. value_unfolds reads of_bool false (mk (a ∷ zs) f e) }
 

@@ -9,12 +9,12 @@ use Rattle.graphql_grammar.specs.declared.kind.Kind.{Kind}
 use Rattle.graphql_grammar.specs.declared.kind.Kind.TheVariants as k
 use Rattle.graphql_grammar.specs.Kinds.{only, names}
 use Rattle.graphql_grammar.specs.Input.{At, Input, Located, Fault, Parser, Outcome, and_then, ◌>>=◌, pure, Reads, refusal, peek, peek_kind, next}
-use Rattle.graphql_grammar.specs.Steps.{expect, sees, name, name_of, located, scalar, scalar_by, read_by}
+use Rattle.graphql_grammar.specs.Steps.{expect, sees, name, name_of, located, any_scalar, scalar_by, read_by}
 use Rattle.graphql_grammar.proofs.Sets.{is_kind}
 use Rattle.graphql_grammar.proofs.Cursors.{token_yes, token_no}
 use Rattle.graphql_grammar.proofs.Parts.{then_read, then_refused, when_yes, when_no}
 use Rattle.graphql_value_syntax.specs.ReadParts.{key, by_name, by_scalar}
-use Rattle.graphql_value_syntax.specs.ReadValues.{named, word_by, word_of, word, word_or_scalar, variable, variable_or}
+use Rattle.graphql_value_syntax.specs.ReadValues.{name_and, word_by, word_of, word_literal, word_or_scalar, variable, variable_or}
 
 -- parsers that answer the same
 pub reads_as : {A : Type 0} {o p : Outcome A} (r : Result A Fault) (j : Input) → o ≡ p → Reads p r j → Reads o r j
@@ -35,8 +35,8 @@ sees_other w i h = not_only (only w (peek_kind i)) w (peek_kind i) refl h
 module _ {S : Type 0} (reads : ScalarToken → Result S ParseError) where
   -- ---- scalars
 
-  scalar_is : (i : Input) (p : Located) (s : ScalarToken) (r : Result S ParseError) → p ≡ peek i → p.item ≡ t.Scalar s → reads s ≡ r → scalar reads i ≡ read_by reads r i
-  unfolding scalar
+  scalar_is : (i : Input) (p : Located) (s : ScalarToken) (r : Result S ParseError) → p ≡ peek i → p.item ≡ t.Scalar s → reads s ≡ r → any_scalar reads i ≡ read_by reads r i
+  unfolding any_scalar
   scalar_is i p s r at is means = ap (λ (q : Located). scalar_by reads q.item i) (sym at) ∙ ap (λ y. scalar_by reads y i) is ∙ ap (λ x. read_by reads x i) means
 
   pub scalar_taken : {A : Type 0} (make : S → A) (i : Input) (p : Located) (s : ScalarToken) (x : S) → p ≡ peek i → p.item ≡ t.Scalar s → reads s ≡ Ok x → by_scalar reads make i ≡ Ok (make x, next i)
@@ -65,13 +65,13 @@ module _ {S : Type 0} (reads : ScalarToken → Result S ParseError) where
   no_scalar i t.EndOfFile h = refl
 
   pub scalar_missing : {A : Type 0} (make : S → A) (i : Input) (p : Located) → p ≡ peek i → ((s : ScalarToken) → p.item ≢ t.Scalar s) → by_scalar reads make i ≡ Err (refusal i)
-  unfolding scalar
+  unfolding any_scalar
   scalar_missing make i p at h = ap (λ (o : Outcome S). and_then o (λ y. pure (make y))) (ap (λ (q : Located). scalar_by reads q.item i) (sym at) ∙ no_scalar i p.item h)
 
   module _ (of_bool : Bool → S) where
     -- ---- words
 
-    pub word_taken : (i : Input) (w : Kind) → peek_kind i ≡ w → names w ≡ true → word reads of_bool i ≡ Ok (word_by reads of_bool w (name_of (peek i).item), next i)
+    pub word_taken : (i : Input) (w : Kind) → peek_kind i ≡ w → names w ≡ true → word_literal reads of_bool i ≡ Ok (word_by reads of_bool w (name_of (peek i).item), next i)
     unfolding sees peek_kind
     word_taken i w e named = token_yes names (word_of reads of_bool) i (ap names e ∙ named) ∙ ap (λ (u : Kind). Ok (word_by reads of_bool u (name_of (peek i).item), next i)) e
 
@@ -101,7 +101,7 @@ module _ {S : Type 0} (reads : ScalarToken → Result S ParseError) where
     word_enum k.Pipe n a b c = refl
     word_enum k.EndOfFile n a b c = refl
 
-    enum_by : (b : Bool) (i : Input) → sees names i ≡ b → peek_kind i ≢ k.True → peek_kind i ≢ k.False → peek_kind i ≢ k.Null → word reads of_bool i ≡ by_name v.Enum i
+    enum_by : (b : Bool) (i : Input) → sees names i ≡ b → peek_kind i ≢ k.True → peek_kind i ≢ k.False → peek_kind i ≢ k.Null → word_literal reads of_bool i ≡ by_name v.Enum i
     unfolding peek_kind
     enum_by true i e a b c =
         token_yes names (word_of reads of_bool) i e ∙ ap (λ x. Ok (x, next i)) (word_enum (peek_kind i) (name_of (peek i).item) a b c)
@@ -110,16 +110,16 @@ module _ {S : Type 0} (reads : ScalarToken → Result S ParseError) where
         token_no names (word_of reads of_bool) i e ∙ sym (ap (λ (o : Outcome _). and_then o (λ n. pure (v.Enum n))) (token_no names name_of i e))
 
     -- any other name is an enum's value
-    pub word_other : (i : Input) → peek_kind i ≢ k.True → peek_kind i ≢ k.False → peek_kind i ≢ k.Null → word reads of_bool i ≡ by_name v.Enum i
+    pub word_other : (i : Input) → peek_kind i ≢ k.True → peek_kind i ≢ k.False → peek_kind i ≢ k.Null → word_literal reads of_bool i ≡ by_name v.Enum i
     word_other i a b c = enum_by (sees names i) i refl a b c
 
     -- ---- what holds no other value
 
     plain_scalar : (i : Input) → peek_kind i ≡ k.Scalar → word_or_scalar reads of_bool i ≡ by_scalar reads v.Scalar i
-    plain_scalar i e = when_yes (only k.Scalar) (by_scalar reads v.Scalar) (word reads of_bool) i (sees_only k.Scalar i e refl)
+    plain_scalar i e = when_yes (only k.Scalar) (by_scalar reads v.Scalar) (word_literal reads of_bool) i (sees_only k.Scalar i e refl)
 
-    plain_word : (i : Input) → peek_kind i ≢ k.Scalar → word_or_scalar reads of_bool i ≡ word reads of_bool i
-    plain_word i h = when_no (only k.Scalar) (by_scalar reads v.Scalar) (word reads of_bool) i (sees_other k.Scalar i h)
+    plain_word : (i : Input) → peek_kind i ≢ k.Scalar → word_or_scalar reads of_bool i ≡ word_literal reads of_bool i
+    plain_word i h = when_no (only k.Scalar) (by_scalar reads v.Scalar) (word_literal reads of_bool) i (sees_other k.Scalar i h)
 
     no_variable : (is_const : Bool) (i : Input) → (is_const ≡ false → peek_kind i ≢ k.Dollar) → variable_or reads of_bool is_const i ≡ word_or_scalar reads of_bool i
     no_variable true i h = refl
@@ -131,7 +131,7 @@ module _ {S : Type 0} (reads : ScalarToken → Result S ParseError) where
     pub single_scalar : (is_const : Bool) (i : Input) → peek_kind i ≡ k.Scalar → variable_or reads of_bool is_const i ≡ by_scalar reads v.Scalar i
     single_scalar is_const i e = no_variable is_const i (λ c d. let q : k.Scalar ≡ k.Dollar = sym e ∙ d in cc) ∙ plain_scalar i e
 
-    pub single_word : (is_const : Bool) (i : Input) → (is_const ≡ false → peek_kind i ≢ k.Dollar) → peek_kind i ≢ k.Scalar → variable_or reads of_bool is_const i ≡ word reads of_bool i
+    pub single_word : (is_const : Bool) (i : Input) → (is_const ≡ false → peek_kind i ≢ k.Dollar) → peek_kind i ≢ k.Scalar → variable_or reads of_bool is_const i ≡ word_literal reads of_bool i
     single_word is_const i h d = no_variable is_const i h ∙ plain_word i d
 
 -- ---- a name, a colon and what stands behind
@@ -147,14 +147,14 @@ then_named : {A : Type 0} (inner : Parser A) (o : Outcome (At (List ℕ))) → a
 then_named inner (Ok p) = then_pair inner p.0 (expect k.Colon p.1)
 then_named inner (Err e) = refl
 
-pub named_is : {A : Type 0} (inner : Parser A) (i : Input) → named inner i ≡ (key >>= (pair_with inner)) i
+pub named_is : {A : Type 0} (inner : Parser A) (i : Input) → name_and inner i ≡ (key >>= (pair_with inner)) i
 named_is inner i = then_named inner (located name i)
 
-pub named_read : {A : Type 0} (inner : Parser A) (i : Input) {j m : Input} {n : At (List ℕ)} {x : A} → key i ≡ Ok (n, j) → inner j ≡ Ok (x, m) → named inner i ≡ Ok ((n, x), m)
+pub named_read : {A : Type 0} (inner : Parser A) (i : Input) {j m : Input} {n : At (List ℕ)} {x : A} → key i ≡ Ok (n, j) → inner j ≡ Ok (x, m) → name_and inner i ≡ Ok ((n, x), m)
 named_read inner i {n = n} first second = named_is inner i ∙ then_read key (pair_with inner) first ∙ then_read inner (λ x. pure (n, x)) second
 
-pub named_fails_first : {A : Type 0} (inner : Parser A) (i : Input) {e : Fault} → key i ≡ Err e → named inner i ≡ Err e
+pub named_fails_first : {A : Type 0} (inner : Parser A) (i : Input) {e : Fault} → key i ≡ Err e → name_and inner i ≡ Err e
 named_fails_first inner i fails = named_is inner i ∙ then_refused key (pair_with inner) fails
 
-pub named_fails : {A : Type 0} (inner : Parser A) (i : Input) {j : Input} {n : At (List ℕ)} {e : Fault} → key i ≡ Ok (n, j) → inner j ≡ Err e → named inner i ≡ Err e
+pub named_fails : {A : Type 0} (inner : Parser A) (i : Input) {j : Input} {n : At (List ℕ)} {e : Fault} → key i ≡ Ok (n, j) → inner j ≡ Err e → name_and inner i ≡ Err e
 named_fails inner i {n = n} first fails = named_is inner i ∙ then_read key (pair_with inner) first ∙ then_refused inner (λ x. pure (n, x)) fails

@@ -12,7 +12,7 @@ use Rattle.graphql_grammar.specs.declared.kind.Kind.TheVariants as k
 use Rattle.graphql_grammar.specs.Kinds.{only}
 use Rattle.graphql_grammar.specs.Input.{At, Parser, ◌>>=◌, ◌>>◌, pure}
 use Rattle.graphql_grammar.specs.Steps.{expect, name, located, optional, all, some_between}
-use Rattle.graphql_value_syntax.specs.ReadValues.{named, value}
+use Rattle.graphql_value_syntax.specs.ReadValues.{name_and, value}
 use Rattle.graphql_value_syntax.specs.ReadTypes.{type_ref}
 
 -- the name of a variable, placed with its `$`
@@ -30,7 +30,7 @@ module _ {S : Type 0} (reads : ScalarToken → Result S ParseError) (of_bool : B
   -- arguments in parentheses, each a name and its value
   unfoldable pub arguments : Bool → Parser (At (Arguments S))
   arguments is_const = located do
-    ps ← some_between k.ParenOpen k.ParenClose (named (value reads of_bool is_const))
+    ps ← some_between k.ParenOpen k.ParenClose (name_and (value reads of_bool is_const))
     pure (record { items = ps })
 
   -- a directive and its arguments, if it has any

@@ -18,7 +18,7 @@ use Rattle.graphql_value_syntax.specs.declared.nested.Place.TheVariants as p
 use Rattle.graphql_value_syntax.specs.declared.nested.Begun.{Begun}
 use Rattle.graphql_value_syntax.specs.declared.nested.Begun.TheVariants as how
 use Rattle.graphql_value_syntax.specs.ReadParts.{key}
-use Rattle.graphql_value_syntax.specs.ReadValues.{named, variable_or, value}
+use Rattle.graphql_value_syntax.specs.ReadValues.{name_and, variable_or, value}
 
 -- what ends where the last token that was read does
 abbrev pub ending : {A : Type 0} → (SourcePosition → A) → Parser A
@@ -35,9 +35,9 @@ module _ {S : Type 0} where
   closing (o.Object start ps) = k.CurlyClose
 
   -- the list or input object that ends there
-  abbrev pub closed : Open S → SourcePosition → At (InputValue S)
-  closed (o.List start xs) end = between_places start end (v.List xs)
-  closed (o.Object start ps) end = between_places start end (v.Object ps)
+  abbrev pub closed_value : Open S → SourcePosition → At (InputValue S)
+  closed_value (o.List start xs) end = between_places start end (v.List xs)
+  closed_value (o.Object start ps) end = between_places start end (v.Object ps)
 
   -- as far as the next value within it: in an input object a name and a colon
   abbrev pub place : Open S → Parser (Place S)
@@ -60,28 +60,28 @@ module _ {S : Type 0} (reads : ScalarToken → Result S ParseError) (of_bool : B
     pure (how.Opens x)
 
   -- a value that holds no other, and starts there
-  abbrev pub whole : SourcePosition → Parser (Begun S)
-  whole start = do
+  abbrev pub whole_value : SourcePosition → Parser (Begun S)
+  whole_value start = do
     x ← variable_or reads of_bool is_const
     ending (λ end. how.Whole (between_places start end x))
 
   -- how a value begins that starts there
   unfoldable pub begun_at : SourcePosition → Parser (Begun S)
   begun_at start = when (only k.BracketOpen) (opening k.BracketOpen (o.List start []))
-      (when (only k.CurlyOpen) (opening k.CurlyOpen (o.Object start [])) (whole start))
+      (when (only k.CurlyOpen) (opening k.CurlyOpen (o.Object start [])) (whole_value start))
 
-  unfoldable pub begun : Parser (Begun S)
-  begun = λ i. begun_at (peek i).span.start i
+  unfoldable pub value_start : Parser (Begun S)
+  value_start = λ i. begun_at (peek i).span.start i
 
   -- what stands behind these values or fields, up to the closing bracket
   abbrev pub rest : Open S → Parser (At (InputValue S))
   rest (o.List start xs) = do
     ys ← until k.BracketClose (value reads of_bool is_const) xs
-    ending (closed (o.List start ys))
+    ending (closed_value (o.List start ys))
   rest (o.Object start ps) = do
-    qs ← until k.CurlyClose (named (value reads of_bool is_const)) ps
-    ending (closed (o.Object start qs))
+    qs ← until k.CurlyClose (name_and (value reads of_bool is_const)) ps
+    ending (closed_value (o.Object start qs))
 
-  abbrev pub rest_of : Begun S → Parser (At (InputValue S))
-  rest_of (how.Whole x) = pure x
-  rest_of (how.Opens x) = rest x
+  abbrev pub rest_read : Begun S → Parser (At (InputValue S))
+  rest_read (how.Whole x) = pure x
+  rest_read (how.Opens x) = rest x

@@ -4,7 +4,7 @@ use Rattle.graphql_text.specs.declared.token.ScalarToken.{ScalarToken}
 use Rattle.graphql_text.specs.declared.parse_error.ParseError.{ParseError}
 use Rattle.graphql_grammar.specs.declared.kind.Kind.TheVariants as k
 use Rattle.graphql_grammar.specs.Input.{At, Parser, ◌>>=◌, ◌>>◌, pure}
-use Rattle.graphql_grammar.specs.Steps.{expect, name, scalar, located}
+use Rattle.graphql_grammar.specs.Steps.{expect, name, any_scalar, located}
 
 -- a name and the colon behind it
 abbrev pub key : Parser (At (List ℕ))
@@ -22,5 +22,5 @@ by_name make = do
 -- what is made of a scalar
 abbrev pub by_scalar : {S A : Type 0} → (ScalarToken → Result S ParseError) → (S → A) → Parser A
 by_scalar reads make = do
-  s ← scalar reads
+  s ← any_scalar reads
   pure (make s)

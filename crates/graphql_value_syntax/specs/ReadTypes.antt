@@ -17,24 +17,25 @@ abbrev pub plain : List ℕ → TypeRef
 plain n = record { name = n; modifiers = [] }
 
 -- what wraps a type comes last
-abbrev pub wrapped : TypeModifier → TypeRef → TypeRef
-wrapped w t = record { name = t.name; modifiers = t.modifiers ++ w ∷ [] }
+abbrev pub with_wrap : TypeModifier → TypeRef → TypeRef
+with_wrap w t = record { name = t.name; modifiers = t.modifiers ++ w ∷ [] }
 
-abbrev pub list_of : At TypeRef → TypeRef
-list_of t = wrapped (m.List None) t.item
+abbrev pub list_type : At TypeRef → TypeRef
+list_type t = with_wrap (m.List None) t.item
 
 module _ (inner : Parser (At TypeRef)) where
   -- a name, or a list of a type
-  abbrev pub nullable : Parser TypeRef
-  nullable = when (only k.BracketOpen)
-      (do expect k.BracketOpen; t ← inner; expect k.BracketClose; pure (list_of t))
+  abbrev pub nullable_type : Parser TypeRef
+  nullable_type = when (only k.BracketOpen)
+      (do expect k.BracketOpen; t ← inner; expect k.BracketClose; pure (list_type t))
       (do n ← name; pure (plain n))
 
   -- a type, with a mark if no null is among its values
   unfoldable pub bare_type : Parser TypeRef
   bare_type = do
-    t ← nullable
-    when (only k.ExclamationMark) (do expect k.ExclamationMark; pure (wrapped m.NonNull t)) (pure t)
+    t ← nullable_type
+    when (only k.ExclamationMark) (do expect k.ExclamationMark; pure (with_wrap m.NonNull t))
+        (pure t)
 
 unfoldable pub type_from : ℕ → Parser (At TypeRef)
 type_from zero = refuse

@@ -7,23 +7,24 @@ use Rattle.graphql_grammar.specs.declared.kind.Kind.TheVariants as k
 use Rattle.graphql_grammar.specs.Kinds.{only}
 use Rattle.graphql_grammar.specs.Input.{Parser, ◌>>=◌, ◌>>◌, pure}
 use Rattle.graphql_grammar.specs.Steps.{when, expect, name}
-use Rattle.graphql_value_syntax.specs.ReadTypes.{TypeRef, plain, wrapped}
+use Rattle.graphql_value_syntax.specs.ReadTypes.{TypeRef, plain, with_wrap}
 
 -- a `!`, if it stands next
 abbrev pub marked : TypeRef → Parser TypeRef
 marked t =
-    when (only k.ExclamationMark) (do expect k.ExclamationMark; pure (wrapped m.NonNull t)) (pure t)
+    when (only k.ExclamationMark) (do expect k.ExclamationMark; pure (with_wrap m.NonNull t))
+    (pure t)
 
 -- as many closing brackets as were opened, and what marks each list
-unfoldable pub closed : ℕ → TypeRef → Parser TypeRef
-closed zero t = pure t
-closed (suc n) t = do
+unfoldable pub closing_brackets : ℕ → TypeRef → Parser TypeRef
+closing_brackets zero t = pure t
+closing_brackets (suc n) t = do
   expect k.BracketClose
-  marked (wrapped (m.List None) t) >>= closed n
+  marked (with_wrap (m.List None) t) >>= closing_brackets n
 
 -- what stands behind the name that as many opening brackets stand before
 abbrev pub behind : ℕ → List ℕ → Parser TypeRef
-behind depth n = marked (plain n) >>= closed depth
+behind depth n = marked (plain n) >>= closing_brackets depth
 
 -- what stands behind as many opening brackets
 abbrev pub inside : ℕ → Parser TypeRef

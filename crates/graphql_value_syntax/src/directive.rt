@@ -37,7 +37,7 @@ fn argument_list<'a, S: ScalarValue>(
     is_const: bool,
 ) -> Result<Items<(Spanning<TextRef<'a>>, Spanning<InputValue<S>>)>, Fault>
     ensures reads { Reads (some_between k.ParenOpen k.ParenClose
-        (values.named (values.value S.reads S.of_bool is_const)) cursor.old) result cursor.new }
+        (values.name_and (values.value S.reads S.of_bool is_const)) cursor.old) result cursor.new }
     ensures no_more { left cursor.new ≤ left cursor.old }
 {
     cursor.expect(alloc, Kind::ParenOpen)?;

@@ -47,7 +47,8 @@ pub(crate) fn begin<S: ScalarValue>(
     cursor: &mut Cursor<'_>,
     is_const: bool,
 ) -> Result<Begun<S>, Fault>
-    ensures reads { Reads (spec.begun S.reads S.of_bool is_const cursor.old) result cursor.new }
+    ensures reads { Reads (spec.value_start S.reads S.of_bool is_const cursor.old) result
+        cursor.new }
     ensures no_more { left cursor.new ≤ left cursor.old }
     ensures fewer { OnOk result (left cursor.new < left cursor.old) }
     ensures behind { Behind cursor.old cursor.new }
@@ -117,7 +118,7 @@ fn closing<S>(holder: &Open<S>) -> Kind
 
 /// The list or input object that ends there.
 fn closed<S>(holder: Open<S>, end: SourcePosition) -> Spanning<InputValue<S>>
-    ensures { result ≡ spec.closed holder end }
+    ensures { result ≡ spec.closed_value holder end }
 {
     match holder {
         Open::List(start, values) => Spanning::start_end(start, end, InputValue::List(values)),

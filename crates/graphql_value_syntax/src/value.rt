@@ -41,7 +41,7 @@ pub(crate) fn named<'a, S: ScalarValue>(
     cursor: &mut Cursor<'a>,
     is_const: bool,
 ) -> Result<(Spanning<TextRef<'a>>, Spanning<InputValue<S>>), Fault>
-    ensures reads { Reads (spec.named (spec.value S.reads S.of_bool is_const) cursor.old) result
+    ensures reads { Reads (spec.name_and (spec.value S.reads S.of_bool is_const) cursor.old) result
         cursor.new }
     ensures no_more { left cursor.new ≤ left cursor.old }
     ensures stands { StandsAt result cursor.new }
@@ -135,7 +135,7 @@ fn scalar<S: ScalarValue>(alloc: Global, cursor: &mut Cursor<'_>) -> Result<Inpu
 /// Reads `true`, `false`, `null` or the name of an enum's value (2.9.3 Boolean Value, 2.9.5 Null
 /// Value).
 fn word<S: ScalarValue>(alloc: Global, cursor: &mut Cursor<'_>) -> Result<InputValue<S>, Fault>
-    ensures reads { Reads (spec.word S.reads S.of_bool cursor.old) result cursor.new }
+    ensures reads { Reads (spec.word_literal S.reads S.of_bool cursor.old) result cursor.new }
     ensures no_more { left cursor.new ≤ left cursor.old }
     ensures behind { Behind cursor.old cursor.new }
     ensures stands { StandsAt result cursor.new }

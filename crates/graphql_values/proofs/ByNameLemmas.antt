@@ -14,9 +14,9 @@ use Rattle.std.proofs.lemmas.List.Sorted.{searchable_from_sorted, IsPermutation-
 use Rattle.std.proofs.lemmas.Map.Text.{is_eq-slice_cmp}
 use Rattle.graphql_text.specs.declared.text.Text.{Text}
 use Rattle.graphql_values.specs.declared.input_value.InputValue.{InputValue}
-use Rattle.graphql_values.specs.Comparing.{Both, IsByName, Leaves, lent}
+use Rattle.graphql_values.specs.Comparing.{Both, IsByName, LeavesSame, lent}
 use Rattle.graphql_values.specs.InputValues.{Pair, unplaced_pair}
-use Rattle.graphql_values.specs.SameValue.{SameItems, SameFields, names, under}
+use Rattle.graphql_values.specs.SameValue.{SameItems, SameFields, names, values_named}
 use Rattle.graphql_values.proofs.OrderLemmas.{both_less}
 use Rattle.graphql_values.proofs.SameValueLemmas.{fields_length, items_length}
 use Rattle.graphql_values.proofs.UnderLemmas.{count, standing, under_named}
@@ -74,7 +74,7 @@ module _ {A : Type 0} where
   tied_fields x bs = λ i. filter (λ b. tied x b i) bs
 
   -- a stable sort keeps the order of what stands under a name
-  stable_under : (a : A) (old new : List (Bor (Pair A))) → IsStableByKey (λ b. b.now.0.item) order old new → (name : Text) → under name (lent new) ≡ under name (lent old)
+  stable_under : (a : A) (old new : List (Bor (Pair A))) → IsStableByKey (λ b. b.now.0.item) order old new → (name : Text) → values_named name (lent new) ≡ values_named name (lent old)
   stable_under a old new stable name =
       let x : Bor (Pair A) = lend (unplaced_pair (name, a)) in
       let test : Pair A → Bool = λ p. bytes_eq p.0.item name in
@@ -129,11 +129,11 @@ module _ {S : Type 0} (eq : S → S → Bool) where
       let alike = same_first p q ps qs left right (omega (arith, there, ap length (under_named q.0.item q qs refl))) (omega (arith, back, ap length (under_named p.0.item p ps refl))) in
       ap (λ n. n ∷ names ps) alike ∙ ap (λ ns. q.0.item ∷ ns) (same_names ps qs (in_order_rest p ps left) (in_order_rest q qs right) (both_less eq p q ps qs alike same))
 
-  pub same_as_put : (ps qs us vs : List (Pair (InputValue S))) → ((name : Text) → under name us ≡ under name ps) → ((name : Text) → under name vs ≡ under name qs) → SameFields S eq us vs → SameFields S eq ps qs
-  same_as_put ps qs us vs left right same name = subst (λ xs. SameItems S eq xs (under name qs)) (left name) (subst (SameItems S eq (under name us)) (right name) (same name))
+  pub same_as_put : (ps qs us vs : List (Pair (InputValue S))) → ((name : Text) → values_named name us ≡ values_named name ps) → ((name : Text) → values_named name vs ≡ values_named name qs) → SameFields S eq us vs → SameFields S eq ps qs
+  same_as_put ps qs us vs left right same name = subst (λ xs. SameItems S eq xs (values_named name qs)) (left name) (subst (SameItems S eq (values_named name us)) (right name) (same name))
 
   -- the same of other names for the fields
   pub leaves_of :
-      {E : Type 0} (r : Result Bool E) (ps qs us vs : List (Pair (InputValue S))) (old new : List (Both S)) → us ≡ ps → vs ≡ qs → IfOk r (Leaves eq (SameFields S eq us vs) old new)
-      → IfOk r (Leaves eq (SameFields S eq ps qs) old new)
-  leaves_of r ps qs us vs old new left right h = subst (λ zs. IfOk r (Leaves eq (SameFields S eq zs qs) old new)) left (subst (λ zs. IfOk r (Leaves eq (SameFields S eq us zs) old new)) right h)
+      {E : Type 0} (r : Result Bool E) (ps qs us vs : List (Pair (InputValue S))) (old new : List (Both S)) → us ≡ ps → vs ≡ qs → IfOk r (LeavesSame eq (SameFields S eq us vs) old new)
+      → IfOk r (LeavesSame eq (SameFields S eq ps qs) old new)
+  leaves_of r ps qs us vs old new left right h = subst (λ zs. IfOk r (LeavesSame eq (SameFields S eq zs qs) old new)) left (subst (λ zs. IfOk r (LeavesSame eq (SameFields S eq us zs) old new)) right h)

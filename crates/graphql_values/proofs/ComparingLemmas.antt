@@ -7,7 +7,7 @@ use Rattle.std.proofs.lemmas.List.{get_or_append_left, length-append}
 use Rattle.std.proofs.lemmas.List.Elements.{All-push, All-head, All-tail}
 use Rattle.std.proofs.lemmas.List.Sums.{sum_by_push, sum_by_more}
 use Rattle.graphql_values.specs.declared.input_value.InputValue.{InputValue}
-use Rattle.graphql_values.specs.Comparing.{Both, AllSame, Leaves, left_count}
+use Rattle.graphql_values.specs.Comparing.{Both, AllSame, LeavesSame, left_count}
 use Rattle.graphql_values.specs.Counts.{value_count}
 use Rattle.graphql_values.proofs.SameValueLemmas.{Same, get_or_any, same_at}
 
@@ -34,18 +34,18 @@ module _ {S : Type 0} (eq : S → S → Bool) where
   all_split old new both is all = let told : AllSame eq (old ++ both ∷ []) = subst (AllSame eq) is all in (others_hold AreSame old both told, last_holds AreSame old both told)
 
   -- where nothing more is left to compare
-  pub decided : (W : Type 0) (old : List (Both S)) (stands : Bool) → (IsTrue stands ↔ W) → Leaves eq W old old stands
+  pub decided : (W : Type 0) (old : List (Both S)) (stands : Bool) → (IsTrue stands ↔ W) → LeavesSame eq W old old stands
   decided W old stands h = (λ t. (t.1, h.0 t.0), λ w. (h.1 w.1, w.0))
 
-  pub fails : (W : Type 0) (old new : List (Both S)) → (W → ⊥) → Leaves eq W old new false
+  pub fails : (W : Type 0) (old new : List (Both S)) → (W → ⊥) → LeavesSame eq W old new false
   fails W old new differs = (λ t. absurd (false≢true t.0), λ w. absurd (differs w.1))
 
-  pub leaves_as : (V W : Type 0) (old new : List (Both S)) (stands : Bool) → (V → W) → (W → V) → Leaves eq V old new stands → Leaves eq W old new stands
+  pub leaves_as : (V W : Type 0) (old new : List (Both S)) (stands : Bool) → (V → W) → (W → V) → LeavesSame eq V old new stands → LeavesSame eq W old new stands
   leaves_as V W old new stands there back h = (λ t. let was = h.0 t in (was.0, there was.1), λ w. h.1 (w.0, back w.1))
 
   -- two values that waited were compared
   pub compared :
-      (W : Type 0) (was rest new : List (Both S)) (both : Both S) (stands : Bool) → was ≡ rest ++ both ∷ [] → Leaves eq (AreSame both) rest new stands → (AllSame eq was ↔ W)
+      (W : Type 0) (was rest new : List (Both S)) (both : Both S) (stands : Bool) → was ≡ rest ++ both ∷ [] → LeavesSame eq (AreSame both) rest new stands → (AllSame eq was ↔ W)
       → ((IsTrue stands × AllSame eq new) ↔ W)
   compared W was rest new both stands is h before = (
     λ t. let both_of = h.0 t in before.0 (all_with rest was both is both_of.0 both_of.1),
@@ -65,7 +65,7 @@ module _ {S : Type 0} (eq : S → S → Bool) where
     λ w. all_with mid new both is (h.1 w) (back w.1),
   )
 
-  pub all_wait : (V W : Type 0) (old new : List (Both S)) → (V → W) → SoFar V W old new → Leaves eq W old new true
+  pub all_wait : (V W : Type 0) (old new : List (Both S)) → (V → W) → SoFar V W old new → LeavesSame eq W old new true
   all_wait V W old new there h = (λ t. let before = h.0 t.1 in (before.0, there before.1), λ w. (refl, h.1 w))
 
   -- the first parts of two lists are the same, place by place

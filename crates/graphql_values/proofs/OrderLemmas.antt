@@ -4,7 +4,7 @@ use Rattle.std.proofs.lemmas.List.{length-map, get_or-map}
 use Rattle.graphql_text.specs.declared.text.Text.{Text}
 use Rattle.graphql_values.specs.declared.input_value.InputValue.{InputValue}
 use Rattle.graphql_values.specs.InputValues.{Placed, Pair}
-use Rattle.graphql_values.specs.SameValue.{SameItems, SameFields, names, under, no_items, more_items}
+use Rattle.graphql_values.specs.SameValue.{SameItems, SameFields, names, values_named, no_items, more_items}
 use Rattle.graphql_values.proofs.UnderLemmas.{by_its_name, under_named, under_other}
 use Rattle.graphql_values.proofs.SameValueLemmas.{Same, items_from, items_length, items_at}
 
@@ -42,22 +42,22 @@ module _ {S : Type 0} (eq : S → S → Bool) where
   -- with a field more on either side, of one name
   both_more : (p q : Pair (InputValue S)) (ps qs : List (Pair (InputValue S))) → p.0.item ≡ q.0.item → Same eq p.1.item q.1.item → SameFields S eq ps qs → SameFields S eq (p ∷ ps) (q ∷ qs)
   both_more p q ps qs same here rest name = by_its_name p name
-      (λ named. subst (λ xs. SameItems S eq xs (under name (q ∷ qs))) (sym (under_named name p ps named))
-      (subst (SameItems S eq (p.1 ∷ under name ps)) (sym (under_named name q qs (sym same ∙ named))) (more_items p.1 q.1 (under name ps) (under name qs) here (rest name))))
-      (λ differs. subst (λ xs. SameItems S eq xs (under name (q ∷ qs))) (sym (under_other name p ps differs))
-      (subst (SameItems S eq (under name ps)) (sym (under_other name q qs (λ named. differs (same ∙ named)))) (rest name)))
+      (λ named. subst (λ xs. SameItems S eq xs (values_named name (q ∷ qs))) (sym (under_named name p ps named))
+      (subst (SameItems S eq (p.1 ∷ values_named name ps)) (sym (under_named name q qs (sym same ∙ named))) (more_items p.1 q.1 (values_named name ps) (values_named name qs) here (rest name))))
+      (λ differs. subst (λ xs. SameItems S eq xs (values_named name (q ∷ qs))) (sym (under_other name p ps differs))
+      (subst (SameItems S eq (values_named name ps)) (sym (under_other name q qs (λ named. differs (same ∙ named)))) (rest name)))
 
   items_rest : (x y : Placed (InputValue S)) (xs ys : List (Placed (InputValue S))) → SameItems S eq (x ∷ xs) (y ∷ ys) → SameItems S eq xs ys
   items_rest x y xs ys same = items_from eq xs ys (omega (arith, items_length eq (x ∷ xs) (y ∷ ys) same)) (λ k a b within. items_at eq (x ∷ xs) (y ∷ ys) same (suc k) a b (omega (arith, within)))
 
-  under_first : (p q : Pair (InputValue S)) (ps qs : List (Pair (InputValue S))) (name : Text) → p.0.item ≡ name → q.0.item ≡ name → SameFields S eq (p ∷ ps) (q ∷ qs) → SameItems S eq (p.1 ∷ under name ps) (q.1 ∷ under name qs)
+  under_first : (p q : Pair (InputValue S)) (ps qs : List (Pair (InputValue S))) (name : Text) → p.0.item ≡ name → q.0.item ≡ name → SameFields S eq (p ∷ ps) (q ∷ qs) → SameItems S eq (p.1 ∷ values_named name ps) (q.1 ∷ values_named name qs)
   under_first p q ps qs name named other same =
-      subst (λ xs. SameItems S eq xs (q.1 ∷ under name qs)) (under_named name p ps named) (subst (SameItems S eq (under name (p ∷ ps))) (under_named name q qs other) (same name))
+      subst (λ xs. SameItems S eq xs (q.1 ∷ values_named name qs)) (under_named name p ps named) (subst (SameItems S eq (values_named name (p ∷ ps))) (under_named name q qs other) (same name))
 
   pub both_less : (p q : Pair (InputValue S)) (ps qs : List (Pair (InputValue S))) → p.0.item ≡ q.0.item → SameFields S eq (p ∷ ps) (q ∷ qs) → SameFields S eq ps qs
   both_less p q ps qs alike same name = by_its_name p name
-      (λ named. items_rest p.1 q.1 (under name ps) (under name qs) (under_first p q ps qs name named (sym alike ∙ named) same))
-      (λ differs. subst (λ xs. SameItems S eq xs (under name qs)) (under_other name p ps differs) (subst (SameItems S eq (under name (p ∷ ps))) (under_other name q qs (λ named. differs (alike ∙ named))) (same name)))
+      (λ named. items_rest p.1 q.1 (values_named name ps) (values_named name qs) (under_first p q ps qs name named (sym alike ∙ named) same))
+      (λ differs. subst (λ xs. SameItems S eq xs (values_named name qs)) (under_other name p ps differs) (subst (SameItems S eq (values_named name (p ∷ ps))) (under_other name q qs (λ named. differs (alike ∙ named))) (same name)))
 
   pub fields_from : (ps qs : List (Pair (InputValue S))) → names ps ≡ names qs → PlaceByPlace ps qs → SameFields S eq ps qs
   fields_from [] [] alike each = λ name. no_items
@@ -68,7 +68,7 @@ module _ {S : Type 0} (eq : S → S → Bool) where
   fields_at_places : (ps qs : List (Pair (InputValue S))) → names ps ≡ names qs → SameFields S eq ps qs → PlaceByPlace ps qs
   fields_at_places [] qs alike same k x y within = absurd (omega (arith, within))
   fields_at_places (p ∷ ps) [] alike same k x y within = absurd (omega (arith, names_length (p ∷ ps) [] alike))
-  fields_at_places (p ∷ ps) (q ∷ qs) alike same zero x y within = items_at eq (p.1 ∷ under p.0.item ps) (q.1 ∷ under p.0.item qs) (under_first p q ps qs p.0.item refl (sym (names_at (p ∷ ps) (q ∷ qs) alike 0 p q (omega arith))) same) 0 p.1 q.1 (omega arith)
+  fields_at_places (p ∷ ps) (q ∷ qs) alike same zero x y within = items_at eq (p.1 ∷ values_named p.0.item ps) (q.1 ∷ values_named p.0.item qs) (under_first p q ps qs p.0.item refl (sym (names_at (p ∷ ps) (q ∷ qs) alike 0 p q (omega arith))) same) 0 p.1 q.1 (omega arith)
   fields_at_places (p ∷ ps) (q ∷ qs) alike same (suc k) x y within = fields_at_places ps qs (names_rest p q ps qs alike) (both_less p q ps qs (names_at (p ∷ ps) (q ∷ qs) alike 0 p q (omega arith)) same) k x y (omega (arith, within))
 
   -- the values that stand at one place

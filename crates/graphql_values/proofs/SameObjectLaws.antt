@@ -6,7 +6,7 @@ use Rattle.graphql_values.specs.declared.input_value.InputValue.{InputValue}
 use Rattle.graphql_values.specs.declared.input_value.InputValue.TheVariants as value
 use Rattle.graphql_values.specs.InputValues.{Placed, Pair}
 use Rattle.graphql_values.specs.Laws.{SameByUniqueNames}
-use Rattle.graphql_values.specs.SameValue.{SameFields, UniqueNames, under, same_object}
+use Rattle.graphql_values.specs.SameValue.{SameFields, UniqueNames, values_named, same_object}
 use Rattle.graphql_values.proofs.UnderLemmas.{by_its_name, under_named, under_other}
 use Rattle.graphql_values.proofs.SameValueLemmas.{Same, AllLead, Leads, level_of, get_or_any, fields_length, fields_fit, fields_at}
 
@@ -22,7 +22,7 @@ module _ {A : Type 0} where
     abbrev HasAt : List (Placed A) → ℕ → Type 0
     HasAt xs n = MatchOption (slice_get xs n) ⊥ P
 
-    in_a_field : (qs : List (Pair A)) (n : ℕ) → HasAt (under name qs) n → Any IsIn qs
+    in_a_field : (qs : List (Pair A)) (n : ℕ) → HasAt (values_named name qs) n → Any IsIn qs
     in_a_field [] n has = absurd has
     in_a_field (q ∷ qs) zero has = by_its_name q name
         (λ named. (0, q, omega arith, refl, (sym named, subst (λ xs. HasAt xs 0) (under_named name q qs named) has)))
@@ -31,15 +31,15 @@ module _ {A : Type 0} where
         (λ named. further IsIn q qs (in_a_field qs n (subst (λ xs. HasAt xs (suc n)) (under_named name q qs named) has)))
         (λ differs. further IsIn q qs (in_a_field qs (suc n) (subst (λ xs. HasAt xs (suc n)) (under_other name q qs differs) has)))
 
-  none_under : (name : Text) (ps : List (Pair A)) → All (λ p. p.0.item ≢ name) ps → under name ps ≡ []
+  none_under : (name : Text) (ps : List (Pair A)) → All (λ p. p.0.item ≢ name) ps → values_named name ps ≡ []
   none_under name [] each = refl
   none_under name (p ∷ ps) each = under_other name p ps (each 0 p (omega arith)) ∙ none_under name ps (λ k d within. each (suc k) d (omega (arith, within)))
 
   -- a field's value stands alone under its name
-  alone : (ps : List (Pair A)) → UniqueNames ps → (k : ℕ) (p : Pair A) → k < length ps → get_or ps k p ≡ p → under p.0.item ps ≡ p.1 ∷ []
+  alone : (ps : List (Pair A)) → UniqueNames ps → (k : ℕ) (p : Pair A) → k < length ps → get_or ps k p ≡ p → values_named p.0.item ps ≡ p.1 ∷ []
   alone [] unique k p within is = absurd (omega (arith, within))
   alone (q ∷ ps) unique zero p within is =
-      ap (λ z. under p.0.item (z ∷ ps)) is ∙ under_named p.0.item p ps refl
+      ap (λ z. values_named p.0.item (z ∷ ps)) is ∙ under_named p.0.item p ps refl
       ∙ ap (λ xs. p.1 ∷ xs) (none_under p.0.item ps (λ k d inside named. unique 0 (suc k) d (omega arith) (omega (arith, inside)) (ap (λ z. z.0.item) is ∙ sym named)))
   alone (q ∷ ps) unique (suc k) p within is =
       under_other p.0.item q ps (λ named. unique 0 (suc k) p (omega arith) (omega (arith, within)) (named ∙ ap (λ z. z.0.item) (sym is)))
@@ -54,10 +54,10 @@ module _ {S : Type 0} (eq : S → S → Bool) where
   lead_alone (p ∷ ps) qs unique others each name = by_its_name p name
       (λ named.
       let like : Any (IsLike p) qs = each 0 p (omega arith) in
-      let here : under name (p ∷ ps) ≡ p.1 ∷ [] = ap (λ n. under n (p ∷ ps)) (sym named) ∙ alone (p ∷ ps) unique 0 p (omega arith) refl in
-      let there : under name qs ≡ like.1.1 ∷ [] = ap (λ n. under n qs) (sym named ∙ like.4.0) ∙ alone qs others like.0 like.1 like.2 like.3 in
-      subst (λ xs. Leads eq xs (under name qs)) (sym here) (subst (Leads eq (p.1 ∷ [])) (sym there) (like.4.1, tt)))
-      (λ differs. subst (λ xs. Leads eq xs (under name qs)) (sym (under_other name p ps differs))
+      let here : values_named name (p ∷ ps) ≡ p.1 ∷ [] = ap (λ n. values_named n (p ∷ ps)) (sym named) ∙ alone (p ∷ ps) unique 0 p (omega arith) refl in
+      let there : values_named name qs ≡ like.1.1 ∷ [] = ap (λ n. values_named n qs) (sym named ∙ like.4.0) ∙ alone qs others like.0 like.1 like.2 like.3 in
+      subst (λ xs. Leads eq xs (values_named name qs)) (sym here) (subst (Leads eq (p.1 ∷ [])) (sym there) (like.4.1, tt)))
+      (λ differs. subst (λ xs. Leads eq xs (values_named name qs)) (sym (under_other name p ps differs))
       (lead_alone ps qs (λ i j d before inside. unique (suc i) (suc j) d (omega (arith, before)) (omega (arith, inside))) others (λ k d within. each (suc k) d (omega (arith, within))) name))
 
   likes_of : (ps qs : List (Pair (InputValue S))) → SameFields S eq ps qs → All (λ p. Any (IsLike p) qs) ps

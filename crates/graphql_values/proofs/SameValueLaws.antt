@@ -7,7 +7,7 @@ use Rattle.graphql_values.specs.declared.input_value.InputValue.TheOpen.{InputVa
 use Rattle.graphql_values.specs.declared.input_value.InputValue.TheVariants as value
 use Rattle.graphql_values.specs.InputValues.{Placed, Pair}
 use Rattle.graphql_values.specs.Laws.{SameAsItself, SameEitherWay, SameByAThird}
-use Rattle.graphql_values.specs.SameValue.{SameItems, SameFields, under, same_null, same_scalar, same_enum, same_variable, same_list, same_object, no_items, more_items}
+use Rattle.graphql_values.specs.SameValue.{SameItems, SameFields, values_named, same_null, same_scalar, same_enum, same_variable, same_list, same_object, no_items, more_items}
 use Rattle.graphql_values.proofs.InputValueInduction.{value_ind, HoldsOfItems, HoldsOfPairs}
 use Rattle.graphql_values.proofs.UnderLemmas.{under_holds}
 use Rattle.graphql_values.proofs.SameValueLemmas.{Same, Level, null_level, level_of, same_at, get_or_any, items_from, items_length, items_at}
@@ -17,7 +17,7 @@ module _ {S : Type 0} (eq : S → S → Bool) (laws : IsEquivalence eq) where
   itself_items xs each = items_from eq xs xs refl (λ k x y within. subst (λ z. Same eq (get_or xs k x).item z.item) (get_or_any xs k x y within) (each k x within))
 
   itself_pairs : (ps : List (Pair (InputValue S))) → HoldsOfPairs (λ a. Same eq a a) ps → Same eq (value.Object ps) (value.Object ps)
-  itself_pairs ps each = same_object ps ps (λ name. itself_items (under name ps) (under_holds (λ x. Same eq x.item x.item) name ps each))
+  itself_pairs ps each = same_object ps ps (λ name. itself_items (values_named name ps) (under_holds (λ x. Same eq x.item x.item) name ps each))
 
   pub same_as_itself : SameAsItself eq
   same_as_itself = value_ind (λ a. Same eq a a) same_null (λ s. same_scalar s s (laws.refl s)) same_enum same_variable (λ xs each. same_list xs xs (itself_items xs each)) itself_pairs
@@ -29,7 +29,7 @@ module _ {S : Type 0} (eq : S → S → Bool) (laws : IsEquivalence eq) where
     either_way _ _ (same_enum n) = same_enum n
     either_way _ _ (same_variable n) = same_variable n
     either_way _ _ (same_list xs ys h) = same_list ys xs (either_items xs ys h)
-    either_way _ _ (same_object ps qs h) = same_object qs ps (λ name. either_items (under name ps) (under name qs) (h name))
+    either_way _ _ (same_object ps qs h) = same_object qs ps (λ name. either_items (values_named name ps) (values_named name qs) (h name))
 
     either_items : (xs ys : List (Placed (InputValue S))) → SameItems S eq xs ys → SameItems S eq ys xs
     either_items _ _ no_items = no_items
@@ -134,7 +134,7 @@ module _ {S : Type 0} (eq : S → S → Bool) (laws : IsEquivalence eq) where
   by_object ps each b c s t =
       let v = same_as_object ps b s in
       let w = same_as_object v.0 c (subst (λ z. Same eq z c) v.1 t) in
-      same_at eq _ c _ _ refl w.1 (same_object ps w.0 (λ name. items_pass (under name ps) (under name v.0) (under name w.0) (under_holds (λ x. Passes x.item) name ps each) (v.2 name) (w.2 name)))
+      same_at eq _ c _ _ refl w.1 (same_object ps w.0 (λ name. items_pass (values_named name ps) (values_named name v.0) (values_named name w.0) (under_holds (λ x. Passes x.item) name ps each) (v.2 name) (w.2 name)))
 
   null_same : (b : InputValue S) → Same eq value.Null b → b ≡ value.Null
   null_same b s = rolled b _ (null_level eq (out-InputValue S b) (level_of eq value.Null b _ _ value.outs-Null refl s)) ∙ value.rolls-Null

@@ -6,7 +6,7 @@ use Rattle.graphql_values.specs.declared.input_value.InputValue.{InputValue, out
 use Rattle.graphql_values.specs.declared.input_value.InputValue.TheOpen.{InputValue-F}
 use Rattle.graphql_values.specs.declared.input_value.InputValue.TheVariants as value
 use Rattle.graphql_values.specs.InputValues.{Placed, Pair}
-use Rattle.graphql_values.specs.SameValue.{SameValue, SameItems, SameFields, under, same_null, same_scalar, same_enum, same_variable, same_list, same_object, no_items, more_items}
+use Rattle.graphql_values.specs.SameValue.{SameValue, SameItems, SameFields, values_named, same_null, same_scalar, same_enum, same_variable, same_list, same_object, no_items, more_items}
 use Rattle.graphql_values.proofs.UnderLemmas.{around, counted}
 
 -- ---- facts about lists
@@ -82,7 +82,7 @@ module _ {S : Type 0} (eq : S → S → Bool) where
   -- ---- fields, name by name
 
   abbrev pub AllLead : List (Pair (InputValue S)) → List (Pair (InputValue S)) → Type 0
-  AllLead ps qs = (name : Text) → Leads (under name ps) (under name qs)
+  AllLead ps qs = (name : Text) → Leads (values_named name ps) (values_named name qs)
 
   pub fields_length : (ps qs : List (Pair (InputValue S))) → SameFields S eq ps qs → length ps ≡ length qs
   fields_length ps qs same =
@@ -93,14 +93,14 @@ module _ {S : Type 0} (eq : S → S → Bool) where
   pub fields_fit : (ps qs : List (Pair (InputValue S))) → length ps ≡ length qs → AllLead ps qs → SameFields S eq ps qs
   fields_fit ps qs e lead name = leads_same _ _ (lead name) ((counted ps qs (λ n. leads_length _ _ (lead n))).1 e name)
 
-  module _ (ps fs qs : List (Pair (InputValue S))) (fields : fs ≡ ps) (k : ℕ) (p : Pair (InputValue S)) (within : k < length fs) (is : p ≡ get_or fs k p) (rank : ℕ) (ranks : rank ≡ length (under p.0.item (take k fs))) where
+  module _ (ps fs qs : List (Pair (InputValue S))) (fields : fs ≡ ps) (k : ℕ) (p : Pair (InputValue S)) (within : k < length fs) (is : p ≡ get_or fs k p) (rank : ℕ) (ranks : rank ≡ length (values_named p.0.item (take k fs))) where
     abbrev HasLike : ℕ → Type 0
-    HasLike n = IsRanked (slice_get (under p.0.item qs) n) p.1.item
+    HasLike n = IsRanked (slice_get (values_named p.0.item qs) n) p.1.item
 
     -- the field at a place has its like, of the same name and rank
     pub fields_at : SameFields S eq ps qs → HasLike rank
-    fields_at same = subst HasLike (sym ranks) (leads_at (under p.0.item (take k fs)) (under p.0.item (drop (k + 1) fs)) (under p.0.item qs) p.1
-        (subst (λ xs. Leads xs (under p.0.item qs)) (around fs k p within is) (items_lead _ _ (subst (λ zs. SameFields S eq zs qs) (sym fields) same p.0.item))))
+    fields_at same = subst HasLike (sym ranks) (leads_at (values_named p.0.item (take k fs)) (values_named p.0.item (drop (k + 1) fs)) (values_named p.0.item qs) p.1
+        (subst (λ xs. Leads xs (values_named p.0.item qs)) (around fs k p within is) (items_lead _ _ (subst (λ zs. SameFields S eq zs qs) (sym fields) same p.0.item))))
 
   -- ---- the forms of the two values
 

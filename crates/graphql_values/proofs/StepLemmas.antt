@@ -12,7 +12,7 @@ use Rattle.graphql_values.specs.declared.input_value.InputValue.TheVariants as v
 use Rattle.graphql_values.specs.InputValues.{Placed, Pair}
 use Rattle.graphql_values.specs.InputValueText.{layer_text, input_value_text, item_text, field_text, step_text}
 use Rattle.graphql_values.specs.Steps.{Step, Variable, ListOpens, ListCloses, ObjectOpens, ObjectCloses, Gap, item_steps, field_steps, steps_layer, steps, items_steps, fields_steps}
-use Rattle.graphql_values.specs.Variables.{variables_in, variables_layer}
+use Rattle.graphql_values.specs.Variables.{names_of_variables, variables_layer}
 use Rattle.graphql_values.proofs.InputValueEquations.{on_item, on_value, fold_null, fold_scalar, fold_enum, fold_variable, fold_list, fold_object}
 use Rattle.graphql_values.proofs.InputValueInduction.{value_ind}
 use Rattle.graphql_values.proofs.InputValueTextLemmas.{input_value_text-list, input_value_text-object}
@@ -76,7 +76,7 @@ module _ {S : Type 0} where
   variables = flat_map told_variables
 
   abbrev TellsVariables : InputValue S → Type 0
-  TellsVariables v = variables (steps v) ≡ variables_in v
+  TellsVariables v = variables (steps v) ≡ names_of_variables v
 
   parts_tell :
       {X : Type 0} (part_steps : X → List (Step S)) (names_in : X → List Text) (end : Step S) (xs : List X) → told_variables end ≡ [] → All (λ x. variables (part_steps x) ≡ names_in x) xs
@@ -90,11 +90,11 @@ module _ {S : Type 0} where
       ∙ joined_bare names_in xs
 
   -- the variables that a value's steps tell are those that stand in it
-  pub steps_tell_variables : (v : InputValue S) → variables (steps v) ≡ variables_in v
+  pub steps_tell_variables : (v : InputValue S) → variables (steps v) ≡ names_of_variables v
   steps_tell_variables = value_ind TellsVariables
       (ap variables (fold_null steps_layer) ∙ sym (fold_null variables_layer))
       (λ s. ap variables (fold_scalar steps_layer s) ∙ sym (fold_scalar variables_layer s))
       (λ n. ap variables (fold_enum steps_layer n) ∙ sym (fold_enum variables_layer n))
       (λ n. ap variables (fold_variable steps_layer n) ∙ sym (fold_variable variables_layer n))
-      (λ xs are. ap variables (steps-list xs) ∙ parts_tell (item_steps steps) (λ x. variables_in x.item) ListCloses xs refl are ∙ sym (variables_in_list xs))
-      (λ ps are. ap variables (steps-object ps) ∙ parts_tell (field_steps steps) (λ p. variables_in p.1.item) ObjectCloses ps refl are ∙ sym (variables_in_object ps))
+      (λ xs are. ap variables (steps-list xs) ∙ parts_tell (item_steps steps) (λ x. names_of_variables x.item) ListCloses xs refl are ∙ sym (variables_in_list xs))
+      (λ ps are. ap variables (steps-object ps) ∙ parts_tell (field_steps steps) (λ p. names_of_variables p.1.item) ObjectCloses ps refl are ∙ sym (variables_in_object ps))

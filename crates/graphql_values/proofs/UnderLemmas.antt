@@ -9,7 +9,7 @@ use Rattle.std.proofs.lemmas.List.Sums.{length-filter, count_by-le-length}
 use Rattle.std.proofs.lemmas.Slice.Eq.{bytes_eq-Decides}
 use Rattle.graphql_text.specs.declared.text.Text.{Text}
 use Rattle.graphql_values.specs.InputValues.{Placed, Pair}
-use Rattle.graphql_values.specs.SameValue.{under}
+use Rattle.graphql_values.specs.SameValue.{values_named}
 
 decided : {P C : Type 0} (b : Bool) → Decides b P → (P → C) → ((P → ⊥) → C) → C
 decided true d when otherwise = when (d.0 refl)
@@ -17,7 +17,7 @@ decided false d when otherwise = otherwise (λ is. false≢true (d.1 is))
 
 module _ {A : Type 0} where
   abbrev pub count : Text → List (Pair A) → ℕ
-  count name ps = length (under name ps)
+  count name ps = length (values_named name ps)
 
   -- a field has the name, or it has another
   pub by_its_name : {C : Type 0} (p : Pair A) (name : Text) → (p.0.item ≡ name → C) → (p.0.item ≢ name → C) → C
@@ -26,21 +26,21 @@ module _ {A : Type 0} where
   abbrev first_if : Bool → Text → Pair A → List (Pair A) → List (Placed A)
   first_if b name p ps = map (λ q. q.1) (cond b (p ∷ filter (λ q. bytes_eq q.0.item name) ps) (filter (λ q. bytes_eq q.0.item name) ps))
 
-  pub under_named : (name : Text) (p : Pair A) (ps : List (Pair A)) → p.0.item ≡ name → under name (p ∷ ps) ≡ p.1 ∷ under name ps
+  pub under_named : (name : Text) (p : Pair A) (ps : List (Pair A)) → p.0.item ≡ name → values_named name (p ∷ ps) ≡ p.1 ∷ values_named name ps
   under_named name p ps named = ap (λ b. first_if b name p ps) ((bytes_eq-Decides p.0.item name).1 named)
 
-  other_name : (b : Bool) (name : Text) (p : Pair A) (ps : List (Pair A)) → Decides b (p.0.item ≡ name) → p.0.item ≢ name → first_if b name p ps ≡ under name ps
+  other_name : (b : Bool) (name : Text) (p : Pair A) (ps : List (Pair A)) → Decides b (p.0.item ≡ name) → p.0.item ≢ name → first_if b name p ps ≡ values_named name ps
   other_name true name p ps d differs = absurd (differs (d.0 refl))
   other_name false name p ps d differs = refl
 
-  pub under_other : (name : Text) (p : Pair A) (ps : List (Pair A)) → p.0.item ≢ name → under name (p ∷ ps) ≡ under name ps
+  pub under_other : (name : Text) (p : Pair A) (ps : List (Pair A)) → p.0.item ≢ name → values_named name (p ∷ ps) ≡ values_named name ps
   under_other name p ps = other_name (bytes_eq p.0.item name) name p ps (bytes_eq-Decides p.0.item name)
 
-  under_append : (name : Text) (ps qs : List (Pair A)) → under name (ps ++ qs) ≡ under name ps ++ under name qs
+  under_append : (name : Text) (ps qs : List (Pair A)) → values_named name (ps ++ qs) ≡ values_named name ps ++ values_named name qs
   under_append name ps qs = ap (map (λ p. p.1)) (filter-append (λ p. bytes_eq p.0.item name) ps qs) ∙ map-append (λ p. p.1) (filter (λ p. bytes_eq p.0.item name) ps) (filter (λ p. bytes_eq p.0.item name) qs)
 
   -- what holds of each field's value holds of each that stands under a name
-  pub under_holds : (P : Placed A → Type 0) (name : Text) (ps : List (Pair A)) → All (λ p. P p.1) ps → All P (under name ps)
+  pub under_holds : (P : Placed A → Type 0) (name : Text) (ps : List (Pair A)) → All (λ p. P p.1) ps → All P (values_named name ps)
   under_holds P name ps each = All-map P (λ p. p.1) (filter (λ p. bytes_eq p.0.item name) ps) (All-filter (λ p. bytes_eq p.0.item name) (λ p. P p.1) ps each)
 
   -- ---- the fields before and after a place
@@ -50,11 +50,11 @@ module _ {A : Type 0} where
     drop_here = drop_more ps k p within ∙ ap (λ q. q ∷ drop (k + 1) ps) (sym is)
 
     -- from the field at a place on
-    left_named : (name : Text) → p.0.item ≡ name → under name (drop k ps) ≡ p.1 ∷ under name (drop (k + 1) ps)
-    left_named name named = ap (under name) drop_here ∙ under_named name p (drop (k + 1) ps) named
+    left_named : (name : Text) → p.0.item ≡ name → values_named name (drop k ps) ≡ p.1 ∷ values_named name (drop (k + 1) ps)
+    left_named name named = ap (values_named name) drop_here ∙ under_named name p (drop (k + 1) ps) named
 
-    pub around : under p.0.item ps ≡ under p.0.item (take k ps) ++ p.1 ∷ under p.0.item (drop (k + 1) ps)
-    around = ap (under p.0.item) (sym (take-append-drop k ps)) ∙ under_append p.0.item (take k ps) (drop k ps) ∙ ap (λ xs. under p.0.item (take k ps) ++ xs) (left_named p.0.item refl)
+    pub around : values_named p.0.item ps ≡ values_named p.0.item (take k ps) ++ p.1 ∷ values_named p.0.item (drop (k + 1) ps)
+    around = ap (values_named p.0.item) (sym (take-append-drop k ps)) ∙ under_append p.0.item (take k ps) (drop k ps) ∙ ap (λ xs. values_named p.0.item (take k ps) ++ xs) (left_named p.0.item refl)
 
   -- ---- how many
 
@@ -64,7 +64,7 @@ module _ {A : Type 0} where
       omega (arith, same, length-filter (λ (p : Pair A). bytes_eq p.0.item name) ps, count_by-le-length (λ (p : Pair A). bytes_eq p.0.item name) ps)
 
   count_append : (name : Text) (ps qs : List (Pair A)) → count name (ps ++ qs) ≡ count name ps + count name qs
-  count_append name ps qs = ap length (under_append name ps qs) ∙ length-append (under name ps) (under name qs)
+  count_append name ps qs = ap length (under_append name ps qs) ∙ length-append (values_named name ps) (values_named name qs)
 
   -- fields of one name count alike
   count_one : (name : Text) (p q : Pair A) → q.0.item ≡ p.0.item → count name (p ∷ []) ≡ count name (q ∷ [])

@@ -3,7 +3,7 @@ use Rattle.std.proofs.Common.{◌≡◌, ◌↔◌, refl, sym, ◌∙◌, ap, su
 use Rattle.std.specs.List.{flat_map}
 use Rattle.graphql_values.specs.declared.input_value.InputValue.{InputValue}
 use Rattle.graphql_values.specs.InputValues.{Placed, Pair, unlocated, unlocated_layer}
-use Rattle.graphql_values.specs.Variables.{IsConstant, variables_in}
+use Rattle.graphql_values.specs.Variables.{IsConstant, names_of_variables}
 use Rattle.graphql_values.proofs.InputValueEquations.{fold_null, fold_scalar, fold_enum, fold_variable, unlocated_list, unlocated_object}
 use Rattle.graphql_values.proofs.InputValueInduction.{value_ind, HoldsOfItems, HoldsOfPairs}
 use Rattle.graphql_values.proofs.SamePlaces.{unlocated_item, unlocated_pair}
@@ -12,27 +12,27 @@ use Rattle.graphql_values.proofs.VariableLemmas.{variables_in_list, variables_in
 
 module _ {S : Type 0} where
   abbrev SameVariables : InputValue S → Type 0
-  SameVariables v = variables_in (unlocated v) ≡ variables_in v
+  SameVariables v = names_of_variables (unlocated v) ≡ names_of_variables v
 
   of_items : (xs : List (Placed (InputValue S))) → HoldsOfItems SameVariables xs
-      → flat_map (λ x. variables_in x.item) (map unlocated_item xs) ≡ flat_map (λ x. variables_in x.item) xs
+      → flat_map (λ x. names_of_variables x.item) (map unlocated_item xs) ≡ flat_map (λ x. names_of_variables x.item) xs
   of_items [] each = refl
   of_items (x ∷ xs) each = λ i. each 0 x (omega arith) i ++ of_items xs (λ k d within. each (suc k) d (omega arith)) i
 
   of_pairs : (ps : List (Pair (InputValue S))) → HoldsOfPairs SameVariables ps
-      → flat_map (λ p. variables_in p.1.item) (map unlocated_pair ps) ≡ flat_map (λ p. variables_in p.1.item) ps
+      → flat_map (λ p. names_of_variables p.1.item) (map unlocated_pair ps) ≡ flat_map (λ p. names_of_variables p.1.item) ps
   of_pairs [] each = refl
   of_pairs (p ∷ ps) each = λ i. each 0 p (omega arith) i ++ of_pairs ps (λ k d within. each (suc k) d (omega arith)) i
 
-  pub same_variables : (v : InputValue S) → variables_in (unlocated v) ≡ variables_in v
+  pub same_variables : (v : InputValue S) → names_of_variables (unlocated v) ≡ names_of_variables v
   same_variables = value_ind SameVariables
-      (ap variables_in (fold_null unlocated_layer))
-      (λ s. ap variables_in (fold_scalar unlocated_layer s))
-      (λ n. ap variables_in (fold_enum unlocated_layer n))
-      (λ n. ap variables_in (fold_variable unlocated_layer n))
-      (λ xs each. ap variables_in (unlocated_list xs)
+      (ap names_of_variables (fold_null unlocated_layer))
+      (λ s. ap names_of_variables (fold_scalar unlocated_layer s))
+      (λ n. ap names_of_variables (fold_enum unlocated_layer n))
+      (λ n. ap names_of_variables (fold_variable unlocated_layer n))
+      (λ xs each. ap names_of_variables (unlocated_list xs)
       ∙ variables_in_list (map unlocated_item xs) ∙ of_items xs each ∙ sym (variables_in_list xs))
-      (λ ps each. ap variables_in (unlocated_object ps)
+      (λ ps each. ap names_of_variables (unlocated_object ps)
       ∙ variables_in_object (map unlocated_pair ps) ∙ of_pairs ps each ∙ sym (variables_in_object ps))
 
   -- no variable stands in a value exactly where none stands in it without its places

@@ -8,7 +8,7 @@ use Rattle.graphql_values.specs.declared.input_value.InputValue.{InputValue}
 use Rattle.graphql_values.specs.declared.input_value.InputValue.TheVariants as value
 use Rattle.graphql_values.specs.InputValues.{Placed, Pair}
 use Rattle.graphql_values.specs.Laws.{VariablesAreListed, NoneIsListed, ConstantsStay, NoVariableStays, OnlyMissingValuesFail}
-use Rattle.graphql_values.specs.Variables.{Occurs, itself, in_list, in_object, IsConstant, variables_in, variables_layer, each_given, constant_layer, constant_of, constant_item, constant_pair}
+use Rattle.graphql_values.specs.Variables.{Occurs, itself, in_list, in_object, IsConstant, names_of_variables, variables_layer, each_given, constant_layer, constant_of, constant_item, constant_pair}
 use Rattle.graphql_values.proofs.InputValueEquations.{fold_null, fold_scalar, fold_enum, fold_variable}
 use Rattle.graphql_values.proofs.InputValueInduction.{value_ind, HoldsOfItems, HoldsOfPairs}
 use Rattle.graphql_values.proofs.SameValueLemmas.{get_or_any}
@@ -97,27 +97,27 @@ empty_if (n ∷ ns) h = absurd (h n (0, omega arith, refl))
 
 module _ {S : Type 0} where
   items_variables : (xs : List (Placed (InputValue S))) → List Text
-  items_variables xs = flat_map (λ (x : Placed (InputValue S)). variables_in x.item) xs
+  items_variables xs = flat_map (λ (x : Placed (InputValue S)). names_of_variables x.item) xs
 
-  listed : (name : Text) (v : InputValue S) → Occurs S name v → Contains (variables_in v) name
+  listed : (name : Text) (v : InputValue S) → Occurs S name v → Contains (names_of_variables v) name
   listed name _ itself = subst (λ ns. Contains ns name) (sym (fold_variable variables_layer name)) (0, omega arith, refl)
   listed name _ (in_list xs x among o) =
-      subst (λ ns. Contains ns name) (sym (variables_in_list xs)) (among_all (λ (x : Placed (InputValue S)). variables_in x.item) name xs among.0 x among.1 among.2 (listed name x.item o))
+      subst (λ ns. Contains ns name) (sym (variables_in_list xs)) (among_all (λ (x : Placed (InputValue S)). names_of_variables x.item) name xs among.0 x among.1 among.2 (listed name x.item o))
   listed name _ (in_object ps p among o) =
-      subst (λ ns. Contains ns name) (sym (variables_in_object ps)) (among_all (λ (p : Pair (InputValue S)). variables_in p.1.item) name ps among.0 p among.1 among.2 (listed name p.1.item o))
+      subst (λ ns. Contains ns name) (sym (variables_in_object ps)) (among_all (λ (p : Pair (InputValue S)). names_of_variables p.1.item) name ps among.0 p among.1 among.2 (listed name p.1.item o))
 
   module _ (name : Text) where
     abbrev Stands : InputValue S → Type 0
-    Stands v = Contains (variables_in v) name → Occurs S name v
+    Stands v = Contains (names_of_variables v) name → Occurs S name v
 
     stands_in_list : (xs : List (Placed (InputValue S))) → HoldsOfItems Stands xs → Stands (value.List xs)
     stands_in_list xs each w =
-        let u : Any (λ (x : Placed (InputValue S)). Contains (variables_in x.item) name) xs = among_which (λ (x : Placed (InputValue S)). variables_in x.item) name xs (subst (λ ns. Contains ns name) (variables_in_list xs) w) in
+        let u : Any (λ (x : Placed (InputValue S)). Contains (names_of_variables x.item) name) xs = among_which (λ (x : Placed (InputValue S)). names_of_variables x.item) name xs (subst (λ ns. Contains ns name) (variables_in_list xs) w) in
         in_list xs u.1 (u.0, u.2, u.3) (subst (λ z. Stands z.item) u.3 (each u.0 u.1 u.2) u.4)
 
     stands_in_object : (ps : List (Pair (InputValue S))) → HoldsOfPairs Stands ps → Stands (value.Object ps)
     stands_in_object ps each w =
-        let u : Any (λ (p : Pair (InputValue S)). Contains (variables_in p.1.item) name) ps = among_which (λ (p : Pair (InputValue S)). variables_in p.1.item) name ps (subst (λ ns. Contains ns name) (variables_in_object ps) w) in
+        let u : Any (λ (p : Pair (InputValue S)). Contains (names_of_variables p.1.item) name) ps = among_which (λ (p : Pair (InputValue S)). names_of_variables p.1.item) name ps (subst (λ ns. Contains ns name) (variables_in_object ps) w) in
         in_object ps u.1 (u.0, u.2, u.3) (subst (λ z. Stands z.1.item) u.3 (each u.0 u.1 u.2) u.4)
 
     stands : (v : InputValue S) → Stands v
@@ -132,7 +132,7 @@ pub variables_are_listed : (S : Type 0) → VariablesAreListed S
 variables_are_listed S v name = (stands name v, listed name v)
 
 pub none_is_listed : (S : Type 0) → NoneIsListed S
-none_is_listed S v = (λ e name o. nothing_among name _ e (listed name v o), λ constant. empty_if (variables_in v) (λ name w. constant name (stands name v w)))
+none_is_listed S v = (λ e name o. nothing_among name _ e (listed name v o), λ constant. empty_if (names_of_variables v) (λ name w. constant name (stands name v w)))
 
 -- ---- what a value becomes
 
@@ -198,9 +198,9 @@ module _ {S : Type 0} (given : Text → Option (InputValue S)) (given_constant :
   Becomes v = (w : InputValue S) → constant_of given v ≡ Some w → IsConstant w
 
   abbrev without : InputValue S → Type 0
-  without w = variables_in w ≡ []
+  without w = names_of_variables w ≡ []
 
-  is_constant : (w : InputValue S) → variables_in w ≡ [] → IsConstant w
+  is_constant : (w : InputValue S) → names_of_variables w ≡ [] → IsConstant w
   is_constant w e = (none_is_listed S w).0 e
 
   inside : {A B : Type 0} (f : A → B) (o : Option A) (b : B) → option_map f o ≡ Some b → (R : Type 0) → ((a : A) → o ≡ Some a → f a ≡ b → R) → R
@@ -209,12 +209,12 @@ module _ {S : Type 0} (given : Text → Option (InputValue S)) (given_constant :
 
   constant_list : (ys : List (Placed (InputValue S))) → ((k : ℕ) (y : Placed (InputValue S)) → k < length ys → get_or ys k y ≡ y → IsConstant y.item) → IsConstant (value.List ys)
   constant_list ys each name o =
-      let u : Any (λ (y : Placed (InputValue S)). Contains (variables_in y.item) name) ys = among_which (λ (y : Placed (InputValue S)). variables_in y.item) name ys (subst (λ ns. Contains ns name) (variables_in_list ys) (listed name (value.List ys) o)) in
+      let u : Any (λ (y : Placed (InputValue S)). Contains (names_of_variables y.item) name) ys = among_which (λ (y : Placed (InputValue S)). names_of_variables y.item) name ys (subst (λ ns. Contains ns name) (variables_in_list ys) (listed name (value.List ys) o)) in
       each u.0 u.1 u.2 u.3 name (stands name u.1.item u.4)
 
   constant_object : (ps : List (Pair (InputValue S))) → ((k : ℕ) (p : Pair (InputValue S)) → k < length ps → get_or ps k p ≡ p → IsConstant p.1.item) → IsConstant (value.Object ps)
   constant_object ps each name o =
-      let u : Any (λ (p : Pair (InputValue S)). Contains (variables_in p.1.item) name) ps = among_which (λ (p : Pair (InputValue S)). variables_in p.1.item) name ps (subst (λ ns. Contains ns name) (variables_in_object ps) (listed name (value.Object ps) o)) in
+      let u : Any (λ (p : Pair (InputValue S)). Contains (names_of_variables p.1.item) name) ps = among_which (λ (p : Pair (InputValue S)). names_of_variables p.1.item) name ps (subst (λ ns. Contains ns name) (variables_in_object ps) (listed name (value.Object ps) o)) in
       each u.0 u.1 u.2 u.3 name (stands name u.1.1.item u.4)
 
   list_becomes_constant : (xs : List (Placed (InputValue S))) → HoldsOfItems Becomes xs → Becomes (value.List xs)
@@ -229,7 +229,7 @@ module _ {S : Type 0} (given : Text → Option (InputValue S)) (given_constant :
       inside (λ v. record { item = v; span = (get_or ps k d).1.span }) (constant_of given (get_or ps k d).1.item) x two (IsConstant q.1.item) (λ v one same.
       subst (λ z. IsConstant z.1.item) whole (subst (λ z. IsConstant z.item) same (each k d within v one))))) all)))
 
-  from_leaf : (v w : InputValue S) → constant_of given v ≡ Some v → variables_in v ≡ [] → constant_of given v ≡ Some w → IsConstant w
+  from_leaf : (v w : InputValue S) → constant_of given v ≡ Some v → names_of_variables v ≡ [] → constant_of given v ≡ Some w → IsConstant w
   from_leaf v w stays none e = subst IsConstant (same_Some v w (sym stays ∙ e)) (is_constant v none)
 
   becomes : (v : InputValue S) → Becomes v

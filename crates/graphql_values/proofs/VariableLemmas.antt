@@ -8,16 +8,16 @@ use Rattle.std.proofs.lemmas.List.Folds.{flat_map-map}
 use Rattle.graphql_values.specs.declared.input_value.InputValue.{InputValue}
 use Rattle.graphql_values.specs.declared.input_value.InputValue.TheVariants as value
 use Rattle.graphql_values.specs.InputValues.{Placed, Pair}
-use Rattle.graphql_values.specs.Variables.{variables_in, variables_layer, each_given, given_item, given_pair, constant_layer, constant_of, constant_item, constant_pair}
+use Rattle.graphql_values.specs.Variables.{names_of_variables, variables_layer, each_given, given_item, given_pair, constant_layer, constant_of, constant_item, constant_pair}
 use Rattle.graphql_values.proofs.InputValueEquations.{on_item, on_value, fold_list, fold_object}
 use Rattle.graphql_text.specs.declared.text.Text.{Text}
 
 module _ {S : Type 0} where
-  pub variables_in_list : (xs : List (Placed (InputValue S))) → variables_in (value.List xs) ≡ flat_map (λ (x : Placed (InputValue S)). variables_in x.item) xs
-  variables_in_list xs = fold_list variables_layer xs ∙ flat_map-map (λ x. x.item) (on_item variables_in) xs
+  pub variables_in_list : (xs : List (Placed (InputValue S))) → names_of_variables (value.List xs) ≡ flat_map (λ (x : Placed (InputValue S)). names_of_variables x.item) xs
+  variables_in_list xs = fold_list variables_layer xs ∙ flat_map-map (λ x. x.item) (on_item names_of_variables) xs
 
-  pub variables_in_object : (ps : List (Pair (InputValue S))) → variables_in (value.Object ps) ≡ flat_map (λ (p : Pair (InputValue S)). variables_in p.1.item) ps
-  variables_in_object ps = fold_object variables_layer ps ∙ flat_map-map (λ p. p.1.item) (on_value variables_in) ps
+  pub variables_in_object : (ps : List (Pair (InputValue S))) → names_of_variables (value.Object ps) ≡ flat_map (λ (p : Pair (InputValue S)). names_of_variables p.1.item) ps
+  variables_in_object ps = fold_object variables_layer ps ∙ flat_map-map (λ p. p.1.item) (on_value names_of_variables) ps
 
 each_given-map : {A B C : Type 0} (f : B → Option C) (g : A → B) (xs : List A) → each_given f (map g xs) ≡ each_given (λ x. f (g x)) xs
 each_given-map f g [] = refl

@@ -9,7 +9,7 @@ use Rattle.graphql_text.specs.declared.text.Text.{Text}
 use Rattle.graphql_values.specs.Counts.{value_count}
 use Rattle.graphql_values.specs.declared.input_value.InputValue.{InputValue}
 use Rattle.graphql_values.specs.InputValues.{Pair}
-use Rattle.graphql_values.specs.SameValue.{SameValue, under}
+use Rattle.graphql_values.specs.SameValue.{SameValue, values_named}
 
 -- what is lent
 abbrev pub lent : {A : Type 0} → List (Bor A) → List A
@@ -19,7 +19,7 @@ lent = map (λ part. part.now)
 abbrev pub IsByName : {A : Type 0} → List (Pair A) → List (Pair A) → Type 0
 IsByName fields sorted =
     IsPermutation fields sorted
-    × ((name : Text) → under name sorted ≡ under name fields)
+    × ((name : Text) → values_named name sorted ≡ values_named name fields)
     × IsSortedByKey (λ p. p.0.item) (slice_cmp nat_cmp) sorted
 
 -- two values that have to be the same
@@ -38,5 +38,5 @@ module _ {S : Type 0} (eq : S → S → Bool) where
 
   -- once something was compared: it stands, and what is left is the same, exactly where what was
   -- left is the same and `P` holds
-  abbrev pub Leaves : Type 0 → List (Both S) → List (Both S) → Bool → Type 0
-  Leaves P old new stands = (IsTrue stands × AllSame new) ↔ (AllSame old × P)
+  abbrev pub LeavesSame : Type 0 → List (Both S) → List (Both S) → Bool → Type 0
+  LeavesSame P old new stands = (IsTrue stands × AllSame new) ↔ (AllSame old × P)

@@ -6,7 +6,7 @@ use Rattle.graphql_values.specs.declared.input_value.InputValue.{InputValue}
 use Rattle.graphql_values.specs.declared.input_value.InputValue.TheVariants as value
 use Rattle.graphql_values.specs.InputValues.{Pair}
 use Rattle.graphql_values.specs.SameValue.{SameValue, UniqueNames}
-use Rattle.graphql_values.specs.Variables.{Occurs, IsConstant, variables_in, constant_of}
+use Rattle.graphql_values.specs.Variables.{Occurs, IsConstant, names_of_variables, constant_of}
 
 module _ {S : Type 0} (eq : S → S → Bool) where
   -- each value is the same as itself
@@ -35,11 +35,11 @@ module _ (S : Type 0) where
   -- a value's variables are listed: each that stands in it, and no other
   abbrev pub VariablesAreListed : Type 0
   VariablesAreListed =
-      (v : InputValue S) (name : Text) → Contains (variables_in v) name ↔ Occurs S name v
+      (v : InputValue S) (name : Text) → Contains (names_of_variables v) name ↔ Occurs S name v
 
   -- none is listed exactly where none stands in it
   abbrev pub NoneIsListed : Type 0
-  NoneIsListed = (v : InputValue S) → (variables_in v ≡ []) ↔ IsConstant v
+  NoneIsListed = (v : InputValue S) → (names_of_variables v ≡ []) ↔ IsConstant v
 
   -- a value without variables becomes itself, whatever values there are
   abbrev pub ConstantsStay : Type 0

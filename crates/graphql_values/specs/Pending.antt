@@ -18,17 +18,17 @@ pending does (t ∷ ts) = pending does ts ++ does t
 
 module _ {S : Type 0} where
   -- the step that is told
-  abbrev pub told : Step S → spec.Step S
-  told step.Null = spec.Null
-  told (step.Scalar scalar) = spec.Scalar scalar.now
-  told (step.Enum name) = spec.Enum name.now
-  told (step.Variable name) = spec.Variable name.now
-  told step.ListOpens = spec.ListOpens
-  told step.ListCloses = spec.ListCloses
-  told step.ObjectOpens = spec.ObjectOpens
-  told step.ObjectCloses = spec.ObjectCloses
-  told (step.Name name) = spec.Name name.now
-  told step.Gap = spec.Gap
+  abbrev pub told_step : Step S → spec.Step S
+  told_step step.Null = spec.Null
+  told_step (step.Scalar scalar) = spec.Scalar scalar.now
+  told_step (step.Enum name) = spec.Enum name.now
+  told_step (step.Variable name) = spec.Variable name.now
+  told_step step.ListOpens = spec.ListOpens
+  told_step step.ListCloses = spec.ListCloses
+  told_step step.ObjectOpens = spec.ObjectOpens
+  told_step step.ObjectCloses = spec.ObjectCloses
+  told_step (step.Name name) = spec.Name name.now
+  told_step step.Gap = spec.Gap
 
   -- the steps that a task stands for
   abbrev pub task_steps : Task S → List (spec.Step S)
@@ -42,8 +42,9 @@ module _ {S : Type 0} where
 
   -- the first of these steps is told, and the others are ahead
   abbrev pub Opens : List (spec.Step S) → Step S → List (Task S) → List (Task S) → Type 0
-  Opens these first old new = these ++ pending task_steps old ≡ told first ∷ pending task_steps new
+  Opens these first old new = these ++ pending task_steps old ≡ told_step first
+      ∷ pending task_steps new
 
   -- the steps that a walk has yet to tell
-  abbrev pub ahead : Walk S → List (spec.Step S)
-  ahead walk = pending task_steps walk.tasks
+  abbrev pub steps_ahead : Walk S → List (spec.Step S)
+  steps_ahead walk = pending task_steps walk.tasks

@@ -18,8 +18,8 @@ module _ {A : Type 0} where
   names = map (λ p. p.0.item)
 
   -- the values of the fields of a name, in order
-  abbrev pub under : Text → List (Pair A) → List (Placed A)
-  under name ps = map (λ p. p.1) (filter (λ p. bytes_eq p.0.item name) ps)
+  abbrev pub values_named : Text → List (Pair A) → List (Placed A)
+  values_named name ps = map (λ p. p.1) (filter (λ p. bytes_eq p.0.item name) ps)
 
 mutual
   -- two values are the same: of input objects by the names of their fields, in any order
@@ -32,7 +32,7 @@ mutual
         → SameValue S eq (value.List xs) (value.List ys)
     -- under each name the same values stand, in order
     same_object : (ps qs : List (Pair (InputValue S)))
-        → ((name : Text) → SameItems S eq (under name ps) (under name qs))
+        → ((name : Text) → SameItems S eq (values_named name ps) (values_named name qs))
         → SameValue S eq (value.Object ps) (value.Object qs)
 
   -- item by item
@@ -46,4 +46,4 @@ mutual
 -- fields of which the same values stand under each name, in order
 abbrev pub SameFields : (S : Type 0) → (S → S → Bool) → List (Pair (InputValue S))
     → List (Pair (InputValue S)) → Type 0
-SameFields S eq ps qs = (name : Text) → SameItems S eq (under name ps) (under name qs)
+SameFields S eq ps qs = (name : Text) → SameItems S eq (values_named name ps) (values_named name qs)

@@ -43,8 +43,8 @@ module _ {S : Type 0} where
   variables_layer _ = []
 
   -- the names of a value's variables from left to right, each as often as it stands there
-  abbrev pub variables_in : InputValue S → List Text
-  variables_in = fold-InputValue S (List Text) variables_layer
+  abbrev pub names_of_variables : InputValue S → List Text
+  names_of_variables = fold-InputValue S (List Text) variables_layer
 
 module _ {S : Type 0} (given : Text → Option (InputValue S)) where
   -- one layer of a value, of whose parts it is known what they become

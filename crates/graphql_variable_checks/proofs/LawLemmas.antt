@@ -7,7 +7,7 @@ use Rattle.std.proofs.lemmas.Bool.{false≢true}
 use Rattle.std.proofs.lemmas.List.{get_or-map, length-map}
 use Rattle.std.proofs.lemmas.List.Elements.{All-contains, All-from_recursion}
 use Rattle.std.proofs.lemmas.Map.Keys.{IsDistinct-head, IsDistinct-tail}
-use Rattle.graphql_literal_checks.specs.InputTypes.{refuses_null}
+use Rattle.graphql_schema.specs.Types.{refuses_null}
 use Rattle.graphql_names.specs.Names.{Bytes, named}
 use Rattle.graphql_names.proofs.NameLemmas.{eq_itself, same_bytes}
 use Rattle.graphql_names.proofs.NameMaps.{found_is_in}

@@ -6,10 +6,9 @@ use Rattle.std.specs.List.{Contains}
 use Rattle.std.specs.Option.{IsSome, is_some}
 use Rattle.graphql_written_out.specs.FinalValues.{variable_name}
 use Rattle.graphql_literal_checks.specs.Conforms.{Conforms}
-use Rattle.graphql_literal_checks.specs.InputTypes.{refuses_null}
+use Rattle.graphql_schema.specs.Types.{refuses_null, TypeOf}
 use Rattle.graphql_literal_checks.specs.declared.source.Source.TheVariants.{Sent}
 use Rattle.graphql_schema.specs.declared.meta.MetaType.{MetaType}
-use Rattle.graphql_schema.specs.Types.{TypeOf}
 use Rattle.graphql_names.specs.Names.{Bytes}
 use Rattle.graphql_rule_errors.specs.Places.{Places}
 use Rattle.graphql_scalars.specs.ScalarAnswers.{ScalarAnswer}

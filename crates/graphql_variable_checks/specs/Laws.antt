@@ -6,7 +6,7 @@ use Rattle.std.specs.Str.{bytes_eq}
 use Rattle.graphql_written_out.specs.FinalValues.{default_of, definition_named, final_value}
 use Rattle.graphql_written_out.specs.FinalValues.{variable_name}
 use Rattle.graphql_literal_checks.specs.Conforms.{Conforms}
-use Rattle.graphql_literal_checks.specs.InputTypes.{refuses_null}
+use Rattle.graphql_schema.specs.Types.{refuses_null}
 use Rattle.graphql_literal_checks.specs.declared.source.Source.TheVariants.{Sent}
 use Rattle.graphql_schema.specs.declared.meta.MetaType.{MetaType}
 use Rattle.graphql_names.specs.Names.{Bytes}

@@ -7,8 +7,8 @@ use Rattle.std.specs.Prelude.{IsPermutation}
 use Rattle.graphql_occurrences.specs.Nodes.{Seen}
 use Rattle.graphql_occurrences.specs.PartsOf.{parts_of}
 use Rattle.graphql_rule_errors.specs.Places.{Places}
-use Rattle.graphql_visitors.specs.Rules.{Rule, Relation, Tell, local, locally, both, silent}
-use Rattle.graphql_visitors.specs.Runs.{Step, Runs, joined}
+use Rattle.graphql_visitors.specs.Rules.{Rule, Relation, Tell, local, locally, both_steps, silent}
+use Rattle.graphql_visitors.specs.Runs.{VisitorStep, Runs, joined}
 use Rattle.graphql_visitors.specs.Subjects.{Subject}
 use Rattle.graphql_visitors.specs.declared.multi.MultiVisitorCons.{MultiVisitorCons}
 use Rattle.graphql_visitors.specs.declared.multi.MultiVisitorNil.{MultiVisitorNil}
@@ -48,9 +48,9 @@ exchanged a b c d =
     (subst (λ x. IsPermutation ((b ++ c) ++ d) x) (append_assoc c b d)
     (IsPermutation-append_left d (b ++ c) (c ++ b) (IsPermutation-append_comm b c))))))
 
-module _ {A B S C : Type 0} (one : Step A S C) (other : Step B S C) (subject : Subject S C) where
+module _ {A B S C : Type 0} (one : VisitorStep A S C) (other : VisitorStep B S C) (subject : Subject S C) where
   -- what two visitors tell: each what it tells alone
-  pub runs_both : (v w : MultiVisitorCons A B) (es : List (Seen S C)) (ts : List Places) → Runs (both one other) subject v es w ts →
+  pub runs_both : (v w : MultiVisitorCons A B) (es : List (Seen S C)) (ts : List Places) → Runs (both_steps one other) subject v es w ts →
       (xs : List Places) × (ys : List Places) × Runs one subject v.first es w.first xs × Runs other subject v.second es w.second ys × IsPermutation (joined xs ++ joined ys) (joined ts)
   runs_both v w [] [] h = ([], [], ap (λ z. z.first) h, ap (λ z. z.second) h, IsPermutation-refl [])
   runs_both v w [] (t ∷ ts) h = absurd h

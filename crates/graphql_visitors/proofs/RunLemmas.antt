@@ -5,7 +5,7 @@ use Rattle.graphql_rule_errors.specs.Places as of_errors
 use Rattle.graphql_rule_errors.specs.Places.{Places}
 use Rattle.graphql_rule_errors.proofs.ReportLemmas as of_errors_lemma
 use Rattle.graphql_visitors.specs.Reports.{IsAsBefore, Reported, ReportsBy}
-use Rattle.graphql_visitors.specs.Runs.{Step, Runs, Did, Visited, joined}
+use Rattle.graphql_visitors.specs.Runs.{VisitorStep, Runs, Did, Visited, joined}
 use Rattle.graphql_visitors.specs.Subjects.{subject_of, seen_in}
 use Rattle.graphql_visitors.specs.declared.context.ValidatorContext.{ValidatorContext}
 use Rattle.graphql_occurrences.specs.declared.event.Event.{Event}
@@ -33,7 +33,7 @@ module _ {S C : Type 0} where
         (first.0 ++ second.0, f first.0 second.0 first.1 second.1, reported_after first.0 second.0 a b c first.2 second.2);
   }
 
-module _ {V S C : Type 0} (step : Step V S C) where
+module _ {V S C : Type 0} (step : VisitorStep V S C) where
   pub visited_none : (es : List (Seen S C)) (v : V) (c : ValidatorContext S C) → es ≡ [] → Visited step es v v c c
   visited_none es v c none =
       subst (λ xs. Visited step xs v v c c) (sym none) (record { as_before = refl; ran = λ h. record { told = []; runs = refl; reported = reported_none c h } })

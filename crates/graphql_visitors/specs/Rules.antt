@@ -5,7 +5,7 @@ use Rattle.graphql_occurrences.specs.Nodes.{Seen}
 use Rattle.graphql_occurrences.specs.Parts.{Part}
 use Rattle.graphql_occurrences.specs.PartsOf.{parts_of}
 use Rattle.graphql_rule_errors.specs.Places.{Places}
-use Rattle.graphql_visitors.specs.Runs.{Step}
+use Rattle.graphql_visitors.specs.Runs.{VisitorStep}
 use Rattle.graphql_visitors.specs.Subjects.{Subject}
 use Rattle.graphql_visitors.specs.declared.multi.MultiVisitorCons.{MultiVisitorCons}
 use Rattle.graphql_visitors.specs.declared.multi.MultiVisitorNil.{MultiVisitorNil}
@@ -34,20 +34,21 @@ module _ {S C : Type 0} where
   TellAt Says subject e = Tell (Says subject) (parts_of e)
 
   -- a rule that looks at one part at a time
-  abbrev pub local : {V : Type 0} → Rule S C → Step V S C
+  abbrev pub local : {V : Type 0} → Rule S C → VisitorStep V S C
   local rule subject v e w told = (w ≡ v) × (told ≡ told_at rule subject e)
 
   -- the same by what a relation says of each part
-  abbrev pub locally : {V : Type 0} → Relation S C → Step V S C
+  abbrev pub locally : {V : Type 0} → Relation S C → VisitorStep V S C
   locally Says subject v e w told = (w ≡ v) × TellAt Says subject e told
 
   -- no visitor
-  abbrev pub silent : Step MultiVisitorNil S C
+  abbrev pub silent : VisitorStep MultiVisitorNil S C
   silent subject v e w told = (w ≡ v) × (told ≡ [])
 
   -- two visitors: at each event what the first tells comes before what the second does
-  abbrev pub both : {A B : Type 0} → Step A S C → Step B S C → Step (MultiVisitorCons A B) S C
-  both one other subject v e w told =
+  abbrev pub both_steps : {A B : Type 0} → VisitorStep A S C → VisitorStep B S C
+      → VisitorStep (MultiVisitorCons A B) S C
+  both_steps one other subject v e w told =
       (first : Places)
       × (second : Places)
       × (told ≡ first ++ second)

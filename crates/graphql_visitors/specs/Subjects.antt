@@ -2,7 +2,7 @@
 use Rattle.std.specs.Prelude.{List}
 use Rattle.graphql_occurrences.specs.Lookups.{Declarations, declarations_of}
 use Rattle.graphql_tree.specs.declared.document.Definition.{Definition}
-use Rattle.graphql_occurrences.specs.Events.{seen}
+use Rattle.graphql_occurrences.specs.Events.{seen_event}
 use Rattle.graphql_occurrences.specs.Lent.{around_of, event_of}
 use Rattle.graphql_occurrences.specs.Nodes.{Seen}
 use Rattle.graphql_occurrences.specs.declared.event.Event.{Event}
@@ -21,4 +21,4 @@ module _ {S C : Type 0} where
 
   -- an event, where the context stands
   abbrev pub seen_in : ValidatorContext S C → Event S → Seen S C
-  seen_in c e = seen (around_of c.around) (event_of e)
+  seen_in c e = seen_event (around_of c.around) (event_of e)

@@ -6,7 +6,7 @@ ghost use Rattle.graphql_occurrences.specs.Events.{events};
 ghost use Rattle.graphql_occurrences.specs.Nodes.{Seen};
 ghost use Rattle.graphql_occurrences.specs.Occurrences.{occurrences};
 ghost use Rattle.graphql_rule_errors.specs.Places.{Places};
-ghost use Rattle.graphql_visitors.specs.Rules.{Tell, both, local, locally, silent};
+ghost use Rattle.graphql_visitors.specs.Rules.{Tell, both_steps, local, locally, silent};
 ghost use Rattle.graphql_visitors.specs.Runs.{Runs, joined};
 ghost use Rattle.graphql_visitors.specs.Subjects.{Subject};
 ghost use Rattle.graphql_visitors.specs.declared.multi.MultiVisitorCons.{MultiVisitorCons};
@@ -37,7 +37,7 @@ pub fn relational_rules_tell_of_occurrences<S: SchemaScalar, R: RelationalRule<S
 pub fn one_pass_is_separate_passes<S: SchemaScalar, A: Visitor<S>, B: Visitor<S>>()
     ensures { (subject : Subject S S.Check)
         → (v w : MultiVisitorCons A B) → (es : List (Seen S S.Check)) → (told : List Places)
-        → Runs (both A.step B.step) subject v es w told
+        → Runs (both_steps A.step B.step) subject v es w told
         → (first : List Places)
         × (second : List Places)
         × Runs A.step subject v.first es w.first first

@@ -72,13 +72,14 @@ impl<S: SchemaScalar> Visitor<S> for MultiVisitorNil {
 }
 
 impl<S: SchemaScalar, A: Visitor<S>, B: Visitor<S>> Visitor<S> for MultiVisitorCons<A, B> {
-    ghost use Rattle.graphql_visitors.specs.Rules.{both};
+    ghost use Rattle.graphql_visitors.specs.Rules.{both_steps};
     ghost use Rattle.graphql_visitors.specs.Runs.{Did};
 
-    ghost step = { both A.step B.step };
+    ghost step = { both_steps A.step B.step };
 
     fn on<'a, 't>(&mut self, context: &mut ValidatorContext<'a, 't, S>, event: &Event<'a, 't, S>)
-        ensures { Did (both A.step B.step) event.now self.old self.new context.old context.new }
+        ensures { Did
+            (both_steps A.step B.step) event.now self.old self.new context.old context.new }
     {
         self.first.on(context, event);
         self.second.on(context, event);

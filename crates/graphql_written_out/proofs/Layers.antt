@@ -11,7 +11,7 @@ use Rattle.graphql_tree.specs.declared.selection.Selection.TheVariants as select
 use Rattle.graphql_tree.proofs.SelectionInduction.{selection_ind}
 use Rattle.graphql_names.specs.Names.{Bytes}
 use Rattle.graphql_written_out.specs.Trees.{Directives, Tree, none, field, inline, height}
-use Rattle.graphql_written_out.specs.Written.{listed, fragment_meant, head_of, condition_of, spread_as, write_one, write, written, one, Settled}
+use Rattle.graphql_written_out.specs.Written.{listed, fragment_meant, head_of, condition_of, spread_as, write_one, write, written, written_selection, Settled}
 use Rattle.graphql_written_out.specs.Fields.{Found, fields, applies}
 use Rattle.graphql_written_out.proofs.WrittenEquations.{write_field, write_spread, write_inline}
 
@@ -43,8 +43,8 @@ module _ {S : Type 0} (fragments : List (Fragment S)) where
   unfolding written
   written-nil = refl
 
-  pub one-deep : (x : Selection S) → one fragments x ≡ deep x none
-  unfolding deep one
+  pub one-deep : (x : Selection S) → written_selection fragments x ≡ deep x none
+  unfolding deep written_selection
   one-deep x = refl
 
   module _ (drops : Directives S → Bool) (b : Bytes → Bool) where
@@ -71,28 +71,28 @@ module _ {S : Type 0} (fragments : List (Fragment S)) where
         (λ x rest. rw (deep-Spread x rest, deep-Spread x none) (fields-spread (listed x.item.directives) rest (fragment_meant fragments x.item.name.item)))
         (λ x h rest. rw (deep-Inline x rest, deep-Inline x none) (kept_or (drops (listed x.item.directives) || not (applies b (condition_of x.item))) _ _))
 
-    pub fields-written : (xs : List (Selection S)) → fields drops b (written fragments xs) ≡ flat_map (λ x. fields drops b (one fragments x)) xs
+    pub fields-written : (xs : List (Selection S)) → fields drops b (written fragments xs) ≡ flat_map (λ x. fields drops b (written_selection fragments x)) xs
     fields-written [] = ap (fields drops b) written-nil
     fields-written (x ∷ xs) =
         ap (fields drops b) (written-cons x xs) ∙ fields-deep x (written fragments xs)
         ∙ (λ i. fields drops b (sym (one-deep x) i) ++ fields-written xs i)
 
     -- what a walk brings of a selection
-    pub out-Field : (x : Placed (Field S)) → drops (listed x.item.directives) ≡ true → [] ≡ fields drops b (one fragments (selection.Field x))
+    pub out-Field : (x : Placed (Field S)) → drops (listed x.item.directives) ≡ true → [] ≡ fields drops b (written_selection fragments (selection.Field x))
     out-Field x t = rw (one-deep, deep-Field x none, t) refl
 
-    pub in-Field : (x : Placed (Field S)) → drops (listed x.item.directives) ≡ false → record { head = head_of x; below = written fragments (listed x.item.selection_set) } ∷ [] ≡ fields drops b (one fragments (selection.Field x))
+    pub in-Field : (x : Placed (Field S)) → drops (listed x.item.directives) ≡ false → record { head = head_of x; below = written fragments (listed x.item.selection_set) } ∷ [] ≡ fields drops b (written_selection fragments (selection.Field x))
     in-Field x t = rw (one-deep, deep-Field x none, t) refl
 
-    pub out-Inline : (x : Placed (InlineFragment S)) → drops (listed x.item.directives) ≡ true → [] ≡ fields drops b (one fragments (selection.InlineFragment x))
+    pub out-Inline : (x : Placed (InlineFragment S)) → drops (listed x.item.directives) ≡ true → [] ≡ fields drops b (written_selection fragments (selection.InlineFragment x))
     out-Inline x t = rw (one-deep, deep-Inline x none, t) refl
 
     pub other-Inline : (x : Placed (InlineFragment S)) → drops (listed x.item.directives) ≡ false → applies b (condition_of x.item) ≡ false
-        → [] ≡ fields drops b (one fragments (selection.InlineFragment x))
+        → [] ≡ fields drops b (written_selection fragments (selection.InlineFragment x))
     other-Inline x t n = rw (one-deep, deep-Inline x none, t, n) refl
 
     pub in-Inline : (x : Placed (InlineFragment S)) → drops (listed x.item.directives) ≡ false → applies b (condition_of x.item) ≡ true
-        → fields drops b (written fragments x.item.selection_set) ≡ fields drops b (one fragments (selection.InlineFragment x))
+        → fields drops b (written fragments x.item.selection_set) ≡ fields drops b (written_selection fragments (selection.InlineFragment x))
     in-Inline x t n = rw (one-deep, deep-Inline x none, t, n, append-nil) refl
 
     spread-at : (directives : Directives S) (o : Option (Fragment S)) (f : Fragment S) → o ≡ Some f
@@ -100,22 +100,22 @@ module _ {S : Type 0} (fragments : List (Fragment S)) where
         ≡ cond (drops directives || not (b f.type_condition.item)) [] (fields drops b (write (length fragments) fragments f.selection_set))
     spread-at directives o f e = rw (e, append-nil) refl
 
-    pub out-Spread : (x : Placed (FragmentSpread S)) → drops (listed x.item.directives) ≡ true → [] ≡ fields drops b (one fragments (selection.FragmentSpread x))
+    pub out-Spread : (x : Placed (FragmentSpread S)) → drops (listed x.item.directives) ≡ true → [] ≡ fields drops b (written_selection fragments (selection.FragmentSpread x))
     out-Spread x t = rw (one-deep, deep-Spread x none) (dropped (fragment_meant fragments x.item.name.item))
       where
         dropped : (o : Option (Fragment S)) → [] ≡ fields drops b (spread_as (write (length fragments) fragments) (listed x.item.directives) none o)
         dropped None = refl
         dropped (Some f) = rw t refl
 
-    pub unknown-Spread : (x : Placed (FragmentSpread S)) → fragment_meant fragments x.item.name.item ≡ None → [] ≡ fields drops b (one fragments (selection.FragmentSpread x))
+    pub unknown-Spread : (x : Placed (FragmentSpread S)) → fragment_meant fragments x.item.name.item ≡ None → [] ≡ fields drops b (written_selection fragments (selection.FragmentSpread x))
     unknown-Spread x n = rw (one-deep, deep-Spread x none, n) refl
 
     pub other-Spread : (x : Placed (FragmentSpread S)) (f : Fragment S) → drops (listed x.item.directives) ≡ false → fragment_meant fragments x.item.name.item ≡ Some f
-        → b f.type_condition.item ≡ false → [] ≡ fields drops b (one fragments (selection.FragmentSpread x))
+        → b f.type_condition.item ≡ false → [] ≡ fields drops b (written_selection fragments (selection.FragmentSpread x))
     other-Spread x f t e n = rw (one-deep, deep-Spread x none, spread-at (listed x.item.directives) _ f e, t, n) refl
 
     pub in-Spread : Settled fragments → (x : Placed (FragmentSpread S)) (f : Fragment S) → drops (listed x.item.directives) ≡ false → fragment_meant fragments x.item.name.item ≡ Some f
-        → b f.type_condition.item ≡ true → fields drops b (written fragments f.selection_set) ≡ fields drops b (one fragments (selection.FragmentSpread x))
+        → b f.type_condition.item ≡ true → fields drops b (written fragments f.selection_set) ≡ fields drops b (written_selection fragments (selection.FragmentSpread x))
     in-Spread settled x f t e n = rw (one-deep, deep-Spread x none, spread-at (listed x.item.directives) _ f e, t, n, settled f x.item.name.item e) refl
 
   height-spread : (directives : Directives S) (rest : Tree S) (f : Option (Fragment S))
@@ -133,20 +133,20 @@ module _ {S : Type 0} (fragments : List (Fragment S)) where
       (λ x rest. rw (deep-Spread x rest, deep-Spread x none) (height-spread (listed x.item.directives) rest (fragment_meant fragments x.item.name.item)))
       (λ x h rest. rw (deep-Inline x rest, deep-Inline x none) (omega arith))
 
-  height-cons : (x : Selection S) (xs : List (Selection S)) → height (written fragments (x ∷ xs)) ≡ max (height (one fragments x)) (height (written fragments xs))
+  height-cons : (x : Selection S) (xs : List (Selection S)) → height (written fragments (x ∷ xs)) ≡ max (height (written_selection fragments x)) (height (written fragments xs))
   height-cons x xs = rw (written-cons x xs, one-deep x) (height-deep x (written fragments xs))
 
   -- a selection is no higher than its set
-  pub height-one : (xs : List (Selection S)) (i : ℕ) (d : Selection S) → i < length xs → height (one fragments (get_or xs i d)) ≤ height (written fragments xs)
+  pub height-one : (xs : List (Selection S)) (i : ℕ) (d : Selection S) → i < length xs → height (written_selection fragments (get_or xs i d)) ≤ height (written fragments xs)
   height-one [] i d h = absurd (omega (arith, h))
   height-one (x ∷ xs) zero d h = omega (arith, height-cons x xs)
-  height-one (x ∷ xs) (suc i) d h = let ih : height (one fragments (get_or xs i d)) ≤ height (written fragments xs) = height-one xs i d (omega (arith, h)) in omega (arith, height-cons x xs, ih)
+  height-one (x ∷ xs) (suc i) d h = let ih : height (written_selection fragments (get_or xs i d)) ≤ height (written fragments xs) = height-one xs i d (omega (arith, h)) in omega (arith, height-cons x xs, ih)
 
-  pub height-of-Inline : (x : Placed (InlineFragment S)) → height (written fragments x.item.selection_set) < height (one fragments (selection.InlineFragment x))
+  pub height-of-Inline : (x : Placed (InlineFragment S)) → height (written fragments x.item.selection_set) < height (written_selection fragments (selection.InlineFragment x))
   height-of-Inline x = rw (one-deep, deep-Inline x none) (omega arith)
 
   pub height-of-Spread : Settled fragments → (x : Placed (FragmentSpread S)) (f : Fragment S) → fragment_meant fragments x.item.name.item ≡ Some f
-      → height (written fragments f.selection_set) < height (one fragments (selection.FragmentSpread x))
+      → height (written fragments f.selection_set) < height (written_selection fragments (selection.FragmentSpread x))
   height-of-Spread settled x f e = rw (one-deep, deep-Spread x none, e, settled f x.item.name.item e) (omega arith)
 
 pub ruleset opening = (out-Field, in-Field, out-Inline, other-Inline, in-Inline, out-Spread, unknown-Spread, other-Spread, in-Spread)

@@ -37,14 +37,14 @@ module _ {S : Type 0} where
   fields_told object =
       filter_map (field_told (option_map (λ v. value_in v.now) object.variables)) object.fields.now
 
-  abbrev pub told : ArgumentValue S → InputValue S
-  told argument.Null = value.Null
-  told (argument.Scalar scalar) = value.Scalar scalar.now
-  told (argument.Enum name) = value.Enum name.now
-  told (argument.Variable name) = value.Variable name.now
-  told (argument.List items) = value.List (items_told items)
-  told (argument.Object fields) = value.Object (fields_told fields)
+  abbrev pub value_told : ArgumentValue S → InputValue S
+  value_told argument.Null = value.Null
+  value_told (argument.Scalar scalar) = value.Scalar scalar.now
+  value_told (argument.Enum name) = value.Enum name.now
+  value_told (argument.Variable name) = value.Variable name.now
+  value_told (argument.List items) = value.List (items_told items)
+  value_told (argument.Object fields) = value.Object (fields_told fields)
 
   -- at its place
-  abbrev pub placed : Placed (ArgumentValue S) → Placed (InputValue S)
-  placed x = record { item = told x.item; span = x.span }
+  abbrev pub placed_value : Placed (ArgumentValue S) → Placed (InputValue S)
+  placed_value x = record { item = value_told x.item; span = x.span }

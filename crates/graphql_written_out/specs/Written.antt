@@ -107,8 +107,8 @@ module _ {S : Type 0} where
   unfoldable pub written : List (Fragment S) → List (Selection S) → Tree S
   written fragments = write (suc (length fragments)) fragments
 
-  unfoldable pub one : List (Fragment S) → Selection S → Tree S
-  one fragments x = write_one (suc (length fragments)) fragments x none
+  unfoldable pub written_selection : List (Fragment S) → Selection S → Tree S
+  written_selection fragments x = write_one (suc (length fragments)) fragments x none
 
   -- fragments without a cycle: once written out to that depth, nothing is left to write (5.5.2.2
   -- Fragment Spreads Must Not Form Cycles)

@@ -4,7 +4,8 @@ ghost use Rattle.std.specs.Prelude.{◌≡◌, ◌∷◌, [], MatchOption, lengt
 ghost use Rattle.std.specs.Option.{option_map};
 ghost use Rattle.graphql_written_out.specs.Filled.{filled};
 ghost use Rattle.graphql_written_out.specs.FinalVariables.{value_in};
-ghost use Rattle.graphql_written_out.specs.Told.{fields_told, items_told, part_told, placed, told};
+ghost use Rattle.graphql_written_out.specs.Told.{fields_told, items_told, part_told, placed_value};
+ghost use Rattle.graphql_written_out.specs.Told.{value_told};
 
 use crate::final_variables::FinalVariables;
 use graphql_text::{Spanning, Text};
@@ -62,7 +63,7 @@ impl<'a, S> ArgumentValue<'a, S> {
         literal: &'a InputValue<S>,
         variables: &'a FinalVariables<'a, S>,
     ) -> Option<ArgumentValue<'a, S>>
-        ensures { option_map told result ≡ filled (value_in variables.now) literal.now }
+        ensures { option_map value_told result ≡ filled (value_in variables.now) literal.now }
     {
         match literal {
             InputValue::Variable(name) => match variables.get(name.as_str()) {
@@ -86,7 +87,7 @@ impl<'a, S> ArgumentValue<'a, S> {
 
 /// A variable's value, as it is.
 fn final_value<S>(value: &InputValue<S>) -> ArgumentValue<'_, S>
-    ensures { told result ≡ value.now }
+    ensures { value_told result ≡ value.now }
 {
     match value {
         InputValue::Null => ArgumentValue::Null,
@@ -110,7 +111,7 @@ fn part<'a, S>(
     value: &'a InputValue<S>,
     variables: Option<&'a FinalVariables<'a, S>>,
 ) -> Option<ArgumentValue<'a, S>>
-    ensures { option_map told result
+    ensures { option_map value_told result
         ≡ part_told (option_map (λ v. value_in v.now) variables.entry) value.now }
 {
     match variables {
@@ -131,7 +132,7 @@ impl<'a, S> ArgumentItems<'a, S> {
     /// `null`.
     pub fn next(&mut self) -> Option<Spanning<ArgumentValue<'a, S>>>
         ensures { MatchOption result (items_told self.old ≡ [])
-            (λ item. items_told self.old ≡ placed item ∷ items_told self.new) }
+            (λ item. items_told self.old ≡ placed_value item ∷ items_told self.new) }
     {
         match self.items.split_first() {
             Some((first, others)) => {
@@ -153,7 +154,8 @@ impl<'a, S> ArgumentFields<'a, S> {
     /// A field whose value is a variable without a value is passed over.
     pub fn next(&mut self) -> Option<(&'a Spanning<Text>, Spanning<ArgumentValue<'a, S>>)>
         ensures { MatchOption result (fields_told self.old ≡ [])
-            (λ field. fields_told self.old ≡ (field.0.now, placed field.1) ∷ fields_told self.new) }
+            (λ field. fields_told self.old ≡ (field.0.now, placed_value field.1)
+            ∷ fields_told self.new) }
     {
         'fields: while let Some((first, others)) = self.fields.split_first() {
             self.fields = others;

@@ -1,7 +1,7 @@
 //! The values that an operation's variables have in the end.
 
 ghost use Rattle.std.specs.Prelude.{◌≡◌, ℕ, List};
-ghost use Rattle.graphql_rule_errors.specs.Found.{found};
+ghost use Rattle.graphql_rule_errors.specs.Found.{item_named};
 ghost use Rattle.graphql_written_out.specs.FinalValues.{definition_named};
 
 mod lookups;
@@ -26,5 +26,6 @@ pub struct FinalVariables<'a, S> {
     /// The first definition of each name.
     pub(crate) first: HashMap<&'a str, &'a Variable<'a, S>>,
 
-    ghost firsts: { (name : List ℕ) → found first name ≡ definition_named definitions.now name },
+    ghost firsts: { (name : List ℕ)
+        → item_named first name ≡ definition_named definitions.now name },
 }

@@ -3,7 +3,7 @@
 ghost use Rattle.std.specs.Prelude.{◌≡◌, ℕ, List, Some, None, IfOk, OnOk, if◌then◌else◌};
 ghost use Rattle.std.specs.Option.{option_copied, option_or};
 ghost use Rattle.graphql_written_out.specs.Written.{fragment_meant};
-ghost use Rattle.graphql_rule_errors.specs.Found.{found};
+ghost use Rattle.graphql_rule_errors.specs.Found.{item_named};
 ghost use Rattle.graphql_collected.specs.FragmentLists.{fragment_defined};
 ghost use Rattle.graphql_tree.specs.Definitions.{fragments_listed};
 
@@ -44,8 +44,8 @@ fn add<'d, 'a, S>(
     definition: &'d Definition<'a, S>,
 ) -> Result<(), AllocError>
     ensures { OnOk result ((name : List ℕ)
-        → found first.new name
-        ≡ option_or (found first.old name) (fragment_defined definition.now name)) }
+        → item_named first.new name
+        ≡ option_or (item_named first.old name) (fragment_defined definition.now name)) }
 {
     let Definition::Fragment(fragment) = definition else {
         return Ok(());

@@ -10,14 +10,14 @@ ghost use Rattle.graphql_tree.specs.Documents.{variables_in as variables_given};
 ghost use Rattle.graphql_occurrences.specs.Events.{
   default_events,
   definition_events,
-  each,
+  through_each,
   events,
   fragment_events,
   operation_events,
   variable_events,
 };
 ghost use Rattle.graphql_occurrences.specs.Lent.{around_of};
-ghost use Rattle.graphql_document_walk.specs.Pending.{Adds, Opens, OpensAny};
+ghost use Rattle.graphql_document_walk.specs.Pending.{PutsFirst, OpensEvents, OpensAny};
 
 use super::selections::directives_in;
 use super::tasks::{Part, Side, Task, add, tell};
@@ -80,7 +80,7 @@ fn add_default<'a, 't, S, C>(
     around: Around<'a, S, C>,
     value: &'a Option<Spanning<InputValue<S>>>,
 ) -> Result<(), AllocError>
-    ensures { OnOk result (Adds (declarations_of schema.now) (default_events
+    ensures { OnOk result (PutsFirst (declarations_of schema.now) (default_events
         (declarations_of schema.now) value.now (around_of around.entry)) tasks.old tasks.new) }
 {
     match value {
@@ -96,7 +96,7 @@ fn open_variable<'a, 't, S, C>(
     around: Around<'a, S, C>,
     variable: &'a (Spanning<TextRef<'t>>, VariableDefinition<'t, S>),
 ) -> Result<(), AllocError>
-    ensures { OnOk result (Opens (declarations_of schema.now) (variable_events
+    ensures { OnOk result (OpensEvents (declarations_of schema.now) (variable_events
         (declarations_of schema.now) variable.now (around_of around.entry)) tasks.old tasks.new) }
 {
     let place = InputPlace::bare(TypeLiteral::of_document(&variable.1.var_type.item));
@@ -134,7 +134,7 @@ pub(crate) fn open_variables<'a, 't, S, C>(
     around: Around<'a, S, C>,
     variables: &'a [(Spanning<TextRef<'t>>, VariableDefinition<'t, S>)],
 ) -> Result<(), AllocError>
-    ensures { OnOk result (OpensAny (declarations_of schema.now) (each (variable_events
+    ensures { OnOk result (OpensAny (declarations_of schema.now) (through_each (variable_events
         (declarations_of schema.now)) variables.now (around_of around.entry)) tasks.old tasks.new) }
 {
     match variables.split_first() {
@@ -152,7 +152,7 @@ fn open_operation<'a, 't, S, C>(
     tasks: &mut Items<Task<'a, 't, S, C>>,
     operation: &'a Spanning<Operation<'t, S>>,
 ) -> Result<(), AllocError>
-    ensures { OnOk result (Opens (declarations_of schema.now)
+    ensures { OnOk result (OpensEvents (declarations_of schema.now)
         (operation_events (declarations_of schema.now) operation.now) tasks.old tasks.new) }
 {
     let inside = Around::top(name_of_root(root_of(schema, operation.item.operation_type)));
@@ -199,7 +199,7 @@ fn open_fragment<'a, 't, S, C>(
     tasks: &mut Items<Task<'a, 't, S, C>>,
     fragment: &'a Spanning<Fragment<'t, S>>,
 ) -> Result<(), AllocError>
-    ensures { OnOk result (Opens (declarations_of schema.now)
+    ensures { OnOk result (OpensEvents (declarations_of schema.now)
         (fragment_events (declarations_of schema.now) fragment.now) tasks.old tasks.new) }
 {
     let inside = Around::top(Some(fragment.item.type_condition.item.as_str()));
@@ -228,7 +228,7 @@ fn open_definition<'a, 't, S, C>(
     tasks: &mut Items<Task<'a, 't, S, C>>,
     definition: &'a Definition<'t, S>,
 ) -> Result<(), AllocError>
-    ensures { OnOk result (Opens (declarations_of schema.now)
+    ensures { OnOk result (OpensEvents (declarations_of schema.now)
         (definition_events (declarations_of schema.now) definition.now) tasks.old tasks.new) }
 {
     match definition {
@@ -261,7 +261,7 @@ pub(crate) fn open_document<'a, 't, S, C>(
     tasks: &mut Items<Task<'a, 't, S, C>>,
     document: &'a [Definition<'t, S>],
 ) -> Result<(), AllocError>
-    ensures { OnOk result (Opens (declarations_of schema.now)
+    ensures { OnOk result (OpensEvents (declarations_of schema.now)
         (events (declarations_of schema.now) document.now) tasks.old tasks.new) }
 {
     let outside = Around::nowhere();

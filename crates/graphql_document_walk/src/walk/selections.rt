@@ -3,11 +3,12 @@
 ghost use Rattle.std.specs.Prelude.{◌≡◌, [], OnOk};
 ghost use Rattle.std.specs.Option.{unwrap_or};
 ghost use Rattle.graphql_schema.specs.Declarations.{declarations_of};
-ghost use Rattle.graphql_occurrences.specs.Events.{directive_events, directives_events, each};
+ghost use Rattle.graphql_occurrences.specs.Events.{directive_events, directives_events};
+ghost use Rattle.graphql_occurrences.specs.Events.{through_each};
 ghost use Rattle.graphql_occurrences.specs.Events.{field_events, inline_events, optional_set};
 ghost use Rattle.graphql_occurrences.specs.Events.{selection_events, set_events, spread_events};
 ghost use Rattle.graphql_occurrences.specs.Lent.{around_of};
-ghost use Rattle.graphql_document_walk.specs.Pending.{Adds, Opens, OpensAny};
+ghost use Rattle.graphql_document_walk.specs.Pending.{PutsFirst, OpensEvents, OpensAny};
 
 use super::tasks::{Part, Side, Task, add, tell};
 use graphql_occurrences::{
@@ -38,7 +39,8 @@ fn open_directive<'a, 't, S, C>(
     place: DirectiveLocation,
     directive: &'a Spanning<Directive<'t, S>>,
 ) -> Result<(), AllocError>
-    ensures { OnOk result (Opens (declarations_of schema.now) (directive_events (declarations_of
+    ensures { OnOk result
+        (OpensEvents (declarations_of schema.now) (directive_events (declarations_of
         schema.now) place directive.now (around_of around.entry)) tasks.old tasks.new) }
 {
     let name = directive.item.name.item.as_str();
@@ -129,7 +131,7 @@ fn add_optional_set<'a, 't, S, C>(
     around: Around<'a, S, C>,
     set: &'a Option<Items<Selection<'t, S>>>,
 ) -> Result<(), AllocError>
-    ensures { OnOk result (Adds (declarations_of schema.now) (optional_set
+    ensures { OnOk result (PutsFirst (declarations_of schema.now) (optional_set
         (declarations_of schema.now) set.now (around_of around.entry)) tasks.old tasks.new) }
 {
     match set {
@@ -145,7 +147,7 @@ fn open_field<'a, 't, S, C>(
     outer: Around<'a, S, C>,
     field: &'a Spanning<Field<'t, S>>,
 ) -> Result<(), AllocError>
-    ensures { OnOk result (Opens (declarations_of schema.now) (field_events
+    ensures { OnOk result (OpensEvents (declarations_of schema.now) (field_events
         (declarations_of schema.now) field.now (around_of outer.entry)) tasks.old tasks.new) }
 {
     let name = field.item.name.item.as_str();
@@ -194,7 +196,7 @@ fn open_spread<'a, 't, S, C>(
     around: Around<'a, S, C>,
     spread: &'a Spanning<FragmentSpread<'t, S>>,
 ) -> Result<(), AllocError>
-    ensures { OnOk result (Opens (declarations_of schema.now) (spread_events
+    ensures { OnOk result (OpensEvents (declarations_of schema.now) (spread_events
         (declarations_of schema.now) spread.now (around_of around.entry)) tasks.old tasks.new) }
 {
     tell(
@@ -229,7 +231,7 @@ fn open_inline<'a, 't, S, C>(
     outer: Around<'a, S, C>,
     inline: &'a Spanning<InlineFragment<'t, S>>,
 ) -> Result<(), AllocError>
-    ensures { OnOk result (Opens (declarations_of schema.now) (inline_events
+    ensures { OnOk result (OpensEvents (declarations_of schema.now) (inline_events
         (declarations_of schema.now) inline.now (around_of outer.entry)) tasks.old tasks.new) }
 {
     let inside = outer.inside_condition(&inline.item.type_condition);
@@ -271,7 +273,7 @@ fn open_selection<'a, 't, S, C>(
     around: Around<'a, S, C>,
     selection: &'a Selection<'t, S>,
 ) -> Result<(), AllocError>
-    ensures { OnOk result (Opens (declarations_of schema.now) (selection_events
+    ensures { OnOk result (OpensEvents (declarations_of schema.now) (selection_events
         (declarations_of schema.now) selection.now (around_of around.entry)) tasks.old tasks.new) }
 {
     match selection {
@@ -289,7 +291,8 @@ pub(crate) fn open_selections<'a, 't, S, C>(
     selections: &'a [Selection<'t, S>],
 ) -> Result<(), AllocError>
     ensures { OnOk result
-        (OpensAny (declarations_of schema.now) (each (selection_events (declarations_of schema.now))
+        (OpensAny (declarations_of schema.now)
+        (through_each (selection_events (declarations_of schema.now))
         selections.now (around_of around.entry)) tasks.old tasks.new) }
 {
     match selections.split_first() {

@@ -2,9 +2,10 @@
 
 ghost use Rattle.std.specs.Prelude.{◌≡◌, ◌∷◌, [], ◌++◌, OnOk};
 ghost use Rattle.graphql_schema.specs.Declarations.{declarations_of};
-ghost use Rattle.graphql_occurrences.specs.Events.{seen};
+ghost use Rattle.graphql_occurrences.specs.Events.{seen_event};
 ghost use Rattle.graphql_occurrences.specs.Lent.{around_of, event_of, node_of};
-ghost use Rattle.graphql_document_walk.specs.Pending.{Adds, Opens, part_events, told};
+ghost use Rattle.graphql_document_walk.specs.Pending.{PutsFirst, OpensEvents, part_events};
+ghost use Rattle.graphql_document_walk.specs.Pending.{side_event};
 ghost use Rattle.graphql_document_walk.specs.Siblings as spec;
 
 use graphql_occurrences::{Around, DeclaredArguments, Event, Node, Owner};
@@ -113,7 +114,7 @@ pub(crate) fn add<'a, 't, S, C>(
     around: Around<'a, S, C>,
     part: Part<'a, 't, S>,
 ) -> Result<(), AllocError>
-    ensures { OnOk result (Adds (declarations_of schema.now) (part_events
+    ensures { OnOk result (PutsFirst (declarations_of schema.now) (part_events
         (declarations_of schema.now) part.entry (around_of around.entry)) tasks.old tasks.new) }
 {
     if siblings_in(&part) == 0 {
@@ -136,8 +137,9 @@ pub(crate) fn tell<'a, 't, S, C>(
     side: Side,
     node: Node<'a, 't, S>,
 ) -> Result<(), AllocError>
-    ensures { OnOk result (Opens (declarations_of schema.now)
-        (seen (around_of around.entry) (told side (node_of node.entry)) ∷ []) tasks.old tasks.new) }
+    ensures { OnOk result (OpensEvents (declarations_of schema.now)
+        (seen_event (around_of around.entry) (side_event side (node_of node.entry)) ∷ []) tasks.old
+        tasks.new) }
 {
     put(
         tasks,
@@ -150,7 +152,7 @@ pub(crate) fn tell<'a, 't, S, C>(
 
 /// The node is entered or left.
 pub(crate) fn event<'a, 't, S>(side: Side, node: Node<'a, 't, S>) -> Event<'a, 't, S>
-    ensures { event_of result ≡ told side (node_of node.entry) }
+    ensures { event_of result ≡ side_event side (node_of node.entry) }
 {
     match side {
         Side::Enter => Event::Enter(node),

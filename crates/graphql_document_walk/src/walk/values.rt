@@ -7,13 +7,13 @@ ghost use Rattle.graphql_occurrences.specs.Events.{
   argument_events,
   arguments_events,
   content_events,
-  each,
+  through_each,
   item_events,
   pair_events,
   value_events,
 };
 ghost use Rattle.graphql_occurrences.specs.Lent.{arguments_lent, around_of, owner_of};
-ghost use Rattle.graphql_document_walk.specs.Pending.{Adds, Opens, OpensAny};
+ghost use Rattle.graphql_document_walk.specs.Pending.{PutsFirst, OpensEvents, OpensAny};
 
 use super::tasks::{Part, Side, Task, add, tell};
 use graphql_occurrences::{
@@ -32,7 +32,7 @@ fn add_content<'a, 't, S, C>(
     around: Around<'a, S, C>,
     value: &'a InputValue<S>,
 ) -> Result<(), AllocError>
-    ensures { OnOk result (Adds (declarations_of schema.now) (content_events
+    ensures { OnOk result (PutsFirst (declarations_of schema.now) (content_events
         (declarations_of schema.now) value.now (around_of around.entry)) tasks.old tasks.new) }
 {
     match value {
@@ -52,7 +52,7 @@ pub(crate) fn open_value<'a, 't, S, C>(
     around: Around<'a, S, C>,
     value: &'a Spanning<InputValue<S>>,
 ) -> Result<(), AllocError>
-    ensures { OnOk result (Opens (declarations_of schema.now) (value_events
+    ensures { OnOk result (OpensEvents (declarations_of schema.now) (value_events
         (declarations_of schema.now) value.now (around_of around.entry)) tasks.old tasks.new) }
 {
     tell(schema, tasks, around, Side::Leave, Node::Value(value))?;
@@ -67,7 +67,7 @@ pub(crate) fn open_items<'a, 't, S, C>(
     around: Around<'a, S, C>,
     items: &'a [Spanning<InputValue<S>>],
 ) -> Result<(), AllocError>
-    ensures { OnOk result (OpensAny (declarations_of schema.now) (each (item_events
+    ensures { OnOk result (OpensAny (declarations_of schema.now) (through_each (item_events
         (declarations_of schema.now)) items.now (around_of around.entry)) tasks.old tasks.new) }
 {
     match items.split_first() {
@@ -91,7 +91,7 @@ fn open_pair<'a, 't, S, C>(
     around: Around<'a, S, C>,
     pair: &'a (Spanning<Text>, Spanning<InputValue<S>>),
 ) -> Result<(), AllocError>
-    ensures { OnOk result (Opens (declarations_of schema.now) (pair_events
+    ensures { OnOk result (OpensEvents (declarations_of schema.now) (pair_events
         (declarations_of schema.now) pair.now (around_of around.entry)) tasks.old tasks.new) }
 {
     let inside = around.asking(place_of_field(schema, around.input, pair.0.item.as_str()));
@@ -119,7 +119,7 @@ pub(crate) fn open_pairs<'a, 't, S, C>(
     around: Around<'a, S, C>,
     pairs: &'a [(Spanning<Text>, Spanning<InputValue<S>>)],
 ) -> Result<(), AllocError>
-    ensures { OnOk result (OpensAny (declarations_of schema.now) (each (pair_events
+    ensures { OnOk result (OpensAny (declarations_of schema.now) (through_each (pair_events
         (declarations_of schema.now)) pairs.now (around_of around.entry)) tasks.old tasks.new) }
 {
     match pairs.split_first() {
@@ -140,7 +140,7 @@ fn open_argument<'a, 't, S, C>(
     declared: Option<DeclaredArguments<'a, S>>,
     argument: &'a (Spanning<TextRef<'t>>, Spanning<InputValue<S>>),
 ) -> Result<(), AllocError>
-    ensures { OnOk result (Opens (declarations_of schema.now)
+    ensures { OnOk result (OpensEvents (declarations_of schema.now)
         (argument_events (declarations_of schema.now) (owner_of owner.entry) (option_map
         arguments_lent declared.entry) argument.now (around_of around.entry)) tasks.old tasks.new) }
 {

@@ -11,7 +11,7 @@ ghost use Rattle.graphql_grammar.specs.Input as input;
 ghost use Rattle.graphql_grammar.specs.Steps as steps;
 ghost use Rattle.graphql_language.specs.ReadSelections as spec;
 ghost use Rattle.graphql_language.specs.ReadHeads as heads;
-ghost use Rattle.graphql_language.specs.ReadHeads.{completed};
+ghost use Rattle.graphql_language.specs.ReadHeads.{selection_with};
 
 use graphql_grammar::{Cursor, Fault, Kind, keep};
 use graphql_text::{Items, SourcePosition, Spanning, TextRef};
@@ -129,7 +129,7 @@ fn close_set<'a, S: ScalarValue>(
     end: SourcePosition,
 ) -> Result<(), AllocError>
     ensures { OnOk result
-        (found.new ≡ last.entry.around ++ completed last.entry.head found.old end ∷ []) }
+        (found.new ≡ last.entry.around ++ selection_with last.entry.head found.old end ∷ []) }
 {
     let Open { head, around } = last;
     let set = mem::replace(found, around);
@@ -141,7 +141,7 @@ fn close_set<'a, S: ScalarValue>(
 
 /// Reads a selection as far as its selection set.
 fn begin<'a, S: ScalarValue>(alloc: Global, cursor: &mut Cursor<'a>) -> Result<Begun<'a, S>, Fault>
-    ensures reads { Reads (heads.begun S.reads S.of_bool cursor.old) result cursor.new }
+    ensures reads { Reads (heads.selection_start S.reads S.of_bool cursor.old) result cursor.new }
     ensures no_more { left cursor.new ≤ left cursor.old }
     ensures fewer { OnOk result (left cursor.new < left cursor.old) }
 {

@@ -5,7 +5,7 @@ ghost use Rattle.graphql_collected.specs.Requests.{drops_in, fragments_in};
 ghost use Rattle.graphql_written_out.specs.Written.{Settled};
 ghost use Rattle.graphql_look_ahead.specs.FirstChild.{AllLack, IsFirst, IsSearch, Turns};
 ghost use Rattle.graphql_look_ahead.specs.Selections.{selections_of};
-ghost use Rattle.graphql_look_ahead.specs.Told.{IsOf};
+ghost use Rattle.graphql_look_ahead.specs.Told.{IsOfRequest};
 ghost use Rattle.graphql_look_ahead.specs.declared.searching.Task.TheVariants as a_task;
 
 use super::Task;
@@ -113,7 +113,7 @@ fn find_in_list<'d, 'a, S: SchemaScalar + Drop>(
     requires lack { AllLack (drops_in S.answer request.now) (fragments_in request.now) key.now
         searched.old.keys }
     ensures first { IfOk result (IsFirst S.answer request.now key.now list.now) }
-    ensures request { IfOk result (λ found. IfSome found (IsOf request.now)) }
+    ensures request { IfOk result (λ found. IfSome found (IsOfRequest request.now)) }
     ensures lack { IfOk result (λ found. found ≡ None
         → AllLack (drops_in S.answer request.now)
         (fragments_in request.now) key.now searched.new.keys) }
@@ -143,7 +143,7 @@ pub(crate) fn find_first<'d, 'a, S: SchemaScalar + Drop>(
     requires { Settled (fragments_in request.now) }
     ensures first { IfOk result
         (IsFirst S.answer request.now key.now (selections_of selected.entry)) }
-    ensures request { IfOk result (λ found. IfSome found (IsOf request.now)) }
+    ensures request { IfOk result (λ found. IfSome found (IsOfRequest request.now)) }
 {
     let mut searched: IndexSet<TextRef<'a>> = IndexSet::new(alloc);
     let fields = match selected {

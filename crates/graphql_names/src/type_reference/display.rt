@@ -1,7 +1,7 @@
 ghost use Rattle.std.specs.Prelude.{Some};
 ghost use Rattle.std.specs.List.{flat_map};
 ghost use Rattle.std.specs.Fmt.{WritesOnOk};
-ghost use Rattle.graphql_names.specs.TypeReference.{opening, closing, written};
+ghost use Rattle.graphql_names.specs.TypeReference.{opening, closing, written_type};
 
 use super::Type;
 use crate::type_modifier::TypeModifier;
@@ -42,7 +42,7 @@ fn write_closings<W: fmt::Write>(
 
 /// Writes the type as a document does, as `[Int!]!`; lengths of lists are left out.
 impl<N: AsStr, M: AsSlice<TypeModifier>> fmt::Display for Type<N, M> {
-    ghost output = { λ t. Some (written (N.text t.name) (M.items t.modifiers)) };
+    ghost output = { λ t. Some (written_type (N.text t.name) (M.items t.modifiers)) };
 
     fn fmt<W: fmt::Write>(&self, f: &mut fmt::Formatter<W>) -> fmt::Result {
         write_openings(f, self.modifiers())?;

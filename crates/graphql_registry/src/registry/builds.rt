@@ -2,7 +2,7 @@
 
 ghost use Rattle.std.specs.Prelude.{false, None, [], ◌++◌, ◌∷◌};
 ghost use Rattle.graphql_text.specs.Memory.{Gives};
-ghost use Rattle.graphql_registry.specs.Registries.{field_of, typename_field};
+ghost use Rattle.graphql_registry.specs.Registries.{declared_field, typename_field};
 
 use super::Registry;
 use crate::graphql_type::GraphQLType;

@@ -2,7 +2,7 @@
 
 ghost use Rattle.std.specs.Prelude.{Some};
 ghost use Rattle.graphql_text.specs.Memory.{Gives};
-ghost use Rattle.graphql_registry.specs.Registries.{argument_of, field_of};
+ghost use Rattle.graphql_registry.specs.Registries.{declared_argument, declared_field};
 
 use super::Registry;
 use crate::graphql_type::GraphQLType;
@@ -28,7 +28,7 @@ impl<S, C> Registry<S, C> {
         alloc: Global,
         name: &str,
     ) -> Result<Field<S>, AllocError>
-        ensures { Gives result (field_of name.now T.type_reference) }
+        ensures { Gives result (declared_field name.now T.type_reference) }
     {
         let name = Text::from_str(alloc, name)?;
         let field_type = self.get_type::<T>(alloc)?;
@@ -47,7 +47,7 @@ impl<S, C> Registry<S, C> {
         alloc: Global,
         name: &str,
     ) -> Result<Field<S>, AllocError>
-        ensures { Gives result (field_of name.now T.type_reference) }
+        ensures { Gives result (declared_field name.now T.type_reference) }
     {
         self.field::<T>(alloc, name)
     }
@@ -59,7 +59,7 @@ impl<S, C> Registry<S, C> {
         alloc: Global,
         name: &str,
     ) -> Result<Argument<S>, AllocError>
-        ensures { Gives result (argument_of name.now T.type_reference) }
+        ensures { Gives result (declared_argument name.now T.type_reference) }
     {
         let name = Text::from_str(alloc, name)?;
         Ok(Argument::new(name, self.get_type::<T>(alloc)?))
@@ -75,7 +75,7 @@ impl<S, C> Registry<S, C> {
     ) -> Result<Argument<S>, AllocError>
     where
         S: Drop,
-        ensures { Gives result (record (argument_of name.now T.type_reference) {
+        ensures { Gives result (record (declared_argument name.now T.type_reference) {
           default_value = Some (T.input value.now);
         }) }
     {

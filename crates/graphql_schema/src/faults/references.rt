@@ -5,7 +5,7 @@ ghost use Rattle.std.specs.List.{flat_map};
 ghost use Rattle.graphql_schema.specs.Types.{arguments_of, input_fields_of};
 ghost use Rattle.graphql_schema.specs.Lookups.{argument_type_name, input_names, references_of};
 ghost use Rattle.graphql_names.specs.Names.{Finds};
-ghost use Rattle.graphql_schema.specs.Demands.{asked_of, misses, is_referred};
+ghost use Rattle.graphql_schema.specs.Demands.{references_asked, misses, is_referred};
 ghost use Rattle.graphql_schema.specs.declared.faults.demand.Demand.TheVariants as demand;
 
 use super::demand::{Demand, is_unmet};
@@ -87,7 +87,7 @@ fn unmet_within<'a, S, C>(
     types: &NameMap<MetaType<S, C>>,
     meta: &'a MetaType<S, C>,
 ) -> Option<&'a str>
-    ensures { Finds (misses wanted types.now (asked_of wanted meta.now)) result }
+    ensures { Finds (misses wanted types.now (references_asked wanted meta.now)) result }
 {
     match wanted {
         Demand::Known => unmet_anywhere(wanted, types, meta),

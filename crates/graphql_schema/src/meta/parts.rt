@@ -2,7 +2,7 @@
 
 ghost use Rattle.std.specs.Prelude.{◌≡◌};
 ghost use Rattle.graphql_schema.specs.Types.{arguments_of, fields_of, input_fields_of};
-ghost use Rattle.graphql_schema.specs.Types.{interfaces_of, members_of, values_of};
+ghost use Rattle.graphql_schema.specs.Types.{interfaces_of, union_members, values_of};
 
 use super::{Argument, EnumValue, Field, MetaType};
 use graphql_text::Text;
@@ -35,7 +35,7 @@ impl<S, C> MetaType<S, C> {
     /// The names of the members of a union (GraphQL October 2021, 3.8 Unions). Other types have
     /// none.
     pub fn member_names(&self) -> &[Text]
-        ensures { result.now ≡ members_of self.now }
+        ensures { result.now ≡ union_members self.now }
     {
         match self {
             MetaType::Union(meta) => meta.of_type_names.as_slice(),

@@ -47,7 +47,7 @@ pub struct Household;
 
 /// A text as an answer. An error is want of memory.
 fn word(alloc: Global, words: &str) -> FieldResult<Answer, DefaultScalarValue>
-    ensures { Answered (spec.word words.now) result }
+    ensures { Answered (spec.text_answer words.now) result }
 {
     let text = Text::from_str(alloc, words)?;
     Ok(Resolved::Scalar(DefaultScalarValue::String(text)))

@@ -74,7 +74,8 @@ impl GraphQLMutationValue<DefaultScalarValue> for Counter {
         field: &str,
         _arguments: &Arguments<'_, DefaultScalarValue>,
     ) -> FieldResult<Answer, DefaultScalarValue>
-        ensures answer { Answered (Ok (spec.told (spec.one_more context.old) field.now)) result }
+        ensures answer { Answered (Ok (spec.count_answer (spec.one_more context.old) field.now))
+            result }
         ensures after { Leaves context.old (spec.one_more context.old) result context.new }
     {
         if field == "starve" {

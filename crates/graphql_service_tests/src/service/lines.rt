@@ -1,10 +1,10 @@
 ghost use Rattle.std.specs.Prelude.{◌≡◌, [], Some, None, IfSome, codes};
 ghost use Rattle.serde_json.specs.Find.{get};
 ghost use Rattle.serde_json.specs.Read.{read};
-ghost use Rattle.graphql_scalars.specs.DefaultScalar.{answer};
+ghost use Rattle.graphql_scalars.specs.DefaultScalar.{scalar_answer};
 ghost use Rattle.graphql_scalars.specs.declared.default_scalar.DefaultScalarValue.TheVariants as scalar;
 ghost use Rattle.graphql_output_values.specs.declared.value.Value.TheVariants as value;
-ghost use Rattle.graphql_values.specs.Variables.{variables_in};
+ghost use Rattle.graphql_values.specs.Variables.{names_of_variables};
 ghost use Rattle.graphql_json.specs.Json.{json};
 ghost use Rattle.graphql_json.specs.Laws.{data_of_value};
 ghost use Rattle.graphql_lines.specs.Variables.{input_of};
@@ -119,8 +119,8 @@ fn deep_values_are_written(rt: HostRuntime) -> Result<(), Fail> {
 
 /// What is written of `{"c":[null,true,-7]}` is read as that, and the list stands under `c`.
 fn list_is_read_back()
-    ensures read { read (json answer (value.Object spec.sample)) ≡ Some spec.sample_data }
-    ensures under { get (codes "c") (data_of_value answer (value.Object spec.sample))
+    ensures read { read (json scalar_answer (value.Object spec.sample)) ≡ Some spec.sample_data }
+    ensures under { get (codes "c") (data_of_value scalar_answer (value.Object spec.sample))
         ≡ Some spec.list_data }
 {
     json_laws::json_reads_back::<DefaultScalarValue>();
@@ -131,7 +131,7 @@ fn list_is_read_back()
 fn lists_are_judged()
     ensures wide { input_of scalar.Boolean scalar.Int scalar.String spec.too_wide ≡ None }
     ensures constant { IfSome (input_of scalar.Boolean scalar.Int scalar.String spec.text_data)
-        (λ v. variables_in v ≡ []) }
+        (λ v. names_of_variables v ≡ []) }
 {
     laws::bad_numbers_are_refused::<DefaultScalarValue>();
     laws::json_holds_no_variable::<DefaultScalarValue>();

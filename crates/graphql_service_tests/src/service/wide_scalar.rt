@@ -107,7 +107,7 @@ impl ScalarValue for WideScalar {
 
     ghost of_text = { wide.String };
 
-    ghost answer = { spec.answer };
+    ghost answer = { spec.wide_answer };
 
     ghost clones = { λ x y is. is };
 

@@ -1,7 +1,7 @@
 ghost use Rattle.std.specs.Prelude.{◌≡◌, ◌<◌, IfOk, None, OnOk};
 ghost use Rattle.graphql_text.specs.declared.token.Token.TheVariants as token;
 ghost use Rattle.graphql_grammar.specs.Input.{left};
-ghost use Rattle.graphql_language.specs.Leaves.{Leaves};
+ghost use Rattle.graphql_language.specs.Leaves.{LeavesBehind};
 ghost use Rattle.graphql_language.specs.Parser.{Calls, NextName};
 ghost use Rattle.graphql_language.specs.SpelledLists.{InFront, ListOf};
 ghost use Rattle.graphql_tests.specs.SpelledNames.{NameAt};
@@ -59,7 +59,7 @@ fn names_read<'a, F: Fn(&mut Parser<'a>) -> ParseResult<TextRef<'a>>>(
         → OnOk r (left q.now.input < left p.now.input) }
     ensures spelled { IfOk result (λ names. InFront (ListOf token.BracketOpen token.BracketClose
         NameAt) parser.old.input names parser.new.input) }
-    ensures leaves { Leaves parser.old.input result parser.new }
+    ensures leaves { LeavesBehind parser.old.input result parser.new }
 {
     lists_are_spelled::<Spanning<TextRef<'a>>, F, Names>();
     lists_leave_the_rest::<Spanning<TextRef<'a>>, F>();

@@ -3,7 +3,7 @@
 ghost use Rattle.std.specs.Prelude.{◌≡◌, [], ◌∷◌, None, Some, IfOk, OnErr, OnOk, codes};
 ghost use Rattle.std.specs.BTreeMap.{IsUnchanged};
 ghost use Rattle.graphql_text.specs.Memory.{Gives};
-ghost use Rattle.graphql_names.specs.TypeReference.{written};
+ghost use Rattle.graphql_names.specs.TypeReference.{written_type};
 ghost use Rattle.graphql_schema.specs.declared.meta.MetaType.TheVariants as meta;
 ghost use Rattle.graphql_schema.specs.Types.{own_name};
 ghost use Rattle.graphql_registry.specs.Registries.{Registers};
@@ -22,7 +22,7 @@ type Meta<C> = MetaType<DefaultScalarValue, C>;
 /// The reference to lists of integers is `[Int!]!` (GraphQL October 2021, 2.11 Type References). An
 /// error is want of memory.
 pub fn lists_of_integers(alloc: Global) -> Result<Type<Text>, AllocError>
-    ensures { IfOk result (λ list. written list.name list.modifiers ≡ codes "[Int!]!") }
+    ensures { IfOk result (λ list. written_type list.name list.modifiers ≡ codes "[Int!]!") }
 {
     <Vec<i32> as GraphQLType<DefaultScalarValue>>::as_type(alloc)
 }
@@ -30,7 +30,7 @@ pub fn lists_of_integers(alloc: Global) -> Result<Type<Text>, AllocError>
 /// The reference to lists of integers, where lists and integers may be null, is `[Int]`. An error
 /// is want of memory.
 pub fn lists_with_nulls(alloc: Global) -> Result<Type<Text>, AllocError>
-    ensures { IfOk result (λ list. written list.name list.modifiers ≡ codes "[Int]") }
+    ensures { IfOk result (λ list. written_type list.name list.modifiers ≡ codes "[Int]") }
 {
     <Option<Vec<Option<i32>>> as GraphQLType<DefaultScalarValue>>::as_type(alloc)
 }

@@ -2,7 +2,7 @@ ghost use Rattle.std.specs.Prelude.{Some};
 ghost use Rattle.std.specs.Fmt.{WritesOnOk};
 ghost use Rattle.std.specs.List.{flat_map};
 ghost use Rattle.graphql_values.specs.InputValueText.{input_value_text, step_text};
-ghost use Rattle.graphql_values.specs.Pending.{ahead, told};
+ghost use Rattle.graphql_values.specs.Pending.{steps_ahead, told_step};
 
 use super::InputValue;
 use super::walk::{Step, Walk};
@@ -48,7 +48,7 @@ fn write_walked<S: ScalarValue, W: Write>(
 /// Writes what a walk has yet to tell. Want of memory is an error too.
 fn write_steps<S: ScalarValue, W: Write>(f: &mut Formatter<W>, walk: Walk<'_, S>) -> Result
     ensures { WritesOnOk W.write_str_gives f.old result
-        (flat_map (step_text S.answer) (ahead walk.entry)) f.new }
+        (flat_map (step_text S.answer) (steps_ahead walk.entry)) f.new }
 {
     let mut walk = walk;
     'steps: loop {
@@ -62,7 +62,7 @@ fn write_steps<S: ScalarValue, W: Write>(f: &mut Formatter<W>, walk: Walk<'_, S>
 
 /// Writes what a walk tells next. A string stands between quotes, with nothing escaped.
 fn write_step<S: ScalarValue, W: Write>(f: &mut Formatter<W>, step: Step<'_, S>) -> Result
-    ensures { WritesOnOk W.write_str_gives f.old result (step_text S.answer (told step.entry))
+    ensures { WritesOnOk W.write_str_gives f.old result (step_text S.answer (told_step step.entry))
         f.new }
 {
     match step {

@@ -2,7 +2,7 @@
 
 ghost use Rattle.std.specs.Prelude.{◌≡◌, ◌↔◌, ◌+◌, ◌<◌, ◌≤◌, IsTrue, IfOk};
 ghost use Rattle.std.specs.List.{sum_by};
-ghost use Rattle.graphql_values.specs.Comparing.{IsByName, Leaves, left_count, lent};
+ghost use Rattle.graphql_values.specs.Comparing.{IsByName, LeavesSame, left_count, lent};
 ghost use Rattle.graphql_values.specs.Counts.{value_count};
 ghost use Rattle.graphql_values.specs.SameValue.{SameValue, SameItems, SameFields, names};
 
@@ -45,7 +45,7 @@ fn same_form<'a, S: PartialEq>(
     waiting: &mut Items<Both<'a, S>>,
 ) -> Result<bool, AllocError>
     ensures leaves { IfOk result (λ stands.
-        Leaves S.eq (SameValue S S.eq left.now right.now) waiting.old waiting.new stands) }
+        LeavesSame S.eq (SameValue S S.eq left.now right.now) waiting.old waiting.new stands) }
     ensures fewer { IfOk result
         (λ _. left_count waiting.new < left_count waiting.old + value_count left.now) }
 {
@@ -81,7 +81,7 @@ fn leave_items<'a, S: PartialEq>(
     waiting: &mut Items<Both<'a, S>>,
 ) -> Result<bool, AllocError>
     ensures leaves { IfOk result (λ stands.
-        Leaves S.eq (SameItems S S.eq left.now right.now) waiting.old waiting.new stands) }
+        LeavesSame S.eq (SameItems S S.eq left.now right.now) waiting.old waiting.new stands) }
     ensures count { IfOk result (λ _. left_count waiting.new ≤ left_count waiting.old
         + sum_by (λ x. value_count x.item) left.now) }
 {
@@ -104,7 +104,7 @@ fn leave_fields<'a, S: PartialEq>(
     waiting: &mut Items<Both<'a, S>>,
 ) -> Result<bool, AllocError>
     ensures leaves { IfOk result (λ stands.
-        Leaves S.eq (SameFields S S.eq left.now right.now) waiting.old waiting.new stands) }
+        LeavesSame S.eq (SameFields S S.eq left.now right.now) waiting.old waiting.new stands) }
     ensures count { IfOk result (λ _. left_count waiting.new ≤ left_count waiting.old
         + sum_by (λ p. value_count p.1.item) left.now) }
 {
@@ -153,7 +153,7 @@ fn leave_in_order<'a, S: PartialEq>(
     waiting: &mut Items<Both<'a, S>>,
 ) -> Result<bool, AllocError>
     requires { names (lent left.now) ≡ names (lent right.now) }
-    ensures leaves { IfOk result (λ stands. Leaves S.eq
+    ensures leaves { IfOk result (λ stands. LeavesSame S.eq
         (SameFields S S.eq (lent left.now) (lent right.now)) waiting.old waiting.new stands) }
     ensures count { IfOk result (λ _. left_count waiting.new ≤ left_count waiting.old
         + sum_by (λ p. value_count p.1.item) (lent left.now)) }
@@ -172,7 +172,7 @@ fn leave_by_name<'a, S: PartialEq>(
     right: Items<Field<'a, S>>,
     waiting: &mut Items<Both<'a, S>>,
 ) -> Result<bool, AllocError>
-    ensures leaves { IfOk result (λ stands. Leaves S.eq
+    ensures leaves { IfOk result (λ stands. LeavesSame S.eq
         (SameFields S S.eq (lent left.entry) (lent right.entry)) waiting.old waiting.new stands) }
     ensures count { IfOk result (λ _. left_count waiting.new ≤ left_count waiting.old
         + sum_by (λ p. value_count p.1.item) (lent left.entry)) }

@@ -2,7 +2,7 @@
 
 ghost use Rattle.std.specs.HashMap.{get_by_text};
 ghost use Rattle.graphql_text.specs.Memory.{Gives};
-ghost use Rattle.graphql_values.specs.Variables.{variables_in, constant_of, each_given};
+ghost use Rattle.graphql_values.specs.Variables.{names_of_variables, constant_of, each_given};
 ghost use Rattle.graphql_values.specs.Variables.{constant_item, constant_pair};
 
 use super::InputValue;
@@ -22,7 +22,7 @@ impl<S> InputValue<S> {
     /// from left to right, each as often as it stands there. It takes no more stack however deep
     /// the value is. An error is want of memory.
     pub fn referenced_variables(&self, alloc: Global) -> Result<Items<TextRef<'_>>, AllocError>
-        ensures { Gives result (variables_in self.now) }
+        ensures { Gives result (names_of_variables self.now) }
     {
         let mut found = Items::new(alloc);
         let mut walk = Walk::new(alloc, self)?;

@@ -3,7 +3,7 @@ use Rattle.std.specs.List.{Contains}
 use Rattle.std.proofs.lemmas.Result.{on_ok_weaker}
 use Rattle.graphql_bundles.specs.Conflicts.{places}
 use Rattle.graphql_merging.specs.Tables.{pieces_of}
-use Rattle.graphql_bundles.specs.Bundles.{Part, parts, IsGroupPassed}
+use Rattle.graphql_bundles.specs.Bundles.{GroupPart, parts, IsGroupPassed}
 use Rattle.graphql_bundles.specs.Going.{GroupLeadsTo, stage_of}
 use Rattle.graphql_bundles.specs.Steps.{ArePartNamed, Compares, Goes, IsFoundOf}
 use Rattle.graphql_bundles.specs.Groups.{group_of}
@@ -38,7 +38,7 @@ returns-clause-passed g c =
     (group-whole t fragments c.args.group.now eq types (places c.args.progress.now.told) (places c.compare_shapes.new.told) (places c.compare_names.new.told)
     (stage_of c.args.progress.now).bundles c.args.progress.now.is_within (stage_of c.begin_parts.new.progress) (c.in_ok-compare_shapes.ensures.told fragments)
     (subst (λ ns. Compares (IsFoundOf eq types false group.fields)
-    ((part : Part) → Contains (parts false ns) part → part.around ≡ false → ArePartNamed eq types group.fields part)
+    ((part : GroupPart) → Contains (parts false ns) part → part.around ≡ false → ArePartNamed eq types group.fields part)
     (places c.compare_shapes.new.told) (places c.compare_names.new.told)) names (c.in_ok-compare_names.ensures.told fragments))
     (goes fragments)))
     c.begin_parts.ensures

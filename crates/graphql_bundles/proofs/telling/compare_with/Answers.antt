@@ -5,7 +5,7 @@ use Rattle.graphql_values.proofs.SameValueLemmas.{get_or_any}
 use Rattle.graphql_bundles.specs.Conflicts.{places}
 use Rattle.graphql_merging.specs.Members.{Member}
 use Rattle.graphql_merging.specs.Merging.{Agree}
-use Rattle.graphql_merging.specs.Selected.{seen}
+use Rattle.graphql_merging.specs.Selected.{member_of}
 use Rattle.graphql_merging.specs.Told.{AddsErrors}
 use Rattle.graphql_merging.specs.declared.table.WrittenField.{WrittenField}
 use Rattle.graphql_merging.proofs.Reports.{adds-nothing, adds-more}
@@ -14,7 +14,7 @@ use Rattle.graphql_bundles.proofs.telling.compare_with.Goals as goal
 pub returns-clause-told : goal.returns-clause-told
 returns-clause-told g c = λ fragments head at.
     subst (λ fs. AddsErrors (Agree g.S.PartialEq.eq c.args.schema.now.types c.args.around)
-    (map {B = Member g.row.S.Denot g.row.C.Denot × Member g.row.S.Denot g.row.C.Denot} (λ (f : WrittenField g.row.S.Denot g.row.C.Denot). (seen fragments head.selected, seen fragments f.selected)) fs)
+    (map {B = Member g.row.S.Denot g.row.C.Denot × Member g.row.S.Denot g.row.C.Denot} (λ (f : WrittenField g.row.S.Denot g.row.C.Denot). (member_of fragments head.selected, member_of fragments f.selected)) fs)
     (places c.args.told.now) (places c.loop-other.told)) (take_all c.loop-other.other c.args.group.now c.loop-other-test.false)
     (c.loop-other.invariant.told fragments head at)
 
@@ -41,8 +41,8 @@ loop-other-preserved g c = record {
       let group = c.args.group.now in
       let i = c.loop-other.other in
       let f : WrittenField g.row.S.Denot g.row.C.Denot = get_or group i head in
-      adds-more (Agree g.S.PartialEq.eq c.args.schema.now.types c.args.around) (λ (f : WrittenField g.row.S.Denot g.row.C.Denot). seen fragments f.selected)
-      (seen fragments head.selected) group i f (places c.args.told.now) (places c.loop-other.told)
+      adds-more (Agree g.S.PartialEq.eq c.args.schema.now.types c.args.around) (λ (f : WrittenField g.row.S.Denot g.row.C.Denot). member_of fragments f.selected)
+      (member_of fragments head.selected) group i f (places c.args.told.now) (places c.loop-other.told)
       (places c.compare_another.new.told) c.loop-other-test.true (get_or_any group i head f c.loop-other-test.true)
       (c.loop-other.invariant.told fragments head at)
       (c.in_ok-compare_another.ensures.told fragments head f at (slice_get-get_or group i head c.loop-other-test.true));

@@ -1,6 +1,6 @@
 use Rattle.std.proofs.Common.{arith, refl, ap, ◌≡◌, ◌∙◌, ◌+◌, ◌≤◌, List, ◌++◌, ◌∷◌, [], length, length-append}
 use Rattle.graphql_names.specs.Names.{Bytes}
-use Rattle.graphql_written_out.specs.Written.{one}
+use Rattle.graphql_written_out.specs.Written.{written_selection}
 use Rattle.graphql_collected.specs.Requests.{fragments_in, written_in}
 use Rattle.graphql_collect.specs.Collecting.{Enters, trees_in}
 use Rattle.graphql_collect.specs.Sizes.{left_by, left_in, size, turns}
@@ -10,7 +10,7 @@ use Rattle.graphql_collect.proofs.collecting.enter.Goals as goal
 
 pub returns-in-Nothing-clause-steps : goal.returns-in-Nothing-clause-steps
 returns-in-Nothing-clause-steps g c =
-    enters-nothing g.S.ScalarValue.answer c.args.request.now c.args.object.now (one (fragments_in c.args.request.now) c.args.selection.now)
+    enters-nothing g.S.ScalarValue.answer c.args.request.now c.args.object.now (written_selection (fragments_in c.args.request.now) c.args.selection.now)
     (trees_in c.args.request.now c.args.sets.now) c.args.visited.now.keys c.args.found.now c.in-Nothing.ensures.brings
 
 pub returns-in-Nothing-clause-sized : goal.returns-in-Nothing-clause-sized
@@ -21,7 +21,7 @@ returns-in-Nothing-clause-turns g c = omega (arith, some-turns c.args.selection.
 
 pub returns-in_ok-push-in-Field-clause-steps : goal.returns-in_ok-push-in-Field-clause-steps
 returns-in_ok-push-in-Field-clause-steps g c =
-    enters-field g.S.ScalarValue.answer c.args.request.now c.args.object.now (one (fragments_in c.args.request.now) c.args.selection.now)
+    enters-field g.S.ScalarValue.answer c.args.request.now c.args.object.now (written_selection (fragments_in c.args.request.now) c.args.selection.now)
     (trees_in c.args.request.now c.args.sets.now) c.in-Field.field.now c.args.visited.now.keys c.args.found.now
     c.push.new.self _ c.in-Field.ensures.brings c.in_ok-push-in-Field.ensures.ok refl
 
@@ -39,7 +39,7 @@ pub returns-in_ok-push-in-Set-clause-steps : goal.returns-in_ok-push-in-Set-clau
 returns-in_ok-push-in-Set-clause-steps g c =
     enters-set g.S.ScalarValue.answer c.args.request.now c.args.object.now c.args.sets.now c.push-in-Set.new.self _
     c.in_ok-push-in-Set.ensures.ok
-    (one (fragments_in c.args.request.now) c.args.selection.now) c.args.visited.now.keys c.args.found.now c.in-Set.ensures.brings
+    (written_selection (fragments_in c.args.request.now) c.args.selection.now) c.args.visited.now.keys c.args.found.now c.in-Set.ensures.brings
 
 pub returns-in_ok-push-in-Set-clause-sized : goal.returns-in_ok-push-in-Set-clause-sized
 returns-in_ok-push-in-Set-clause-sized g c =
@@ -60,10 +60,10 @@ returns-in_ok-push-in-Set-clause-turns g c =
 pub returns-in_ok-push-in-Fragment-clause-steps : goal.returns-in_ok-push-in-Fragment-clause-steps
 returns-in_ok-push-in-Fragment-clause-steps g c =
     let name = c.in-Fragment.spread.now.item.name.item in
-    let entered : Enters g.S.ScalarValue.answer c.args.request.now c.args.object.now c.args.visited.now.keys (one (fragments_in c.args.request.now) c.args.selection.now)
+    let entered : Enters g.S.ScalarValue.answer c.args.request.now c.args.object.now c.args.visited.now.keys (written_selection (fragments_in c.args.request.now) c.args.selection.now)
     (written_in c.args.request.now c.in-Fragment.among.now) name = c.in-Fragment.ensures.brings in
     enters-fragment g.S.ScalarValue.answer c.args.request.now c.args.object.now c.args.sets.now
-    c.push-in-Fragment.new.self _ c.in_ok-push-in-Fragment.ensures.ok (one (fragments_in c.args.request.now) c.args.selection.now) name c.args.visited.now.keys c.insert.new.self.keys c.args.found.now entered
+    c.push-in-Fragment.new.self _ c.in_ok-push-in-Fragment.ensures.ok (written_selection (fragments_in c.args.request.now) c.args.selection.now) name c.args.visited.now.keys c.insert.new.self.keys c.args.found.now entered
     (inserted c.args.visited.now.keys c.insert.new.self.keys name c.copied.result c.copied.ensures entered.first c.in_ok-insert-in-Fragment.ensures.keys)
 
 pub returns-in_ok-push-in-Fragment-clause-sized : goal.returns-in_ok-push-in-Fragment-clause-sized

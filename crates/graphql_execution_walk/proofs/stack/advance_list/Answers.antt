@@ -2,7 +2,7 @@ use Rattle.std.proofs.Common.{arith, refl, sym, ◌∙◌, ap, subst, reverse, O
 use Rattle.graphql_execution_walk.specs.declared.frames.Frame.TheVariants as frame
 use Rattle.graphql_execution_walk.specs.Begins.{outcome_at}
 use Rattle.graphql_execution_walk.specs.Evaluations.{evaluation_at}
-use Rattle.graphql_execution_walk.specs.Frames.{Leads, comes_to, known_of, learns, path_of, rest, shows}
+use Rattle.graphql_execution_walk.specs.Frames.{TellsFirst, comes_to, known_of, learns, path_of, rest, shows}
 use Rattle.graphql_execution_walk.specs.Sets.{kept_sets}
 use Rattle.graphql_execution_walk.proofs.BeginLemmas.{told-begins}
 use Rattle.graphql_execution_walk.proofs.FrameLemmas.{fine-last, item-starts, keeps, known-taught, leads-same, list-ends, step-in_place, step-pushed}
@@ -32,7 +32,7 @@ returns-clause-steps g c = λ path at.
     let new = c.begun_or_told.new.report in
     let p = path_of path fs in
     let told = told-begins here (kept_sets here.fragments f.selected) f.name f.location (reverse f.wraps.now) (Ok c.in-Some.item) c.begin-begins.result c.args.report.now c.in_ok-begun.begun c.begun_or_told.new.report (rw (c.lent.ensures here.fragments) at c.begin-begins.ensures) c.in_ok-begun.ensures in
-    let leads = subst (λ q. Leads (outcome_at here.engine (kept_sets here.fragments f.selected) f.name f.location (reverse f.wraps.now) (Ok x) q) old (comes_to here begun q) new) at told.leads in
+    let leads = subst (λ q. TellsFirst (outcome_at here.engine (kept_sets here.fragments f.selected) f.name f.location (reverse f.wraps.now) (Ok x) q) old (comes_to here begun q) new) at told.leads in
     rw c.in_ok-wait_for_item.ensures.2
     (step-pushed here path fs (frame.List (learns (keeps here f left) c.in_ok-wait_for_item.ensures.0)) (λ q. rest here q (frame.List f)) (comes_to here begun) old new (told.path ∙ at)
     (item-starts here p f left x (comes_to here begun p) old new popped leads))

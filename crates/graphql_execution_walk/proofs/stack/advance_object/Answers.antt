@@ -4,7 +4,7 @@ use Rattle.graphql_semantics.specs.Evaluation.{evaluate, group}
 use Rattle.graphql_semantics.specs.Outcomes.{show_place}
 use Rattle.graphql_execution_walk.specs.declared.frames.Frame.TheVariants as frame
 use Rattle.graphql_execution_walk.specs.Evaluations.{evaluation_at}
-use Rattle.graphql_execution_walk.specs.Frames.{Leads, comes_to, path_of, rest, shows}
+use Rattle.graphql_execution_walk.specs.Frames.{TellsFirst, comes_to, path_of, rest, shows}
 use Rattle.graphql_execution_walk.specs.Sets.{HasKey}
 use Rattle.graphql_execution_walk.proofs.FrameLemmas.{awaits, distinct-end, drop-end, fine-last, group-path, group-starts, leads-same, object-ends, step-in_place, step-pushed}
 use Rattle.graphql_execution_walk.proofs.EngineParts.{engine-concrete, if-prepared}
@@ -65,7 +65,7 @@ returns-clause-steps g c = λ path at.
     let started = c.in_ok-started-in-Some.started in
     let new = c.start.new.report in
     let p = path_of path fs in
-    let leads = subst (λ q. Leads (group here.engine (evaluate here.engine) q f.object f.node x.0 (all_found here.fragments x.1)) old (show_place started.is_needed (comes_to here started.begun (q ++ x.0 ∷ []))) new) at
+    let leads = subst (λ q. TellsFirst (group here.engine (evaluate here.engine) q f.object f.node x.0 (all_found here.fragments x.1)) old (show_place started.is_needed (comes_to here started.begun (q ++ x.0 ∷ []))) new) at
     (rw c.as_str.ensures at c.in_ok-started-in-Some.ensures.leads) in
     rw c.in_ok-wait.ensures
     (step-pushed here path fs (frame.Object (awaits here f started.is_needed)) (λ q. rest here q (frame.Object f)) (comes_to here started.begun) old new

@@ -2,7 +2,7 @@ use Rattle.std.proofs.Common.{arith, sym, ◌≡◌, ◌∙◌, ap, subst, ◌++
 use Rattle.graphql_execution_walk.specs.declared.frames.Begun.TheVariants as begun
 use Rattle.graphql_execution_walk.specs.declared.frames.Frame.TheVariants as frame
 use Rattle.graphql_execution_walk.specs.Evaluations.{evaluation_at}
-use Rattle.graphql_execution_walk.specs.Frames.{Steps, path_of, rest, resume, shows}
+use Rattle.graphql_execution_walk.specs.Frames.{TakesTurn, path_of, rest, resume, shows}
 use Rattle.graphql_execution_walk.proofs.FrameLemmas.{fine-pop, leads-now, step-in_place, step-popped}
 use Rattle.graphql_execution_walk.specs.FrameTurns.{all_waiting}
 use Rattle.graphql_execution_walk.proofs.TurnLemmas.{waiting-last}
@@ -16,7 +16,7 @@ returns-in-None-clause-steps g c = λ path at.
     let ends = rw c.in-None.is at c.pop.ensures in
     let v = c.in-Value.value in
     rw (c.in-Value.is, ends.1)
-    (subst (λ ws. Steps here path (resume here path fs (λ q. shows v)) old ws (λ q. shows v) old) ends.0 (step-in_place here path fs (λ q. shows v) (λ q. shows v) old old at (leads-now (shows v) old)))
+    (subst (λ ws. TakesTurn here path (resume here path fs (λ q. shows v)) old ws (λ q. shows v) old) ends.0 (step-in_place here path fs (λ q. shows v) (λ q. shows v) old old at (leads-now (shows v) old)))
 
 pub returns-in_ok-given-in-Some-clause-steps : goal.returns-in_ok-given-in-Some-clause-steps
 returns-in_ok-given-in-Some-clause-steps g c = λ path at.

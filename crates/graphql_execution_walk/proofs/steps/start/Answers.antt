@@ -11,7 +11,7 @@ use Rattle.graphql_execution_walk.specs.Begins.{outcome_at}
 use Rattle.graphql_execution_walk.specs.Engines.{engine_of}
 use Rattle.graphql_execution_walk.specs.Evaluations.{evaluation_at}
 use Rattle.graphql_execution_walk.specs.FieldDeclarations.{declared_type}
-use Rattle.graphql_execution_walk.specs.Frames.{Leads, comes_to}
+use Rattle.graphql_execution_walk.specs.Frames.{TellsFirst, comes_to}
 use Rattle.graphql_execution_walk.proofs.BeginLemmas.{told-begins}
 use Rattle.graphql_execution_walk.proofs.EngineParts.{engine-declared}
 use Rattle.graphql_execution_walk.proofs.FrameLemmas.{group-leads, none-leads, undeclared-leads}
@@ -109,7 +109,7 @@ returns-clause-leads g c =
     let at = told-begins here sets type.name x.field.now.span.start (reverse type.modifiers) answer c.begin_field-begins.result mid now c.begun_or_told.new.report (rw c.as_slice-fields.ensures at c.begin_field-begins.ensures) c.in_ok-begun.ensures in
     rw c.is_required-is_needed.ensures
     (group-leads here.fragments here.engine old.path object node key fields x first type answer old mid c.begun_or_told.new.report (comes_to here now (old.path ++ key ∷ [])) declared refl c.in_ok-enter.ensures.errors
-    (subst (λ p. Leads (outcome_at here.engine sets type.name x.field.now.span.start (reverse type.modifiers) answer p) mid (comes_to here now p) c.begun_or_told.new.report) down at.leads))
+    (subst (λ p. TellsFirst (outcome_at here.engine sets type.name x.field.now.span.start (reverse type.modifiers) answer p) mid (comes_to here now p) c.begun_or_told.new.report) down at.leads))
 
 pub returns-in_default-clause-turns : goal.returns-in_default-clause-turns
 returns-in_default-clause-turns g c = rw (nothing_first c.args.these.now.1 (rw c.in_default.is at c.first.ensures)) refl

@@ -1,5 +1,5 @@
 use Rattle.std.proofs.Common.{◌≡◌, sym, ap, subst, append_assoc}
-use Rattle.graphql_field_results.specs.IntoFieldErrors.{IsFaultOf, told}
+use Rattle.graphql_field_results.specs.IntoFieldErrors.{IsFaultOf, only_reason}
 use Rattle.graphql_field_results.specs.declared.field_error.FieldError.{FieldError}
 use Rattle.graphql_field_results.specs.declared.field_fault.FieldFault.{FieldFault}
 use Rattle.graphql_field_results.specs.declared.field_fault.FieldFault.TheVariants as fault
@@ -9,4 +9,4 @@ is-fault : {S : Type 0} {given wanted : FieldError S} {answer : FieldFault S} �
 is-fault {wanted = wanted} answers same = subst (IsFaultOf wanted) (sym answers) same
 
 pub returns-in-Ok : goal.returns-in-Ok
-returns-in-Ok g c = simp append_assoc (is-fault c.into_field_error.ensures (ap (told {S = g.row.S.Denot}) c.in-Ok.ensures.ok))
+returns-in-Ok g c = simp append_assoc (is-fault c.into_field_error.ensures (ap (only_reason {S = g.row.S.Denot}) c.in-Ok.ensures.ok))

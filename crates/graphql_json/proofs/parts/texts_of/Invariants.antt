@@ -1,9 +1,9 @@
 use Rattle.std.proofs.Common.{◌≡◌, drop}
 use Rattle.serde_json.specs.View.{items_view}
-use Rattle.graphql_json.specs.Parts.{each, text_of}
+use Rattle.graphql_json.specs.Parts.{each_read, text_of}
 use Rattle.graphql_json.proofs.EachTurns.{from}
 use Rattle.graphql_json.proofs.parts.texts_of.Given as goal
 
 -- what was found, and then what is left, is what the whole gives
 abbrev pub invariant-items : goal.invariant-items
-invariant-items l = each text_of (items_view l.items) ≡ from l.texts (each text_of (items_view (drop l.item-index l.items)))
+invariant-items l = each_read text_of (items_view l.items) ≡ from l.texts (each_read text_of (items_view (drop l.item-index l.items)))

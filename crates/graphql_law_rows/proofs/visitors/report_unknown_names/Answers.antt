@@ -5,7 +5,7 @@ use Rattle.graphql_rules.specs.FieldsOnCorrectType.{fields_on_correct_type_fault
 use Rattle.graphql_rules.specs.KnownFragmentNames.{known_fragment_names_faults}
 use Rattle.graphql_validation.proofs.WalkLemmas.{reports_visited}
 use Rattle.graphql_validation.specs.FirstStage.{places_of}
-use Rattle.graphql_visitors.specs.Rules.{both, local, silent}
+use Rattle.graphql_visitors.specs.Rules.{both_steps, local, silent}
 use Rattle.graphql_visitors.specs.Runs.{joined}
 use Rattle.graphql_visitors.specs.Subjects.{subject_of}
 use Rattle.graphql_law_rows.proofs.Told.{two_told}
@@ -19,7 +19,7 @@ returns g c =
     let fragments = places_of subject known_fragment_names_faults in
     let v = c.with-rules.result in
     let w = c.visit.new.visitor in
-    reports_visited (both (local fields_on_correct_type_faults) (both (local known_fragment_names_faults) silent)) (IsPermutation (fields ++ fragments))
+    reports_visited (both_steps (local fields_on_correct_type_faults) (both_steps (local known_fragment_names_faults) silent)) (IsPermutation (fields ++ fragments))
     document_events v w c.args.context.now c.visit.new.context c.visit.ensures.visited c.visit.ensures.around
     (λ ts runs.
     let split = c.one_pass_is_separate_passes-2.ensures subject v w document_events ts runs in

@@ -1,6 +1,6 @@
 use Rattle.std.proofs.Common.{◌≡◌, ◌||◌, true, take}
 use Rattle.std.specs.List.{list_all}
-use Rattle.graphql_literal_checks.specs.InputFields.{has_name}
+use Rattle.graphql_names.specs.NameSets.{has_name}
 use Rattle.graphql_literal_checks.specs.InputTypes.{is_optional}
 use Rattle.graphql_literal_checks.proofs.input_fields.first_unsettled.Given as goal
 

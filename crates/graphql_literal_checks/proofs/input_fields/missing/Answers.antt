@@ -3,7 +3,7 @@ use Rattle.graphql_schema.specs.declared.meta.argument.Argument.{Argument}
 use Rattle.graphql_names.specs.Names.{is_one_of}
 use Rattle.graphql_values.specs.declared.input_value.InputValue.{InputValue}
 use Rattle.graphql_values.specs.InputValues.{Pair}
-use Rattle.graphql_literal_checks.specs.InputFields.{has_name}
+use Rattle.graphql_names.specs.NameSets.{has_name}
 use Rattle.graphql_literal_checks.specs.InputTypes.{is_optional}
 use Rattle.graphql_literal_checks.proofs.InputFieldsLemmas.{unsettled_same}
 use Rattle.graphql_literal_checks.proofs.input_fields.missing.Goals as goal

@@ -6,7 +6,7 @@ use Rattle.graphql_values.specs.Counts.{value_count}
 use Rattle.graphql_values.proofs.CountEquations.{count_list, count_object, field_count, item_count}
 use Rattle.graphql_look_ahead.specs.Equality.{equal, same_field, same_item}
 use Rattle.graphql_look_ahead.proofs.EqualityLemmas.{counted, elsewhere, equal_forms, fewer_left, first_alike, first_apart, more_left, name_elsewhere, none_left, not_enum, not_list, not_null, not_object, not_scalar, other_name, other_value, same_value}
-use Rattle.graphql_look_ahead.specs.Values.{fields_left, fields_told, items_left, items_told, named, placed, told}
+use Rattle.graphql_look_ahead.specs.Values.{fields_left, fields_told, items_ahead, items_told, named_value, placed, value_shown}
 use Rattle.graphql_look_ahead.proofs.equality.+equality.Goals as goal
 use Rattle.graphql_look_ahead.proofs.equality.+equality.Goals.{are_same_fields-then-ne-via-then-ne, are_same_fields-then-ne-via-else-ne+then-not-are_same_span, are_same_fields-then-not-are_same_span-2-via-then-not-are_same_span-2, are_same_fields-then-not-are_same_span-2-via-else-not-are_same_span-2+then-not-are_same_value, are_same_items-then-not-are_same_span-via-then-not-are_same_span, are_same_items-then-not-are_same_span-via-else-not-are_same_span+then-not-are_same_value}
 
@@ -66,7 +66,7 @@ are_same_fields-returns-in-None-next g t c =
 
 pub are_same_items-returns-then-not-are_same_span : goal.are_same_items-returns-then-not-are_same_span
 are_same_items-returns-then-not-are_same_span g t c =
-    elim c.then-not-are_same_span.branch as (λ w. false ≡ pointwise (same_item (equal g.S.PartialEq.eq)) (items_left c.args.mine) (items_left c.args.theirs)) [
+    elim c.then-not-are_same_span.branch as (λ w. false ≡ pointwise (same_item (equal g.S.PartialEq.eq)) (items_ahead c.args.mine) (items_ahead c.args.theirs)) [
       | are_same_items-then-not-are_same_span-via-then-not-are_same_span w ↦
           let off : c.are_same_span.result ≡ false = search rules in
           sym (first_apart (same_item (equal g.S.PartialEq.eq)) _ _ _ _ _ _ c.in-Some.ensures.steps c.in-Some-next.ensures.steps (elsewhere (equal g.S.PartialEq.eq) (placed c.in-Some.item) (placed c.in-Some-next.other) (sym c.are_same_span.ensures ∙ off)))
@@ -87,12 +87,12 @@ are_same_fields-returns-then-ne g t c =
     elim c.then-ne.branch as (λ w. false ≡ pointwise (same_field (equal g.S.PartialEq.eq)) (fields_left c.args.mine) (fields_left c.args.theirs)) [
       | are_same_fields-then-ne-via-then-ne w ↦
           let off : bytes_eq c.in-Some.field.0.item.now c.in-Some-next.other.0.item.now ≡ false = search rules in
-          sym (first_apart (same_field (equal g.S.PartialEq.eq)) _ _ _ _ _ _ c.in-Some.ensures.steps c.in-Some-next.ensures.steps (other_name (equal g.S.PartialEq.eq) (named c.in-Some.field) (named c.in-Some-next.other) off))
+          sym (first_apart (same_field (equal g.S.PartialEq.eq)) _ _ _ _ _ _ c.in-Some.ensures.steps c.in-Some-next.ensures.steps (other_name (equal g.S.PartialEq.eq) (named_value c.in-Some.field) (named_value c.in-Some-next.other) off))
           ∙ c.fields.invariant.so_far
       | are_same_fields-then-ne-via-else-ne+then-not-are_same_span w ↦
           let on : bytes_eq c.in-Some.field.0.item.now c.in-Some-next.other.0.item.now ≡ true = search rules in
           let off : w.are_same_span.result ≡ false = search rules in
-          sym (first_apart (same_field (equal g.S.PartialEq.eq)) _ _ _ _ _ _ c.in-Some.ensures.steps c.in-Some-next.ensures.steps (name_elsewhere (equal g.S.PartialEq.eq) (named c.in-Some.field) (named c.in-Some-next.other) on (sym w.are_same_span.ensures ∙ off)))
+          sym (first_apart (same_field (equal g.S.PartialEq.eq)) _ _ _ _ _ _ c.in-Some.ensures.steps c.in-Some-next.ensures.steps (name_elsewhere (equal g.S.PartialEq.eq) (named_value c.in-Some.field) (named_value c.in-Some-next.other) on (sym w.are_same_span.ensures ∙ off)))
           ∙ c.fields.invariant.so_far
     ]
 
@@ -107,12 +107,12 @@ are_same_fields-returns-then-not-are_same_span-2 g t c =
     elim c.then-not-are_same_span-2.branch as (λ w. false ≡ pointwise (same_field (equal g.S.PartialEq.eq)) (fields_left c.args.mine) (fields_left c.args.theirs)) [
       | are_same_fields-then-not-are_same_span-2-via-then-not-are_same_span-2 w ↦
           let off : c.are_same_span-in-Some-next.result ≡ false = search rules in
-          sym (first_apart (same_field (equal g.S.PartialEq.eq)) _ _ _ _ _ _ c.in-Some.ensures.steps c.in-Some-next.ensures.steps (other_value (equal g.S.PartialEq.eq) (named c.in-Some.field) (named c.in-Some-next.other) name (sym c.are_same_span.ensures ∙ place) (elsewhere (equal g.S.PartialEq.eq) (placed c.in-Some.field.1) (placed c.in-Some-next.other.1) (sym c.are_same_span-in-Some-next.ensures ∙ off))))
+          sym (first_apart (same_field (equal g.S.PartialEq.eq)) _ _ _ _ _ _ c.in-Some.ensures.steps c.in-Some-next.ensures.steps (other_value (equal g.S.PartialEq.eq) (named_value c.in-Some.field) (named_value c.in-Some-next.other) name (sym c.are_same_span.ensures ∙ place) (elsewhere (equal g.S.PartialEq.eq) (placed c.in-Some.field.1) (placed c.in-Some-next.other.1) (sym c.are_same_span-in-Some-next.ensures ∙ off))))
           ∙ c.fields.invariant.so_far
       | are_same_fields-then-not-are_same_span-2-via-else-not-are_same_span-2+then-not-are_same_value w ↦
           let on : c.are_same_span-in-Some-next.result ≡ true = search rules in
           let off : w.are_same_value.result ≡ false = search rules in
-          sym (first_apart (same_field (equal g.S.PartialEq.eq)) _ _ _ _ _ _ c.in-Some.ensures.steps c.in-Some-next.ensures.steps (other_value (equal g.S.PartialEq.eq) (named c.in-Some.field) (named c.in-Some-next.other) name (sym c.are_same_span.ensures ∙ place) (λ i. (sym c.are_same_span-in-Some-next.ensures ∙ on) i && (sym w.are_same_value.ensures ∙ off) i)))
+          sym (first_apart (same_field (equal g.S.PartialEq.eq)) _ _ _ _ _ _ c.in-Some.ensures.steps c.in-Some-next.ensures.steps (other_value (equal g.S.PartialEq.eq) (named_value c.in-Some.field) (named_value c.in-Some-next.other) name (sym c.are_same_span.ensures ∙ place) (λ i. (sym c.are_same_span-in-Some-next.ensures ∙ on) i && (sym w.are_same_value.ensures ∙ off) i)))
           ∙ c.fields.invariant.so_far
     ]
 
@@ -125,7 +125,7 @@ are_same_fields-fields-preserved g t c =
     record {
       so_far =
           sym (first_alike (same_field (equal g.S.PartialEq.eq)) _ _ _ _ _ _ c.in-Some.ensures.steps c.in-Some-next.ensures.steps
-          (same_value (equal g.S.PartialEq.eq) (named c.in-Some.field) (named c.in-Some-next.other) name (sym c.are_same_span.ensures ∙ place)
+          (same_value (equal g.S.PartialEq.eq) (named_value c.in-Some.field) (named_value c.in-Some-next.other) name (sym c.are_same_span.ensures ∙ place)
           (λ i. (sym c.are_same_span-in-Some-next.ensures ∙ span_alike) i && (sym c.are_same_value.ensures ∙ value_alike) i)))
           ∙ c.fields.invariant.so_far;
       fewer = omega (arith, counted field_count _ _ _ c.in-Some.ensures.steps);
@@ -139,11 +139,11 @@ are_same_value-are_same_name-requires-text-theirs g t c κs = search rules
 
 pub are_same_value-are_same_items-requires : goal.are_same_value-are_same_items-requires
 are_same_value-are_same_items-requires g t c = λ κs within.
-    (omega (arith, ap (λ v. value_count (told v)) c.in-List.is, count_list (items_told c.in-List.list), ap (sum_by item_count) c.iter.ensures), search rules)
+    (omega (arith, ap (λ v. value_count (value_shown v)) c.in-List.is, count_list (items_told c.in-List.list), ap (sum_by item_count) c.iter.ensures), search rules)
 
 pub are_same_value-are_same_fields-requires : goal.are_same_value-are_same_fields-requires
 are_same_value-are_same_fields-requires g t c = λ κs within.
-    (omega (arith, ap (λ v. value_count (told v)) c.in-Object.is, count_object (fields_told c.in-Object.object), ap (sum_by field_count) c.iter-in-Object-theirs.ensures), search rules)
+    (omega (arith, ap (λ v. value_count (value_shown v)) c.in-Object.is, count_object (fields_told c.in-Object.object), ap (sum_by field_count) c.iter-in-Object-theirs.ensures), search rules)
 
 pub are_same_value-returns-in-Null-theirs : goal.are_same_value-returns-in-Null-theirs
 are_same_value-returns-in-Null-theirs g t c =

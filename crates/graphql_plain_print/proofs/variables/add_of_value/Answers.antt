@@ -1,6 +1,6 @@
 use Rattle.std.proofs.Common.{◌+◌, ◌∷◌, ◌++◌, [], sym, ◌∙◌, ap, take, append-nil}
 use Rattle.std.proofs.lemmas.List.{take_more, take_all}
-use Rattle.graphql_values.specs.Variables.{variables_in}
+use Rattle.graphql_values.specs.Variables.{names_of_variables}
 use Rattle.graphql_plain_print.proofs.NameLemmas.{same-as, same-next, same-refl}
 use Rattle.graphql_plain_print.proofs.variables.add_of_value.Goals as goal
 
@@ -21,5 +21,5 @@ returns g c =
     let old = c.args.used.now.keys in
     let names = c.as_slice-name-items.result.now in
     let k = c.loop-name.name-index in
-    same-as c.loop-name.used.keys (old ++ take k names) (old ++ variables_in c.args.value.now) c.loop-name.invariant
+    same-as c.loop-name.used.keys (old ++ take k names) (old ++ names_of_variables c.args.value.now) c.loop-name.invariant
     (ap (λ l. old ++ l) (take_all k names c.loop-name-test.false ∙ c.as_slice-name-items.ensures ∙ c.in_ok-names.ensures))

@@ -5,7 +5,7 @@ use Rattle.graphql_names.specs.Names.{is_one_of}
 use Rattle.graphql_plain_text.specs.PlainTexts.{spaced}
 use Rattle.graphql_plain_text.specs.SpanTokens.{tokens_within}
 use Rattle.graphql_plain_text.specs.TreeTokens.{variable_tokens}
-use Rattle.graphql_plain_print.specs.Adding.{Adds}
+use Rattle.graphql_plain_print.specs.Adding.{AddsTokens}
 use Rattle.graphql_plain_print.proofs.OperationLemmas.{used-alone, used-not}
 use Rattle.graphql_plain_print.proofs.variables.push_if_used.Goals as goal
 
@@ -21,6 +21,6 @@ pub returns : goal.returns
 returns g c =
     let names = c.args.used.now.keys in
     let f = variable_tokens (tokens_within c.args.tokens.now.tokens) in
-    subst (λ l. OnOk c.push_definition.result (Adds (string_bytes c.args.text.now) (string_bytes c.push_definition.new.text) l))
+    subst (λ l. OnOk c.push_definition.result (AddsTokens (string_bytes c.args.text.now) (string_bytes c.push_definition.new.text) l))
     (sym (used-alone names f c.args.definition.now (ap (is_one_of names) (sym c.as_str.ensures) ∙ sym c.is_used.ensures ∙ c.if-not-is_used.false)))
     c.push_definition.ensures

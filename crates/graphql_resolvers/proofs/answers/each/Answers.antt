@@ -24,4 +24,4 @@ items-preserved g c = λ wanted by.
 
 pub returns : goal.returns
 returns g c = λ wanted by.
-    ap spec.listed (each_whole wanted c.args.items.now c.items.item-index c.items.answers c.items-test.false (c.items.invariant wanted by))
+    ap spec.list_answer (each_whole wanted c.args.items.now c.items.item-index c.items.answers c.items-test.false (c.items.invariant wanted by))

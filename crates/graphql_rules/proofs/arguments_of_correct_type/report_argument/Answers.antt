@@ -2,7 +2,7 @@ use Rattle.std.proofs.Common.{◌∙◌, ap, sym}
 use Rattle.std.specs.Option.{option_copied, option_map, option_to_list}
 use Rattle.graphql_occurrences.specs.Lent.{arguments_lent}
 use Rattle.graphql_occurrences.specs.Lookups.{argument_named}
-use Rattle.graphql_rules.specs.ArgumentsOfCorrectType.{asked_at, literal_of}
+use Rattle.graphql_rules.specs.ArgumentsOfCorrectType.{asked_argument, literal_of}
 use Rattle.graphql_rules.proofs.TellLemmas.{reports_no_literal}
 use Rattle.graphql_rules.proofs.arguments_of_correct_type.report_argument.Goals as goal
 
@@ -11,4 +11,4 @@ returns-in_default g c =
     let declared = arguments_lent c.args.declared in
     let argument = c.args.argument.now in
     reports_no_literal g.S.ScalarValue.answer g.S.Check.Check.accepts c.args.context.now.schema.now.types (literal_of declared argument) c.args.context.now
-    (ap (λ found. option_to_list (option_map (asked_at argument) found)) (ap (argument_named declared) (sym c.as_str-name.ensures) ∙ sym c.get.ensures ∙ ap option_copied c.in_default.is))
+    (ap (λ found. option_to_list (option_map (asked_argument argument) found)) (ap (argument_named declared) (sym c.as_str-name.ensures) ∙ sym c.get.ensures ∙ ap option_copied c.in_default.is))

@@ -4,13 +4,13 @@ use Rattle.std.proofs.lemmas.List.{take_all}
 use Rattle.graphql_occurrences.specs.Lent.{arguments_lent}
 use Rattle.graphql_visitors.specs.Reports.{ReportsBy}
 use Rattle.graphql_rules.specs.ArgumentsOfCorrectType.{literal_of}
-use Rattle.graphql_rules.specs.Literals.{Judged, Misfits}
+use Rattle.graphql_rules.specs.Literals.{LiteralJudged, Misfits}
 use Rattle.graphql_rules.proofs.TellLemmas.{reports_next}
 use Rattle.graphql_rules.proofs.arguments_of_correct_type.report_arguments.Goals as goal
 
 pub arguments-preserved : goal.arguments-preserved
 arguments-preserved g c =
-    reports_next (Judged g.S.ScalarValue.answer g.S.Check.Check.accepts) (literal_of (arguments_lent c.args.declared)) c.args.given.now c.arguments.argument-index c.argument-item.result c.arguments-test.true c.argument-item.is
+    reports_next (LiteralJudged g.S.ScalarValue.answer g.S.Check.Check.accepts) (literal_of (arguments_lent c.args.declared)) c.args.given.now c.arguments.argument-index c.argument-item.result c.arguments-test.true c.argument-item.is
     c.args.context.now c.arguments.context c.report_argument.new.context c.arguments.invariant c.report_argument.ensures
 
 pub returns : goal.returns

@@ -4,7 +4,7 @@ use Rattle.graphql_occurrences.specs.Lookups.{known}
 use Rattle.graphql_occurrences.specs.Occurrences.{variable_part}
 use Rattle.graphql_schema.specs.Declarations.{declarations_of}
 use Rattle.graphql_schema.specs.declared.schema.SchemaType.{SchemaType}
-use Rattle.graphql_rules.specs.DefaultValuesOfCorrectType.{asked_of, default_of}
+use Rattle.graphql_rules.specs.DefaultValuesOfCorrectType.{asked_default, defaults_asked}
 use Rattle.graphql_rules.proofs.TellLemmas.{reports_no_literal}
 use Rattle.graphql_rules.proofs.default_values_of_correct_type.report_variable.Goals as goal
 
@@ -17,5 +17,5 @@ returns-then-not-is_known g c =
     ap (λ name. is_some (known declared name)) (sym c.as_str.ensures)
     ∙ ap (λ (schema : Bor (SchemaType g.row.S.Denot g.row.S-Check.Denot)). is_some (known (declarations_of schema.now) c.as_str.result.now)) (sym c.schema.ensures)
     ∙ sym c.is_known.ensures ∙ c.if-not-is_known.true in
-    reports_no_literal g.S.ScalarValue.answer g.S.Check.Check.accepts context.schema.now.types (default_of declared variable) context
-    (ap (λ b. if b then option_to_list (option_map (asked_of variable) variable.default) else []) unknown)
+    reports_no_literal g.S.ScalarValue.answer g.S.Check.Check.accepts context.schema.now.types (defaults_asked declared variable) context
+    (ap (λ b. if b then option_to_list (option_map (asked_default variable) variable.default) else []) unknown)

@@ -1,5 +1,5 @@
 use Rattle.std.proofs.Common.{◌≡◌, ℕ, List, map, take}
-use Rattle.graphql_literal_checks.specs.InputFields.{has_name}
+use Rattle.graphql_names.specs.NameSets.{has_name}
 use Rattle.graphql_names.specs.Names.{is_one_of}
 use Rattle.graphql_tree.specs.Arguments.{Argument}
 use Rattle.graphql_rules.proofs.provided_non_null_arguments.names_of.Given as goal

@@ -2,7 +2,7 @@ use Rattle.std.proofs.Common.{◌≡◌, take, subst, arith}
 use Rattle.std.specs.List.{flat_map}
 use Rattle.std.proofs.lemmas.List.{take_all}
 use Rattle.graphql_visitors.specs.Reports.{Reports}
-use Rattle.graphql_literal_checks.specs.InputFields.{has_name}
+use Rattle.graphql_names.specs.NameSets.{has_name}
 use Rattle.graphql_rules.specs.ProvidedNonNullArguments.{missing}
 use Rattle.graphql_visitors.proofs.ReportLemmas.{reports_next}
 use Rattle.graphql_rules.proofs.provided_non_null_arguments.report_missing.Goals as goal

@@ -2,7 +2,7 @@ use Rattle.std.proofs.Common.{◌||◌, ap, ◌∙◌}
 use Rattle.std.specs.Str.{bytes_eq}
 use Rattle.graphql_tree.specs.Variables.{Variable}
 use Rattle.graphql_occurrences.specs.Occurrences.{variable_part}
-use Rattle.graphql_rules_document.specs.NameSets.{has_name}
+use Rattle.graphql_names.specs.NameSets.{has_name}
 use Rattle.graphql_rules_document.proofs.NameSetLemmas.{names_turn}
 use Rattle.graphql_rules_document.proofs.names.defined_names.Goals as goal
 

@@ -1,7 +1,7 @@
 use Rattle.std.proofs.Common.{◌≡◌, map, take}
 use Rattle.graphql_names.specs.Names.{Bytes, is_one_of}
 use Rattle.graphql_occurrences.specs.Occurrences.{variable_part}
-use Rattle.graphql_rules_document.specs.NameSets.{has_name}
+use Rattle.graphql_names.specs.NameSets.{has_name}
 use Rattle.graphql_rules_document.proofs.names.defined_names.Given as goal
 
 abbrev pub invariant-defined : goal.invariant-defined

@@ -1,5 +1,5 @@
 use Rattle.graphql_rules_document.specs.Lent.{use_of}
-use Rattle.graphql_rules_document.specs.NameSets.{has_name}
+use Rattle.graphql_names.specs.NameSets.{has_name}
 use Rattle.graphql_rules_document.proofs.NameSetLemmas.{names_turn}
 use Rattle.graphql_rules_document.proofs.names.used_names.Goals as goal
 

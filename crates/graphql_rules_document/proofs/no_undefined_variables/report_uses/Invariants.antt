@@ -3,7 +3,7 @@ use Rattle.std.specs.List.{flat_map}
 use Rattle.graphql_names.specs.Names.{Bytes, is_one_of}
 use Rattle.graphql_occurrences.specs.Occurrences.{variable_part}
 use Rattle.graphql_rules_document.specs.Lent.{operation_of, use_of}
-use Rattle.graphql_rules_document.specs.NameSets.{has_name}
+use Rattle.graphql_names.specs.NameSets.{has_name}
 use Rattle.graphql_rules_document.specs.NoUndefinedVariables.{undefined_use}
 use Rattle.graphql_rule_errors.specs.Places.{Reports}
 use Rattle.graphql_rules_document.proofs.no_undefined_variables.report_uses.Given as goal

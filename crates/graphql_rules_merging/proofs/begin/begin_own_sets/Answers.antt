@@ -1,6 +1,6 @@
 use Rattle.std.proofs.Common.{take_all, subst}
 use Rattle.graphql_merging.specs.Tables.{pieces_of}
-use Rattle.graphql_rules_merging.specs.Agenda.{listed_of, pair_of, PairOf, Begins}
+use Rattle.graphql_rules_merging.specs.Agenda.{listed_of, pair_of, PairOf, ListsPairs}
 use Rattle.graphql_rules_merging.proofs.Begun.{begins_of_none, begins_of_more}
 use Rattle.graphql_rules_merging.proofs.begin.begin_own_sets.Goals as goal
 
@@ -17,6 +17,6 @@ loop-field-preserved g c = λ fragments.
 pub returns : goal.returns
 returns g c = λ fragments.
     subst
-    (λ fields. Begins (pieces_of fragments c.args.table.now) (PairOf (λ field. pair_of field.own field.own c.args.around) (λ field. Unit {0}) fields)
+    (λ fields. ListsPairs (pieces_of fragments c.args.table.now) (PairOf (λ field. pair_of field.own field.own c.args.around) (λ field. Unit {0}) fields)
     (PairOf (λ field. pair_of field.own field.own c.args.around) (λ field. Unit {0}) fields) (listed_of c.args.agenda.now) (listed_of c.loop-field.agenda))
     (take_all c.loop-field.field-index c.args.fields.now c.loop-field-test.false) (c.loop-field.invariant fragments)

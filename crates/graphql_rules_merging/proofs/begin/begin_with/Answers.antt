@@ -1,7 +1,7 @@
 use Rattle.std.proofs.Common.{take_all, subst, get_or}
 use Rattle.graphql_merging.specs.Tables.{pieces_of}
 use Rattle.graphql_values.proofs.SameValueLemmas.{get_or_any}
-use Rattle.graphql_rules_merging.specs.Agenda.{listed_of, pair_of, PairOf, Begins}
+use Rattle.graphql_rules_merging.specs.Agenda.{listed_of, pair_of, PairOf, ListsPairs}
 use Rattle.graphql_rules_merging.proofs.Begun.{begins_of_none, begins_of_more}
 use Rattle.graphql_rules_merging.proofs.begin.begin_with.Goals as goal
 
@@ -20,6 +20,6 @@ loop-number-preserved g c = λ fragments.
 pub returns : goal.returns
 returns g c = λ fragments.
     subst
-    (λ numbers. Begins (pieces_of fragments c.args.table.now) (PairOf (λ number. pair_of number c.args.other c.args.around) (λ number. Unit {0}) numbers)
+    (λ numbers. ListsPairs (pieces_of fragments c.args.table.now) (PairOf (λ number. pair_of number c.args.other c.args.around) (λ number. Unit {0}) numbers)
     (PairOf (λ number. pair_of number c.args.other c.args.around) (λ number. Unit {0}) numbers) (listed_of c.args.agenda.now) (listed_of c.loop-number.agenda))
     (take_all c.loop-number.number-index c.args.numbers.now c.loop-number-test.false) (c.loop-number.invariant fragments)

@@ -4,12 +4,12 @@ use Rattle.graphql_bundles.specs.Groups.{key_at}
 use Rattle.graphql_rules_merging.proofs.Classing.{alike-agree}
 use Rattle.graphql_rules_merging.specs.Classes.{DoTell, numbers_of}
 use Rattle.std.proofs.lemmas.Result.{on_ok_weaker}
-use Rattle.graphql_merging.specs.Selected.{seen}
+use Rattle.graphql_merging.specs.Selected.{member_of}
 use Rattle.graphql_merging.specs.Tables.{pieces_of, piece_field}
 use Rattle.graphql_merging.specs.Told.{Differs, in_order}
 use Rattle.graphql_merging.proofs.SameWraps.{same-text}
 use Rattle.graphql_merging.proofs.Reports.{differing}
-use Rattle.graphql_rules_merging.specs.Agenda.{listed_of, pair_of, Begins}
+use Rattle.graphql_rules_merging.specs.Agenda.{listed_of, pair_of, ListsPairs}
 use Rattle.graphql_rules_merging.specs.Comparing.{stage_of}
 use Rattle.graphql_rules_merging.proofs.Texts.{unlike_text}
 use Rattle.graphql_rules_merging.proofs.Comparisons.{compares_unlike, compares_differ, compares_agree}
@@ -30,8 +30,8 @@ returns-in-Some-clause-compared g c =
     (piece_field fragments c.args.left.now, piece_field fragments c.args.right.now) (stage_of c.args.progress.now)
     (stage_of (record { told = c.tell.new.told; agenda = c.args.progress.now.agenda; comparisons = c.count_comparison.new.comparisons }))
     (in_order c.args.left.now.selected.field.now.span.start c.args.right.now.selected.field.now.span.start) key
-    (differing g.S.PartialEq.eq c.args.schema.now.types c.args.around (seen fragments c.args.left.now.selected) (seen fragments c.args.right.now.selected) c.in-Some.difference
-    (subst (Differs g.S.PartialEq.eq c.args.schema.now.types c.args.around (seen fragments c.args.left.now.selected) (seen fragments c.args.right.now.selected)) c.in-Some.is
+    (differing g.S.PartialEq.eq c.args.schema.now.types c.args.around (member_of fragments c.args.left.now.selected) (member_of fragments c.args.right.now.selected) c.in-Some.difference
+    (subst (Differs g.S.PartialEq.eq c.args.schema.now.types c.args.around (member_of fragments c.args.left.now.selected) (member_of fragments c.args.right.now.selected)) c.in-Some.is
     (c.in_ok-difference.ensures fragments)))
     refl told.at refl)
     c.tell.ensures
@@ -53,7 +53,7 @@ returns-then-are_of_one_class-clause-compared g c =
     (stage_of (record { told = c.args.progress.now.told; agenda = c.begin_sets.new.agenda; comparisons = c.count_comparison.new.comparisons })) alike.key
     (alike-agree eq types fragments c.args.around left right alike)
     refl
-    (subst (λ k. Begins (pieces_of fragments c.args.table.now) (λ pair. pair ≡ k) (λ pair. pair ≡ k) (listed_of c.args.progress.now.agenda) (listed_of c.begin_sets.new.agenda))
+    (subst (λ k. ListsPairs (pieces_of fragments c.args.table.now) (λ pair. pair ≡ k) (λ pair. pair ≡ k) (listed_of c.args.progress.now.agenda) (listed_of c.begin_sets.new.agenda))
     (ap (pair_of left.own right.own) (c.are_excused-excused.ensures fragments)) (begun fragments)))
     c.begin_sets.ensures
 
@@ -65,9 +65,9 @@ returns-in-None-clause-compared g c =
     compares_agree g.S.PartialEq.eq c.args.schema.now.types (pieces_of fragments c.args.table.now) c.args.around
     (piece_field fragments c.args.left.now, piece_field fragments c.args.right.now) (stage_of c.args.progress.now)
     (stage_of (record { told = c.args.progress.now.told; agenda = c.begin_sets-in-None.new.agenda; comparisons = c.count_comparison.new.comparisons })) key
-    (subst (Differs g.S.PartialEq.eq c.args.schema.now.types c.args.around (seen fragments c.args.left.now.selected) (seen fragments c.args.right.now.selected)) c.in-None.is
+    (subst (Differs g.S.PartialEq.eq c.args.schema.now.types c.args.around (member_of fragments c.args.left.now.selected) (member_of fragments c.args.right.now.selected)) c.in-None.is
     (c.in_ok-difference.ensures fragments))
     refl
-    (subst (λ k. Begins (pieces_of fragments c.args.table.now) (λ pair. pair ≡ k) (λ pair. pair ≡ k) (listed_of c.args.progress.now.agenda) (listed_of c.begin_sets-in-None.new.agenda))
+    (subst (λ k. ListsPairs (pieces_of fragments c.args.table.now) (λ pair. pair ≡ k) (λ pair. pair ≡ k) (listed_of c.args.progress.now.agenda) (listed_of c.begin_sets-in-None.new.agenda))
     (ap (pair_of c.args.left.now.own c.args.right.now.own) (c.are_excused-excused-in-None.ensures fragments)) (begun fragments)))
     c.begin_sets-in-None.ensures

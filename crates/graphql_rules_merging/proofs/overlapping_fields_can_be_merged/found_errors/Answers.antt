@@ -2,14 +2,14 @@ use Rattle.std.proofs.Common.{subst, inl, inr, ap}
 use Rattle.graphql_merging.specs.Tables.{pieces_of}
 use Rattle.std.proofs.lemmas.Result.{IfOk-weaker}
 use Rattle.graphql_bundles.specs.Conflicts.{places}
-use Rattle.graphql_bundles.specs.Ends.{Ends}
+use Rattle.graphql_bundles.specs.Ends.{AllGoneThrough}
 use Rattle.graphql_rules_merging.proofs.StandingAlone.{table-alone}
 use Rattle.graphql_rules_merging.proofs.overlapping_fields_can_be_merged.found_errors.Goals as goal
 
 pub returns-in-Told-clause-found : goal.returns-in-Told-clause-found
 returns-in-Told-clause-found g c = λ fragments.
     let t = pieces_of {C = g.row.C.Denot} fragments c.args.table.now in
-    inl (subst (Ends t g.S.PartialEq.eq c.args.schema.now.types c.args.definitions) c.in-Told.is (c.in_ok-told.ensures.ends fragments))
+    inl (subst (AllGoneThrough t g.S.PartialEq.eq c.args.schema.now.types c.args.definitions) c.in-Told.is (c.in_ok-told.ensures.ends fragments))
 
 pub returns-then-all_stand_alone-clause-found : goal.returns-then-all_stand_alone-clause-found
 returns-then-all_stand_alone-clause-found g c = λ fragments.

@@ -2,7 +2,7 @@ use Rattle.std.proofs.Common.{◌≡◌, ◌*◌, arith, length, ap, sym, subst,
 use Rattle.std.proofs.lemmas.Result.{on_ok_weaker}
 use Rattle.graphql_merging.specs.Tables.{pieces_of, piece_field}
 use Rattle.graphql_rules_merging.specs.Comparing.{stage_of}
-use Rattle.graphql_rules_merging.specs.Counted.{fields_at}
+use Rattle.graphql_rules_merging.specs.Counted.{field_count_at}
 use Rattle.graphql_rules_merging.proofs.Numbered.{direct_at, fields-of, inner_at, empty_at}
 use Rattle.graphql_rules_merging.proofs.Weights.{weight-one, weight-two}
 use Rattle.graphql_rules_merging.proofs.WholeSets.{compares_empty, compares_itself, compares_other}
@@ -63,7 +63,7 @@ returns-then-pair-clause-counted g c =
     let table = c.args.table.now in
     let left = c.args.pair.left in
     let fields = ap length (c.as_slice-fields.ensures ∙ fields-of table left c.in-Some.one.now c.in-Some.ensures) in
-    let weighs = weight-one (fields_at table) left c.args.pair.right c.if-pair.true in
+    let weighs = weight-one (field_count_at table) left c.args.pair.right c.if-pair.true in
     on_ok_weaker c.compare_itself.result (λ counted. omega (arith, counted, weighs, ap (λ n. n * n) fields)) c.compare_itself.ensures.counted
 
 pub returns-else-pair-clause-counted : goal.returns-else-pair-clause-counted
@@ -73,8 +73,8 @@ returns-else-pair-clause-counted g c =
     let right = c.args.pair.right in
     let one = ap length (c.as_slice-fields.ensures ∙ fields-of table left c.in-Some.one.now c.in-Some.ensures) in
     let other = ap length (c.as_slice-else-pair.ensures ∙ fields-of table right c.in-Some-get.other.now c.in-Some-get.ensures) in
-    let both : length c.as_slice-fields.result.now * length c.as_slice-else-pair.result.now ≡ fields_at table left * fields_at table right = (λ i. one i * other i) in
-    let weighs = weight-two (fields_at table) left right c.if-pair.false in
+    let both : length c.as_slice-fields.result.now * length c.as_slice-else-pair.result.now ≡ field_count_at table left * field_count_at table right = (λ i. one i * other i) in
+    let weighs = weight-two (field_count_at table) left right c.if-pair.false in
     on_ok_weaker c.compare_between.result (λ counted. omega (arith, counted, weighs, both)) c.compare_between.ensures.counted
 
 pub compare_itself-requires : goal.compare_itself-requires

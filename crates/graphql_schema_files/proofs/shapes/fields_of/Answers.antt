@@ -1,6 +1,6 @@
 use Rattle.std.proofs.Common.{rules, arith, ◌≡◌, ◌++◌, [], ◌∷◌, Some, None, get_or, sym}
 use Rattle.serde_json.specs.View.{view}
-use Rattle.graphql_schema_files.specs.Shapes.{field_of}
+use Rattle.graphql_schema_files.specs.Shapes.{field_draft}
 use Rattle.graphql_json.proofs.EachTurns.{each_turn, each_stops}
 use Rattle.graphql_schema_files.proofs.shapes.fields_of.Goals as goal
 
@@ -9,13 +9,13 @@ items-preserved c =
     let this = c.item-item.result in
     let one = c.in-Some.field in
     let here : get_or c.args.items.now c.items.item-index this ≡ this = search rules in
-    let means : field_of (view this) ≡ Some one = search rules in
+    let means : field_draft (view this) ≡ Some one = search rules in
     let pushed : c.push.new.self ≡ c.items.fields ++ one ∷ [] = search rules in
-    each_turn field_of _ c.args.items.now c.items.item-index this one c.items.fields c.push.new.self (omega arith) here means pushed c.items.invariant
+    each_turn field_draft _ c.args.items.now c.items.item-index this one c.items.fields c.push.new.self (omega arith) here means pushed c.items.invariant
 
 pub returns-in-None : goal.returns-in-None
 returns-in-None c =
     let this = c.item-item.result in
     let here : get_or c.args.items.now c.items.item-index this ≡ this = search rules in
-    let lacks : field_of (view this) ≡ None = search rules in
-    sym (each_stops field_of _ c.args.items.now c.items.item-index this c.items.fields (omega arith) here lacks c.items.invariant)
+    let lacks : field_draft (view this) ≡ None = search rules in
+    sym (each_stops field_draft _ c.args.items.now c.items.item-index this c.items.fields (omega arith) here lacks c.items.invariant)

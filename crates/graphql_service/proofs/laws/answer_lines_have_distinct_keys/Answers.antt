@@ -2,7 +2,7 @@ use Rattle.std.proofs.Common.{[], ◌∷◌, sym, subst}
 use Rattle.graphql_tree.specs.Documents.{variables_in}
 use Rattle.graphql_written_out.specs.FinalValues.{final_value}
 use Rattle.graphql_output_values.specs.DistinctKeys.{HasDistinctKeysThroughout}
-use Rattle.graphql_answers.specs.Responses.{refusal_of, response_of}
+use Rattle.graphql_answers.specs.Responses.{refusal_response, response_of}
 use Rattle.graphql_tree.specs.Definitions.{fragments_listed}
 use Rattle.graphql_written_out.specs.Written.{written}
 use Rattle.graphql_execution_walk.specs.declared.asked.Asked.TheVariants as asked
@@ -35,8 +35,8 @@ returns g c = λ service line answered old new is.
       accepts = g.S.Check.Check.accepts;
     } in
     elim is [
-      | no_request refusal due e kept ↦ record { found = refusal_of (told_of_line limit refusal); is = e; distinct = c.answers_have_distinct_keys.ensures.1 (told_of_line limit refusal) }
-      | not_executed refusal due e kept ↦ record { found = refusal_of (told_of_request refusal); is = e; distinct = c.answers_have_distinct_keys.ensures.1 (told_of_request refusal) }
+      | no_request refusal due e kept ↦ record { found = refusal_response (told_of_line limit refusal); is = e; distinct = c.answers_have_distinct_keys.ensures.1 (told_of_line limit refusal) }
+      | not_executed refusal due e kept ↦ record { found = refusal_response (told_of_request refusal); is = e; distinct = c.answers_have_distinct_keys.ensures.1 (told_of_request refusal) }
       | executed_to found errors ex e ↦
           let answers = ex.answers in
           let yields = answers.yields in

@@ -6,7 +6,7 @@ use Rattle.serde_json.specs.View.{members_view, view}
 use Rattle.serde_json.proofs.Views.{view-Object}
 use Rattle.graphql_names.specs.Names.{is_one_of}
 use Rattle.graphql_lines.specs.Request.{variables_in}
-use Rattle.graphql_stores.specs.Stored.{members_of}
+use Rattle.graphql_stores.specs.Stored.{members_named}
 use Rattle.graphql_stores.proofs.KeptMembers.{empty-is, kept-nests, kept-view}
 use Rattle.graphql_stores.proofs.plain_lines.used_members.Goals as goal
 
@@ -32,7 +32,7 @@ returns-clause-nests c =
     let ms = members_view c.args.members.entries in
     let filtered : c.retain.new.self.entries ≡ filter (λ e. is_one_of names (string_bytes e.0)) c.args.members.entries =
     filter_same_pairs _ (λ e. is_one_of names (string_bytes e.0)) _ (λ k v b w f' t. search rules) _ _ c.retain.ensures.filtered in
-    let kept : members_view c.retain.new.self.entries ≡ members_of names ms =
+    let kept : members_view c.retain.new.self.entries ≡ members_named names ms =
     ap members_view filtered ∙ kept-view names c.args.members.entries in
     subst (λ d. depth d ≤ depth (object ms)) (sym (view-Object c.retain.new.self))
     (subst (λ k. depth (object k) ≤ depth (object ms)) (sym kept) (omega (arith, kept-nests names ms)))

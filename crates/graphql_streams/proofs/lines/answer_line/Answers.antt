@@ -1,12 +1,12 @@
 use Rattle.std.proofs.Common.{◌≡◌, ℕ, false, ◌==◌, List, [], ◌∷◌, ◌++◌, length, Result, Ok, Err}
 use Rattle.std.proofs.lemmas.Bool.{false≢true}
 use Rattle.std.specs.Prelude.{OnOk}
-use Rattle.graphql_streams.specs.Runs.{Answered}
+use Rattle.graphql_streams.specs.Runs.{LineAnswered}
 use Rattle.graphql_streams.specs.Waiting.{Made}
 use Rattle.graphql_streams.proofs.RunLemmas.{run_one}
 use Rattle.graphql_streams.proofs.lines.answer_line.Goals as goal
 
-answered : {S : Type 0} (answers : S → List ℕ → List ℕ → S → Type 0) (s t : S) (line text : List ℕ) → false ≡ (length line == 0) → answers s line text t → Answered answers s line text t
+answered : {S : Type 0} (answers : S → List ℕ → List ℕ → S → Type 0) (s t : S) (line text : List ℕ) → false ≡ (length line == 0) → answers s line text t → LineAnswered answers s line text t
 answered answers s t [] text e h = absurd (false≢true e)
 answered answers s t (b ∷ bs) text e h = h
 

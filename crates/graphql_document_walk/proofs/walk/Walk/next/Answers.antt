@@ -1,8 +1,8 @@
 use Rattle.std.proofs.Common.{◌++◌, ◌∷◌, ap, sym, ◌∙◌}
 use Rattle.graphql_schema.specs.Declarations.{declarations_of}
-use Rattle.graphql_occurrences.specs.Events.{seen}
+use Rattle.graphql_occurrences.specs.Events.{seen_event}
 use Rattle.graphql_occurrences.specs.Lent.{around_of}
-use Rattle.graphql_document_walk.specs.Pending.{part_after, parts_on_top, pending, work_events}
+use Rattle.graphql_document_walk.specs.Pending.{part_after, parts_on_top, pending_events, work_events}
 use Rattle.graphql_document_walk.proofs.PendingLemmas.{fewer_parts, parts_with, pending_with}
 use Rattle.graphql_document_walk.proofs.walk.Walk.next.Goals as goal
 
@@ -15,8 +15,8 @@ returns-in-Tell g c =
       schema = c.tasks.invariant.0;
       events = sym c.tasks.invariant.1
           ∙ pending_with schema popped c.tasks.self.tasks task c.in-Some.ensures
-          ∙ ap (λ w. work_events schema w (around_of task.around) ++ pending schema popped) c.in-Tell.is
-          ∙ ap (λ e. seen (around_of task.around) e ∷ pending schema popped) (sym c.event.ensures);
+          ∙ ap (λ w. work_events schema w (around_of task.around) ++ pending_events schema popped) c.in-Tell.is
+          ∙ ap (λ e. seen_event (around_of task.around) e ∷ pending_events schema popped) (sym c.event.ensures);
     }
 
 pub tasks-preserved : goal.tasks-preserved
@@ -26,7 +26,7 @@ tasks-preserved g c =
     let popped = c.pop.new.self in (
       c.tasks.invariant.0,
       c.in_ok-open-in-Through.ensures.0
-          ∙ sym (pending_with schema popped c.tasks.self.tasks task c.in-Some.ensures ∙ ap (λ w. work_events schema w (around_of task.around) ++ pending schema popped) c.in-Through.is)
+          ∙ sym (pending_with schema popped c.tasks.self.tasks task c.in-Some.ensures ∙ ap (λ w. work_events schema w (around_of task.around) ++ pending_events schema popped) c.in-Through.is)
           ∙ c.tasks.invariant.1,
     )
 

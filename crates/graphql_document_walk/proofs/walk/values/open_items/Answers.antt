@@ -3,7 +3,7 @@ use Rattle.graphql_schema.specs.Declarations.{declarations_of}
 use Rattle.graphql_occurrences.specs.Lookups.{item_place}
 use Rattle.graphql_occurrences.specs.Events.{asked, value_events, item_events}
 use Rattle.graphql_occurrences.specs.Lent.{around_of}
-use Rattle.graphql_document_walk.specs.Pending.{Opens}
+use Rattle.graphql_document_walk.specs.Pending.{OpensEvents}
 use Rattle.graphql_document_walk.proofs.PendingLemmas.{opens_first, opens_none}
 use Rattle.graphql_document_walk.proofs.walk.values.open_items.Goals as goal
 
@@ -19,4 +19,4 @@ returns-in_ok-add-in-Some g c =
     let inside : around_of c.asking.result ≡ asked around (item_place around.input) = c.asking.ensures ∙ ap (asked around) c.place_of_items.ensures in
     opens_first schema c.open_value.result (λ x. item_events schema x around) c.args.items.now c.in-Some.rest.now c.in-Some.first.now c.args.tasks.now c.add.new.tasks c.open_value.new.tasks
     c.in-Some.ensures.cases.0 c.in_ok-add-in-Some.ensures
-    (subst (λ r. OnOk c.open_value.result (Opens schema (value_events schema c.in-Some.first.now r) c.add.new.tasks c.open_value.new.tasks)) inside c.open_value.ensures)
+    (subst (λ r. OnOk c.open_value.result (OpensEvents schema (value_events schema c.in-Some.first.now r) c.add.new.tasks c.open_value.new.tasks)) inside c.open_value.ensures)

@@ -17,11 +17,11 @@ pub returns-clause-told : goal.returns-clause-told
 returns-clause-told g c =
     let key : Some c.in-Some.key.now ≡ own_key c.args.self.now.path = rw c.in-Some.is at c.key.ensures in
     let found = c.of_key-found in
-    ahead-told c.args.self.now c.in-Some.key.now found.result (sym key) found.ensures.told found.ensures.request
+    ahead-told c.args.self.now c.in-Some.key.now found.result (sym key) found.ensures.document_field found.ensures.request
 
 pub returns-clause-found : goal.returns-clause-found
 returns-clause-found g c =
     let key : Some c.in-Some.key.now ≡ own_key c.args.self.now.path = rw c.in-Some.is at c.key.ensures in
     let found = c.of_key-found in
     ahead-found c.args.self.now (Some found.result)
-    (ahead-told c.args.self.now c.in-Some.key.now found.result (sym key) found.ensures.told found.ensures.request)
+    (ahead-told c.args.self.now c.in-Some.key.now found.result (sym key) found.ensures.document_field found.ensures.request)

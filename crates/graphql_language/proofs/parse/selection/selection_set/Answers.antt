@@ -6,7 +6,7 @@ use Rattle.graphql_grammar.proofs.Parts.{exits_with}
 use Rattle.graphql_grammar.proofs.KindTests.{asked_kind}
 use Rattle.graphql_language.specs.declared.parse.selection.Begun.{Begun}
 use Rattle.graphql_language.specs.declared.parse.selection.Begun.TheVariants as how
-use Rattle.graphql_language.specs.ReadHeads.{begun as begins}
+use Rattle.graphql_language.specs.ReadHeads.{selection_start as begins}
 use Rattle.graphql_language.proofs.SelectionLevels.{set_refused}
 use Rattle.graphql_language.proofs.OpenSets.{GoesOn, sets_start, sets_end, set_ends, sets_refused, sets_more, sets_unopened, sets_open}
 use Rattle.graphql_language.proofs.parse.selection.selection_set.Goals as goal

@@ -1,7 +1,7 @@
 use Rattle.std.proofs.Common.{List, sym, subst}
 use Rattle.std.specs.Str.{chars}
 use Rattle.graphql_lexer.specs.declared.token_record.TokenRecord.{TokenRecord}
-use Rattle.graphql_lexer.specs.Records.{AreRecords, IsRecorded, token_of, tokens_of}
+use Rattle.graphql_lexer.specs.Records.{AreRecords, IsRecorded, token_of, tokens_in}
 use Rattle.graphql_lexer.proofs.RecordLists.{front_records, last_fits, recorded}
 use Rattle.graphql_lexer.proofs.Refused.{lexical_refused}
 use Rattle.graphql_lexer.proofs.token_records.TokenRecords.new.Goals as goal
@@ -24,7 +24,7 @@ unfolding token_of
 returns-clause-tokens c =
     let source = c.args.source.now in
     let read = c.in_ok-records in
-    let P : List TokenRecord → Type 0 = λ rs. IsRecorded (chars source) (record { tokens = tokens_of source rs; finish = c.span.result }) in
+    let P : List TokenRecord → Type 0 = λ rs. IsRecorded (chars source) (record { tokens = tokens_in source rs; finish = c.span.result }) in
     let cut = recorded (chars source) source read.records.items c.pop.new.self.items c.in-Some.last read.ensures.tokens c.in-Some.ensures.items c.span.result c.span.ensures in
     subst P (sym c.from_vec.ensures) cut
 

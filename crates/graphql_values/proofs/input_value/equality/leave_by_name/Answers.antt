@@ -1,7 +1,7 @@
 use Rattle.std.proofs.Common.{◌+◌, ◌≤◌, sym, arith}
 use Rattle.std.specs.List.{sum_by}
 use Rattle.std.proofs.lemmas.List.Sorted.{sum_by-IsPermutation}
-use Rattle.graphql_values.specs.Comparing.{Leaves, left_count, lent}
+use Rattle.graphql_values.specs.Comparing.{LeavesSame, left_count, lent}
 use Rattle.graphql_values.specs.Counts.{value_count}
 use Rattle.graphql_values.specs.SameValue.{SameFields}
 use Rattle.graphql_values.proofs.ByNameLemmas.{same_as_put, same_names}
@@ -19,7 +19,7 @@ returns-then-have_same_names-clause-leaves g c =
     let left = c.in_ok-left.ensures.1 in
     let right = c.in_ok-right.ensures.1 in
     let new = c.leave_in_order.new.waiting in
-    ok_maps (Leaves eq (SameFields _ eq us vs) c.args.waiting.now new) (Leaves eq (SameFields _ eq ps qs) c.args.waiting.now new) c.leave_in_order.result
+    ok_maps (LeavesSame eq (SameFields _ eq us vs) c.args.waiting.now new) (LeavesSame eq (SameFields _ eq ps qs) c.args.waiting.now new) c.leave_in_order.result
     (λ stands. leaves_as eq (SameFields _ eq us vs) (SameFields _ eq ps qs) c.args.waiting.now new stands (same_as_put eq ps qs us vs left right) (same_as_put eq us vs ps qs (λ name. sym (left name)) (λ name. sym (right name)))) c.leave_in_order.ensures.leaves
 
 pub returns-then-have_same_names-clause-count : goal.returns-then-have_same_names-clause-count

@@ -1,5 +1,5 @@
 use Rattle.std.proofs.Common.{◌<◌, ◌+◌, ap, sym, ◌∙◌, arith}
-use Rattle.graphql_values.specs.Comparing.{Leaves, left_count}
+use Rattle.graphql_values.specs.Comparing.{LeavesSame, left_count}
 use Rattle.graphql_values.specs.Counts.{value_count}
 use Rattle.graphql_values.specs.SameValue.{SameItems, SameFields, SameValue}
 use Rattle.graphql_values.proofs.ComparingLemmas.{decided, leaves_as, ok_maps}
@@ -34,7 +34,7 @@ returns-in-List-right-clause-leaves g c =
     let right = c.args.right.now in
     let V = SameItems _ eq c.in-List.items c.in-List-right.others in
     let case = list_case eq left right c.in-List.items c.in-List-right.others c.in-List.is c.in-List-right.is in
-    ok_maps (Leaves eq V c.args.waiting.now c.leave_items.new.waiting) (Leaves eq (SameValue _ eq left right) c.args.waiting.now c.leave_items.new.waiting) c.leave_items.result
+    ok_maps (LeavesSame eq V c.args.waiting.now c.leave_items.new.waiting) (LeavesSame eq (SameValue _ eq left right) c.args.waiting.now c.leave_items.new.waiting) c.leave_items.result
     (λ stands. leaves_as eq V (SameValue _ eq left right) c.args.waiting.now c.leave_items.new.waiting stands case.0 case.1) c.leave_items.ensures.leaves
 
 pub returns-in-List-right-clause-fewer : goal.returns-in-List-right-clause-fewer
@@ -50,7 +50,7 @@ returns-in-Object-right-clause-leaves g c =
     let right = c.args.right.now in
     let V = SameFields _ eq c.in-Object.pairs c.in-Object-right.others in
     let case = object_case eq left right c.in-Object.pairs c.in-Object-right.others c.in-Object.is c.in-Object-right.is in
-    ok_maps (Leaves eq V c.args.waiting.now c.leave_fields.new.waiting) (Leaves eq (SameValue _ eq left right) c.args.waiting.now c.leave_fields.new.waiting) c.leave_fields.result
+    ok_maps (LeavesSame eq V c.args.waiting.now c.leave_fields.new.waiting) (LeavesSame eq (SameValue _ eq left right) c.args.waiting.now c.leave_fields.new.waiting) c.leave_fields.result
     (λ stands. leaves_as eq V (SameValue _ eq left right) c.args.waiting.now c.leave_fields.new.waiting stands case.0 case.1) c.leave_fields.ensures.leaves
 
 pub returns-in-Object-right-clause-fewer : goal.returns-in-Object-right-clause-fewer
