@@ -10,14 +10,12 @@ ghost use Rattle.graphql_file_service.specs.TableServices.{IsDescribed, IsDue, I
 ghost use Rattle.allowed_queries.specs.Runs as spec;
 
 use crate::failure::{Failure, unless_memory};
-use graphql_field_results::ExecutionError;
 use graphql_file_service::{
     ByteSink, ByteSource, DataFile, LINE_LIMIT, Records, RunFault, SELECTION_LIMIT, SchemaFile,
     ServeError, Service, StandardChecks, TableResolver, TypeCheck,
 };
-use graphql_rule_errors::RuleError;
 use graphql_schema::{Check, RootNode};
-use graphql_service::{Meaning, Resolving, ServiceFault};
+use graphql_service::{Answering, ServiceFault};
 use graphql_stores::{AllowedQueries, AllowingService};
 use graphql_values::DefaultScalarValue;
 use std::alloc::Global;
@@ -62,9 +60,7 @@ fn serve_allowed<I: ByteSource, O: ByteSink>(
     writer: &mut O,
 ) -> Result<(), ServeError>
     ensures served { let answerer =
-        answerer_of ⟦<DefaultScalarValue as Meaning>⟧.meaning ⟦<RuleError as Ord>⟧.cmp
-        ⟦<ExecutionError<DefaultScalarValue> as Ord>⟧.cmp
-        ⟦<TableResolver as Resolving<DefaultScalarValue>>⟧.resolving in
+        answerer_of ⟦<TableResolver as Answering<DefaultScalarValue>>⟧.answering in
         let streams = runs.streams (I.left reader.old) (I.left reader.new)
         (O.written writer.old) (O.written writer.new)
         (O.faults writer.old) (O.faults writer.new) in
@@ -94,10 +90,7 @@ pub fn run_allowed<I: ByteSource, O: ByteSink>(
     ensures ran { let types = builtin_types checks.int checks.string checks.boolean checks.id
         checks.introspection in
         let accepts = ⟦<TypeCheck as Check<DefaultScalarValue>>⟧.accepts in
-        let answerer =
-        answerer_of ⟦<DefaultScalarValue as Meaning>⟧.meaning ⟦<RuleError as Ord>⟧.cmp
-        ⟦<ExecutionError<DefaultScalarValue> as Ord>⟧.cmp
-        ⟦<TableResolver as Resolving<DefaultScalarValue>>⟧.resolving in
+        let answerer = answerer_of ⟦<TableResolver as Answering<DefaultScalarValue>>⟧.answering in
         let streams = runs.streams (I.left reader.old) (I.left reader.new)
         (O.written writer.old) (O.written writer.new)
         (O.faults writer.old) (O.faults writer.new) in

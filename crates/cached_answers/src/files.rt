@@ -7,14 +7,12 @@ ghost use Rattle.graphql_streams.specs.Served.{WritesAfter, reads_after};
 ghost use Rattle.graphql_file_service.specs.Runs as runs;
 ghost use Rattle.graphql_file_service.specs.TableServices.{IsDescribed, IsDue, IsMadeOf, IsReady};
 
-use graphql_field_results::ExecutionError;
 use graphql_file_service::{
     ByteSink, ByteSource, DataFile, LINE_LIMIT, Records, RunFault, SELECTION_LIMIT, SchemaFile,
     Service, StandardChecks, TableResolver, TypeCheck,
 };
-use graphql_rule_errors::RuleError;
 use graphql_schema::{Check, RootNode};
-use graphql_service::{Meaning, Resolving, ServiceFault};
+use graphql_service::{Answering, ServiceFault};
 use graphql_stores::AnswerCache;
 use graphql_values::DefaultScalarValue;
 use std::alloc::Global;
@@ -55,9 +53,7 @@ pub fn serve_cached<I: ByteSource, O: ByteSink>(
     ensures ran { let types = builtin_types checks.int checks.string checks.boolean checks.id
         checks.introspection in
         let accepts = ⟦<TypeCheck as Check<DefaultScalarValue>>⟧.accepts in
-        let answerer = answerer_of ⟦<DefaultScalarValue as Meaning>⟧.meaning
-        ⟦<RuleError as Ord>⟧.cmp ⟦<ExecutionError<DefaultScalarValue> as Ord>⟧.cmp
-        ⟦<TableResolver as Resolving<DefaultScalarValue>>⟧.resolving in
+        let answerer = answerer_of ⟦<TableResolver as Answering<DefaultScalarValue>>⟧.answering in
         let streams = runs.streams (I.left reader.old) (I.left reader.new)
         (O.written writer.old) (O.written writer.new)
         (O.faults writer.old) (O.faults writer.new) in

@@ -13,17 +13,15 @@ ghost use Rattle.graphql_embedding.specs.Services as spec;
 
 use crate::fault::ServeRowsFault;
 use crate::simple_resolver::SimpleResolver;
-use graphql_field_results::ExecutionError;
 use graphql_literal_checks::first_with_bad_default;
 use graphql_resolvers::MutationResolver;
-use graphql_rule_errors::RuleError;
 use graphql_scalars::DefaultScalarValue;
 use graphql_schema::scalar_checks::{
     StandardChecks, boolean_check, id_check, int_check, string_check,
 };
 use graphql_schema::{InputValue, IntrospectionChecks, MetaType, RootNode, SchemaType, TypeCheck};
 use graphql_schema_rows::{CheckedRow, TypeRow, built_ins, names_of_rows, types_of_rows};
-use graphql_service::{ByteSink, ByteSource, Meaning, Resolving, Service};
+use graphql_service::{Answering, ByteSink, ByteSource, Meaning, Service};
 use graphql_text::{Items, Text};
 use std::alloc::Global;
 
@@ -104,8 +102,7 @@ where
     R::Context: Drop,
     ensures ran { let s = ⟦<DefaultScalarValue as Meaning>⟧.meaning in
         let answerer =
-        answerer_of s ⟦<RuleError as Ord>⟧.cmp ⟦<ExecutionError<DefaultScalarValue> as Ord>⟧.cmp
-        ⟦<SimpleResolver<R> as Resolving<DefaultScalarValue>>⟧.resolving in
+        answerer_of ⟦<SimpleResolver<R> as Answering<DefaultScalarValue>>⟧.answering in
         let named = roots_named names.entry.query.now
         (option_map (λ name. name.now) names.entry.mutation) None in
         let declared = map (λ name. name.now) names.entry.declared.now in
@@ -149,8 +146,7 @@ where
     R::Context: Drop,
     ensures ran { let s = ⟦<DefaultScalarValue as Meaning>⟧.meaning in
         let answerer =
-        answerer_of s ⟦<RuleError as Ord>⟧.cmp ⟦<ExecutionError<DefaultScalarValue> as Ord>⟧.cmp
-        ⟦<SimpleResolver<R> as Resolving<DefaultScalarValue>>⟧.resolving in
+        answerer_of ⟦<SimpleResolver<R> as Answering<DefaultScalarValue>>⟧.answering in
         let roots =
         roots_named rows.entry.query.now (option_map (λ name. name.now) rows.entry.mutation) None in
         let by = spec.in_service resolver in

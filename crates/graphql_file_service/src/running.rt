@@ -9,15 +9,11 @@ ghost use Rattle.graphql_file_service.specs.TableServices.{IsDescribed, IsDue, I
 
 use crate::data_file::DataFile;
 use crate::run_fault::RunFault;
-use graphql_field_results::ExecutionError;
-use graphql_rule_errors::RuleError;
 use graphql_scalars::DefaultScalarValue;
 use graphql_schema::scalar_checks::StandardChecks;
 use graphql_schema::{Check, RootNode, TypeCheck};
 use graphql_schema_files::SchemaFile;
-use graphql_service::{
-    ByteSink, ByteSource, Meaning, Resolving, ServeError, Service, ServiceFault,
-};
+use graphql_service::{Answering, ByteSink, ByteSource, ServeError, Service, ServiceFault};
 use graphql_table::{Records, TableResolver};
 use std::alloc::Global;
 
@@ -58,9 +54,7 @@ fn serve_by<I: ByteSource, O: ByteSink>(
     writer: &mut O,
 ) -> Result<(), ServeError>
     ensures served { let answerer =
-        answerer_of ⟦<DefaultScalarValue as Meaning>⟧.meaning ⟦<RuleError as Ord>⟧.cmp
-        ⟦<ExecutionError<DefaultScalarValue> as Ord>⟧.cmp
-        ⟦<TableResolver as Resolving<DefaultScalarValue>>⟧.resolving in
+        answerer_of ⟦<TableResolver as Answering<DefaultScalarValue>>⟧.answering in
         let streams = spec.streams (I.left reader.old) (I.left reader.new)
         (O.written writer.old) (O.written writer.new)
         (O.faults writer.old) (O.faults writer.new) in
@@ -100,10 +94,7 @@ pub fn run_files<I: ByteSource, O: ByteSink>(
     ensures ran { let types = builtin_types checks.int checks.string checks.boolean checks.id
         checks.introspection in
         let accepts = ⟦<TypeCheck as Check<DefaultScalarValue>>⟧.accepts in
-        let answerer =
-        answerer_of ⟦<DefaultScalarValue as Meaning>⟧.meaning ⟦<RuleError as Ord>⟧.cmp
-        ⟦<ExecutionError<DefaultScalarValue> as Ord>⟧.cmp
-        ⟦<TableResolver as Resolving<DefaultScalarValue>>⟧.resolving in
+        let answerer = answerer_of ⟦<TableResolver as Answering<DefaultScalarValue>>⟧.answering in
         let streams = spec.streams (I.left reader.old) (I.left reader.new)
         (O.written writer.old) (O.written writer.new)
         (O.faults writer.old) (O.faults writer.new) in

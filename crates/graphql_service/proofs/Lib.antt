@@ -5,7 +5,7 @@ mod SameMeaning
 mod AnsweredToo
 mod JoinedData
 mod DistinctAnswers
-pub mod Answering
+pub mod WrittenAnswers
 mod ReadAnswers
 mod ServedContexts
 pub mod AnsweredApart

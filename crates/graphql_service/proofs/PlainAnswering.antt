@@ -19,7 +19,7 @@ use Rattle.graphql_service.specs.Answers.{Answerer, Appends, Asks}
 use Rattle.graphql_service.specs.Laws.{IsLineOfDistinctKeys}
 use Rattle.graphql_service.specs.PlainAnswers.{AnswersPlain, IsPlainAnswer, asks_nothing, not_plain, plain_to}
 use Rattle.graphql_service.specs.Texts.{told_of_line, told_of_plain}
-use Rattle.graphql_service.proofs.Answering.{alone, as_asked, due, on_ok}
+use Rattle.graphql_service.proofs.WrittenAnswers.{alone, as_asked, due, on_ok}
 
 module _ {S C N X : Type 0} (a : Answerer S C N X) (size_limit : ℕ) (line : Bytes) where
   abbrev Told : Bytes → Type 0

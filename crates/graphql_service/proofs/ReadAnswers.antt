@@ -17,7 +17,7 @@ use Rattle.graphql_service.specs.Answers.{Answerer, Appends, IsAnswer, IsNoReque
 use Rattle.graphql_service.specs.Reading.{Executes}
 use Rattle.graphql_service.specs.Texts.{told_of_line, told_of_request}
 use Rattle.graphql_service.specs.declared.accepted.AcceptedRequest.{AcceptedRequest}
-use Rattle.graphql_service.proofs.Answering.{broken-at-the-end}
+use Rattle.graphql_service.proofs.WrittenAnswers.{broken-at-the-end}
 
 -- a result is not both
 not-both : {A E : Type 0} (r : Result A E) (x : A) (e : E) → r ≡ Ok x → r ≡ Err e → ⊥

@@ -1,16 +1,12 @@
 -- What a service answers lines, as its context shows it, and answers that are written behind others.
 use Rattle.std.proofs.Common.{◌≡◌, ℕ, List, ◌++◌, Option, Result, Ok, Err, OnOk, OnErr, refl, subst, ◌∙◌}
 use Rattle.std.specs.Prelude.{IfErr}
-use Rattle.std.specs.declared.cmp.Ordering.{Ordering}
 use Rattle.graphql_names.specs.Names.{Bytes}
-use Rattle.graphql_field_results.specs.declared.execution_error.ExecutionError.{ExecutionError}
-use Rattle.graphql_rule_errors.specs.declared.rule_error.RuleError.{RuleError}
 use Rattle.graphql_schema.specs.declared.root_node.RootNode.{RootNode}
-use Rattle.graphql_executor.specs.Requests.{Scalars}
-use Rattle.graphql_executor.specs.Resolvers.{Resolver}
 use Rattle.graphql_streams.specs.Served.{Ends, ServedAll}
 use Rattle.graphql_streams.specs.declared.serve_error.ServeError.{ServeError}
 use Rattle.graphql_streams.proofs.ShownRuns.{all-shown_if, ends-shown_if, stays_if}
+use Rattle.graphql_service.specs.AnsweredBy.{AnsweredBy}
 use Rattle.graphql_service.specs.Answers.{Answerer, Appends, answerer_of}
 use Rattle.graphql_service.specs.Serving.{AnswersLine, BreaksAtLine, HasPartsOf, ServiceAnswers, ServiceBreaks}
 use Rattle.graphql_service.specs.declared.service.Service.{Service}
@@ -27,20 +23,19 @@ parts-more old between new a b = record {
   selection_limit = b.selection_limit ∙ a.selection_limit;
 }
 
-module _ {S C N X R : Type 0} (scalars : Scalars S C) (by_rules : RuleError → RuleError → Ordering)
-    (by_fields : ExecutionError S → ExecutionError S → Ordering) (resolving : R → Resolver S N X) where
+module _ {S C N X R : Type 0} (answering : AnsweredBy S C N X R) where
   abbrev its_answerer : Service S R X C → Answerer S C N X
-  its_answerer service = answerer_of scalars by_rules by_fields resolving service
+  its_answerer service = answerer_of answering service
 
   abbrev answerer_with : RootNode S C → R → ℕ → Answerer S C N X
   answerer_with root_node by limit = record {
-    scalars = scalars;
-    by_rules = by_rules;
-    by_fields = by_fields;
+    scalars = answering.scalars;
+    by_rules = answering.by_rules;
+    by_fields = answering.by_fields;
     schema = root_node.schema;
     introspection_disabled = root_node.introspection_disabled;
     limit = limit;
-    resolver = resolving by;
+    resolver = answering.resolving by;
   }
 
   -- services of the same parts answer by the same
@@ -52,7 +47,7 @@ module _ {S C N X R : Type 0} (scalars : Scalars S C) (by_rules : RuleError → 
       (subst (λ l. P (answerer_with between.root_node between.resolver l)) same.line_limit h))
 
   pub context-answers : (old between : Service S R X C) (line text : Bytes) (new : Service S R X C) → HasPartsOf old between
-      → ServiceAnswers scalars by_rules by_fields resolving between line text new
+      → ServiceAnswers answering between line text new
       → AnswersLine (its_answerer old) between.context line text new.context × HasPartsOf old new
   context-answers old between line text new same h = (
     same-answerer (λ a. AnswersLine a between.context line text new.context) old between same h.0,
@@ -60,7 +55,7 @@ module _ {S C N X R : Type 0} (scalars : Scalars S C) (by_rules : RuleError → 
   )
 
   pub context-breaks : (old between : Service S R X C) (line : Bytes) (new : Service S R X C) → HasPartsOf old between
-      → ServiceBreaks scalars by_rules by_fields resolving between line new
+      → ServiceBreaks answering between line new
       → BreaksAtLine (its_answerer old) between.context line new.context × HasPartsOf old new
   context-breaks old between line new same h = (
     same-answerer (λ a. BreaksAtLine a between.context line new.context) old between same h.0,
@@ -68,28 +63,28 @@ module _ {S C N X R : Type 0} (scalars : Scalars S C) (by_rules : RuleError → 
   )
 
   module _ {A : Type 0} (result : Result A ServeError) (old new : Service S R X C) (left rest had has : Option Bytes) where
-    pub serves-contexts : OnOk result (ServedAll (ServiceAnswers scalars by_rules by_fields resolving) old left rest had has new)
+    pub serves-contexts : OnOk result (ServedAll (ServiceAnswers answering) old left rest had has new)
         → OnOk result (ServedAll (AnswersLine (its_answerer old)) old.context left rest had has new.context)
     serves-contexts =
         all-shown_if (λ (service : Service S R X C). service.context) (HasPartsOf old)
-        (ServiceAnswers scalars by_rules by_fields resolving) (AnswersLine (its_answerer old)) (context-answers old) result
+        (ServiceAnswers answering) (AnswersLine (its_answerer old)) (context-answers old) result
         old new left rest had has (own-parts old)
 
-    pub ends-contexts : (failed : Type 0) → IfErr result (λ e. Ends (ServiceAnswers scalars by_rules by_fields resolving) (ServiceBreaks scalars by_rules by_fields resolving) failed e old left rest had has new)
+    pub ends-contexts : (failed : Type 0) → IfErr result (λ e. Ends (ServiceAnswers answering) (ServiceBreaks answering) failed e old left rest had has new)
         → IfErr result (λ e. Ends (AnswersLine (its_answerer old)) (BreaksAtLine (its_answerer old)) failed e old.context left rest had has new.context)
     ends-contexts failed =
         ends-shown_if (λ (service : Service S R X C). service.context) (HasPartsOf old)
-        (ServiceAnswers scalars by_rules by_fields resolving) (AnswersLine (its_answerer old)) (context-answers old)
-        (ServiceBreaks scalars by_rules by_fields resolving) (BreaksAtLine (its_answerer old)) (context-breaks old) failed result
+        (ServiceAnswers answering) (AnswersLine (its_answerer old)) (context-answers old)
+        (ServiceBreaks answering) (BreaksAtLine (its_answerer old)) (context-breaks old) failed result
         old new left rest had has (own-parts old)
 
-    pub parts-stay : (failed : Type 0) → OnOk result (ServedAll (ServiceAnswers scalars by_rules by_fields resolving) old left rest had has new)
-        → IfErr result (λ e. Ends (ServiceAnswers scalars by_rules by_fields resolving) (ServiceBreaks scalars by_rules by_fields resolving) failed e old left rest had has new)
+    pub parts-stay : (failed : Type 0) → OnOk result (ServedAll (ServiceAnswers answering) old left rest had has new)
+        → IfErr result (λ e. Ends (ServiceAnswers answering) (ServiceBreaks answering) failed e old left rest had has new)
         → HasPartsOf old new
     parts-stay failed =
         stays_if (λ (service : Service S R X C). service.context) (HasPartsOf old)
-        (ServiceAnswers scalars by_rules by_fields resolving) (AnswersLine (its_answerer old)) (context-answers old)
-        (ServiceBreaks scalars by_rules by_fields resolving) (BreaksAtLine (its_answerer old)) (context-breaks old) failed result
+        (ServiceAnswers answering) (AnswersLine (its_answerer old)) (context-answers old)
+        (ServiceBreaks answering) (BreaksAtLine (its_answerer old)) (context-breaks old) failed result
         old new left rest had has (own-parts old)
 
 -- what is appended, or is not, with a fact that holds in either case

@@ -1,31 +1,26 @@
 -- What a service tells of lines, one after another, where it is asked for plain texts: it stays as it is.
 use Rattle.std.proofs.Common.{◌≡◌, ◌∙◌, subst, Option, Result, OnOk}
 use Rattle.std.specs.Prelude.{IfErr}
-use Rattle.std.specs.declared.cmp.Ordering.{Ordering}
 use Rattle.graphql_names.specs.Names.{Bytes}
-use Rattle.graphql_field_results.specs.declared.execution_error.ExecutionError.{ExecutionError}
-use Rattle.graphql_rule_errors.specs.declared.rule_error.RuleError.{RuleError}
-use Rattle.graphql_executor.specs.Requests.{Scalars}
-use Rattle.graphql_executor.specs.Resolvers.{Resolver}
 use Rattle.graphql_streams.specs.Served.{Ends, ServedAll}
 use Rattle.graphql_streams.specs.declared.serve_error.ServeError.{ServeError}
 use Rattle.graphql_streams.proofs.ShownRuns.{all-shown_if, ends-shown_if}
+use Rattle.graphql_service.specs.AnsweredBy.{AnsweredBy}
 use Rattle.graphql_service.specs.Answers.{Answerer, answerer_of}
 use Rattle.graphql_service.specs.PlainAnswers.{AnswersPlain, PlainBreaks, PlainGives, PlainOfLines}
 use Rattle.graphql_service.specs.declared.plain_lines.PlainLines.{PlainLines}
 use Rattle.graphql_service.specs.declared.service.Service.{Service}
 
-module _ {S C N X R : Type 0} (scalars : Scalars S C) (by_rules : RuleError → RuleError → Ordering)
-    (by_fields : ExecutionError S → ExecutionError S → Ordering) (resolving : R → Resolver S N X) (service : Service S R X C) where
+module _ {S C N X R : Type 0} (answering : AnsweredBy S C N X R) (service : Service S R X C) where
   abbrev its_answerer : Service S R X C → Answerer S C N X
-  its_answerer = answerer_of scalars by_rules by_fields resolving
+  its_answerer = answerer_of answering
 
   -- the same service is lent
   abbrev Lends : PlainLines S R X C → Type 0
   Lends lines = lines.service.now ≡ service
 
   abbrev Gives : PlainLines S R X C → Bytes → Bytes → PlainLines S R X C → Type 0
-  Gives = PlainOfLines scalars by_rules by_fields resolving
+  Gives = PlainOfLines answering
 
   abbrev Breaks : PlainLines S R X C → Bytes → PlainLines S R X C → Type 0
   Breaks old line new = new.service.now ≡ old.service.now

@@ -22,6 +22,7 @@ use Rattle.graphql_lines.specs.Request.{Request, request_of}
 use Rattle.graphql_lines.specs.Variables.{fields_of, input_of}
 use Rattle.graphql_answers.specs.Lines.{line_of}
 use Rattle.graphql_answers.specs.Responses.{refusal_response, response_of}
+use Rattle.graphql_service.specs.AnsweredBy.{AnsweredBy}
 use Rattle.graphql_service.specs.Texts.{told_of_line, told_of_request}
 use Rattle.graphql_service.specs.declared.service.Service.{Service}
 
@@ -42,17 +43,16 @@ pub record Answerer (S C N X : Type 0) : Type 1 where
   pub resolver : Resolver S N X
 
 -- by what a service answers
-abbrev pub answerer_of : {S C N X R : Type 0} → Scalars S C → (RuleError → RuleError → Ordering)
-    → (ExecutionError S → ExecutionError S → Ordering) → (R → Resolver S N X) → Service S R X C
+abbrev pub answerer_of : {S C N X R : Type 0} → AnsweredBy S C N X R → Service S R X C
     → Answerer S C N X
-answerer_of scalars by_rules by_fields resolving service = record {
-  scalars = scalars;
-  by_rules = by_rules;
-  by_fields = by_fields;
+answerer_of answering service = record {
+  scalars = answering.scalars;
+  by_rules = answering.by_rules;
+  by_fields = answering.by_fields;
   schema = service.root_node.schema;
   introspection_disabled = service.root_node.introspection_disabled;
   limit = service.line_limit;
-  resolver = resolving service.resolver;
+  resolver = answering.resolving service.resolver;
 }
 
 -- the values that a request gives for variables

@@ -4,6 +4,7 @@ pub mod TokenLaws
 pub mod JoinLaws
 pub mod PlainRequests
 pub mod Texts
+pub mod AnsweredBy
 pub mod Answers
 pub mod Made
 pub mod Reading

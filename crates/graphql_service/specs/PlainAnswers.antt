@@ -1,15 +1,11 @@
 -- What a line is told of its plain text (GraphQL October 2021, 6.1 Executing Requests).
 use Rattle.std.specs.Prelude.{◌≡◌, ℕ}
-use Rattle.std.specs.declared.cmp.Ordering.{Ordering}
 use Rattle.graphql_names.specs.Names.{Bytes}
-use Rattle.graphql_field_results.specs.declared.execution_error.ExecutionError.{ExecutionError}
-use Rattle.graphql_rule_errors.specs.declared.rule_error.RuleError.{RuleError}
-use Rattle.graphql_executor.specs.Requests.{Scalars}
-use Rattle.graphql_executor.specs.Resolvers.{Resolver}
 use Rattle.graphql_lines.specs.Request.{Request}
 use Rattle.graphql_lines.specs.declared.refusal.LineRefusal.{LineRefusal}
 use Rattle.graphql_answers.specs.Lines.{IsLine, line_of}
 use Rattle.graphql_answers.specs.Responses.{plain_answer_of, refusal_response}
+use Rattle.graphql_service.specs.AnsweredBy.{AnsweredBy}
 use Rattle.graphql_service.specs.PlainRequests.{HasNoPlainText, IsPlainTextWithin, PlainError}
 use Rattle.graphql_service.specs.PlainRequests as error
 use Rattle.graphql_service.specs.Answers.{Answerer, Asks, IsNoRequest, answerer_of, asked_by}
@@ -60,12 +56,9 @@ module _ {S C N X : Type 0} (a : Answerer S C N X) (size_limit : ℕ) where
   PlainBreaks before line after = Unit {0}
 
 -- the same of what gives the plain texts of a service
-module _ {S C N X R : Type 0} (scalars : Scalars S C) (by_rules : RuleError → RuleError → Ordering)
-    (by_fields : ExecutionError S → ExecutionError S → Ordering)
-    (resolving : R → Resolver S N X) where
+module _ {S C N X R : Type 0} (answering : AnsweredBy S C N X R) where
   abbrev pub PlainOfLines : PlainLines S R X C → Bytes → Bytes → PlainLines S R X C → Type 0
   PlainOfLines old line text new =
       let service : Service S R X C = old.service.now in
-      AnswersPlain (answerer_of scalars by_rules by_fields resolving service)
-      service.selection_limit line text
+      AnswersPlain (answerer_of answering service) service.selection_limit line text
       × (new.service.now ≡ service)

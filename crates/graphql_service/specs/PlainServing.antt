@@ -1,13 +1,9 @@
 -- What a service tells of lines that are too long, where it is asked for plain texts.
 use Rattle.std.specs.Prelude.{ℕ, ◌<◌, length}
-use Rattle.std.specs.declared.cmp.Ordering.{Ordering}
 use Rattle.graphql_names.specs.Names.{Bytes}
 use Rattle.graphql_streams.specs.Lines.{kept_of}
 use Rattle.graphql_streams.proofs.LineLemmas.{front-longer}
-use Rattle.graphql_field_results.specs.declared.execution_error.ExecutionError.{ExecutionError}
-use Rattle.graphql_rule_errors.specs.declared.rule_error.RuleError.{RuleError}
-use Rattle.graphql_executor.specs.Requests.{Scalars}
-use Rattle.graphql_executor.specs.Resolvers.{Resolver}
+use Rattle.graphql_service.specs.AnsweredBy.{AnsweredBy}
 use Rattle.graphql_service.specs.Answers.{Answerer, answerer_of}
 use Rattle.graphql_service.specs.PlainAnswers.{IsPlainAnswer, PlainOfLines, asks_nothing, not_plain}
 use Rattle.graphql_service.specs.PlainAnswers.{plain_to}
@@ -24,19 +20,16 @@ module _ {S C N X : Type 0} (a : Answerer S C N X) (line : Bytes) (longer : a.li
   long-plain text (not_plain why h e) = absurd (front-longer a.limit line longer h.asks.within)
   long-plain text (plain_to plain h e) = absurd (front-longer a.limit line longer h.asks.within)
 
-module _ {S C N X R : Type 0} (scalars : Scalars S C) (by_rules : RuleError → RuleError → Ordering)
-    (by_fields : ExecutionError S → ExecutionError S → Ordering)
-    (resolving : R → Resolver S N X) where
+module _ {S C N X R : Type 0} (answering : AnsweredBy S C N X R) where
   pub plain-kept : (old : PlainLines S R X C) (line text : Bytes) (new : PlainLines S R X C)
       → old.service.now.line_limit < length line
-      → PlainOfLines scalars by_rules by_fields resolving old
-      (kept_of old.service.now.line_limit line) text new
-      → PlainOfLines scalars by_rules by_fields resolving old line text new
+      → PlainOfLines answering old (kept_of old.service.now.line_limit line) text new
+      → PlainOfLines answering old line text new
   plain-kept old line text new longer (h, same) =
       let service : Service S R X C = old.service.now in (
         record {
           answer =
-              long-plain (answerer_of scalars by_rules by_fields resolving service) line longer
+              long-plain (answerer_of answering service) line longer
               service.selection_limit text h.answer;
           one_line = h.one_line;
           distinct = h.distinct;

@@ -1,18 +1,14 @@
 -- What a service answers lines, one after another.
 use Rattle.std.specs.Prelude.{◌<◌, length}
-use Rattle.std.specs.declared.cmp.Ordering.{Ordering}
 use Rattle.std.proofs.Common.{inl, inr}
 use Rattle.graphql_names.specs.Names.{Bytes}
 use Rattle.graphql_streams.specs.Lines.{kept_of}
 use Rattle.graphql_streams.proofs.LineLemmas.{front-longer}
-use Rattle.graphql_field_results.specs.declared.execution_error.ExecutionError.{ExecutionError}
-use Rattle.graphql_rule_errors.specs.declared.rule_error.RuleError.{RuleError}
-use Rattle.graphql_executor.specs.Requests.{Scalars}
-use Rattle.graphql_executor.specs.Resolvers.{Resolver}
 use Rattle.graphql_lines.specs.declared.refusal.LineRefusal.{LineRefusal}
 use Rattle.graphql_lines.specs.declared.refusal.LineRefusal.TheVariants.{LineTooLong, NotARequest}
 use Rattle.graphql_lines.specs.declared.refusal.LineRefusal.TheVariants.{BadNumber, Memory}
 use Rattle.graphql_answers.specs.Lines.{IsLine}
+use Rattle.graphql_service.specs.AnsweredBy.{AnsweredBy}
 use Rattle.graphql_service.specs.Answers.{Answerer, IsAnswer, IsNoRequest, LeavesBroken}
 use Rattle.graphql_service.specs.Answers.{answerer_of, executed_to, no_request, not_executed}
 use Rattle.graphql_service.specs.Laws.{IsLineOfDistinctKeys}
@@ -37,18 +33,14 @@ HasPartsOf old new =
     IsOf old.root_node old.resolver new.context old.line_limit old.selection_limit new
 
 -- the same of a service: of its parts the context alone changes
-module _ {S C N X R : Type 0} (scalars : Scalars S C) (by_rules : RuleError → RuleError → Ordering)
-    (by_fields : ExecutionError S → ExecutionError S → Ordering)
-    (resolving : R → Resolver S N X) where
+module _ {S C N X R : Type 0} (answering : AnsweredBy S C N X R) where
   abbrev pub ServiceAnswers : Service S R X C → Bytes → Bytes → Service S R X C → Type 0
   ServiceAnswers old line text new =
-      AnswersLine (answerer_of scalars by_rules by_fields resolving old) old.context line text
-      new.context × HasPartsOf old new
+      AnswersLine (answerer_of answering old) old.context line text new.context × HasPartsOf old new
 
   abbrev pub ServiceBreaks : Service S R X C → Bytes → Service S R X C → Type 0
   ServiceBreaks old line new =
-      BreaksAtLine (answerer_of scalars by_rules by_fields resolving old) old.context line
-      new.context × HasPartsOf old new
+      BreaksAtLine (answerer_of answering old) old.context line new.context × HasPartsOf old new
 
 -- a line that is too long is refused, whatever stands in it
 module _ {S C N X : Type 0} (a : Answerer S C N X) (line : Bytes)
@@ -74,19 +66,15 @@ module _ {S C N X : Type 0} (a : Answerer S C N X) (line : Bytes)
   long-broken old new (inl same) = inl same
   long-broken old new (inr broken) = absurd (front-longer a.limit line longer broken.asks.within)
 
-module _ {S C N X R : Type 0} (scalars : Scalars S C) (by_rules : RuleError → RuleError → Ordering)
-    (by_fields : ExecutionError S → ExecutionError S → Ordering)
-    (resolving : R → Resolver S N X) where
+module _ {S C N X R : Type 0} (answering : AnsweredBy S C N X R) where
   pub answers-kept : (old : Service S R X C) (line text : Bytes) (new : Service S R X C)
       → old.line_limit < length line
-      → ServiceAnswers scalars by_rules by_fields resolving old (kept_of old.line_limit line) text
-      new
-      → ServiceAnswers scalars by_rules by_fields resolving old line text new
+      → ServiceAnswers answering old (kept_of old.line_limit line) text new
+      → ServiceAnswers answering old line text new
   answers-kept old line text new longer (h, parts) = (
     record {
       answer =
-          long-answer (answerer_of scalars by_rules by_fields resolving old) line longer old.context
-          new.context text h.answer;
+          long-answer (answerer_of answering old) line longer old.context new.context text h.answer;
       one_line = h.one_line;
       distinct = h.distinct;
     },
@@ -95,10 +83,9 @@ module _ {S C N X R : Type 0} (scalars : Scalars S C) (by_rules : RuleError → 
 
   pub breaks-kept : (old : Service S R X C) (line : Bytes) (new : Service S R X C)
       → old.line_limit < length line
-      → ServiceBreaks scalars by_rules by_fields resolving old (kept_of old.line_limit line) new
-      → ServiceBreaks scalars by_rules by_fields resolving old line new
+      → ServiceBreaks answering old (kept_of old.line_limit line) new
+      → ServiceBreaks answering old line new
   breaks-kept old line new longer (h, parts) = (
-    long-broken (answerer_of scalars by_rules by_fields resolving old) line longer old.context
-        new.context h,
+    long-broken (answerer_of answering old) line longer old.context new.context h,
     parts,
   )

@@ -16,6 +16,7 @@ ghost use Rattle.graphql_service.specs.FittingLines.{IsFittingLine, IsRefusalLin
 ghost use Rattle.graphql_service.specs.Laws.{DataHaveDistinctKeys, IsLineOfDistinctKeys};
 ghost use Rattle.graphql_service.specs.declared.service.Service.{Service};
 
+use crate::answered_by::Answering;
 use crate::service::Service;
 use graphql_answers::laws::answers_have_distinct_keys;
 use graphql_execution_walk::Asked;
@@ -25,7 +26,6 @@ pub use graphql_executor::laws::{
     refusals_have_steps,
 };
 use graphql_executor::{GraphQLMutationValue, Meaning, Resolving};
-use graphql_field_results::ExecutionError;
 pub use graphql_joins::laws::default_scalars_answer_alike;
 use graphql_joins::laws::{parts_join, queries_stand};
 use graphql_mutation::laws::runs_have_distinct_keys;
@@ -42,7 +42,6 @@ pub use graphql_plain_requests::laws::{
     spreads_stay_possible, uses_stay_allowed, uses_stay_defined, variable_names_stay_distinct,
     variables_stay_of_input_types, variables_stay_used,
 };
-use graphql_rule_errors::RuleError;
 use graphql_schema::{RootNode, SchemaScalar};
 use graphql_semantics::laws::{data_have_distinct_keys, failures_tell_distinct_keys};
 
@@ -53,8 +52,7 @@ where
     R::Node: 'd,
     ensures { (service : Service S R R.Context S.Check) (line answered : Bytes)
         (old new : R.Context)
-        → let a = answerer_of ⟦<S as Meaning>⟧.meaning ⟦<RuleError as Ord>⟧.cmp
-        ⟦<ExecutionError<S> as Ord>⟧.cmp ⟦<R as Resolving<S>>⟧.resolving service in
+        → let a = answerer_of ⟦<R as Answering<S>>⟧.answering service in
         IsAnswer a line old answered new → IsLineOfDistinctKeys answered }
 {
     answers_have_distinct_keys::<S>();
@@ -86,8 +84,7 @@ where
     R::Node: 'd,
     ensures { (service : Service S R R.Context S.Check) (line answered : Bytes)
         (old new : R.Context)
-        → let a = answerer_of ⟦<S as Meaning>⟧.meaning ⟦<RuleError as Ord>⟧.cmp
-        ⟦<ExecutionError<S> as Ord>⟧.cmp ⟦<R as Resolving<S>>⟧.resolving service in
+        → let a = answerer_of ⟦<R as Answering<S>>⟧.answering service in
         IsAnswer a line old answered new
         → IsRefusalLine a line old answered
         ⊎ IsFittingLine a line old answered }
@@ -133,11 +130,9 @@ pub fn queries_leave_the_context<S: SchemaScalar, R: GraphQLMutationValue<S>>(
     service: &Service<S, R, R::Context>,
 )
     ensures apart { LinesAreAnsweredApart
-        (answerer_of ⟦<S as Meaning>⟧.meaning ⟦<RuleError as Ord>⟧.cmp
-        ⟦<ExecutionError<S> as Ord>⟧.cmp ⟦<R as Resolving<S>>⟧.resolving service.now) }
+        (answerer_of ⟦<R as Answering<S>>⟧.answering service.now) }
     ensures leave { QueriesLeaveTheContext
-        (answerer_of ⟦<S as Meaning>⟧.meaning ⟦<RuleError as Ord>⟧.cmp
-        ⟦<ExecutionError<S> as Ord>⟧.cmp ⟦<R as Resolving<S>>⟧.resolving service.now) }
+        (answerer_of ⟦<R as Answering<S>>⟧.answering service.now) }
 {}
 
 /// A plain text within a limit, asked again with the same operation name, the same values for

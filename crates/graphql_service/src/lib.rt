@@ -2,6 +2,7 @@
 #![tactic(auto)]
 
 mod accepted;
+mod answered_by;
 pub mod laws;
 pub mod meaning;
 mod plain;
@@ -14,6 +15,7 @@ mod service;
 mod serving;
 
 pub use accepted::AcceptedRequest;
+pub use answered_by::Answering;
 pub use graphql_executor::{
     Applies, Arguments, Context, ExecutionError, Executor, FieldError, FieldFault, FieldPath,
     FieldResult, GraphQLError, GraphQLMutationValue, GraphQLValue, ID, IntoFieldError,

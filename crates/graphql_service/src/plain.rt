@@ -17,6 +17,7 @@ ghost use Rattle.graphql_service.specs.Answers.{Appends, Asks, answerer_of};
 ghost use Rattle.graphql_service.specs.Laws.{IsLineOfDistinctKeys};
 ghost use Rattle.graphql_service.specs.PlainAnswers.{AnswersPlain, IsPlainAnswer};
 
+use crate::answered_by::Answering;
 use crate::refusal::{push_line_refusal, push_plain_error};
 use crate::response::push_plain_text;
 use crate::service::Service;
@@ -24,8 +25,7 @@ use crate::{PlainError, plain_request};
 use graphql_answers::laws::{
     answers_have_distinct_keys, plain_answers_have_distinct_keys, values_are_lines,
 };
-use graphql_executor::{GraphQLMutationValue, Meaning, Resolving};
-use graphql_field_results::ExecutionError;
+use graphql_executor::{GraphQLMutationValue, Meaning};
 use graphql_lines::{GraphQLRequest, LineRefusal, request_from_line};
 use graphql_rule_errors::RuleError;
 use graphql_schema::SchemaScalar;
@@ -72,8 +72,7 @@ impl<S: SchemaScalar + Drop, R: GraphQLMutationValue<S>> Service<S, R, R::Contex
         line: &[u8],
         out: &mut Vec<u8>,
     ) -> Result<(), AllocError>
-        ensures answers { let a = answerer_of ⟦<S as Meaning>⟧.meaning ⟦<RuleError as Ord>⟧.cmp
-            ⟦<ExecutionError<S> as Ord>⟧.cmp ⟦<R as Resolving<S>>⟧.resolving self.now in
+        ensures answers { let a = answerer_of ⟦<R as Answering<S>>⟧.answering self.now in
             OnOk result (IsPlainAnswer a self.now.selection_limit line.now out.new.items) }
         ensures line { OnOk result (IsLine out.new.items) }
         ensures distinct { OnOk result (IsLineOfDistinctKeys out.new.items) }
@@ -92,8 +91,7 @@ impl<S: SchemaScalar + Drop, R: GraphQLMutationValue<S>> Service<S, R, R::Contex
         line: &[u8],
         out: &mut Vec<u8>,
     ) -> Result<(), AllocError>
-        ensures answers { let a = answerer_of ⟦<S as Meaning>⟧.meaning ⟦<RuleError as Ord>⟧.cmp
-            ⟦<ExecutionError<S> as Ord>⟧.cmp ⟦<R as Resolving<S>>⟧.resolving self.now in
+        ensures answers { let a = answerer_of ⟦<R as Answering<S>>⟧.answering self.now in
             OnOk result (Appends (AnswersPlain a self.now.selection_limit line.now) out.old.items
             out.new.items) }
         ensures kept { OnErr result (out.new.items ≡ out.old.items) }
@@ -119,8 +117,7 @@ impl<S: SchemaScalar + Drop, R: GraphQLMutationValue<S>> Service<S, R, R::Contex
         line: &[u8],
         out: &mut Vec<u8>,
     ) -> Result<(), AllocError>
-        ensures answers { let a = answerer_of ⟦<S as Meaning>⟧.meaning ⟦<RuleError as Ord>⟧.cmp
-            ⟦<ExecutionError<S> as Ord>⟧.cmp ⟦<R as Resolving<S>>⟧.resolving self.now in
+        ensures answers { let a = answerer_of ⟦<R as Answering<S>>⟧.answering self.now in
             OnOk result (Appends (IsPlainAnswer a self.now.selection_limit line.now) out.old.items
             out.new.items) }
         ensures front { KeepsFront out.old.items out.new.items }
@@ -142,8 +139,7 @@ impl<S: SchemaScalar + Drop, R: GraphQLMutationValue<S>> Service<S, R, R::Contex
         request: &GraphQLRequest<S>,
         out: &mut Vec<u8>,
     ) -> Result<(), AllocError>
-        ensures answers { let a = answerer_of ⟦<S as Meaning>⟧.meaning ⟦<RuleError as Ord>⟧.cmp
-            ⟦<ExecutionError<S> as Ord>⟧.cmp ⟦<R as Resolving<S>>⟧.resolving self.now in
+        ensures answers { let a = answerer_of ⟦<R as Answering<S>>⟧.answering self.now in
             OnOk result ((line : Bytes) (asked : Request) → Asks a line asked
             → HoldsRequest S.of_bool S.of_int S.of_text asked request.now
             → Appends (IsPlainAnswer a self.now.selection_limit line) out.old.items out.new.items) }

@@ -7,11 +7,10 @@ ghost use Rattle.graphql_service.specs.Answers.{answerer_of};
 ghost use Rattle.graphql_service.specs.PlainAnswers.{PlainBreaks, PlainGives, PlainOfLines};
 ghost use Rattle.graphql_service.specs.PlainServing.{plain-kept};
 
+use crate::answered_by::Answering;
 use crate::plain_lines::PlainLines;
 use crate::service::Service;
-use graphql_executor::{GraphQLMutationValue, Meaning, Resolving};
-use graphql_field_results::ExecutionError;
-use graphql_rule_errors::RuleError;
+use graphql_executor::GraphQLMutationValue;
 use graphql_schema::SchemaScalar;
 use graphql_streams::{ByteSink, ByteSource, LineEngine, ServeError, serve_lines};
 use std::alloc::{AllocError, Global};
@@ -31,13 +30,11 @@ impl<S: SchemaScalar + Drop, R: GraphQLMutationValue<S>> Service<S, R, R::Contex
         reader: &mut I,
         writer: &mut O,
     ) -> Result<(), ServeError>
-        ensures served { let a = answerer_of ⟦<S as Meaning>⟧.meaning ⟦<RuleError as Ord>⟧.cmp
-            ⟦<ExecutionError<S> as Ord>⟧.cmp ⟦<R as Resolving<S>>⟧.resolving self.now in
+        ensures served { let a = answerer_of ⟦<R as Answering<S>>⟧.answering self.now in
             OnOk result (ServedAll (PlainGives a self.now.selection_limit) tt
             (I.left reader.old) (I.left reader.new)
             (O.written writer.old) (O.written writer.new) tt) }
-        ensures ended { let a = answerer_of ⟦<S as Meaning>⟧.meaning ⟦<RuleError as Ord>⟧.cmp
-            ⟦<ExecutionError<S> as Ord>⟧.cmp ⟦<R as Resolving<S>>⟧.resolving self.now in
+        ensures ended { let a = answerer_of ⟦<R as Answering<S>>⟧.answering self.now in
             IfErr result (λ error. Ends (PlainGives a self.now.selection_limit)
             (PlainBreaks a self.now.selection_limit)
             (HasRisen (O.faults writer.old) (O.faults writer.new)) error tt
@@ -53,8 +50,7 @@ impl<S: SchemaScalar + Drop, R: GraphQLMutationValue<S>> Service<S, R, R::Contex
 
 impl<S: SchemaScalar + Drop, R: GraphQLMutationValue<S>> LineEngine
     for PlainLines<'_, S, R, R::Context> {
-    ghost answers = { PlainOfLines ⟦<S as Meaning>⟧.meaning ⟦<RuleError as Ord>⟧.cmp
-        ⟦<ExecutionError<S> as Ord>⟧.cmp ⟦<R as Resolving<S>>⟧.resolving };
+    ghost answers = { PlainOfLines ⟦<R as Answering<S>>⟧.answering };
 
     ghost breaks = { λ old line new. new.service.now ≡ old.service.now };
 
@@ -62,8 +58,7 @@ impl<S: SchemaScalar + Drop, R: GraphQLMutationValue<S>> LineEngine
 
     ghost limit = { λ lines. lines.service.now.line_limit };
 
-    ghost answers_kept = { plain-kept ⟦<S as Meaning>⟧.meaning ⟦<RuleError as Ord>⟧.cmp
-        ⟦<ExecutionError<S> as Ord>⟧.cmp ⟦<R as Resolving<S>>⟧.resolving };
+    ghost answers_kept = { plain-kept ⟦<R as Answering<S>>⟧.answering };
 
     ghost breaks_kept = { λ old line new longer same. same };
 

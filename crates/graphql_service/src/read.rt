@@ -15,17 +15,14 @@ ghost use Rattle.graphql_service.specs.Reading.{Executes};
 ghost use Rattle.graphql_service.specs.Serving.{AnswersLine};
 
 use crate::accepted::AcceptedRequest;
+use crate::answered_by::Answering;
 use crate::laws::answer_lines_have_distinct_keys;
 use crate::refusal::{push_error, push_line_refusal};
 use crate::response::push_response;
 use crate::service::Service;
 use graphql_answers::laws::values_are_lines;
-use graphql_executor::{
-    GraphQLError, GraphQLMutationValue, Meaning, Resolving, execute_validated_query,
-};
-use graphql_field_results::ExecutionError;
+use graphql_executor::{GraphQLError, GraphQLMutationValue, execute_validated_query};
 use graphql_lines::LineRefusal;
-use graphql_rule_errors::RuleError;
 use graphql_schema::SchemaScalar;
 use std::alloc::{AllocError, Global};
 
@@ -41,8 +38,7 @@ impl<S: SchemaScalar + Drop, R: GraphQLMutationValue<S>> Service<S, R, R::Contex
         refusal: LineRefusal,
         out: &mut Vec<u8>,
     ) -> Result<(), AllocError>
-        ensures answers { let a = answerer_of ⟦<S as Meaning>⟧.meaning ⟦<RuleError as Ord>⟧.cmp
-            ⟦<ExecutionError<S> as Ord>⟧.cmp ⟦<R as Resolving<S>>⟧.resolving self.now in
+        ensures answers { let a = answerer_of ⟦<R as Answering<S>>⟧.answering self.now in
             let context = self.now.context in
             OnOk result ((line : Bytes) → IsNoRequest a line refusal
             → Appends (λ text. AnswersLine a context line text context) out.old.items
@@ -74,8 +70,7 @@ impl<S: SchemaScalar + Drop, R: GraphQLMutationValue<S>> Service<S, R, R::Contex
         error: GraphQLError,
         out: &mut Vec<u8>,
     ) -> Result<(), AllocError>
-        ensures answers { let a = answerer_of ⟦<S as Meaning>⟧.meaning ⟦<RuleError as Ord>⟧.cmp
-            ⟦<ExecutionError<S> as Ord>⟧.cmp ⟦<R as Resolving<S>>⟧.resolving self.now in
+        ensures answers { let a = answerer_of ⟦<R as Answering<S>>⟧.answering self.now in
             let context = self.now.context in
             OnOk result ((line : Bytes) → IsNotExecuted a line error
             → Appends (λ text. AnswersLine a context line text context) out.old.items
@@ -108,15 +103,13 @@ impl<S: SchemaScalar + Drop, R: GraphQLMutationValue<S>> Service<S, R, R::Contex
         out: &mut Vec<u8>,
     ) -> Result<(), AllocError>
         requires { Settled (fragments_listed accepted.now.document.now) }
-        ensures answers { let a = answerer_of ⟦<S as Meaning>⟧.meaning ⟦<RuleError as Ord>⟧.cmp
-            ⟦<ExecutionError<S> as Ord>⟧.cmp ⟦<R as Resolving<S>>⟧.resolving self.old in
+        ensures answers { let a = answerer_of ⟦<R as Answering<S>>⟧.answering self.old in
             OnOk result ((line : Bytes) → Executes a line accepted.now
             → Appends (λ text. AnswersLine a self.old.context line text self.new.context)
             out.old.items out.new.items) }
         ensures parts { IsOf self.old.root_node self.old.resolver self.new.context
             self.old.line_limit self.old.selection_limit self.new }
-        ensures broken { let a = answerer_of ⟦<S as Meaning>⟧.meaning ⟦<RuleError as Ord>⟧.cmp
-            ⟦<ExecutionError<S> as Ord>⟧.cmp ⟦<R as Resolving<S>>⟧.resolving self.old in
+        ensures broken { let a = answerer_of ⟦<R as Answering<S>>⟧.answering self.old in
             OnErr result ((line : Bytes) → Executes a line accepted.now
             → LeavesBroken a line self.old.context self.new.context) }
         ensures front { KeepsFront out.old.items out.new.items }
@@ -143,15 +136,13 @@ impl<S: SchemaScalar + Drop, R: GraphQLMutationValue<S>> Service<S, R, R::Contex
         out: &mut Vec<u8>,
     ) -> Result<(), AllocError>
         requires { Settled (fragments_listed accepted.now.document.now) }
-        ensures answers { let a = answerer_of ⟦<S as Meaning>⟧.meaning ⟦<RuleError as Ord>⟧.cmp
-            ⟦<ExecutionError<S> as Ord>⟧.cmp ⟦<R as Resolving<S>>⟧.resolving self.old in
+        ensures answers { let a = answerer_of ⟦<R as Answering<S>>⟧.answering self.old in
             OnOk result ((line : Bytes) → Executes a line accepted.now
             → Appends (λ text. IsAnswer a line self.old.context text self.new.context)
             out.old.items out.new.items) }
         ensures parts { IsOf self.old.root_node self.old.resolver self.new.context
             self.old.line_limit self.old.selection_limit self.new }
-        ensures broken { let a = answerer_of ⟦<S as Meaning>⟧.meaning ⟦<RuleError as Ord>⟧.cmp
-            ⟦<ExecutionError<S> as Ord>⟧.cmp ⟦<R as Resolving<S>>⟧.resolving self.old in
+        ensures broken { let a = answerer_of ⟦<R as Answering<S>>⟧.answering self.old in
             OnErr result ((line : Bytes) → Executes a line accepted.now
             → LeavesBroken a line self.old.context self.new.context) }
         ensures front { KeepsFront out.old.items out.new.items }

@@ -5,15 +5,14 @@ ghost use Rattle.graphql_schema.specs.Executable.{is_executable};
 ghost use Rattle.graphql_schema.specs.Schemas.{roots_of};
 ghost use Rattle.graphql_schema.specs.Directives.{has_standard_conditions};
 
+use crate::answered_by::Answering;
 use crate::laws::answer_lines_have_distinct_keys;
 use crate::refusal::{push_error, push_line_refusal};
 use crate::response::push_response;
 use crate::{boolean_takes_true, operation_name_of};
 use graphql_answers::laws::values_are_lines;
-use graphql_executor::{GraphQLMutationValue, Meaning, Resolving, ValidTexts, execute_with};
-use graphql_field_results::ExecutionError;
+use graphql_executor::{GraphQLMutationValue, Meaning, ValidTexts, execute_with};
 use graphql_lines::{GraphQLRequest, LineRefusal, request_from_line};
-use graphql_rule_errors::RuleError;
 use graphql_schema::{RootNode, SchemaScalar};
 use std::alloc::{AllocError, AllocFailed, Global};
 use std::error::Error;
@@ -212,15 +211,13 @@ impl<S: SchemaScalar + Drop, R: GraphQLMutationValue<S>> Service<S, R, R::Contex
         line: &[u8],
         out: &mut Vec<u8>,
     ) -> Result<(), AllocError>
-        ensures answers { let a = answerer_of ⟦<S as Meaning>⟧.meaning ⟦<RuleError as Ord>⟧.cmp
-            ⟦<ExecutionError<S> as Ord>⟧.cmp ⟦<R as Resolving<S>>⟧.resolving self.old in
+        ensures answers { let a = answerer_of ⟦<R as Answering<S>>⟧.answering self.old in
             OnOk result (IsAnswer a line.now self.old.context out.new.items self.new.context) }
         ensures line { OnOk result (IsLine out.new.items) }
         ensures distinct { OnOk result (IsLineOfDistinctKeys out.new.items) }
         ensures parts { IsOf self.old.root_node self.old.resolver self.new.context
             self.old.line_limit self.old.selection_limit self.new }
-        ensures broken { let a = answerer_of ⟦<S as Meaning>⟧.meaning ⟦<RuleError as Ord>⟧.cmp
-            ⟦<ExecutionError<S> as Ord>⟧.cmp ⟦<R as Resolving<S>>⟧.resolving self.old in
+        ensures broken { let a = answerer_of ⟦<R as Answering<S>>⟧.answering self.old in
             OnErr result (LeavesBroken a line.now self.old.context self.new.context) }
         ensures emptied { OnErr result (out.new.items ≡ []) }
     {
@@ -237,15 +234,13 @@ impl<S: SchemaScalar + Drop, R: GraphQLMutationValue<S>> Service<S, R, R::Contex
         line: &[u8],
         out: &mut Vec<u8>,
     ) -> Result<(), AllocError>
-        ensures answers { let a = answerer_of ⟦<S as Meaning>⟧.meaning ⟦<RuleError as Ord>⟧.cmp
-            ⟦<ExecutionError<S> as Ord>⟧.cmp ⟦<R as Resolving<S>>⟧.resolving self.old in
+        ensures answers { let a = answerer_of ⟦<R as Answering<S>>⟧.answering self.old in
             OnOk result
             (Appends (λ text. AnswersLine a self.old.context line.now text self.new.context)
             out.old.items out.new.items) }
         ensures parts { IsOf self.old.root_node self.old.resolver self.new.context
             self.old.line_limit self.old.selection_limit self.new }
-        ensures broken { let a = answerer_of ⟦<S as Meaning>⟧.meaning ⟦<RuleError as Ord>⟧.cmp
-            ⟦<ExecutionError<S> as Ord>⟧.cmp ⟦<R as Resolving<S>>⟧.resolving self.old in
+        ensures broken { let a = answerer_of ⟦<R as Answering<S>>⟧.answering self.old in
             OnErr result (LeavesBroken a line.now self.old.context self.new.context) }
         ensures kept { OnErr result (out.new.items ≡ out.old.items) }
     {
@@ -262,15 +257,13 @@ impl<S: SchemaScalar + Drop, R: GraphQLMutationValue<S>> Service<S, R, R::Contex
         out: &mut Vec<u8>,
     ) -> Result<(), AllocError>
         requires { AreKept ⟦<S as Meaning>⟧.meaning self.old }
-        ensures answers { let a = answerer_of ⟦<S as Meaning>⟧.meaning ⟦<RuleError as Ord>⟧.cmp
-            ⟦<ExecutionError<S> as Ord>⟧.cmp ⟦<R as Resolving<S>>⟧.resolving self.old in
+        ensures answers { let a = answerer_of ⟦<R as Answering<S>>⟧.answering self.old in
             OnOk result
             (Appends (λ text. AnswersLine a self.old.context line.now text self.new.context)
             out.old.items out.new.items) }
         ensures parts { IsOf self.old.root_node self.old.resolver self.new.context
             self.old.line_limit self.old.selection_limit self.new }
-        ensures broken { let a = answerer_of ⟦<S as Meaning>⟧.meaning ⟦<RuleError as Ord>⟧.cmp
-            ⟦<ExecutionError<S> as Ord>⟧.cmp ⟦<R as Resolving<S>>⟧.resolving self.old in
+        ensures broken { let a = answerer_of ⟦<R as Answering<S>>⟧.answering self.old in
             OnErr result (LeavesBroken a line.now self.old.context self.new.context) }
         ensures kept { OnErr result (out.new.items ≡ out.old.items) }
         ensures kept_texts { AreKept ⟦<S as Meaning>⟧.meaning self.new }
@@ -296,15 +289,13 @@ impl<S: SchemaScalar + Drop, R: GraphQLMutationValue<S>> Service<S, R, R::Contex
         out: &mut Vec<u8>,
     ) -> Result<(), AllocError>
         requires { AreKept ⟦<S as Meaning>⟧.meaning self.old }
-        ensures answers { let a = answerer_of ⟦<S as Meaning>⟧.meaning ⟦<RuleError as Ord>⟧.cmp
-            ⟦<ExecutionError<S> as Ord>⟧.cmp ⟦<R as Resolving<S>>⟧.resolving self.old in
+        ensures answers { let a = answerer_of ⟦<R as Answering<S>>⟧.answering self.old in
             OnOk result
             (Appends (λ text. IsAnswer a line.now self.old.context text self.new.context)
             out.old.items out.new.items) }
         ensures parts { IsOf self.old.root_node self.old.resolver self.new.context
             self.old.line_limit self.old.selection_limit self.new }
-        ensures broken { let a = answerer_of ⟦<S as Meaning>⟧.meaning ⟦<RuleError as Ord>⟧.cmp
-            ⟦<ExecutionError<S> as Ord>⟧.cmp ⟦<R as Resolving<S>>⟧.resolving self.old in
+        ensures broken { let a = answerer_of ⟦<R as Answering<S>>⟧.answering self.old in
             OnErr result (LeavesBroken a line.now self.old.context self.new.context) }
         ensures front { KeepsFront out.old.items out.new.items }
         ensures kept_texts { AreKept ⟦<S as Meaning>⟧.meaning self.new }
@@ -327,16 +318,14 @@ impl<S: SchemaScalar + Drop, R: GraphQLMutationValue<S>> Service<S, R, R::Contex
         out: &mut Vec<u8>,
     ) -> Result<(), AllocError>
         requires { AreKept ⟦<S as Meaning>⟧.meaning self.old }
-        ensures answers { let a = answerer_of ⟦<S as Meaning>⟧.meaning ⟦<RuleError as Ord>⟧.cmp
-            ⟦<ExecutionError<S> as Ord>⟧.cmp ⟦<R as Resolving<S>>⟧.resolving self.old in
+        ensures answers { let a = answerer_of ⟦<R as Answering<S>>⟧.answering self.old in
             OnOk result ((line : Bytes) (asked : Request) → Asks a line asked
             → HoldsRequest S.of_bool S.of_int S.of_text asked request.now
             → Appends (λ text. IsAnswer a line self.old.context text self.new.context) out.old.items
             out.new.items) }
         ensures parts { IsOf self.old.root_node self.old.resolver self.new.context
             self.old.line_limit self.old.selection_limit self.new }
-        ensures broken { let a = answerer_of ⟦<S as Meaning>⟧.meaning ⟦<RuleError as Ord>⟧.cmp
-            ⟦<ExecutionError<S> as Ord>⟧.cmp ⟦<R as Resolving<S>>⟧.resolving self.old in
+        ensures broken { let a = answerer_of ⟦<R as Answering<S>>⟧.answering self.old in
             OnErr result ((line : Bytes) (asked : Request) → Asks a line asked
             → HoldsRequest S.of_bool S.of_int S.of_text asked request.now
             → LeavesBroken a line self.old.context self.new.context) }

@@ -9,10 +9,9 @@ ghost use Rattle.graphql_service.specs.Made.{IsOf};
 ghost use Rattle.graphql_service.specs.Serving.{AnswersLine, BreaksAtLine, ServiceAnswers};
 ghost use Rattle.graphql_service.specs.Serving.{ServiceBreaks, answers-kept, breaks-kept};
 
+use crate::answered_by::Answering;
 use crate::service::Service;
-use graphql_executor::{GraphQLMutationValue, Meaning, Resolving, ValidTexts};
-use graphql_field_results::ExecutionError;
-use graphql_rule_errors::RuleError;
+use graphql_executor::{GraphQLMutationValue, Meaning, ValidTexts};
 use graphql_schema::SchemaScalar;
 use graphql_streams::{ByteSink, ByteSource, LineEngine, ServeError, serve_lines};
 use std::alloc::{AllocError, Global};
@@ -63,13 +62,11 @@ impl<S: SchemaScalar + Drop, R: GraphQLMutationValue<S>> Service<S, R, R::Contex
         reader: &mut I,
         writer: &mut O,
     ) -> Result<(), ServeError>
-        ensures served { let a = answerer_of ⟦<S as Meaning>⟧.meaning ⟦<RuleError as Ord>⟧.cmp
-            ⟦<ExecutionError<S> as Ord>⟧.cmp ⟦<R as Resolving<S>>⟧.resolving self.old in
+        ensures served { let a = answerer_of ⟦<R as Answering<S>>⟧.answering self.old in
             OnOk result (ServedAll (AnswersLine a) self.old.context
             (I.left reader.old) (I.left reader.new)
             (O.written writer.old) (O.written writer.new) self.new.context) }
-        ensures ended { let a = answerer_of ⟦<S as Meaning>⟧.meaning ⟦<RuleError as Ord>⟧.cmp
-            ⟦<ExecutionError<S> as Ord>⟧.cmp ⟦<R as Resolving<S>>⟧.resolving self.old in
+        ensures ended { let a = answerer_of ⟦<R as Answering<S>>⟧.answering self.old in
             IfErr result (λ error. Ends (AnswersLine a) (BreaksAtLine a)
             (HasRisen (O.faults writer.old) (O.faults writer.new)) error self.old.context
             (I.left reader.old) (I.left reader.new)
@@ -95,13 +92,11 @@ impl<S: SchemaScalar + Drop, R: GraphQLMutationValue<S>> Service<S, R, R::Contex
         writer: &mut O,
     ) -> Result<(), ServeError>
         requires { AreKept ⟦<S as Meaning>⟧.meaning self.old }
-        ensures served { let a = answerer_of ⟦<S as Meaning>⟧.meaning ⟦<RuleError as Ord>⟧.cmp
-            ⟦<ExecutionError<S> as Ord>⟧.cmp ⟦<R as Resolving<S>>⟧.resolving self.old in
+        ensures served { let a = answerer_of ⟦<R as Answering<S>>⟧.answering self.old in
             OnOk result (ServedAll (AnswersLine a) self.old.context
             (I.left reader.old) (I.left reader.new)
             (O.written writer.old) (O.written writer.new) self.new.context) }
-        ensures ended { let a = answerer_of ⟦<S as Meaning>⟧.meaning ⟦<RuleError as Ord>⟧.cmp
-            ⟦<ExecutionError<S> as Ord>⟧.cmp ⟦<R as Resolving<S>>⟧.resolving self.old in
+        ensures ended { let a = answerer_of ⟦<R as Answering<S>>⟧.answering self.old in
             IfErr result (λ error. Ends (AnswersLine a) (BreaksAtLine a)
             (HasRisen (O.faults writer.old) (O.faults writer.new)) error self.old.context
             (I.left reader.old) (I.left reader.new)
@@ -116,21 +111,17 @@ impl<S: SchemaScalar + Drop, R: GraphQLMutationValue<S>> Service<S, R, R::Contex
 }
 
 impl<S: SchemaScalar + Drop, R: GraphQLMutationValue<S>> LineEngine for Service<S, R, R::Context> {
-    ghost answers = { ServiceAnswers ⟦<S as Meaning>⟧.meaning ⟦<RuleError as Ord>⟧.cmp
-        ⟦<ExecutionError<S> as Ord>⟧.cmp ⟦<R as Resolving<S>>⟧.resolving };
+    ghost answers = { ServiceAnswers ⟦<R as Answering<S>>⟧.answering };
 
-    ghost breaks = { ServiceBreaks ⟦<S as Meaning>⟧.meaning ⟦<RuleError as Ord>⟧.cmp
-        ⟦<ExecutionError<S> as Ord>⟧.cmp ⟦<R as Resolving<S>>⟧.resolving };
+    ghost breaks = { ServiceBreaks ⟦<R as Answering<S>>⟧.answering };
 
     ghost holds = { AreKept ⟦<S as Meaning>⟧.meaning };
 
     ghost limit = { λ service. service.line_limit };
 
-    ghost answers_kept = { answers-kept ⟦<S as Meaning>⟧.meaning ⟦<RuleError as Ord>⟧.cmp
-        ⟦<ExecutionError<S> as Ord>⟧.cmp ⟦<R as Resolving<S>>⟧.resolving };
+    ghost answers_kept = { answers-kept ⟦<R as Answering<S>>⟧.answering };
 
-    ghost breaks_kept = { breaks-kept ⟦<S as Meaning>⟧.meaning ⟦<RuleError as Ord>⟧.cmp
-        ⟦<ExecutionError<S> as Ord>⟧.cmp ⟦<R as Resolving<S>>⟧.resolving };
+    ghost breaks_kept = { breaks-kept ⟦<R as Answering<S>>⟧.answering };
 
     fn line_limit(&self) -> usize {
         Service::line_limit(self)

@@ -10,14 +10,12 @@ ghost use Rattle.graphql_service_program.specs.Placed.{TellsPlaced};
 
 use crate::arguments::Arguments;
 use crate::failure::{Failure, unless_memory};
-use graphql_field_results::ExecutionError;
 use graphql_file_service::{
     ByteSink, ByteSource, PlacedFault, RunFault, StandardChecks, TableResolver, TypeCheck,
     run_files, sample,
 };
-use graphql_rule_errors::RuleError;
 use graphql_schema::Check;
-use graphql_service::{Meaning, Resolving};
+use graphql_service::Answering;
 use graphql_values::DefaultScalarValue;
 use std::alloc::Global;
 use std::fs;
@@ -81,10 +79,7 @@ pub fn serve_files<I: ByteSource, O: ByteSink>(
     ensures { let types = builtin_types checks.int checks.string checks.boolean checks.id
         checks.introspection in
         let accepts = ⟦<TypeCheck as Check<DefaultScalarValue>>⟧.accepts in
-        let answerer =
-        answerer_of ⟦<DefaultScalarValue as Meaning>⟧.meaning ⟦<RuleError as Ord>⟧.cmp
-        ⟦<ExecutionError<DefaultScalarValue> as Ord>⟧.cmp
-        ⟦<TableResolver as Resolving<DefaultScalarValue>>⟧.resolving in
+        let answerer = answerer_of ⟦<TableResolver as Answering<DefaultScalarValue>>⟧.answering in
         let streams = runs.streams (I.left reader.old) (I.left reader.new)
         (O.written writer.old) (O.written writer.new)
         (O.faults writer.old) (O.faults writer.new) in

@@ -12,7 +12,7 @@ use Rattle.graphql_requests.specs.Asked.{ExecutableAreNotRefused}
 use Rattle.graphql_service.specs.Answers.{Answerer, Appends, IsAnswer, LeavesBroken, executed_to, no_request, not_executed}
 use Rattle.graphql_service.specs.PlainAnswers.{HasPlain}
 use Rattle.graphql_service.specs.Serving.{AnswersLine, BreaksAtLine}
-use Rattle.graphql_service.proofs.Answering.{alone, on_ok}
+use Rattle.graphql_service.proofs.WrittenAnswers.{alone, on_ok}
 use Rattle.graphql_stores.specs.Allowing.{AnswersIfAllowed, BreaksIfAllowed, IsAnswerIfAllowed, Passes, not_allowed, not_allowed_error, not_allowed_line, refused_first, served}
 use Rattle.graphql_stores.specs.Stored.{IsAskedBy, IsRefusedFirst}
 use Rattle.graphql_stores.specs.declared.asked.Asked.{Asked}

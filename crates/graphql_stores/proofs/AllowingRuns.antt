@@ -1,17 +1,13 @@
 -- What is answered to lines where a store decides what is allowed, as the service's context shows it.
 use Rattle.std.proofs.Common.{◌≡◌, ℕ, List, ◌++◌, Option, Result, Ok, Err, OnOk, OnErr, refl, subst, ◌∙◌}
 use Rattle.std.specs.Prelude.{IfErr}
-use Rattle.std.specs.declared.cmp.Ordering.{Ordering}
 use Rattle.graphql_names.specs.Names.{Bytes}
 use Rattle.graphql_stores.specs.declared.allowed_queries.AllowedQueries.{AllowedQueries}
-use Rattle.graphql_field_results.specs.declared.execution_error.ExecutionError.{ExecutionError}
-use Rattle.graphql_rule_errors.specs.declared.rule_error.RuleError.{RuleError}
 use Rattle.graphql_schema.specs.declared.root_node.RootNode.{RootNode}
-use Rattle.graphql_executor.specs.Requests.{Scalars}
-use Rattle.graphql_executor.specs.Resolvers.{Resolver}
 use Rattle.graphql_streams.specs.Served.{Ends, ServedAll}
 use Rattle.graphql_streams.specs.declared.serve_error.ServeError.{ServeError}
 use Rattle.graphql_streams.proofs.ShownRuns.{all-shown_if, ends-shown_if, stays_if}
+use Rattle.graphql_service.specs.AnsweredBy.{AnsweredBy}
 use Rattle.graphql_service.specs.Answers.{Answerer, Appends, answerer_of}
 use Rattle.graphql_stores.specs.Allowing.{AnswersIfAllowed, BreaksIfAllowed}
 use Rattle.graphql_stores.specs.AllowingLines.{AllowingAnswers, AllowingBreaks, KeepsParts}
@@ -36,20 +32,19 @@ parts-more old between new a b = record {
   allowed = b.allowed ∙ a.allowed;
 }
 
-module _ {S C N X R : Type 0} (scalars : Scalars S C) (by_rules : RuleError → RuleError → Ordering)
-    (by_fields : ExecutionError S → ExecutionError S → Ordering) (resolving : R → Resolver S N X) where
+module _ {S C N X R : Type 0} (answering : AnsweredBy S C N X R) where
   abbrev its_answerer : AllowingService S R X C → Answerer S C N X
-  its_answerer allowing = answerer_of scalars by_rules by_fields resolving allowing.service
+  its_answerer allowing = answerer_of answering allowing.service
 
   abbrev answerer_with : RootNode S C → R → ℕ → Answerer S C N X
   answerer_with root_node by limit = record {
-    scalars = scalars;
-    by_rules = by_rules;
-    by_fields = by_fields;
+    scalars = answering.scalars;
+    by_rules = answering.by_rules;
+    by_fields = answering.by_fields;
     schema = root_node.schema;
     introspection_disabled = root_node.introspection_disabled;
     limit = limit;
-    resolver = resolving by;
+    resolver = answering.resolving by;
   }
 
   -- services of the same parts answer by the same
@@ -72,7 +67,7 @@ module _ {S C N X R : Type 0} (scalars : Scalars S C) (by_rules : RuleError → 
   Breaks old = BreaksIfAllowed (its_answerer old) old.service.selection_limit old.allowed
 
   context-answers : (old between : AllowingService S R X C) (line text : Bytes) (new : AllowingService S R X C) → KeepsParts old between
-      → AllowingAnswers scalars by_rules by_fields resolving between line text new
+      → AllowingAnswers answering between line text new
       → Answers old between.service.context line text new.service.context × KeepsParts old new
   context-answers old between line text new same h = (
     by-same (λ a size_limit store. AnswersIfAllowed a size_limit store between.service.context line text new.service.context)
@@ -81,7 +76,7 @@ module _ {S C N X R : Type 0} (scalars : Scalars S C) (by_rules : RuleError → 
   )
 
   context-breaks : (old between : AllowingService S R X C) (line : Bytes) (new : AllowingService S R X C) → KeepsParts old between
-      → AllowingBreaks scalars by_rules by_fields resolving between line new
+      → AllowingBreaks answering between line new
       → Breaks old between.service.context line new.service.context × KeepsParts old new
   context-breaks old between line new same h = (
     by-same (λ a size_limit store. BreaksIfAllowed a size_limit store between.service.context line new.service.context)
@@ -90,29 +85,29 @@ module _ {S C N X R : Type 0} (scalars : Scalars S C) (by_rules : RuleError → 
   )
 
   module _ {A : Type 0} (result : Result A ServeError) (old new : AllowingService S R X C) (left rest had has : Option Bytes) where
-    pub serves-allowed : OnOk result (ServedAll (AllowingAnswers scalars by_rules by_fields resolving) old left rest had has new)
+    pub serves-allowed : OnOk result (ServedAll (AllowingAnswers answering) old left rest had has new)
         → OnOk result (ServedAll (Answers old) old.service.context left rest had has new.service.context)
     serves-allowed =
         all-shown_if (λ (allowing : AllowingService S R X C). allowing.service.context) (KeepsParts old)
-        (AllowingAnswers scalars by_rules by_fields resolving) (Answers old) (context-answers old) result
+        (AllowingAnswers answering) (Answers old) (context-answers old) result
         old new left rest had has (own-parts old)
 
     pub ends-allowed : (failed : Type 0)
-        → IfErr result (λ e. Ends (AllowingAnswers scalars by_rules by_fields resolving) (AllowingBreaks scalars by_rules by_fields resolving) failed e old left rest had has new)
+        → IfErr result (λ e. Ends (AllowingAnswers answering) (AllowingBreaks answering) failed e old left rest had has new)
         → IfErr result (λ e. Ends (Answers old) (Breaks old) failed e old.service.context left rest had has new.service.context)
     ends-allowed failed =
         ends-shown_if (λ (allowing : AllowingService S R X C). allowing.service.context) (KeepsParts old)
-        (AllowingAnswers scalars by_rules by_fields resolving) (Answers old) (context-answers old)
-        (AllowingBreaks scalars by_rules by_fields resolving) (Breaks old) (context-breaks old) failed result
+        (AllowingAnswers answering) (Answers old) (context-answers old)
+        (AllowingBreaks answering) (Breaks old) (context-breaks old) failed result
         old new left rest had has (own-parts old)
 
-    pub parts-stay : (failed : Type 0) → OnOk result (ServedAll (AllowingAnswers scalars by_rules by_fields resolving) old left rest had has new)
-        → IfErr result (λ e. Ends (AllowingAnswers scalars by_rules by_fields resolving) (AllowingBreaks scalars by_rules by_fields resolving) failed e old left rest had has new)
+    pub parts-stay : (failed : Type 0) → OnOk result (ServedAll (AllowingAnswers answering) old left rest had has new)
+        → IfErr result (λ e. Ends (AllowingAnswers answering) (AllowingBreaks answering) failed e old left rest had has new)
         → KeepsParts old new
     parts-stay failed =
         stays_if (λ (allowing : AllowingService S R X C). allowing.service.context) (KeepsParts old)
-        (AllowingAnswers scalars by_rules by_fields resolving) (Answers old) (context-answers old)
-        (AllowingBreaks scalars by_rules by_fields resolving) (Breaks old) (context-breaks old) failed result
+        (AllowingAnswers answering) (Answers old) (context-answers old)
+        (AllowingBreaks answering) (Breaks old) (context-breaks old) failed result
         old new left rest had has (own-parts old)
 
 -- what is appended, or is not, with a fact that holds in either case

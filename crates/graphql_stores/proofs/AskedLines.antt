@@ -14,7 +14,7 @@ use Rattle.graphql_service.specs.PlainRequests.{HasNoPlainText, IsPlainTextWithi
 use Rattle.graphql_service.specs.PlainRequests as error
 use Rattle.graphql_service.specs.Answers.{Answerer, Asks}
 use Rattle.graphql_service.specs.PlainAnswers.{HasNoPlain, HasPlain}
-use Rattle.graphql_service.proofs.Answering.{as_asked, due}
+use Rattle.graphql_service.proofs.WrittenAnswers.{as_asked, due}
 use Rattle.graphql_stores.specs.Stored.{IsAskedBy, IsRefusedFirst, no_plain, no_request}
 use Rattle.graphql_stores.specs.declared.asked.Asked.{Asked}
 use Rattle.graphql_stores.specs.declared.asked.Asked.TheVariants.{Refused}

@@ -3,16 +3,12 @@ use Rattle.std.proofs.Common.{◌≡◌, ◌≤◌, ◌⊎◌, inl, inr, refl, s
 use Rattle.std.proofs.Math.Seq.{drop-append_seam}
 use Rattle.std.proofs.lemmas.List.{length-append}
 use Rattle.std.specs.List.{starts_with}
-use Rattle.std.specs.declared.cmp.Ordering.{Ordering}
 use Rattle.graphql_names.specs.Names.{Bytes}
 use Rattle.graphql_output_values.specs.declared.value.Value.{Value}
-use Rattle.graphql_field_results.specs.declared.execution_error.ExecutionError.{ExecutionError}
-use Rattle.graphql_rule_errors.specs.declared.rule_error.RuleError.{RuleError}
 use Rattle.graphql_schema.specs.declared.root_node.RootNode.{RootNode}
 use Rattle.graphql_executor.specs.Answered.{IsAnswered}
-use Rattle.graphql_executor.specs.Requests.{GraphQLError, Scalars}
+use Rattle.graphql_executor.specs.Requests.{GraphQLError}
 use Rattle.graphql_executor.specs.Requests as error
-use Rattle.graphql_executor.specs.Resolvers.{Resolver}
 use Rattle.graphql_stores.specs.Keeping.{IsKept, KeepsAtMost, KeepsNothing}
 use Rattle.graphql_stores.specs.declared.kept_texts.KeptTexts.{KeptTexts}
 use Rattle.graphql_json.specs.Writing.{KeepsFront}
@@ -22,12 +18,13 @@ use Rattle.graphql_lines.specs.declared.refusal.LineRefusal.{LineRefusal}
 use Rattle.graphql_lines.specs.declared.refusal.LineRefusal.TheVariants as refusal
 use Rattle.graphql_answers.specs.Lines.{ValuesAreLines, line_of}
 use Rattle.graphql_answers.specs.Responses.{response_of}
+use Rattle.graphql_service.specs.AnsweredBy.{AnsweredBy}
 use Rattle.graphql_service.specs.Answers.{Answerer, Appends, IsAnswer, IsExecuted, IsNoRequest, IsNotExecuted, LeavesBroken, answerer_of, asked_by}
 use Rattle.graphql_service.specs.Laws.{IsLineOfDistinctKeys}
 use Rattle.graphql_service.specs.PlainRequests.{TakesStandIn}
 use Rattle.graphql_service.specs.Serving.{AnswersLine, HasPartsOf}
 use Rattle.graphql_service.specs.declared.service.Service.{Service}
-use Rattle.graphql_service.proofs.Answering.{answer_is_line, due}
+use Rattle.graphql_service.proofs.WrittenAnswers.{answer_is_line, due}
 use Rattle.graphql_stores.specs.AnswerEnds.{begins_with_data, ends_with_list}
 use Rattle.graphql_stores.specs.Caching.{AnswersBehind, CacheAnswers, CacheBreaks, KeepsAnswers}
 use Rattle.graphql_stores.specs.Laws.{AnswersAreShared, AnswersShowErrors, HasPlainUsing, QueriesLeaveTheContext, SharesQuery}
@@ -70,30 +67,29 @@ both-on-err (Err e) P Q h k = (h, k)
 pub own-parts : {S R X C : Type 0} (service : Service S R X C) → HasPartsOf service service
 own-parts service = record { root_node = refl; resolver = refl; context = refl; line_limit = refl; selection_limit = refl }
 
-module _ {S C N X R : Type 0} (scalars : Scalars S C) (by_rules : RuleError → RuleError → Ordering)
-    (by_fields : ExecutionError S → ExecutionError S → Ordering) (resolving : R → Resolver S N X) where
+module _ {S C N X R : Type 0} (answering : AnsweredBy S C N X R) where
   abbrev pub its_answerer : Service S R X C → Answerer S C N X
-  its_answerer service = answerer_of scalars by_rules by_fields resolving service
+  its_answerer service = answerer_of answering service
 
   abbrev pub answerer_with : RootNode S C → R → ℕ → Answerer S C N X
   answerer_with root_node by limit = record {
-    scalars = scalars;
-    by_rules = by_rules;
-    by_fields = by_fields;
+    scalars = answering.scalars;
+    by_rules = answering.by_rules;
+    by_fields = answering.by_fields;
     schema = root_node.schema;
     introspection_disabled = root_node.introspection_disabled;
     limit = limit;
-    resolver = resolving by;
+    resolver = answering.resolving by;
   }
 
   abbrev Keeps : AnswerCache S R X C → Type 0
-  Keeps cache = KeepsAnswers scalars by_rules by_fields resolving cache
+  Keeps cache = KeepsAnswers answering cache
 
   abbrev Gives : AnswerCache S R X C → Bytes → Bytes → AnswerCache S R X C → Type 0
-  Gives old line text new = CacheAnswers scalars by_rules by_fields resolving old line text new
+  Gives old line text new = CacheAnswers answering old line text new
 
   abbrev Breaks : AnswerCache S R X C → Bytes → AnswerCache S R X C → Type 0
-  Breaks old line new = CacheBreaks scalars by_rules by_fields resolving old line new
+  Breaks old line new = CacheBreaks answering old line new
 
   -- what holds by a service and on its context holds by one of the same parts on the same context
   moved : (P : Answerer S C N X → X → Type 0) (old new : Service S R X C) → HasPartsOf old new → new.context ≡ old.context
@@ -104,13 +100,13 @@ module _ {S C N X R : Type 0} (scalars : Scalars S C) (by_rules : RuleError → 
       (subst (λ l. P (answerer_with old.root_node old.resolver l) new.context) (sym same.line_limit)
       (subst (λ c. P (answerer_with old.root_node old.resolver old.line_limit) c) (sym left) h)))
 
-  takes-still : (old new : Service S R X C) → HasPartsOf old new → TakesStandIn scalars old.root_node.schema
-      → TakesStandIn scalars new.root_node.schema
-  takes-still old new same h = subst (λ n. TakesStandIn scalars n.schema) (sym same.root_node) h
+  takes-still : (old new : Service S R X C) → HasPartsOf old new → TakesStandIn answering.scalars old.root_node.schema
+      → TakesStandIn answering.scalars new.root_node.schema
+  takes-still old new same h = subst (λ n. TakesStandIn answering.scalars n.schema) (sym same.root_node) h
 
   -- a cache of which nothing is kept
   pub none-kept : (service : Service S R X C) (kept : KeptAnswers) → KeepsNothing kept.by_line → KeepsNothing kept.by_plain
-      → TakesStandIn scalars service.root_node.schema → Keeps (record { service = service; kept = kept })
+      → TakesStandIn answering.scalars service.root_node.schema → Keeps (record { service = service; kept = kept })
   none-kept service kept no_line no_plain takes = record {
     takes = takes;
     by_line = λ line text h. absurd (no_line line text h);
@@ -161,7 +157,7 @@ module _ {S C N X R : Type 0} (scalars : Scalars S C) (by_rules : RuleError → 
         → OnOk result ((l : Bytes) → IsNoRequest (its_answerer cache.service) l why → Refusal l)
         → OnOk result (why ≡ refusal.Memory → ⊥) → OnErr result (after ≡ before)
         → ((why ≡ refusal.Memory → ⊥) → IsNoRequest (its_answerer cache.service) line why)
-        → AnswersBehind scalars by_rules by_fields resolving result cache line before after cache
+        → AnswersBehind answering result cache line before after cache
     refuses-line (Ok x) why told is kept stands =
         let written : Refusal line = told line (stands is) in
         record {
@@ -183,9 +179,9 @@ module _ {S C N X R : Type 0} (scalars : Scalars S C) (by_rules : RuleError → 
         → OnOk result (why ≡ refusal.Memory → ⊥) → OnErr result (after ≡ before)
         → length line ≤ cache.service.line_limit
         → ((why ≡ refusal.Memory → ⊥)
-        → IsDue scalars.of_bool scalars.of_int scalars.of_text (λ (q : Request). q.variables)
+        → IsDue answering.scalars.of_bool answering.scalars.of_int answering.scalars.of_text (λ (q : Request). q.variables)
         (request_of line) why)
-        → AnswersBehind scalars by_rules by_fields resolving result cache line before after cache
+        → AnswersBehind answering result cache line before after cache
     refuses-due result why told is kept within stands =
         refuses-line result why told is kept
         (λ whole. due (its_answerer cache.service) line why within (stands whole))
@@ -195,7 +191,7 @@ module _ {S C N X R : Type 0} (scalars : Scalars S C) (by_rules : RuleError → 
         → OnOk result ((l : Bytes) → IsNotExecuted (its_answerer cache.service) l why → Refusal l)
         → OnOk result (why ≡ error.Memory → ⊥) → OnErr result (after ≡ before)
         → ((why ≡ error.Memory → ⊥) → IsNotExecuted (its_answerer cache.service) line why)
-        → AnswersBehind scalars by_rules by_fields resolving result cache line before after cache
+        → AnswersBehind answering result cache line before after cache
     refuses-request (Ok x) why told is kept stands =
         let written : Refusal line = told line (stands is) in
         record {
@@ -254,8 +250,8 @@ module _ {S C N X R : Type 0} (scalars : Scalars S C) (by_rules : RuleError → 
     kept-line lines distinct kept keeps =
         ((as-line lines distinct (keeps.by_line line text kept), own-parts old.service), keeps)
 
-    module _ (key : Bytes) (shares : SharesQuery scalars by_rules by_fields resolving old.service line key)
-        (law : AnswersAreShared scalars by_rules by_fields resolving old.service) where
+    module _ (key : Bytes) (shares : SharesQuery answering old.service line key)
+        (law : AnswersAreShared answering old.service) where
       -- what is kept for the plain text, and then for the line
       pub kept-plain : ValuesAreLines → ((t : Bytes) (o n : X) → IsAnswer a line o t n → IsLineOfDistinctKeys t)
           → (found : Bytes) → IsKept old.kept.by_plain key found → text ≡ found
@@ -323,7 +319,7 @@ module _ {S C N X R : Type 0} (scalars : Scalars S C) (by_rules : RuleError → 
   pub shares-query : (service : Service S R X C) (line plain key : Bytes) (names : List Bytes)
       → HasPlainUsing (its_answerer service) service.selection_limit line plain names
       → starts_with nat_eq plain (codes "query") ≡ true → AsksPlain (request_of line) plain names key
-      → SharesQuery scalars by_rules by_fields resolving service line key
+      → SharesQuery answering service line key
   shares-query service line plain key names h begins asks =
       let both = asks h.has.request h.has.asks.asked in
       record {

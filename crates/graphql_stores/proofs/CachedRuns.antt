@@ -1,15 +1,11 @@
 -- What is answered to lines where answers are kept, as the service's context shows it.
 use Rattle.std.proofs.Common.{Option, Result, OnOk, refl, subst, ◌∙◌}
 use Rattle.std.specs.Prelude.{IfErr}
-use Rattle.std.specs.declared.cmp.Ordering.{Ordering}
 use Rattle.graphql_names.specs.Names.{Bytes}
-use Rattle.graphql_field_results.specs.declared.execution_error.ExecutionError.{ExecutionError}
-use Rattle.graphql_rule_errors.specs.declared.rule_error.RuleError.{RuleError}
-use Rattle.graphql_executor.specs.Requests.{Scalars}
-use Rattle.graphql_executor.specs.Resolvers.{Resolver}
 use Rattle.graphql_streams.specs.Served.{Ends, ServedAll}
 use Rattle.graphql_streams.specs.declared.serve_error.ServeError.{ServeError}
 use Rattle.graphql_streams.proofs.ShownRuns.{all-shown_if, ends-shown_if, stays_if}
+use Rattle.graphql_service.specs.AnsweredBy.{AnsweredBy}
 use Rattle.graphql_service.specs.Answers.{Answerer}
 use Rattle.graphql_service.specs.Serving.{AnswersLine, BreaksAtLine, HasPartsOf}
 use Rattle.graphql_service.specs.declared.service.Service.{Service}
@@ -26,25 +22,24 @@ parts-more old between new a b = record {
   selection_limit = b.selection_limit ∙ a.selection_limit;
 }
 
-module _ {S C N X R : Type 0} (scalars : Scalars S C) (by_rules : RuleError → RuleError → Ordering)
-    (by_fields : ExecutionError S → ExecutionError S → Ordering) (resolving : R → Resolver S N X) where
+module _ {S C N X R : Type 0} (answering : AnsweredBy S C N X R) where
   abbrev answerer : Service S R X C → Answerer S C N X
-  answerer service = its_answerer scalars by_rules by_fields resolving service
+  answerer service = its_answerer answering service
 
   -- services of the same parts answer by the same
   by-same : (P : Answerer S C N X → Type 0) (old between : Service S R X C) → HasPartsOf old between → P (answerer between)
       → P (answerer old)
   by-same P old between same h =
-      subst (λ n. P (answerer_with scalars by_rules by_fields resolving n old.resolver old.line_limit)) same.root_node
-      (subst (λ r. P (answerer_with scalars by_rules by_fields resolving between.root_node r old.line_limit)) same.resolver
-      (subst (λ l. P (answerer_with scalars by_rules by_fields resolving between.root_node between.resolver l)) same.line_limit h))
+      subst (λ n. P (answerer_with answering n old.resolver old.line_limit)) same.root_node
+      (subst (λ r. P (answerer_with answering between.root_node r old.line_limit)) same.resolver
+      (subst (λ l. P (answerer_with answering between.root_node between.resolver l)) same.line_limit h))
 
   -- what stays from a state of the run to the next: the service's parts, and that answers are kept
   abbrev pub Stays : Service S R X C → AnswerCache S R X C → Type 0
-  Stays old cache = HasPartsOf old cache.service × KeepsAnswers scalars by_rules by_fields resolving cache
+  Stays old cache = HasPartsOf old cache.service × KeepsAnswers answering cache
 
   context-answers : (old : Service S R X C) (between : AnswerCache S R X C) (line text : Bytes) (new : AnswerCache S R X C)
-      → Stays old between → CacheAnswers scalars by_rules by_fields resolving between line text new
+      → Stays old between → CacheAnswers answering between line text new
       → AnswersLine (answerer old) between.service.context line text new.service.context × Stays old new
   context-answers old between line text new stays h =
       let now = h stays.1 in (
@@ -53,7 +48,7 @@ module _ {S C N X R : Type 0} (scalars : Scalars S C) (by_rules : RuleError → 
       )
 
   context-breaks : (old : Service S R X C) (between : AnswerCache S R X C) (line : Bytes) (new : AnswerCache S R X C)
-      → Stays old between → CacheBreaks scalars by_rules by_fields resolving between line new
+      → Stays old between → CacheBreaks answering between line new
       → BreaksAtLine (answerer old) between.service.context line new.service.context × Stays old new
   context-breaks old between line new stays h =
       let now = h stays.1 in (
@@ -62,32 +57,32 @@ module _ {S C N X R : Type 0} (scalars : Scalars S C) (by_rules : RuleError → 
       )
 
   module _ {A : Type 0} (result : Result A ServeError) (old new : AnswerCache S R X C) (left rest had has : Option Bytes)
-      (keeps : KeepsAnswers scalars by_rules by_fields resolving old) where
+      (keeps : KeepsAnswers answering old) where
     first : Stays old.service old
     first = (own-parts old.service, keeps)
 
-    pub serves-contexts : OnOk result (ServedAll (CacheAnswers scalars by_rules by_fields resolving) old left rest had has new)
+    pub serves-contexts : OnOk result (ServedAll (CacheAnswers answering) old left rest had has new)
         → OnOk result (ServedAll (AnswersLine (answerer old.service)) old.service.context left rest had has new.service.context)
     serves-contexts =
         all-shown_if (λ (cache : AnswerCache S R X C). cache.service.context) (Stays old.service)
-        (CacheAnswers scalars by_rules by_fields resolving) (AnswersLine (answerer old.service)) (context-answers old.service) result
+        (CacheAnswers answering) (AnswersLine (answerer old.service)) (context-answers old.service) result
         old new left rest had has first
 
     pub ends-contexts : (failed : Type 0)
-        → IfErr result (λ e. Ends (CacheAnswers scalars by_rules by_fields resolving) (CacheBreaks scalars by_rules by_fields resolving) failed e old left rest had has new)
+        → IfErr result (λ e. Ends (CacheAnswers answering) (CacheBreaks answering) failed e old left rest had has new)
         → IfErr result (λ e. Ends (AnswersLine (answerer old.service)) (BreaksAtLine (answerer old.service)) failed e old.service.context left rest had has new.service.context)
     ends-contexts failed =
         ends-shown_if (λ (cache : AnswerCache S R X C). cache.service.context) (Stays old.service)
-        (CacheAnswers scalars by_rules by_fields resolving) (AnswersLine (answerer old.service)) (context-answers old.service)
-        (CacheBreaks scalars by_rules by_fields resolving) (BreaksAtLine (answerer old.service)) (context-breaks old.service)
+        (CacheAnswers answering) (AnswersLine (answerer old.service)) (context-answers old.service)
+        (CacheBreaks answering) (BreaksAtLine (answerer old.service)) (context-breaks old.service)
         failed result old new left rest had has first
 
     pub keeps-still : (failed : Type 0)
-        → OnOk result (ServedAll (CacheAnswers scalars by_rules by_fields resolving) old left rest had has new)
-        → IfErr result (λ e. Ends (CacheAnswers scalars by_rules by_fields resolving) (CacheBreaks scalars by_rules by_fields resolving) failed e old left rest had has new)
+        → OnOk result (ServedAll (CacheAnswers answering) old left rest had has new)
+        → IfErr result (λ e. Ends (CacheAnswers answering) (CacheBreaks answering) failed e old left rest had has new)
         → Stays old.service new
     keeps-still failed =
         stays_if (λ (cache : AnswerCache S R X C). cache.service.context) (Stays old.service)
-        (CacheAnswers scalars by_rules by_fields resolving) (AnswersLine (answerer old.service)) (context-answers old.service)
-        (CacheBreaks scalars by_rules by_fields resolving) (BreaksAtLine (answerer old.service)) (context-breaks old.service)
+        (CacheAnswers answering) (AnswersLine (answerer old.service)) (context-answers old.service)
+        (CacheBreaks answering) (BreaksAtLine (answerer old.service)) (context-breaks old.service)
         failed result old new left rest had has first

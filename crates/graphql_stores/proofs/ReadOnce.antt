@@ -32,7 +32,7 @@ use Rattle.graphql_lines.specs.declared.request.GraphQLRequest.{GraphQLRequest}
 use Rattle.graphql_service.specs.Answers.{Answerer, IsNotExecuted, asked_by}
 use Rattle.graphql_service.specs.Reading.{Executes}
 use Rattle.graphql_service.specs.declared.accepted.AcceptedRequest.{AcceptedRequest}
-use Rattle.graphql_service.proofs.Answering.{as_asked}
+use Rattle.graphql_service.proofs.WrittenAnswers.{as_asked}
 use Rattle.graphql_stores.specs.Laws.{HasPlainUsing}
 use Rattle.graphql_stores.specs.Reading.{AsksRequest, ReadsAccepted, ReadsDocument, asking_of}
 

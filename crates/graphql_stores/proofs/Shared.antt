@@ -1,14 +1,10 @@
 -- What is answered to a plain text is answered to each line that has it.
 use Rattle.std.proofs.Common.{◌≡◌, sym, ◌∙◌, subst, []}
 use Rattle.std.proofs.lemmas.Option.{same_Some}
-use Rattle.std.specs.declared.cmp.Ordering.{Ordering}
 use Rattle.graphql_output_values.specs.declared.value.Value.{Value}
-use Rattle.graphql_field_results.specs.declared.execution_error.ExecutionError.{ExecutionError}
-use Rattle.graphql_rule_errors.specs.declared.rule_error.RuleError.{RuleError}
 use Rattle.graphql_executor.specs.Answered.{IsAnswered}
-use Rattle.graphql_executor.specs.Requests.{Scalars}
-use Rattle.graphql_executor.specs.Resolvers.{Resolver}
 use Rattle.graphql_lines.specs.Request.{Request}
+use Rattle.graphql_service.specs.AnsweredBy.{AnsweredBy}
 use Rattle.graphql_service.specs.Answers.{Answerer, answerer_of, asked_by, executed_to, given}
 use Rattle.graphql_service.specs.MeaningLaws.{PlainIsAnsweredAlike}
 use Rattle.graphql_service.specs.declared.service.Service.{Service}
@@ -16,28 +12,26 @@ use Rattle.graphql_stores.specs.Laws.{AnswersAreShared}
 use Rattle.graphql_stores.specs.Stored.{with_query}
 use Rattle.graphql_stores.proofs.KeptMembers.{values-kept}
 
-module _ {S C N X R : Type 0} (scalars : Scalars S C) (by_rules : RuleError → RuleError → Ordering)
-    (by_fields : ExecutionError S → ExecutionError S → Ordering) (resolving : R → Resolver S N X)
-    (service : Service S R X C) where
+module _ {S C N X R : Type 0} (answering : AnsweredBy S C N X R) (service : Service S R X C) where
   abbrev a : Answerer S C N X
-  a = answerer_of scalars by_rules by_fields resolving service
+  a = answerer_of answering service
 
-  pub answers-are-shared : PlainIsAnsweredAlike scalars service.root_node (resolving service.resolver)
-      → AnswersAreShared scalars by_rules by_fields resolving service
+  pub answers-are-shared : PlainIsAnsweredAlike answering.scalars service.root_node (answering.resolving service.resolver)
+      → AnswersAreShared answering service
   answers-are-shared too takes line other plain text context shared =
       let has = shared.has.has in
       let request = has.request in
       let own = with_query request plain shared.names in
-      let both = λ (found : Value S). too takes request.query request.operation_name (given scalars request)
-      (given scalars own) plain shared.utf8 has.is.plain
-      (values-kept scalars request plain shared.names _ shared.has.uses) by_fields context context found in (
+      let both = λ (found : Value S). too takes request.query request.operation_name (given answering.scalars request)
+      (given answering.scalars own) plain shared.utf8 has.is.plain
+      (values-kept answering.scalars request plain shared.names _ shared.has.uses) answering.by_fields context context found in (
         (λ whole.
             let same : whole.request ≡ own = same_Some whole.request own (sym whole.asked ∙ shared.asked) in
             executed_to whole.found [] (record {
               request = request;
               asks = has.asks;
               answers = (both whole.found).1
-                  (subst (λ (q : Request). IsAnswered scalars (asked_by a other q) a.resolver by_fields context whole.found [] context)
+                  (subst (λ (q : Request). IsAnswered answering.scalars (asked_by a other q) a.resolver answering.by_fields context whole.found [] context)
                   same whole.answers);
             }) whole.is),
         (λ whole.
@@ -47,7 +41,7 @@ module _ {S C N X R : Type 0} (scalars : Scalars S C) (by_rules : RuleError → 
               asked = shared.asked;
               found = whole.found;
               answers = (both whole.found).0
-                  (subst (λ (q : Request). IsAnswered scalars (asked_by a line q) a.resolver by_fields context whole.found [] context)
+                  (subst (λ (q : Request). IsAnswered answering.scalars (asked_by a line q) a.resolver answering.by_fields context whole.found [] context)
                   same whole.answers);
               is = whole.is;
             }),

@@ -1,15 +1,11 @@
 -- What is answered to lines, one after another, where a store decides what is allowed.
 use Rattle.std.specs.Prelude.{◌≡◌, ◌<◌, ℕ, length}
-use Rattle.std.specs.declared.cmp.Ordering.{Ordering}
 use Rattle.std.proofs.Common.{inl, inr}
 use Rattle.graphql_names.specs.Names.{Bytes}
 use Rattle.graphql_streams.specs.Lines.{kept_of}
 use Rattle.graphql_streams.proofs.LineLemmas.{front-longer}
 use Rattle.graphql_stores.specs.declared.allowed_queries.AllowedQueries.{AllowedQueries}
-use Rattle.graphql_field_results.specs.declared.execution_error.ExecutionError.{ExecutionError}
-use Rattle.graphql_rule_errors.specs.declared.rule_error.RuleError.{RuleError}
-use Rattle.graphql_executor.specs.Requests.{Scalars}
-use Rattle.graphql_executor.specs.Resolvers.{Resolver}
+use Rattle.graphql_service.specs.AnsweredBy.{AnsweredBy}
 use Rattle.graphql_service.specs.Answers.{Answerer, IsAnswer, answerer_of, executed_to, no_request}
 use Rattle.graphql_service.specs.Answers.{not_executed}
 use Rattle.graphql_service.specs.Serving.{HasPartsOf, still-no_request}
@@ -24,19 +20,17 @@ pub record KeepsParts {S R X C : Type 0} (old new : AllowingService S R X C) : T
   pub service : HasPartsOf old.service new.service
   pub allowed : new.allowed ≡ old.allowed
 
-module _ {S C N X R : Type 0} (scalars : Scalars S C) (by_rules : RuleError → RuleError → Ordering)
-    (by_fields : ExecutionError S → ExecutionError S → Ordering)
-    (resolving : R → Resolver S N X) where
+module _ {S C N X R : Type 0} (answering : AnsweredBy S C N X R) where
   abbrev pub AllowingAnswers : AllowingService S R X C → Bytes → Bytes → AllowingService S R X C
       → Type 0
   AllowingAnswers old line text new =
-      AnswersIfAllowed (answerer_of scalars by_rules by_fields resolving old.service)
+      AnswersIfAllowed (answerer_of answering old.service)
       old.service.selection_limit old.allowed old.service.context line text new.service.context
       × KeepsParts old new
 
   abbrev pub AllowingBreaks : AllowingService S R X C → Bytes → AllowingService S R X C → Type 0
   AllowingBreaks old line new =
-      BreaksIfAllowed (answerer_of scalars by_rules by_fields resolving old.service)
+      BreaksIfAllowed (answerer_of answering old.service)
       old.service.selection_limit old.allowed old.service.context line new.service.context
       × KeepsParts old new
 
@@ -76,21 +70,17 @@ module _ {S C N X : Type 0} (a : Answerer S C N X) (size_limit : ℕ) (store : A
   long-broken old new (inl same) = inl same
   long-broken old new (inr h) = absurd (front-longer a.limit line longer h.0.asks.within)
 
-module _ {S C N X R : Type 0} (scalars : Scalars S C) (by_rules : RuleError → RuleError → Ordering)
-    (by_fields : ExecutionError S → ExecutionError S → Ordering)
-    (resolving : R → Resolver S N X) where
+module _ {S C N X R : Type 0} (answering : AnsweredBy S C N X R) where
   pub allowing-kept : (old : AllowingService S R X C) (line text : Bytes)
       (new : AllowingService S R X C)
       → old.service.line_limit < length line
-      → AllowingAnswers scalars by_rules by_fields resolving old
-      (kept_of old.service.line_limit line) text new
-      → AllowingAnswers scalars by_rules by_fields resolving old line text new
+      → AllowingAnswers answering old (kept_of old.service.line_limit line) text new
+      → AllowingAnswers answering old line text new
   allowing-kept old line text new longer (h, parts) = (
     record {
       answer =
-          long-answer (answerer_of scalars by_rules by_fields resolving old.service)
-          old.service.selection_limit old.allowed line longer old.service.context
-          new.service.context text h.answer;
+          long-answer (answerer_of answering old.service) old.service.selection_limit old.allowed
+          line longer old.service.context new.service.context text h.answer;
       one_line = h.one_line;
       distinct = h.distinct;
     },
@@ -100,12 +90,10 @@ module _ {S C N X R : Type 0} (scalars : Scalars S C) (by_rules : RuleError → 
   pub allowing-breaks-kept : (old : AllowingService S R X C) (line : Bytes)
       (new : AllowingService S R X C)
       → old.service.line_limit < length line
-      → AllowingBreaks scalars by_rules by_fields resolving old
-      (kept_of old.service.line_limit line) new
-      → AllowingBreaks scalars by_rules by_fields resolving old line new
+      → AllowingBreaks answering old (kept_of old.service.line_limit line) new
+      → AllowingBreaks answering old line new
   allowing-breaks-kept old line new longer (h, parts) = (
-    long-broken (answerer_of scalars by_rules by_fields resolving old.service)
-        old.service.selection_limit old.allowed line longer old.service.context new.service.context
-        h,
+    long-broken (answerer_of answering old.service) old.service.selection_limit old.allowed line
+        longer old.service.context new.service.context h,
     parts,
   )

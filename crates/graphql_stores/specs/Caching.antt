@@ -1,41 +1,35 @@
 -- A service whose answers are kept (GraphQL October 2021, 6.1 Executing Requests).
 use Rattle.std.specs.Prelude.{◌≡◌, Result, OnErr, OnOk}
-use Rattle.std.specs.declared.cmp.Ordering.{Ordering}
 use Rattle.graphql_names.specs.Names.{Bytes}
-use Rattle.graphql_field_results.specs.declared.execution_error.ExecutionError.{ExecutionError}
-use Rattle.graphql_rule_errors.specs.declared.rule_error.RuleError.{RuleError}
-use Rattle.graphql_executor.specs.Requests.{Scalars}
-use Rattle.graphql_executor.specs.Resolvers.{Resolver}
+use Rattle.graphql_service.specs.AnsweredBy.{AnsweredBy}
 use Rattle.graphql_service.specs.Answers.{Appends, answerer_of}
 use Rattle.graphql_service.specs.PlainRequests.{TakesStandIn}
 use Rattle.graphql_service.specs.Serving.{HasPartsOf, ServiceAnswers, ServiceBreaks}
 use Rattle.graphql_stores.specs.StoredAnswers.{AreAnswers, AreWholeAnswers}
 use Rattle.graphql_stores.specs.declared.answer_cache.AnswerCache.{AnswerCache}
 
-module _ {S C N X R : Type 0} (scalars : Scalars S C) (by_rules : RuleError → RuleError → Ordering)
-    (by_fields : ExecutionError S → ExecutionError S → Ordering)
-    (resolving : R → Resolver S N X) where
+module _ {S C N X R : Type 0} (answering : AnsweredBy S C N X R) where
   -- each answer that is kept is the service's on the present context; the schema takes the stand-in
   -- of plain texts
   pub record KeepsAnswers (cache : AnswerCache S R X C) : Type 0 where
-    pub takes : TakesStandIn scalars cache.service.root_node.schema
-    pub by_line : AreAnswers (answerer_of scalars by_rules by_fields resolving cache.service)
+    pub takes : TakesStandIn answering.scalars cache.service.root_node.schema
+    pub by_line : AreAnswers (answerer_of answering cache.service)
         cache.service.context cache.kept.by_line
-    pub by_plain : AreWholeAnswers (answerer_of scalars by_rules by_fields resolving cache.service)
+    pub by_plain : AreWholeAnswers (answerer_of answering cache.service)
         cache.service.context cache.kept.by_plain
 
   -- a cache that keeps answers gives the line the service's answer, and keeps answers then
   abbrev pub CacheAnswers : AnswerCache S R X C → Bytes → Bytes → AnswerCache S R X C → Type 0
   CacheAnswers old line text new =
       KeepsAnswers old
-      → ServiceAnswers scalars by_rules by_fields resolving old.service line text new.service
+      → ServiceAnswers answering old.service line text new.service
       × KeepsAnswers new
 
   -- where memory runs out it leaves what the service leaves, and keeps answers then
   abbrev pub CacheBreaks : AnswerCache S R X C → Bytes → AnswerCache S R X C → Type 0
   CacheBreaks old line new =
       KeepsAnswers old
-      → ServiceBreaks scalars by_rules by_fields resolving old.service line new.service
+      → ServiceBreaks answering old.service line new.service
       × KeepsAnswers new
 
   -- the line is answered behind what was written before; or memory ran out, and that alone is

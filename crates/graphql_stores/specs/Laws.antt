@@ -3,18 +3,14 @@
 use Rattle.std.specs.List.{starts_with}
 use Rattle.std.specs.Prelude.{◌≡◌, true, false, ℕ, List, [], Some, codes, nat_eq}
 use Rattle.std.specs.Str.{IsUtf8}
-use Rattle.std.specs.declared.cmp.Ordering.{Ordering}
 use Rattle.graphql_names.specs.Names.{Bytes}
 use Rattle.graphql_output_values.specs.declared.value.Value.{Value}
-use Rattle.graphql_field_results.specs.declared.execution_error.ExecutionError.{ExecutionError}
-use Rattle.graphql_rule_errors.specs.declared.rule_error.RuleError.{RuleError}
-use Rattle.graphql_executor.specs.Requests.{Scalars}
-use Rattle.graphql_executor.specs.Resolvers.{Resolver}
 use Rattle.graphql_lines.specs.Request.{request_of}
 use Rattle.graphql_answers.specs.Lines.{line_of}
 use Rattle.graphql_answers.specs.Responses.{response_of}
 use Rattle.graphql_plain_print.specs.NameSets.{AreSame}
 use Rattle.graphql_plain_requests.specs.AcceptedAgain.{used_by}
+use Rattle.graphql_service.specs.AnsweredBy.{AnsweredBy}
 use Rattle.graphql_service.specs.Answers.{Answerer, IsAnswer, IsExecuted, answerer_of, given}
 use Rattle.graphql_service.specs.PlainAnswers.{HasPlain}
 use Rattle.graphql_service.specs.PlainRequests.{TakesStandIn}
@@ -31,11 +27,9 @@ module _ {S C N X : Type 0} (a : Answerer S C N X) (size_limit : ℕ) where
     pub uses : AreSame names (used_by a.scalars (given a.scalars has.request)
         has.is.plain.document has.is.plain.operation.item)
 
-module _ {S C N X R : Type 0} (scalars : Scalars S C) (by_rules : RuleError → RuleError → Ordering)
-    (by_fields : ExecutionError S → ExecutionError S → Ordering) (resolving : R → Resolver S N X)
-    (service : Service S R X C) where
+module _ {S C N X R : Type 0} (answering : AnsweredBy S C N X R) (service : Service S R X C) where
   abbrev answerer : Answerer S C N X
-  answerer = answerer_of scalars by_rules by_fields resolving service
+  answerer = answerer_of answering service
 
   -- a line that asks for a plain text, and the line of that plain text with the same operation name
   -- and the same values for the variables that the plain text uses
@@ -49,7 +43,7 @@ module _ {S C N X R : Type 0} (scalars : Scalars S C) (by_rules : RuleError → 
   -- what is answered to the one, without errors, is the answer of the other on that context
   abbrev pub AnswersAreShared : Type 0
   AnswersAreShared =
-      TakesStandIn scalars service.root_node.schema
+      TakesStandIn answering.scalars service.root_node.schema
       → (line other plain text : Bytes) (context : X) → IsSharedWith line other plain
       → (IsWholeAnswer answerer context other text → IsAnswer answerer line context text context)
       × (IsWholeAnswer answerer context line text → IsWholeAnswer answerer context other text)

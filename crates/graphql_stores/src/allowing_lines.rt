@@ -9,11 +9,8 @@ ghost use Rattle.graphql_stores.specs.AllowingLines.{AllowingAnswers, AllowingBr
 ghost use Rattle.graphql_stores.specs.AllowingLines.{allowing-breaks-kept, allowing-kept};
 
 use crate::allowing_service::AllowingService;
-use graphql_executor::{Meaning, Resolving};
-use graphql_field_results::ExecutionError;
-use graphql_rule_errors::RuleError;
 use graphql_schema::SchemaScalar;
-use graphql_service::GraphQLMutationValue;
+use graphql_service::{Answering, GraphQLMutationValue};
 use graphql_streams::{ByteSink, ByteSource, LineEngine, ServeError, serve_lines};
 use std::alloc::{AllocError, Global};
 
@@ -30,14 +27,12 @@ impl<S: SchemaScalar + Drop, R: GraphQLMutationValue<S>> AllowingService<S, R, R
         reader: &mut I,
         writer: &mut O,
     ) -> Result<(), ServeError>
-        ensures served { let a = answerer_of ⟦<S as Meaning>⟧.meaning ⟦<RuleError as Ord>⟧.cmp
-            ⟦<ExecutionError<S> as Ord>⟧.cmp ⟦<R as Resolving<S>>⟧.resolving self.old.service in
+        ensures served { let a = answerer_of ⟦<R as Answering<S>>⟧.answering self.old.service in
             OnOk result
             (ServedAll (AnswersIfAllowed a self.old.service.selection_limit self.old.allowed)
             self.old.service.context (I.left reader.old) (I.left reader.new)
             (O.written writer.old) (O.written writer.new) self.new.service.context) }
-        ensures ended { let a = answerer_of ⟦<S as Meaning>⟧.meaning ⟦<RuleError as Ord>⟧.cmp
-            ⟦<ExecutionError<S> as Ord>⟧.cmp ⟦<R as Resolving<S>>⟧.resolving self.old.service in
+        ensures ended { let a = answerer_of ⟦<R as Answering<S>>⟧.answering self.old.service in
             IfErr result
             (λ error. Ends (AnswersIfAllowed a self.old.service.selection_limit self.old.allowed)
             (BreaksIfAllowed a self.old.service.selection_limit self.old.allowed)
@@ -54,21 +49,17 @@ impl<S: SchemaScalar + Drop, R: GraphQLMutationValue<S>> AllowingService<S, R, R
 
 impl<S: SchemaScalar + Drop, R: GraphQLMutationValue<S>> LineEngine
     for AllowingService<S, R, R::Context> {
-    ghost answers = { AllowingAnswers ⟦<S as Meaning>⟧.meaning ⟦<RuleError as Ord>⟧.cmp
-        ⟦<ExecutionError<S> as Ord>⟧.cmp ⟦<R as Resolving<S>>⟧.resolving };
+    ghost answers = { AllowingAnswers ⟦<R as Answering<S>>⟧.answering };
 
-    ghost breaks = { AllowingBreaks ⟦<S as Meaning>⟧.meaning ⟦<RuleError as Ord>⟧.cmp
-        ⟦<ExecutionError<S> as Ord>⟧.cmp ⟦<R as Resolving<S>>⟧.resolving };
+    ghost breaks = { AllowingBreaks ⟦<R as Answering<S>>⟧.answering };
 
     ghost holds = { λ _. Unit {0} };
 
     ghost limit = { λ allowing. allowing.service.line_limit };
 
-    ghost answers_kept = { allowing-kept ⟦<S as Meaning>⟧.meaning ⟦<RuleError as Ord>⟧.cmp
-        ⟦<ExecutionError<S> as Ord>⟧.cmp ⟦<R as Resolving<S>>⟧.resolving };
+    ghost answers_kept = { allowing-kept ⟦<R as Answering<S>>⟧.answering };
 
-    ghost breaks_kept = { allowing-breaks-kept ⟦<S as Meaning>⟧.meaning ⟦<RuleError as Ord>⟧.cmp
-        ⟦<ExecutionError<S> as Ord>⟧.cmp ⟦<R as Resolving<S>>⟧.resolving };
+    ghost breaks_kept = { allowing-breaks-kept ⟦<R as Answering<S>>⟧.answering };
 
     fn line_limit(&self) -> usize {
         self.service().line_limit()

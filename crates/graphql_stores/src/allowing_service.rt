@@ -13,12 +13,9 @@ use crate::AllowedQueries;
 use crate::asked::{Asked, asked_of_line};
 use graphql_answers::laws::{answers_have_distinct_keys, values_are_lines};
 use graphql_answers::refusal_to_json;
-use graphql_executor::{Meaning, Resolving};
-use graphql_field_results::ExecutionError;
-use graphql_rule_errors::RuleError;
 use graphql_schema::SchemaScalar;
 use graphql_service::laws::executable_requests_are_not_refused;
-use graphql_service::{GraphQLMutationValue, Service};
+use graphql_service::{Answering, GraphQLMutationValue, Service};
 use std::alloc::{AllocError, Global};
 
 /// A service that answers the requests whose plain text is in a store.
@@ -70,16 +67,14 @@ impl<S: SchemaScalar + Drop, R: GraphQLMutationValue<S>> AllowingService<S, R, R
         line: &[u8],
         out: &mut Vec<u8>,
     ) -> Result<(), AllocError>
-        ensures answers { let a = answerer_of ⟦<S as Meaning>⟧.meaning ⟦<RuleError as Ord>⟧.cmp
-            ⟦<ExecutionError<S> as Ord>⟧.cmp ⟦<R as Resolving<S>>⟧.resolving self.old.service in
+        ensures answers { let a = answerer_of ⟦<R as Answering<S>>⟧.answering self.old.service in
             OnOk result
             (IsAnswerIfAllowed a self.old.service.selection_limit self.old.allowed line.now
             self.old.service.context out.new.items self.new.service.context) }
         ensures line { OnOk result (IsLine out.new.items) }
         ensures distinct { OnOk result (IsLineOfDistinctKeys out.new.items) }
         ensures parts { KeepsParts self.old self.new }
-        ensures broken { let a = answerer_of ⟦<S as Meaning>⟧.meaning ⟦<RuleError as Ord>⟧.cmp
-            ⟦<ExecutionError<S> as Ord>⟧.cmp ⟦<R as Resolving<S>>⟧.resolving self.old.service in
+        ensures broken { let a = answerer_of ⟦<R as Answering<S>>⟧.answering self.old.service in
             OnErr result (BreaksIfAllowed a self.old.service.selection_limit self.old.allowed
             self.old.service.context line.now self.new.service.context) }
         ensures emptied { OnErr result (out.new.items ≡ []) }
@@ -97,15 +92,13 @@ impl<S: SchemaScalar + Drop, R: GraphQLMutationValue<S>> AllowingService<S, R, R
         line: &[u8],
         out: &mut Vec<u8>,
     ) -> Result<(), AllocError>
-        ensures answers { let a = answerer_of ⟦<S as Meaning>⟧.meaning ⟦<RuleError as Ord>⟧.cmp
-            ⟦<ExecutionError<S> as Ord>⟧.cmp ⟦<R as Resolving<S>>⟧.resolving self.old.service in
+        ensures answers { let a = answerer_of ⟦<R as Answering<S>>⟧.answering self.old.service in
             OnOk result
             (Appends (λ text. AnswersIfAllowed a self.old.service.selection_limit self.old.allowed
             self.old.service.context line.now text self.new.service.context) out.old.items
             out.new.items) }
         ensures parts { KeepsParts self.old self.new }
-        ensures broken { let a = answerer_of ⟦<S as Meaning>⟧.meaning ⟦<RuleError as Ord>⟧.cmp
-            ⟦<ExecutionError<S> as Ord>⟧.cmp ⟦<R as Resolving<S>>⟧.resolving self.old.service in
+        ensures broken { let a = answerer_of ⟦<R as Answering<S>>⟧.answering self.old.service in
             OnErr result (BreaksIfAllowed a self.old.service.selection_limit self.old.allowed
             self.old.service.context line.now self.new.service.context) }
         ensures kept { OnErr result (out.new.items ≡ out.old.items) }
@@ -123,8 +116,7 @@ impl<S: SchemaScalar + Drop, R: GraphQLMutationValue<S>> AllowingService<S, R, R
     /// Whether the service answers the line: it asks for what is allowed, or is refused before that
     /// is asked. An error is want of memory.
     fn passes(&self, alloc: Global, line: &[u8]) -> Result<bool, AllocError>
-        ensures { let a = answerer_of ⟦<S as Meaning>⟧.meaning ⟦<RuleError as Ord>⟧.cmp
-            ⟦<ExecutionError<S> as Ord>⟧.cmp ⟦<R as Resolving<S>>⟧.resolving self.now.service in
+        ensures { let a = answerer_of ⟦<R as Answering<S>>⟧.answering self.now.service in
             IfOk result (Passes a self.now.service.selection_limit self.now.allowed line.now) }
     {
         match asked_of_line(alloc, &self.service, line) {

@@ -18,13 +18,11 @@ use crate::kept_answers::{KeptAnswers, behind, is_executed, is_whole, push_text}
 use crate::laws::{answers_are_shared, answers_show_errors, queries_leave_the_context};
 use crate::plain_lines::{is_query, plain_line_of};
 use graphql_answers::laws::values_are_lines;
-use graphql_executor::{Meaning, Resolving};
-use graphql_field_results::ExecutionError;
+use graphql_executor::Meaning;
 use graphql_plain_requests::Printed;
-use graphql_rule_errors::RuleError;
 use graphql_schema::SchemaScalar;
 use graphql_service::laws::answer_lines_have_distinct_keys;
-use graphql_service::{AcceptedRequest, GraphQLMutationValue, Service};
+use graphql_service::{AcceptedRequest, Answering, GraphQLMutationValue, Service};
 use std::alloc::{AllocError, Global};
 
 /// A service that keeps the answers of queries, and gives them again to each line that asks for the
@@ -55,8 +53,7 @@ impl<S: SchemaScalar + Drop, R: GraphQLMutationValue<S>> AnswerCache<S, R, R::Co
         byte_limit: usize,
     ) -> AnswerCache<S, R, R::Context>
         ensures keeps { TakesStandIn ⟦<S as Meaning>⟧.meaning service.root_node.schema
-            → KeepsAnswers ⟦<S as Meaning>⟧.meaning ⟦<RuleError as Ord>⟧.cmp
-            ⟦<ExecutionError<S> as Ord>⟧.cmp ⟦<R as Resolving<S>>⟧.resolving result }
+            → KeepsAnswers ⟦<R as Answering<S>>⟧.answering result }
         ensures service { result.service ≡ service }
     {
         AnswerCache {
@@ -87,11 +84,9 @@ impl<S: SchemaScalar + Drop, R: GraphQLMutationValue<S>> AnswerCache<S, R, R::Co
         line: &[u8],
         out: &mut Vec<u8>,
     ) -> Result<(), AllocError>
-        ensures answers { OnOk result (CacheAnswers ⟦<S as Meaning>⟧.meaning
-            ⟦<RuleError as Ord>⟧.cmp ⟦<ExecutionError<S> as Ord>⟧.cmp
-            ⟦<R as Resolving<S>>⟧.resolving self.old line.now out.new.items self.new) }
-        ensures broken { OnErr result (CacheBreaks ⟦<S as Meaning>⟧.meaning ⟦<RuleError as Ord>⟧.cmp
-            ⟦<ExecutionError<S> as Ord>⟧.cmp ⟦<R as Resolving<S>>⟧.resolving
+        ensures answers { OnOk result (CacheAnswers ⟦<R as Answering<S>>⟧.answering
+            self.old line.now out.new.items self.new) }
+        ensures broken { OnErr result (CacheBreaks ⟦<R as Answering<S>>⟧.answering
             self.old line.now self.new) }
         ensures parts { HasPartsOf self.old.service self.new.service }
         ensures emptied { OnErr result (out.new.items ≡ []) }
@@ -108,8 +103,7 @@ impl<S: SchemaScalar + Drop, R: GraphQLMutationValue<S>> AnswerCache<S, R, R::Co
         line: &[u8],
         out: &mut Vec<u8>,
     ) -> Result<(), AllocError>
-        ensures { AnswersBehind ⟦<S as Meaning>⟧.meaning ⟦<RuleError as Ord>⟧.cmp
-            ⟦<ExecutionError<S> as Ord>⟧.cmp ⟦<R as Resolving<S>>⟧.resolving
+        ensures { AnswersBehind ⟦<R as Answering<S>>⟧.answering
             result self.old line.now out.old.items out.new.items self.new }
     {
         values_are_lines();
@@ -129,15 +123,12 @@ impl<S: SchemaScalar + Drop, R: GraphQLMutationValue<S>> AnswerCache<S, R, R::Co
         printed: Printed<'_>,
         out: &mut Vec<u8>,
     ) -> Result<(), AllocError>
-        requires has { HasPlainUsing (answerer_of ⟦<S as Meaning>⟧.meaning ⟦<RuleError as Ord>⟧.cmp
-            ⟦<ExecutionError<S> as Ord>⟧.cmp ⟦<R as Resolving<S>>⟧.resolving self.old.service)
+        requires has { HasPlainUsing (answerer_of ⟦<R as Answering<S>>⟧.answering self.old.service)
             self.old.service.selection_limit line.now (string_bytes printed.text)
             printed.used.keys }
-        requires reads { AsksAccepted (answerer_of ⟦<S as Meaning>⟧.meaning ⟦<RuleError as Ord>⟧.cmp
-            ⟦<ExecutionError<S> as Ord>⟧.cmp ⟦<R as Resolving<S>>⟧.resolving self.old.service)
+        requires reads { AsksAccepted (answerer_of ⟦<R as Answering<S>>⟧.answering self.old.service)
             line.now accepted.now }
-        ensures { AnswersBehind ⟦<S as Meaning>⟧.meaning ⟦<RuleError as Ord>⟧.cmp
-            ⟦<ExecutionError<S> as Ord>⟧.cmp ⟦<R as Resolving<S>>⟧.resolving
+        ensures { AnswersBehind ⟦<R as Answering<S>>⟧.answering
             result self.old line.now out.old.items out.new.items self.new }
     {
         if !is_query(printed.text.as_bytes()) {
@@ -158,14 +149,11 @@ impl<S: SchemaScalar + Drop, R: GraphQLMutationValue<S>> AnswerCache<S, R, R::Co
         key: &str,
         out: &mut Vec<u8>,
     ) -> Result<(), AllocError>
-        requires shares { SharesQuery ⟦<S as Meaning>⟧.meaning ⟦<RuleError as Ord>⟧.cmp
-            ⟦<ExecutionError<S> as Ord>⟧.cmp ⟦<R as Resolving<S>>⟧.resolving
+        requires shares { SharesQuery ⟦<R as Answering<S>>⟧.answering
             self.old.service line.now key.now }
-        requires reads { AsksAccepted (answerer_of ⟦<S as Meaning>⟧.meaning ⟦<RuleError as Ord>⟧.cmp
-            ⟦<ExecutionError<S> as Ord>⟧.cmp ⟦<R as Resolving<S>>⟧.resolving self.old.service)
+        requires reads { AsksAccepted (answerer_of ⟦<R as Answering<S>>⟧.answering self.old.service)
             line.now accepted.now }
-        ensures { AnswersBehind ⟦<S as Meaning>⟧.meaning ⟦<RuleError as Ord>⟧.cmp
-            ⟦<ExecutionError<S> as Ord>⟧.cmp ⟦<R as Resolving<S>>⟧.resolving
+        ensures { AnswersBehind ⟦<R as Answering<S>>⟧.answering
             result self.old line.now out.old.items out.new.items self.new }
     {
         values_are_lines();
@@ -195,14 +183,11 @@ impl<S: SchemaScalar + Drop, R: GraphQLMutationValue<S>> AnswerCache<S, R, R::Co
         key: &str,
         out: &mut Vec<u8>,
     ) -> Result<(), AllocError>
-        requires shares { SharesQuery ⟦<S as Meaning>⟧.meaning ⟦<RuleError as Ord>⟧.cmp
-            ⟦<ExecutionError<S> as Ord>⟧.cmp ⟦<R as Resolving<S>>⟧.resolving
+        requires shares { SharesQuery ⟦<R as Answering<S>>⟧.answering
             self.old.service line.now key.now }
-        requires reads { AsksAccepted (answerer_of ⟦<S as Meaning>⟧.meaning ⟦<RuleError as Ord>⟧.cmp
-            ⟦<ExecutionError<S> as Ord>⟧.cmp ⟦<R as Resolving<S>>⟧.resolving self.old.service)
+        requires reads { AsksAccepted (answerer_of ⟦<R as Answering<S>>⟧.answering self.old.service)
             line.now accepted.now }
-        ensures { AnswersBehind ⟦<S as Meaning>⟧.meaning ⟦<RuleError as Ord>⟧.cmp
-            ⟦<ExecutionError<S> as Ord>⟧.cmp ⟦<R as Resolving<S>>⟧.resolving
+        ensures { AnswersBehind ⟦<R as Answering<S>>⟧.answering
             result self.old line.now out.old.items out.new.items self.new }
     {
         answers_are_shared(&self.service);
@@ -231,11 +216,9 @@ impl<S: SchemaScalar + Drop, R: GraphQLMutationValue<S>> AnswerCache<S, R, R::Co
         out: &mut Vec<u8>,
     ) -> Result<(), AllocError>
         requires { Settled (fragments_listed accepted.now.document.now) }
-        ensures { let a = answerer_of ⟦<S as Meaning>⟧.meaning ⟦<RuleError as Ord>⟧.cmp
-            ⟦<ExecutionError<S> as Ord>⟧.cmp ⟦<R as Resolving<S>>⟧.resolving self.old.service in
+        ensures { let a = answerer_of ⟦<R as Answering<S>>⟧.answering self.old.service in
             (line : Bytes) → Executes a line accepted.now
-            → AnswersBehind ⟦<S as Meaning>⟧.meaning ⟦<RuleError as Ord>⟧.cmp
-            ⟦<ExecutionError<S> as Ord>⟧.cmp ⟦<R as Resolving<S>>⟧.resolving
+            → AnswersBehind ⟦<R as Answering<S>>⟧.answering
             result self.old line out.old.items out.new.items self.new }
     {
         answers_show_errors(&self.service);
@@ -260,20 +243,15 @@ impl<S: SchemaScalar + Drop, R: GraphQLMutationValue<S>> AnswerCache<S, R, R::Co
         out: &mut Vec<u8>,
     ) -> Result<(), AllocError>
         requires { Settled (fragments_listed accepted.now.document.now) }
-        ensures answers { let a = answerer_of ⟦<S as Meaning>⟧.meaning ⟦<RuleError as Ord>⟧.cmp
-            ⟦<ExecutionError<S> as Ord>⟧.cmp ⟦<R as Resolving<S>>⟧.resolving self.old.service in
+        ensures answers { let a = answerer_of ⟦<R as Answering<S>>⟧.answering self.old.service in
             OnOk result ((line : Bytes) → Executes a line accepted.now
-            → Appends (λ text. ServiceAnswers ⟦<S as Meaning>⟧.meaning ⟦<RuleError as Ord>⟧.cmp
-            ⟦<ExecutionError<S> as Ord>⟧.cmp ⟦<R as Resolving<S>>⟧.resolving
+            → Appends (λ text. ServiceAnswers ⟦<R as Answering<S>>⟧.answering
             self.old.service line text self.new.service) out.old.items out.new.items) }
         ensures front { KeepsFront out.old.items out.new.items }
         ensures same { OnOk result (self.new.kept ≡ self.old.kept) }
-        ensures broken { let a = answerer_of ⟦<S as Meaning>⟧.meaning ⟦<RuleError as Ord>⟧.cmp
-            ⟦<ExecutionError<S> as Ord>⟧.cmp ⟦<R as Resolving<S>>⟧.resolving self.old.service in
+        ensures broken { let a = answerer_of ⟦<R as Answering<S>>⟧.answering self.old.service in
             OnErr result ((line : Bytes) → Executes a line accepted.now
-            → CacheBreaks ⟦<S as Meaning>⟧.meaning ⟦<RuleError as Ord>⟧.cmp
-            ⟦<ExecutionError<S> as Ord>⟧.cmp ⟦<R as Resolving<S>>⟧.resolving
-            self.old line self.new) }
+            → CacheBreaks ⟦<R as Answering<S>>⟧.answering self.old line self.new) }
         ensures parts { HasPartsOf self.old.service self.new.service }
         ensures kept { OnErr result (out.new.items ≡ out.old.items) }
     {

@@ -8,12 +8,10 @@ ghost use Rattle.graphql_service.specs.Answers.{Asks, answerer_of};
 ghost use Rattle.graphql_stores.specs.Stored.{IsAskedBy};
 ghost use Rattle.graphql_stores.specs.declared.asked.Asked.TheVariants.{Refused};
 
-use graphql_executor::{Meaning, Resolving};
-use graphql_field_results::ExecutionError;
-use graphql_rule_errors::RuleError;
 use graphql_schema::SchemaScalar;
 use graphql_service::{
-    GraphQLMutationValue, GraphQLRequest, LineRefusal, PlainError, Service, request_from_line,
+    Answering, GraphQLMutationValue, GraphQLRequest, LineRefusal, PlainError, Service,
+    request_from_line,
 };
 use std::alloc::{AllocError, Global};
 
@@ -37,8 +35,7 @@ pub(crate) fn asked_of_line<S: SchemaScalar + Drop, R: GraphQLMutationValue<S>>(
     service: &Service<S, R, R::Context>,
     line: &[u8],
 ) -> Result<Asked, AllocError>
-    ensures { let a = answerer_of ⟦<S as Meaning>⟧.meaning ⟦<RuleError as Ord>⟧.cmp
-        ⟦<ExecutionError<S> as Ord>⟧.cmp ⟦<R as Resolving<S>>⟧.resolving service.now in
+    ensures { let a = answerer_of ⟦<R as Answering<S>>⟧.answering service.now in
         IfOk result (IsAskedBy a service.now.selection_limit line.now) }
 {
     if line.len() > service.line_limit() {
@@ -69,8 +66,7 @@ fn asked_of_request<S: SchemaScalar + Drop, R: GraphQLMutationValue<S>>(
     service: &Service<S, R, R::Context>,
     request: &GraphQLRequest<S>,
 ) -> Result<Asked, AllocError>
-    ensures { let a = answerer_of ⟦<S as Meaning>⟧.meaning ⟦<RuleError as Ord>⟧.cmp
-        ⟦<ExecutionError<S> as Ord>⟧.cmp ⟦<R as Resolving<S>>⟧.resolving service.now in
+    ensures { let a = answerer_of ⟦<R as Answering<S>>⟧.answering service.now in
         IfOk result (λ it. (line : Bytes) (asked : Request) → Asks a line asked
         → HoldsRequest S.of_bool S.of_int S.of_text asked request.now
         → IsAskedBy a service.now.selection_limit line it) }

@@ -9,11 +9,8 @@ ghost use Rattle.graphql_stores.specs.CachedLines.{cache-answers-kept, cache-bre
 ghost use Rattle.graphql_stores.specs.Caching.{CacheAnswers, CacheBreaks, KeepsAnswers};
 
 use crate::answer_cache::AnswerCache;
-use graphql_executor::{Meaning, Resolving};
-use graphql_field_results::ExecutionError;
-use graphql_rule_errors::RuleError;
 use graphql_schema::SchemaScalar;
-use graphql_service::GraphQLMutationValue;
+use graphql_service::{Answering, GraphQLMutationValue};
 use graphql_streams::{ByteSink, ByteSource, LineEngine, ServeError, serve_lines};
 use std::alloc::{AllocError, Global};
 
@@ -31,23 +28,18 @@ impl<S: SchemaScalar + Drop, R: GraphQLMutationValue<S>> AnswerCache<S, R, R::Co
         reader: &mut I,
         writer: &mut O,
     ) -> Result<(), ServeError>
-        ensures served { let a = answerer_of ⟦<S as Meaning>⟧.meaning ⟦<RuleError as Ord>⟧.cmp
-            ⟦<ExecutionError<S> as Ord>⟧.cmp ⟦<R as Resolving<S>>⟧.resolving self.old.service in
-            KeepsAnswers ⟦<S as Meaning>⟧.meaning ⟦<RuleError as Ord>⟧.cmp
-            ⟦<ExecutionError<S> as Ord>⟧.cmp ⟦<R as Resolving<S>>⟧.resolving self.old →
+        ensures served { let a = answerer_of ⟦<R as Answering<S>>⟧.answering self.old.service in
+            KeepsAnswers ⟦<R as Answering<S>>⟧.answering self.old →
             OnOk result (ServedAll (AnswersLine a) self.old.service.context
             (I.left reader.old) (I.left reader.new)
             (O.written writer.old) (O.written writer.new) self.new.service.context) }
-        ensures ended { let a = answerer_of ⟦<S as Meaning>⟧.meaning ⟦<RuleError as Ord>⟧.cmp
-            ⟦<ExecutionError<S> as Ord>⟧.cmp ⟦<R as Resolving<S>>⟧.resolving self.old.service in
-            KeepsAnswers ⟦<S as Meaning>⟧.meaning ⟦<RuleError as Ord>⟧.cmp
-            ⟦<ExecutionError<S> as Ord>⟧.cmp ⟦<R as Resolving<S>>⟧.resolving self.old →
+        ensures ended { let a = answerer_of ⟦<R as Answering<S>>⟧.answering self.old.service in
+            KeepsAnswers ⟦<R as Answering<S>>⟧.answering self.old →
             IfErr result (λ error. Ends (AnswersLine a) (BreaksAtLine a)
             (HasRisen (O.faults writer.old) (O.faults writer.new)) error self.old.service.context
             (I.left reader.old) (I.left reader.new)
             (O.written writer.old) (O.written writer.new) self.new.service.context) }
-        ensures keeps { let keeps = KeepsAnswers ⟦<S as Meaning>⟧.meaning ⟦<RuleError as Ord>⟧.cmp
-            ⟦<ExecutionError<S> as Ord>⟧.cmp ⟦<R as Resolving<S>>⟧.resolving in
+        ensures keeps { let keeps = KeepsAnswers ⟦<R as Answering<S>>⟧.answering in
             keeps self.old → HasPartsOf self.old.service self.new.service × keeps self.new }
         ensures reads { I.faults reader.new ≡ reads_after result (I.faults reader.old) }
         ensures writes { WritesAfter result (O.faults writer.old) (O.faults writer.new) }
@@ -58,21 +50,17 @@ impl<S: SchemaScalar + Drop, R: GraphQLMutationValue<S>> AnswerCache<S, R, R::Co
 
 impl<S: SchemaScalar + Drop, R: GraphQLMutationValue<S>> LineEngine
     for AnswerCache<S, R, R::Context> {
-    ghost answers = { CacheAnswers ⟦<S as Meaning>⟧.meaning ⟦<RuleError as Ord>⟧.cmp
-        ⟦<ExecutionError<S> as Ord>⟧.cmp ⟦<R as Resolving<S>>⟧.resolving };
+    ghost answers = { CacheAnswers ⟦<R as Answering<S>>⟧.answering };
 
-    ghost breaks = { CacheBreaks ⟦<S as Meaning>⟧.meaning ⟦<RuleError as Ord>⟧.cmp
-        ⟦<ExecutionError<S> as Ord>⟧.cmp ⟦<R as Resolving<S>>⟧.resolving };
+    ghost breaks = { CacheBreaks ⟦<R as Answering<S>>⟧.answering };
 
     ghost holds = { λ _. Unit {0} };
 
     ghost limit = { λ cache. cache.service.line_limit };
 
-    ghost answers_kept = { cache-answers-kept ⟦<S as Meaning>⟧.meaning ⟦<RuleError as Ord>⟧.cmp
-        ⟦<ExecutionError<S> as Ord>⟧.cmp ⟦<R as Resolving<S>>⟧.resolving };
+    ghost answers_kept = { cache-answers-kept ⟦<R as Answering<S>>⟧.answering };
 
-    ghost breaks_kept = { cache-breaks-kept ⟦<S as Meaning>⟧.meaning ⟦<RuleError as Ord>⟧.cmp
-        ⟦<ExecutionError<S> as Ord>⟧.cmp ⟦<R as Resolving<S>>⟧.resolving };
+    ghost breaks_kept = { cache-breaks-kept ⟦<R as Answering<S>>⟧.answering };
 
     fn line_limit(&self) -> usize {
         self.service().line_limit()

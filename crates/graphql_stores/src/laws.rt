@@ -16,9 +16,7 @@ ghost use Rattle.graphql_stores.specs.Laws.{AnswersAreShared, AnswersShowErrors}
 ghost use Rattle.graphql_stores.specs.Laws.{QueriesLeaveTheContext};
 
 use graphql_executor::{Meaning, Resolving};
-use graphql_field_results::ExecutionError;
 use graphql_plain_requests::laws::same_tokens_are_asked_alike;
-use graphql_rule_errors::RuleError;
 use graphql_scalars::ScalarValue;
 use graphql_schema::{RootNode, SchemaScalar};
 use graphql_service::laws::{
@@ -26,7 +24,7 @@ use graphql_service::laws::{
     plain_requests_are_not_refused, plain_texts_are_one,
 };
 use graphql_service::meaning::{plain_is_answered_too, plain_means_the_same};
-use graphql_service::{GraphQLMutationValue, Service};
+use graphql_service::{Answering, GraphQLMutationValue, Service};
 
 /// A plain text that is in a store, asked as a request with the same operation name and the same
 /// values for variables, is allowed. For this the schema takes the stand-in of a plain text, of
@@ -68,8 +66,7 @@ pub fn stored_texts_stand_for_requests<S: SchemaScalar, R: GraphQLMutationValue<
 /// there.
 pub fn lines_are_told_apart<S: SchemaScalar, R: GraphQLMutationValue<S>>()
     ensures { (service : Service S R R.Context S.Check) (store : AllowedQueries) (line : Bytes)
-        → let a = answerer_of ⟦<S as Meaning>⟧.meaning ⟦<RuleError as Ord>⟧.cmp
-        ⟦<ExecutionError<S> as Ord>⟧.cmp ⟦<R as Resolving<S>>⟧.resolving service in
+        → let a = answerer_of ⟦<R as Answering<S>>⟧.answering service in
         AreToldApart a service.selection_limit store line }
 {
     executable_requests_are_not_refused::<S>();
@@ -85,8 +82,7 @@ pub fn lines_are_told_apart<S: SchemaScalar, R: GraphQLMutationValue<S>>()
 pub fn answers_are_shared<S: SchemaScalar, R: GraphQLMutationValue<S>>(
     service: &Service<S, R, R::Context>,
 )
-    ensures { AnswersAreShared ⟦<S as Meaning>⟧.meaning ⟦<RuleError as Ord>⟧.cmp
-        ⟦<ExecutionError<S> as Ord>⟧.cmp ⟦<R as Resolving<S>>⟧.resolving service.now }
+    ensures { AnswersAreShared ⟦<R as Answering<S>>⟧.answering service.now }
 {
     graphql_service::laws::plain_is_answered_alike(service);
 }
@@ -104,8 +100,7 @@ pub fn lines_show_errors<S: ScalarValue>()
 pub fn answers_show_errors<S: SchemaScalar, R: GraphQLMutationValue<S>>(
     service: &Service<S, R, R::Context>,
 )
-    ensures { AnswersShowErrors (answerer_of ⟦<S as Meaning>⟧.meaning ⟦<RuleError as Ord>⟧.cmp
-        ⟦<ExecutionError<S> as Ord>⟧.cmp ⟦<R as Resolving<S>>⟧.resolving service.now) }
+    ensures { AnswersShowErrors (answerer_of ⟦<R as Answering<S>>⟧.answering service.now) }
 {
     lines_show_errors::<S>();
 }
@@ -115,8 +110,7 @@ pub fn answers_show_errors<S: SchemaScalar, R: GraphQLMutationValue<S>>(
 pub fn queries_leave_the_context<S: SchemaScalar, R: GraphQLMutationValue<S>>(
     service: &Service<S, R, R::Context>,
 )
-    ensures { QueriesLeaveTheContext (answerer_of ⟦<S as Meaning>⟧.meaning ⟦<RuleError as Ord>⟧.cmp
-        ⟦<ExecutionError<S> as Ord>⟧.cmp ⟦<R as Resolving<S>>⟧.resolving service.now) }
+    ensures { QueriesLeaveTheContext (answerer_of ⟦<R as Answering<S>>⟧.answering service.now) }
 {
     one_operation_is_executed::<S>();
 }

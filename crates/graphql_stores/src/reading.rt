@@ -9,15 +9,13 @@ ghost use Rattle.graphql_stores.specs.Caching.{AnswersBehind};
 ghost use Rattle.graphql_stores.specs.Reading.{AsksRequest, ReadsAccepted, ReadsDocument};
 
 use crate::answer_cache::AnswerCache;
-use graphql_executor::{Meaning, Resolving, documents_without_a_fault_are_settled};
-use graphql_field_results::ExecutionError;
+use graphql_executor::documents_without_a_fault_are_settled;
 use graphql_language::TokenRecords;
 use graphql_plain_requests::plain_of_chosen;
 use graphql_requests::{chosen_operation, read_records};
-use graphql_rule_errors::RuleError;
 use graphql_schema::SchemaScalar;
 use graphql_service::{
-    AcceptedRequest, GraphQLError, GraphQLMutationValue, GraphQLRequest, LineRefusal,
+    AcceptedRequest, Answering, GraphQLError, GraphQLMutationValue, GraphQLRequest, LineRefusal,
     operation_name_of, request_from_line,
 };
 use graphql_tree::Definition;
@@ -32,8 +30,7 @@ impl<S: SchemaScalar + Drop, R: GraphQLMutationValue<S>> AnswerCache<S, R, R::Co
         line: &[u8],
         out: &mut Vec<u8>,
     ) -> Result<(), AllocError>
-        ensures { AnswersBehind ⟦<S as Meaning>⟧.meaning ⟦<RuleError as Ord>⟧.cmp
-            ⟦<ExecutionError<S> as Ord>⟧.cmp ⟦<R as Resolving<S>>⟧.resolving
+        ensures { AnswersBehind ⟦<R as Answering<S>>⟧.answering
             result self.old line.now out.old.items out.new.items self.new }
     {
         if line.len() > self.service.line_limit() {
@@ -55,11 +52,9 @@ impl<S: SchemaScalar + Drop, R: GraphQLMutationValue<S>> AnswerCache<S, R, R::Co
         request: &GraphQLRequest<S>,
         out: &mut Vec<u8>,
     ) -> Result<(), AllocError>
-        requires { AsksRequest (answerer_of ⟦<S as Meaning>⟧.meaning ⟦<RuleError as Ord>⟧.cmp
-            ⟦<ExecutionError<S> as Ord>⟧.cmp ⟦<R as Resolving<S>>⟧.resolving self.old.service)
+        requires { AsksRequest (answerer_of ⟦<R as Answering<S>>⟧.answering self.old.service)
             line.now request.now }
-        ensures { AnswersBehind ⟦<S as Meaning>⟧.meaning ⟦<RuleError as Ord>⟧.cmp
-            ⟦<ExecutionError<S> as Ord>⟧.cmp ⟦<R as Resolving<S>>⟧.resolving
+        ensures { AnswersBehind ⟦<R as Answering<S>>⟧.answering
             result self.old line.now out.old.items out.new.items self.new }
     {
         match TokenRecords::new(alloc, request.query.as_str()) {
@@ -80,12 +75,10 @@ impl<S: SchemaScalar + Drop, R: GraphQLMutationValue<S>> AnswerCache<S, R, R::Co
         records: &'a TokenRecords<'a>,
         out: &mut Vec<u8>,
     ) -> Result<(), AllocError>
-        requires asks { AsksRequest (answerer_of ⟦<S as Meaning>⟧.meaning ⟦<RuleError as Ord>⟧.cmp
-            ⟦<ExecutionError<S> as Ord>⟧.cmp ⟦<R as Resolving<S>>⟧.resolving self.old.service)
+        requires asks { AsksRequest (answerer_of ⟦<R as Answering<S>>⟧.answering self.old.service)
             line.now request.now }
         requires recorded { IsRecorded (chars (string_bytes request.now.query)) records.now }
-        ensures { AnswersBehind ⟦<S as Meaning>⟧.meaning ⟦<RuleError as Ord>⟧.cmp
-            ⟦<ExecutionError<S> as Ord>⟧.cmp ⟦<R as Resolving<S>>⟧.resolving
+        ensures { AnswersBehind ⟦<R as Answering<S>>⟧.answering
             result self.old line.now out.old.items out.new.items self.new }
     {
         match read_records(alloc, records, self.service.root_node()) {
@@ -107,11 +100,9 @@ impl<S: SchemaScalar + Drop, R: GraphQLMutationValue<S>> AnswerCache<S, R, R::Co
         document: &'d [Definition<'a, S>],
         out: &mut Vec<u8>,
     ) -> Result<(), AllocError>
-        requires { ReadsDocument (answerer_of ⟦<S as Meaning>⟧.meaning ⟦<RuleError as Ord>⟧.cmp
-            ⟦<ExecutionError<S> as Ord>⟧.cmp ⟦<R as Resolving<S>>⟧.resolving self.old.service)
+        requires { ReadsDocument (answerer_of ⟦<R as Answering<S>>⟧.answering self.old.service)
             line.now request.now records.now document.now }
-        ensures { AnswersBehind ⟦<S as Meaning>⟧.meaning ⟦<RuleError as Ord>⟧.cmp
-            ⟦<ExecutionError<S> as Ord>⟧.cmp ⟦<R as Resolving<S>>⟧.resolving
+        ensures { AnswersBehind ⟦<R as Answering<S>>⟧.answering
             result self.old line.now out.old.items out.new.items self.new }
     {
         let root_node = self.service.root_node();
@@ -140,11 +131,9 @@ impl<S: SchemaScalar + Drop, R: GraphQLMutationValue<S>> AnswerCache<S, R, R::Co
         records: &'d TokenRecords<'a>,
         out: &mut Vec<u8>,
     ) -> Result<(), AllocError>
-        requires { ReadsAccepted (answerer_of ⟦<S as Meaning>⟧.meaning ⟦<RuleError as Ord>⟧.cmp
-            ⟦<ExecutionError<S> as Ord>⟧.cmp ⟦<R as Resolving<S>>⟧.resolving self.old.service)
+        requires { ReadsAccepted (answerer_of ⟦<R as Answering<S>>⟧.answering self.old.service)
             line.now accepted.now records.now }
-        ensures { AnswersBehind ⟦<S as Meaning>⟧.meaning ⟦<RuleError as Ord>⟧.cmp
-            ⟦<ExecutionError<S> as Ord>⟧.cmp ⟦<R as Resolving<S>>⟧.resolving
+        ensures { AnswersBehind ⟦<R as Answering<S>>⟧.answering
             result self.old line.now out.old.items out.new.items self.new }
     {
         match plain_of_chosen(

@@ -5,11 +5,9 @@ ghost use Rattle.graphql_stores.specs.Caching.{KeepsAnswers};
 ghost use Rattle.graphql_stores_tests.specs.Cached.{AnswersAround, IsAnsweredAround};
 
 use crate::stored::{LINE_LIMIT, SELECTION_LIMIT};
-use graphql_executor::{GraphQLMutationValue, Meaning, Resolving};
-use graphql_field_results::ExecutionError;
-use graphql_rule_errors::RuleError;
+use graphql_executor::GraphQLMutationValue;
 use graphql_schema::{RootNode, SchemaScalar};
-use graphql_service::Service;
+use graphql_service::{Answering, Service};
 use graphql_stores::AnswerCache;
 use std::alloc::{AllocError, Global};
 
@@ -25,13 +23,10 @@ pub fn answered_around<S: SchemaScalar + Drop, R: GraphQLMutationValue<S>>(
     line: &[u8],
     other: &[u8],
 ) -> Result<Three, AllocError>
-    ensures { KeepsAnswers ⟦<S as Meaning>⟧.meaning ⟦<RuleError as Ord>⟧.cmp
-        ⟦<ExecutionError<S> as Ord>⟧.cmp ⟦<R as Resolving<S>>⟧.resolving cache.old
-        → IfOk result (λ three. AnswersAround ⟦<S as Meaning>⟧.meaning ⟦<RuleError as Ord>⟧.cmp
-        ⟦<ExecutionError<S> as Ord>⟧.cmp ⟦<R as Resolving<S>>⟧.resolving cache.old.service
+    ensures { KeepsAnswers ⟦<R as Answering<S>>⟧.answering cache.old
+        → IfOk result (λ three. AnswersAround ⟦<R as Answering<S>>⟧.answering cache.old.service
         line.now other.now three.0.items three.1.items three.2.items cache.new.service
-        × KeepsAnswers ⟦<S as Meaning>⟧.meaning ⟦<RuleError as Ord>⟧.cmp
-        ⟦<ExecutionError<S> as Ord>⟧.cmp ⟦<R as Resolving<S>>⟧.resolving cache.new) }
+        × KeepsAnswers ⟦<R as Answering<S>>⟧.answering cache.new) }
 {
     let mut first = Vec::new(alloc);
     let mut second = Vec::new(alloc);
@@ -58,9 +53,7 @@ pub fn answered_around_by_service<S: SchemaScalar + Drop, R: GraphQLMutationValu
 where
     R: Drop,
     R::Context: Drop,
-    ensures { IfSome result (λ three. IsAnsweredAround ⟦<S as Meaning>⟧.meaning
-        ⟦<RuleError as Ord>⟧.cmp ⟦<ExecutionError<S> as Ord>⟧.cmp
-        ⟦<R as Resolving<S>>⟧.resolving
+    ensures { IfSome result (λ three. IsAnsweredAround ⟦<R as Answering<S>>⟧.answering
         root_node resolver context LINE_LIMIT SELECTION_LIMIT line.now other.now
         three.0.items three.1.items three.2.items) }
 {

@@ -5,11 +5,9 @@ ghost use Rattle.graphql_service.specs.Answers.{answerer_of};
 ghost use Rattle.graphql_service.specs.FittingLines.{IsFittingLine, IsRefusalLine};
 ghost use Rattle.graphql_service_tests.specs.KeptOut.{KeepsNullOutAtRoot};
 
-use graphql_field_results::ExecutionError;
-use graphql_rule_errors::RuleError;
 use graphql_sample::{SampleRecords, SampleResolver};
 use graphql_service::laws::answer_lines_fit;
-use graphql_service::{Meaning, Resolving, Service};
+use graphql_service::{Answering, Service};
 use graphql_values::DefaultScalarValue;
 use std::alloc::{AllocError, Global};
 
@@ -22,9 +20,8 @@ pub fn answered_without_null(
     line: &[u8],
     out: &mut Vec<u8>,
 ) -> Result<(), AllocError>
-    ensures { let a = answerer_of ⟦<DefaultScalarValue as Meaning>⟧.meaning ⟦<RuleError as Ord>⟧.cmp
-        ⟦<ExecutionError<DefaultScalarValue> as Ord>⟧.cmp
-        ⟦<SampleResolver as Resolving<DefaultScalarValue>>⟧.resolving service.old in
+    ensures { let a = answerer_of ⟦<SampleResolver as Answering<DefaultScalarValue>>⟧.answering
+        service.old in
         OnOk result (IsRefusalLine a line.now service.old.context out.new.items
         ⊎ ((is : IsFittingLine a line.now service.old.context out.new.items)
         × KeepsNullOutAtRoot a line.now service.old.context is)) }

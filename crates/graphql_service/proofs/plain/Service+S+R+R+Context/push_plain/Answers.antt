@@ -2,7 +2,7 @@ use Rattle.std.proofs.Common.{◌≡◌, ◌++◌, string_bytes, subst}
 use Rattle.graphql_answers.specs.Lines.{line_of}
 use Rattle.graphql_answers.specs.Responses.{plain_answer_of}
 use Rattle.graphql_names.specs.Names.{Bytes}
-use Rattle.graphql_service.proofs.Answering.{both_on_ok, on_ok}
+use Rattle.graphql_service.proofs.WrittenAnswers.{both_on_ok, on_ok}
 use Rattle.graphql_service.proofs.PlainAnswering.{plain_told, refusal_told}
 use Rattle.graphql_service.proofs.plain.Service+S+R+R+Context.push_plain.Goals as goal
 

@@ -1,4 +1,4 @@
-use Rattle.graphql_service.proofs.Answering.{both_on_ok, on_ok}
+use Rattle.graphql_service.proofs.WrittenAnswers.{both_on_ok, on_ok}
 use Rattle.graphql_service.proofs.PlainAnswering.{long_told, no_request_told}
 use Rattle.graphql_service.proofs.plain.Service+S+R+R+Context.push_plain_answer.Goals as goal
 

@@ -1,6 +1,6 @@
 use Rattle.std.proofs.Common.{[], take, ap, sym, append-nil, ◌∙◌}
 use Rattle.graphql_json.proofs.Fronts.{front_cut}
-use Rattle.graphql_service.proofs.Answering.{answer_as_line}
+use Rattle.graphql_service.proofs.WrittenAnswers.{answer_as_line}
 use Rattle.graphql_service.proofs.read.Service+S+R+R+Context.append_executed.Goals as goal
 
 pub returns-in-Ok-clause-answers : goal.returns-in-Ok-clause-answers

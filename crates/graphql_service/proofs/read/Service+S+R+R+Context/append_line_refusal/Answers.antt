@@ -1,6 +1,6 @@
 use Rattle.std.proofs.Common.{take, ap, ◌∙◌}
 use Rattle.graphql_json.proofs.Fronts.{front_cut}
-use Rattle.graphql_service.proofs.Answering.{answer_as_line}
+use Rattle.graphql_service.proofs.WrittenAnswers.{answer_as_line}
 use Rattle.graphql_service.proofs.ReadAnswers.{line-refused}
 use Rattle.graphql_service.proofs.read.Service+S+R+R+Context.append_line_refusal.Goals as goal
 

@@ -1,4 +1,4 @@
-use Rattle.graphql_service.proofs.Answering.{both_on_ok, on_err, on_ok}
+use Rattle.graphql_service.proofs.WrittenAnswers.{both_on_ok, on_err, on_ok}
 use Rattle.graphql_service.proofs.ReadAnswers.{executed, executed-broken, is-served, left-broken}
 use Rattle.graphql_service.proofs.read.Service+S+R+R+Context.push_accepted.Goals as goal
 

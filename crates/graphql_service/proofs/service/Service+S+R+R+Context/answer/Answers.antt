@@ -1,5 +1,5 @@
 use Rattle.std.proofs.Common.{◌≡◌, [], ◌∙◌}
-use Rattle.graphql_service.proofs.Answering.{also_on_err, written_answer, written_line, written_distinct}
+use Rattle.graphql_service.proofs.WrittenAnswers.{also_on_err, written_answer, written_line, written_distinct}
 use Rattle.graphql_service.proofs.service.Service+S+R+R+Context.answer.Goals as goal
 
 pub returns-clause-answers : goal.returns-clause-answers

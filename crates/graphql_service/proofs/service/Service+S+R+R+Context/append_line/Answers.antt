@@ -1,6 +1,6 @@
 use Rattle.std.proofs.Common.{take, ap, ◌∙◌}
 use Rattle.graphql_json.proofs.Fronts.{front_cut}
-use Rattle.graphql_service.proofs.Answering.{answer_as_line}
+use Rattle.graphql_service.proofs.WrittenAnswers.{answer_as_line}
 use Rattle.graphql_service.proofs.service.Service+S+R+R+Context.append_line.Goals as goal
 
 pub returns-in-Ok-clause-answers : goal.returns-in-Ok-clause-answers

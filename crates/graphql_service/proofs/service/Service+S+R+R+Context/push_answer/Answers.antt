@@ -1,5 +1,5 @@
 use Rattle.std.proofs.Common.{inl, refl}
-use Rattle.graphql_service.proofs.Answering.{on_ok, on_err, also_on_err, both_on_ok, too_long, no_request_answer}
+use Rattle.graphql_service.proofs.WrittenAnswers.{on_ok, on_err, also_on_err, both_on_ok, too_long, no_request_answer}
 use Rattle.graphql_service.proofs.service.Service+S+R+R+Context.push_answer.Goals as goal
 
 pub returns-then-line-self-clause-answers : goal.returns-then-line-self-clause-answers

@@ -1,5 +1,5 @@
 use Rattle.std.proofs.Common.{option_map}
-use Rattle.graphql_service.proofs.Answering.{on_ok, on_err, both_on_ok, executed_answer, executed_broken, refused_answer, refused_broken}
+use Rattle.graphql_service.proofs.WrittenAnswers.{on_ok, on_err, both_on_ok, executed_answer, executed_broken, refused_answer, refused_broken}
 use Rattle.graphql_service.proofs.service.Service+S+R+R+Context.push_executed.Goals as goal
 
 pub returns-in-Ok-clause-answers : goal.returns-in-Ok-clause-answers

@@ -1,7 +1,7 @@
 use Rattle.std.proofs.Common.{◌≡◌, [], ◌∙◌}
 use Rattle.graphql_answers.specs.Lines.{IsLine}
 use Rattle.graphql_service.specs.Laws.{IsLineOfDistinctKeys}
-use Rattle.graphql_service.proofs.Answering.{also_on_err, on_ok}
+use Rattle.graphql_service.proofs.WrittenAnswers.{also_on_err, on_ok}
 use Rattle.graphql_stores.proofs.AllowedLines.{all-written}
 use Rattle.graphql_stores.proofs.allowing_service.AllowingService+S+R+R+Context.answer.Goals as goal
 

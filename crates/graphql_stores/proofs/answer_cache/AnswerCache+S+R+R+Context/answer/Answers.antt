@@ -1,12 +1,12 @@
 use Rattle.std.proofs.Common.{◌≡◌, [], ◌∙◌}
-use Rattle.graphql_service.proofs.Answering.{alone, also_on_err, on_ok}
+use Rattle.graphql_service.proofs.WrittenAnswers.{alone, also_on_err, on_ok}
 use Rattle.graphql_stores.specs.Caching.{CacheAnswers}
 use Rattle.graphql_stores.proofs.answer_cache.AnswerCache+S+R+R+Context.answer.Goals as goal
 
 pub returns-clause-answers : goal.returns-clause-answers
 returns-clause-answers g c =
     on_ok c.append_line.result _ _
-    (alone (λ text. CacheAnswers _ _ _ _ c.args.self.now c.args.line.now text c.append_line.new.self) c.clear.new.self.items
+    (alone (λ text. CacheAnswers _ c.args.self.now c.args.line.now text c.append_line.new.self) c.clear.new.self.items
     c.append_line.new.out.items c.clear.ensures.items)
     c.append_line.ensures.answers
 

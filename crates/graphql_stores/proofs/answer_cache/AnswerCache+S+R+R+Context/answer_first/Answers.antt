@@ -25,7 +25,7 @@ returns-then-not-is_whole g c =
       answers = (
         h.0,
         h.1,
-        query-left _ _ _ _ c.args.self.now c.args.line.now h.0 c.args.key.now c.requires.shares c.answers_are_shared.ensures
+        query-left _ c.args.self.now c.args.line.now h.0 c.args.key.now c.requires.shares c.answers_are_shared.ensures
             c.queries_leave_the_context.ensures c.ask.new.self.service h.2.1 h.2.0 c.ask.new.self.kept c.in-Ok.ensures.same,
       );
       breaks = tt;
@@ -54,7 +54,7 @@ returns g c =
       answers = (
         h.0,
         h.1,
-        query-kept _ _ _ _ c.args.self.now c.args.line.now h.0 c.args.key.now c.requires.shares c.answers_are_shared.ensures
+        query-kept _ c.args.self.now c.args.line.now h.0 c.args.key.now c.requires.shares c.answers_are_shared.ensures
             c.queries_leave_the_context.ensures c.ask.new.self.service h.2.1 h.2.0 c.answers_show_errors.ensures whole kept mid new
             c.in-Ok.ensures.same plains c.keep_plain.ensures.by_line lines c.keep_line.ensures.by_plain,
       );

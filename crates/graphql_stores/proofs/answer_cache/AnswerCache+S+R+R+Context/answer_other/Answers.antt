@@ -31,7 +31,7 @@ returns-then-not-is_executed g c = λ line x.
       answers = (
         h.0,
         h.1,
-        refused-left _ _ _ _ c.args.self.now line h.0 c.answers_show_errors.ensures c.ask.new.self.service
+        refused-left _ c.args.self.now line h.0 c.answers_show_errors.ensures c.ask.new.self.service
             c.ask.new.self.kept h.2.1 h.2.0 told c.in-Ok.ensures.same,
       );
       breaks = tt;
@@ -46,7 +46,7 @@ returns g c = λ line x.
       answers = (
         h.0,
         h.1,
-        answered-cleared _ _ _ _ c.args.self.now line h.0 c.ask.new.self.service c.clear.new.self h.2.1 h.2.0
+        answered-cleared _ c.args.self.now line h.0 c.ask.new.self.service c.clear.new.self h.2.1 h.2.0
             c.clear.ensures.by_line c.clear.ensures.by_plain,
       );
       breaks = tt;

@@ -15,7 +15,7 @@ answer_query-requires-clause-shares g c =
     ap (λ b. starts_with nat_eq b (codes "query")) (sym c.as_bytes.ensures.value) ∙ sym c.is_query.ensures ∙ told in
     let asks : AsksPlain (request_of c.args.line.now) plain names c.as_str.result.now =
     subst (λ key. AsksPlain (request_of c.args.line.now) plain names key) (sym c.as_str.ensures.value) c.in-Some.ensures in
-    shares-query _ _ _ _ service c.args.line.now plain c.as_str.result.now names c.requires.has begins asks
+    shares-query _ service c.args.line.now plain c.as_str.result.now names c.requires.has begins asks
 
 pub returns-then-not-is_query : goal.returns-then-not-is_query
 returns-then-not-is_query g c = c.answer_other.ensures c.args.line.now c.requires.reads.executes

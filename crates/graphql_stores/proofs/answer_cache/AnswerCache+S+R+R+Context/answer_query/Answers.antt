@@ -23,7 +23,7 @@ returns-in-Ok g c =
       answers = (
         found,
         written,
-        kept-plain _ _ _ _ old c.args.line.now found c.args.key.now c.requires.shares c.answers_are_shared.ensures
+        kept-plain _ old c.args.line.now found c.args.key.now c.requires.shares c.answers_are_shared.ensures
             c.values_are_lines.ensures
             (λ t o n. c.answer_lines_have_distinct_keys.ensures old.service c.args.line.now t o n)
             found c.in-Some.ensures refl new most c.keep_line.ensures.by_plain,
@@ -36,7 +36,7 @@ returns-in-Ok g c =
 pub returns-in-Err : goal.returns-in-Err
 returns-in-Err g c = record {
   answers = tt;
-  breaks = not-broken _ _ _ _ c.args.self.now c.args.line.now;
+  breaks = not-broken _ c.args.self.now c.args.line.now;
   parts = own-parts c.args.self.now.service;
   kept = c.in-Err.ensures.kept;
 }

@@ -9,6 +9,6 @@ returns-in-Ok-clause-answers g c = λ line x.
 
 pub returns-in-Err-clause-broken : goal.returns-in-Err-clause-broken
 returns-in-Err-clause-broken g c = λ line x.
-    let-go _ _ _ _ c.args.self.now c.append_executed.new.self c.clear.new.self line
+    let-go _ c.args.self.now c.append_executed.new.self c.clear.new.self line
     c.append_executed.ensures.parts (c.in-Err.ensures.broken line x) c.clear.ensures.by_line
     c.clear.ensures.by_plain

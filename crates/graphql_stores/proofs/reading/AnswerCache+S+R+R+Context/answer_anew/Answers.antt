@@ -6,7 +6,7 @@ use Rattle.graphql_stores.proofs.reading.AnswerCache+S+R+R+Context.answer_anew.G
 pub returns-then-line-line_limit : goal.returns-then-line-line_limit
 returns-then-line-line_limit g c =
     let longer = subst (λ n. n < length c.args.line.now) c.line_limit.ensures c.if-line-line_limit.true in
-    refuses-line _ _ _ _ c.args.self.now c.args.line.now c.args.out.now.items
+    refuses-line _ c.args.self.now c.args.line.now c.args.out.now.items
     c.append_line_refusal.new.out.items c.append_line_refusal.result LineTooLong
     c.append_line_refusal.ensures.answers c.append_line_refusal.ensures.memory
     c.append_line_refusal.ensures.kept (λ is. longer)
@@ -24,7 +24,7 @@ answer_request-requires g c =
 pub returns-in-Err : goal.returns-in-Err
 returns-in-Err g c =
     let within = subst (λ n. length c.args.line.now ≤ n) c.line_limit.ensures c.if-line-line_limit.false in
-    refuses-due _ _ _ _ c.args.self.now c.args.line.now c.args.out.now.items
+    refuses-due _ c.args.self.now c.args.line.now c.args.out.now.items
     c.append_line_refusal-in-Err.new.out.items c.append_line_refusal-in-Err.result c.in-Err.refusal
     c.append_line_refusal-in-Err.ensures.answers c.append_line_refusal-in-Err.ensures.memory
     c.append_line_refusal-in-Err.ensures.kept within c.in-Err.ensures

@@ -12,7 +12,7 @@ answer_document-requires g c =
 
 pub returns-in-Err : goal.returns-in-Err
 returns-in-Err g c =
-    refuses-request _ _ _ _ c.args.self.now c.args.line.now c.args.out.now.items
+    refuses-request _ c.args.self.now c.args.line.now c.args.out.now.items
     c.append_refusal.new.out.items c.append_refusal.result c.in-Err.error
     c.append_refusal.ensures.answers c.append_refusal.ensures.memory c.append_refusal.ensures.kept
     (unread _ c.args.line.now c.args.request.now c.requires.asks c.root_node.result.now

@@ -17,7 +17,7 @@ returns-in-Err g c =
     let lexical =
     subst (λ t. UnlessMemory IsMemory fault (IsLexical (chars t) fault)) c.as_str.ensures.value
     c.in-Err.ensures.fault in
-    refuses-request _ _ _ _ c.args.self.now c.args.line.now c.args.out.now.items
+    refuses-request _ c.args.self.now c.args.line.now c.args.out.now.items
     c.append_refusal.new.out.items c.append_refusal.result c.from-error.result
     c.append_refusal.ensures.answers c.append_refusal.ensures.memory c.append_refusal.ensures.kept
     (λ is. rw c.from-error.ensures
