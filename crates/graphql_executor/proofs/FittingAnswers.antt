@@ -23,7 +23,7 @@ use Rattle.graphql_execution_walk.specs.declared.asked.Asked.TheVariants as aske
 use Rattle.graphql_mutation.specs.Laws.{RunFailuresAreExact, RunsFit, RunsWithoutDataFail}
 use Rattle.graphql_mutation.specs.Mutations.{mutation_over}
 use Rattle.graphql_mutation.specs.Serial.{Mutation}
-use Rattle.graphql_requests.specs.Scalars.{Scalars}
+use Rattle.graphql_schema.specs.Scalars.{Scalars}
 use Rattle.graphql_executor.specs.Answered.{Asking, IsAnswered}
 use Rattle.graphql_executor.specs.Executed.{IsResponse, data_of, run_at}
 use Rattle.graphql_executor.specs.Fitting.{FailsAt, FitsAnswer, IsFit, MembersFitAt}

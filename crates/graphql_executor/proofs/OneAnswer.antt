@@ -8,7 +8,7 @@ use Rattle.graphql_tree.specs.declared.document.Operation.{Operation}
 use Rattle.graphql_tree.specs.declared.document.OperationType.{OperationType}
 use Rattle.graphql_requests.proofs.Exclusive.{from-ok, one-executed}
 use Rattle.graphql_requests.specs.Operations.{mutation_root}
-use Rattle.graphql_requests.specs.Scalars.{Scalars}
+use Rattle.graphql_schema.specs.Scalars.{Scalars}
 use Rattle.graphql_executor.specs.Answered.{Asking, IsAnswered}
 use Rattle.graphql_executor.specs.Executed.{data_of, runs}
 use Rattle.graphql_executor.specs.Resolvers.{Resolver}

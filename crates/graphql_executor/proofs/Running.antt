@@ -26,7 +26,7 @@ use Rattle.graphql_look_ahead.specs.declared.selected.Selected.{Selected}
 use Rattle.graphql_mutation.specs.Mutations.{Changes, mutation_of, mutation_over}
 use Rattle.graphql_mutation.specs.Runs.{HasRun, run_map}
 use Rattle.graphql_mutation.specs.Serial.{AfterBeginning, Mutation, Run, mutate, root_groups}
-use Rattle.graphql_requests.specs.Scalars.{Scalars}
+use Rattle.graphql_schema.specs.Scalars.{Scalars}
 use Rattle.graphql_executor.specs.Executed.{IsBegun, IsBegunAt, Responds, run_at, runs}
 use Rattle.graphql_executor.specs.Resolvers.{Resolver}
 

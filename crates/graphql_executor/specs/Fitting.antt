@@ -24,7 +24,7 @@ use Rattle.graphql_execution_walk.specs.declared.asked.Asked.TheVariants as aske
 use Rattle.graphql_mutation.specs.Fitting.{RunFails, RunFits}
 use Rattle.graphql_mutation.specs.Mutations.{mutation_over}
 use Rattle.graphql_mutation.specs.Serial.{Mutation, root_groups}
-use Rattle.graphql_requests.specs.Scalars.{Scalars}
+use Rattle.graphql_schema.specs.Scalars.{Scalars}
 use Rattle.graphql_executor.specs.Answered.{Asking}
 use Rattle.graphql_executor.specs.Resolvers.{Resolver}
 

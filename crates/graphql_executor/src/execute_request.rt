@@ -13,11 +13,11 @@ use crate::validated::execute_validated_query;
 use graphql_field_results::ExecutionError;
 use graphql_mutation::GraphQLMutationValue;
 use graphql_requests::{
-    GraphQLError, Meaning, ValidTexts, chosen_operation, documents_without_a_fault_are_settled,
+    GraphQLError, ValidTexts, chosen_operation, documents_without_a_fault_are_settled,
     read_request_with,
 };
 use graphql_rule_errors::RuleError;
-use graphql_schema::{RootNode, SchemaScalar};
+use graphql_schema::{Meaning, RootNode, SchemaScalar};
 use graphql_values::Variables;
 use std::alloc::Global;
 

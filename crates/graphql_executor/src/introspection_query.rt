@@ -10,9 +10,9 @@ use crate::operation::Response;
 use crate::resolving::Resolving;
 use graphql_field_results::ExecutionError;
 use graphql_mutation::GraphQLMutationValue;
-use graphql_requests::{GraphQLError, Meaning};
+use graphql_requests::GraphQLError;
 use graphql_rule_errors::RuleError;
-use graphql_schema::{RootNode, SchemaScalar};
+use graphql_schema::{Meaning, RootNode, SchemaScalar};
 use graphql_values::Variables;
 use std::alloc::Global;
 

@@ -5,11 +5,10 @@ ghost use Rattle.graphql_executor.specs.Laws.{AnswersAreOne, AnswersFit};
 use graphql_execution_walk::Asked;
 use graphql_mutation::GraphQLMutationValue;
 use graphql_mutation::laws::{run_failures_are_exact, runs_fit, runs_without_data_fail};
-use graphql_requests::Meaning;
 pub use graphql_requests::laws::{
     executable_requests_are_not_refused, one_operation_is_executed, refusals_have_steps,
 };
-use graphql_schema::SchemaScalar;
+use graphql_schema::{Meaning, SchemaScalar};
 use graphql_semantics::laws::{data_fit, failures_are_exact, no_data_fails};
 
 /// Two answers to one request, over one resolver and one context, have the same data, and leave the

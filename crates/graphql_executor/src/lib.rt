@@ -29,10 +29,9 @@ pub use graphql_registry::{
     AnswersByClones, EmptyMutation, EmptySubscription, GraphQLType, IntoResolvable, Registry,
 };
 pub use graphql_requests::{
-    GraphQLError, Meaning, ValidTexts, documents_without_a_fault_are_settled, get_operation,
-    read_request,
+    GraphQLError, ValidTexts, documents_without_a_fault_are_settled, get_operation, read_request,
 };
-pub use graphql_schema::{IntrospectionChecks, TypeKind};
+pub use graphql_schema::{IntrospectionChecks, Meaning, TypeKind};
 pub use graphql_values::{FromInputValueArrayError, FromInputValueVecError};
 pub use graphql_written_out::FinalVariables;
 pub use introspection_query::{IntrospectionFormat, introspect};

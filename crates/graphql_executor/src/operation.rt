@@ -22,8 +22,7 @@ use graphql_execution_walk::{
 use graphql_field_results::{ExecutionError, in_order};
 use graphql_mutation::{GraphQLMutationValue, answer_serially};
 use graphql_output_values::Value;
-use graphql_requests::Meaning;
-use graphql_schema::{SchemaScalar, SchemaType};
+use graphql_schema::{Meaning, SchemaScalar, SchemaType};
 use graphql_text::{Items, SourcePosition, Spanning};
 use graphql_tree::{Definition, Operation, Selection};
 use graphql_values::Variables;

@@ -23,7 +23,7 @@ use Rattle.graphql_plain_validity.specs.Laws.{IsValidText, PlainTextsAreValid}
 use Rattle.graphql_plain_validity.proofs.ValidTexts.{full}
 use Rattle.graphql_requests.specs.Operations.{chosen, operation_has_name, mutation_root}
 use Rattle.graphql_requests.specs.Refusals.{IsValidIn}
-use Rattle.graphql_requests.specs.Scalars.{Scalars}
+use Rattle.graphql_schema.specs.Scalars.{Scalars}
 use Rattle.graphql_requests.specs.declared.graphql_error.GraphQLError.TheVariants as error
 use Rattle.graphql_requests.proofs.ChosenOperations.{chosen-in}
 use Rattle.graphql_plain_requests.specs.PlainRequests.{asked_at, plain_of, values_for}

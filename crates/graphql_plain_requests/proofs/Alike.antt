@@ -4,7 +4,7 @@ use Rattle.std.specs.Str.{chars}
 use Rattle.graphql_language.specs.Alike.{AreAlike}
 use Rattle.graphql_schema.specs.Declarations.{declarations_of}
 use Rattle.graphql_schema.specs.declared.root_node.RootNode.{RootNode}
-use Rattle.graphql_requests.specs.Scalars.{Scalars}
+use Rattle.graphql_schema.specs.Scalars.{Scalars}
 use Rattle.graphql_plain_requests.specs.Laws.{AreValidAlike}
 use Rattle.graphql_plain_requests.specs.Laws.{SameTokensAreAskedAlike}
 use Rattle.graphql_plain_requests.proofs.AskedAlike.{executed-alike, refused-at-alike}

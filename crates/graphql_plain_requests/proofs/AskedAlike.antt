@@ -17,7 +17,7 @@ use Rattle.graphql_schema.specs.declared.root_node.RootNode.{RootNode}
 use Rattle.graphql_requests.specs.Asked.{Asking, IsExecutable, ReadsValid}
 use Rattle.graphql_requests.specs.Operations.{chosen, mutation_root}
 use Rattle.graphql_requests.specs.Refusals.{IsOnly, TakesValues}
-use Rattle.graphql_requests.specs.Scalars.{Scalars}
+use Rattle.graphql_schema.specs.Scalars.{Scalars}
 use Rattle.graphql_requests.specs.declared.graphql_error.GraphQLError.{GraphQLError}
 use Rattle.graphql_plain_requests.specs.PlainRequests.{asked_at}
 use Rattle.graphql_moved.specs.Moved.{moved, moved_operation}

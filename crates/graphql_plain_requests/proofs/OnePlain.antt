@@ -7,7 +7,7 @@ use Rattle.graphql_tree.specs.declared.document.Definition.{Definition}
 use Rattle.graphql_tree.specs.declared.document.Operation.{Operation}
 use Rattle.graphql_plain_text.specs.PlainTexts.{plain_text}
 use Rattle.graphql_requests.specs.Asked.{ExecutableAreNotRefused, OneIsExecuted}
-use Rattle.graphql_requests.specs.Scalars.{Scalars}
+use Rattle.graphql_schema.specs.Scalars.{Scalars}
 use Rattle.graphql_plain_requests.specs.Laws.{PlainAreNotRefused, PlainTextsAreOne}
 use Rattle.graphql_plain_requests.specs.PlainRequests.{plain_of, size_of}
 use Rattle.graphql_plain_requests.specs.declared.plain_error.PlainError.TheVariants as error

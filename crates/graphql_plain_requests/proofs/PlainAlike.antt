@@ -32,7 +32,7 @@ use Rattle.graphql_plain_text.proofs.RisingTokens.{tokens-rise}
 use Rattle.graphql_plain_validity.proofs.ValidTexts.{full}
 use Rattle.graphql_requests.specs.Asked.{Asking, IsExecutable}
 use Rattle.graphql_requests.specs.Operations.{chosen}
-use Rattle.graphql_requests.specs.Scalars.{Scalars}
+use Rattle.graphql_schema.specs.Scalars.{Scalars}
 use Rattle.graphql_requests.proofs.ChosenOperations.{chosen-in}
 use Rattle.graphql_requests.proofs.Exclusive.{from-ok}
 use Rattle.graphql_plain_requests.specs.PlainRequests.{IsLarger, IsPlainTextWithin, asked_at, plain_of, size_of, values_for}

@@ -23,7 +23,7 @@ use Rattle.graphql_plain_validity.specs.Laws.{SpelledSetsAreWhole, WrittenSetsAr
 use Rattle.graphql_plain_tree.specs.PlainDocuments.{document_of}
 use Rattle.graphql_plain_text.specs.Laws.{IsTextOf, PlainTextIsDocument}
 use Rattle.graphql_requests.specs.Operations.{mutation_root}
-use Rattle.graphql_requests.specs.Scalars.{Scalars}
+use Rattle.graphql_schema.specs.Scalars.{Scalars}
 use Rattle.graphql_requests.proofs.ChosenOperations.{chosen-in}
 use Rattle.graphql_plain_requests.specs.Laws.{PlainTextsAreDocuments}
 use Rattle.graphql_plain_requests.specs.PlainRequests.{asked_at, plain_of, values_for}

@@ -21,7 +21,7 @@ use Rattle.graphql_requests.specs.Asked.{Asking, IsExecutable, IsRefused, ReadsV
 use Rattle.graphql_requests.specs.Operations.{chosen}
 use Rattle.graphql_requests.specs.Refusals.{IsReady, IsStopped, errors_of}
 use Rattle.graphql_requests.specs.Faults.{refusal_of}
-use Rattle.graphql_requests.specs.Scalars.{Scalars}
+use Rattle.graphql_schema.specs.Scalars.{Scalars}
 use Rattle.graphql_requests.specs.declared.graphql_error.GraphQLError.{GraphQLError}
 use Rattle.graphql_requests.specs.declared.graphql_error.GraphQLError.TheVariants as refusal
 use Rattle.graphql_requests.proofs.FaultLemmas.{fault-told}

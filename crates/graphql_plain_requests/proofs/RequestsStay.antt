@@ -5,7 +5,7 @@ use Rattle.graphql_schema.specs.Declarations.{declarations_of}
 use Rattle.graphql_schema.specs.declared.root_node.RootNode.{RootNode}
 use Rattle.graphql_rules_document.proofs.KnownFieldTypes.{field-types-are-known}
 use Rattle.graphql_plain_validity.proofs.ValidTexts.{full}
-use Rattle.graphql_requests.specs.Scalars.{Scalars}
+use Rattle.graphql_schema.specs.Scalars.{Scalars}
 use Rattle.graphql_requests.proofs.ChosenOperations.{chosen-in}
 use Rattle.graphql_plain_requests.specs.Laws.{PlainAreNotRefused, PlainTextsAreAccepted, PlainTextsAreOne}
 use Rattle.graphql_plain_requests.specs.PlainRequests.{IsPlainTextWithin, asked_at, plain_of, values_for}

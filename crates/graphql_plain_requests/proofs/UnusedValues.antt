@@ -21,7 +21,7 @@ use Rattle.graphql_plain_validity.proofs.OneOperation.{one}
 use Rattle.graphql_plain_validity.proofs.UsedDefinitions.{used-from}
 use Rattle.graphql_plain_validity.proofs.UsedNames.{among}
 use Rattle.graphql_moved.proofs.UnlocatedDefinitions.{unlocated_defined, unlocated_definitions}
-use Rattle.graphql_requests.specs.Scalars.{Scalars}
+use Rattle.graphql_schema.specs.Scalars.{Scalars}
 use Rattle.graphql_plain_requests.specs.AcceptedAgain.{AreEqualOn}
 use Rattle.graphql_plain_requests.specs.Laws.{UnusedValuesAreNotAsked}
 use Rattle.graphql_plain_requests.proofs.AcceptedValues.{definitions-again}

@@ -17,7 +17,7 @@ use Rattle.graphql_written_out.specs.Written.{written}
 use Rattle.graphql_plain_tree.specs.PlainDocuments.{document_of}
 use Rattle.graphql_plain_tree.specs.PlainOperations.{plain_operation, variables_used}
 use Rattle.graphql_requests.specs.Asked.{Asking, IsExecutable, asking}
-use Rattle.graphql_requests.specs.Scalars.{Scalars}
+use Rattle.graphql_schema.specs.Scalars.{Scalars}
 
 -- each of these names has one value in both, or none in either
 abbrev pub AreEqualOn : {S : Type 0} → (Bytes → Option (InputValue S))

@@ -10,7 +10,7 @@ use Rattle.graphql_rule_errors.specs.declared.rule_error.RuleError.{RuleError}
 use Rattle.graphql_schema.specs.declared.root_node.RootNode.{RootNode}
 use Rattle.graphql_schema.specs.declared.schema.SchemaType.{SchemaType}
 use Rattle.graphql_requests.specs.Asked.{Asking, IsExecutable, asking}
-use Rattle.graphql_requests.specs.Scalars.{Scalars}
+use Rattle.graphql_schema.specs.Scalars.{Scalars}
 use Rattle.graphql_plain_requests.specs.PlainRequests.{HasNoPlainText, IsPlainText, IsDocumentAgain}
 use Rattle.graphql_plain_requests.specs.PlainRequests.{IsPlainTextWithin, asked_at, IsLarger}
 use Rattle.graphql_plain_requests.specs.AcceptedAgain.{AreEqualOn, IsAcceptedAgain, IsPlainPair}

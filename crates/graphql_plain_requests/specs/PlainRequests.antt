@@ -26,7 +26,7 @@ use Rattle.graphql_plain_tree.specs.PlainOperations.{PlainOperation, plain_opera
 use Rattle.graphql_plain_text.specs.Laws.{IsTextOf}
 use Rattle.graphql_plain_text.specs.PlainTexts.{plain_text}
 use Rattle.graphql_requests.specs.Asked.{Asking, IsExecutable, IsRefused, asking}
-use Rattle.graphql_requests.specs.Scalars.{Scalars}
+use Rattle.graphql_schema.specs.Scalars.{Scalars}
 use Rattle.graphql_requests.specs.declared.graphql_error.GraphQLError.TheVariants as refusal
 use Rattle.graphql_plain_requests.specs.declared.plain_error.PlainError.{PlainError}
 use Rattle.graphql_plain_requests.specs.declared.plain_error.PlainError.TheVariants as error

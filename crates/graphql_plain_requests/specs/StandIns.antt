@@ -2,7 +2,7 @@
 -- 3.5.4 Boolean, 3.13.1 @skip).
 use Rattle.std.specs.Prelude.{◌≡◌, true}
 pub use Rattle.graphql_plain_validity.specs.Schemas.{TakesTrue}
-use Rattle.graphql_requests.specs.Scalars.{Scalars}
+use Rattle.graphql_schema.specs.Scalars.{Scalars}
 use Rattle.graphql_schema.specs.Declarations.{declarations_of}
 use Rattle.graphql_schema.specs.Directives.{has_standard_conditions}
 use Rattle.graphql_schema.specs.declared.schema.SchemaType.{SchemaType}

@@ -27,9 +27,8 @@ pub use graphql_plain_validity::rules::{
 pub use graphql_plain_validity::variables::{
     uses_stay_allowed, uses_stay_defined, variable_names_stay_distinct, variables_stay_used,
 };
-use graphql_requests::Meaning;
 use graphql_requests::laws::{executable_requests_are_not_refused, one_operation_is_executed};
-use graphql_schema::{RootNode, SchemaScalar};
+use graphql_schema::{Meaning, RootNode, SchemaScalar};
 use graphql_validation::laws::documents_without_a_fault_are_well_formed;
 use graphql_values::ScalarValue;
 

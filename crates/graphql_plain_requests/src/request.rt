@@ -28,10 +28,10 @@ use graphql_lines::GraphQLRequest;
 pub use graphql_plain_print::Printed;
 use graphql_plain_print::{PrintError, print_operation};
 use graphql_requests::{
-    GraphQLError, Meaning, chosen_operation, documents_without_a_fault_are_settled, read_records,
+    GraphQLError, chosen_operation, documents_without_a_fault_are_settled, read_records,
 };
 use graphql_rule_errors::RuleError;
-use graphql_schema::{RootNode, SchemaScalar};
+use graphql_schema::{Meaning, RootNode, SchemaScalar};
 use graphql_tree::{Definition, Operation};
 use graphql_values::Variables;
 use graphql_written_out::FinalVariables;

@@ -15,7 +15,7 @@ use Rattle.graphql_variable_checks.proofs.Sorted.{none_moved}
 use Rattle.graphql_validation.proofs.AllRulesLemmas.{root_exactly}
 use Rattle.graphql_requests.specs.Operations.{chosen, mutation_root}
 use Rattle.graphql_requests.specs.Refusals.{AreRefused, IsReady, IsStopped, IsHeld, IsUnread}
-use Rattle.graphql_requests.specs.Scalars.{Scalars}
+use Rattle.graphql_schema.specs.Scalars.{Scalars}
 use Rattle.graphql_validation.specs.AllRules.{RequestTold}
 use Rattle.graphql_requests.specs.declared.graphql_error.GraphQLError.{GraphQLError}
 use Rattle.graphql_requests.specs.declared.graphql_error.GraphQLError.TheVariants as error

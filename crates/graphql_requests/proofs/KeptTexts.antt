@@ -10,7 +10,7 @@ use Rattle.std.proofs.lemmas.Slice.Eq.{bytes_eq-Decides}
 use Rattle.graphql_tree.specs.declared.document.Definition.{Definition}
 use Rattle.graphql_schema.specs.Declarations.{Declarations}
 use Rattle.graphql_requests.specs.Refusals.{IsRead, IsValidIn, IsValidText}
-use Rattle.graphql_requests.specs.Scalars.{Scalars}
+use Rattle.graphql_schema.specs.Scalars.{Scalars}
 
 module _ {Y H : Type 0} (old new : HashSet (String Y) H) (key : String Y) where
   abbrev IsAmong : List ℕ → Type 0

@@ -16,7 +16,7 @@ use Rattle.graphql_validation.proofs.AllRulesLemmas.{root_exactly}
 use Rattle.graphql_requests.specs.Asked.{Asking, IsExecutable, IsRefused, ReadsValid}
 use Rattle.graphql_requests.specs.Operations.{chosen, mutation_root}
 use Rattle.graphql_requests.specs.Refusals.{AreRefused, IsHeld, IsOnly, IsStopped, IsUnread, IsValidIn, TakesValues}
-use Rattle.graphql_requests.specs.Scalars.{Scalars}
+use Rattle.graphql_schema.specs.Scalars.{Scalars}
 use Rattle.graphql_requests.specs.declared.graphql_error.GraphQLError.{GraphQLError}
 use Rattle.graphql_requests.specs.declared.graphql_error.GraphQLError.TheVariants as error
 use Rattle.graphql_requests.proofs.Exclusive.{from-ok}

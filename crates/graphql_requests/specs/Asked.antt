@@ -13,7 +13,7 @@ use Rattle.graphql_schema.specs.Declarations.{declarations_of}
 use Rattle.graphql_schema.specs.declared.schema.SchemaType.{SchemaType}
 use Rattle.graphql_requests.specs.Operations.{chosen}
 use Rattle.graphql_requests.specs.Refusals.{IsRead, IsReady, IsStopped, IsUnread, errors_of}
-use Rattle.graphql_requests.specs.Scalars.{Scalars}
+use Rattle.graphql_schema.specs.Scalars.{Scalars}
 use Rattle.graphql_requests.specs.declared.graphql_error.GraphQLError.{GraphQLError}
 use Rattle.graphql_requests.specs.declared.graphql_error.GraphQLError.TheVariants as error
 

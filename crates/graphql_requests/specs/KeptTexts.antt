@@ -7,7 +7,7 @@ use Rattle.graphql_names.specs.Names.{Bytes}
 use Rattle.graphql_schema.specs.declared.root_node.RootNode.{RootNode}
 use Rattle.graphql_schema.specs.Declarations.{declarations_of}
 use Rattle.graphql_requests.specs.Refusals.{IsValidText}
-use Rattle.graphql_requests.specs.Scalars.{Scalars}
+use Rattle.graphql_schema.specs.Scalars.{Scalars}
 use Rattle.graphql_requests.specs.declared.valid_texts.ValidTexts.{ValidTexts}
 
 -- whether a text of these bytes is kept

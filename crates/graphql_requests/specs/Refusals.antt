@@ -16,7 +16,7 @@ use Rattle.graphql_variable_checks.specs.Accepted.{AreAccepted, ValuesTold}
 use Rattle.graphql_visitors.specs.Subjects.{Subject}
 use Rattle.graphql_validation.specs.AllRules.{IsValidAt, RequestTold}
 use Rattle.graphql_requests.specs.Operations.{mutation_root}
-use Rattle.graphql_requests.specs.Scalars.{Scalars}
+use Rattle.graphql_schema.specs.Scalars.{Scalars}
 use Rattle.graphql_requests.specs.declared.graphql_error.GraphQLError.{GraphQLError}
 use Rattle.graphql_requests.specs.declared.graphql_error.GraphQLError.TheVariants as error
 

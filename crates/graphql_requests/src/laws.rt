@@ -4,8 +4,7 @@ ghost use Rattle.graphql_requests.specs.Asked.{ExecutableAreNotRefused, OneIsExe
 ghost use Rattle.graphql_requests.specs.Steps.{ExecutedAreAtNoStep, OneStepRefuses};
 ghost use Rattle.graphql_requests.specs.Steps.{RefusalsHaveSteps};
 
-use crate::meaning::Meaning;
-use graphql_schema::SchemaScalar;
+use graphql_schema::{Meaning, SchemaScalar};
 
 /// A request that can be executed is refused by nothing but want of memory: no request is both
 /// executed and refused, so that the first step that fails decides what it is refused for.

@@ -13,12 +13,11 @@ ghost use Rattle.graphql_requests.specs.Refusals.{IsOnly, IsRead, IsReady, IsSto
 ghost use Rattle.graphql_requests.specs.Refusals.{IsValidIn, errors_of};
 
 use crate::graphql_error::GraphQLError;
-use crate::meaning::Meaning;
 use crate::operations::{get_operation, mutation_root};
 use crate::valid_texts::ValidTexts;
 use graphql_language::{TokenRecords, parse_document_records, parse_document_source};
 use graphql_rule_errors::RuleError;
-use graphql_schema::{RootNode, SchemaScalar};
+use graphql_schema::{Meaning, RootNode, SchemaScalar};
 use graphql_text::Spanning;
 use graphql_tree::{Definition, Operation, OwnedDocument};
 use graphql_validation::root_node_errors;

@@ -16,7 +16,7 @@ use Rattle.graphql_semantics.specs.Outcomes.{Outcome}
 use Rattle.graphql_mutation.specs.Serial.{Run}
 use Rattle.graphql_plain_answers.specs.WithoutPlaces.{unlocated_failure, unlocated_outcome, unlocated_run}
 use Rattle.graphql_requests.specs.Operations.{mutation_root}
-use Rattle.graphql_requests.specs.Scalars.{Scalars}
+use Rattle.graphql_schema.specs.Scalars.{Scalars}
 use Rattle.graphql_requests.proofs.Exclusive.{from-ok}
 use Rattle.graphql_executor.specs.Executed.{Yields, data_of, runs}
 use Rattle.graphql_executor.specs.Resolvers.{Resolver}

@@ -28,7 +28,7 @@ use Rattle.graphql_plain_requests.specs.Laws.{PlainTextsAreAccepted, UnusedValue
 use Rattle.graphql_plain_requests.specs.PlainRequests.{asked_at}
 use Rattle.graphql_requests.specs.Asked.{IsExecutable, OneIsExecuted}
 use Rattle.graphql_requests.specs.Operations.{mutation_root}
-use Rattle.graphql_requests.specs.Scalars.{Scalars}
+use Rattle.graphql_schema.specs.Scalars.{Scalars}
 use Rattle.graphql_executor.specs.Answered.{IsAnswered}
 use Rattle.graphql_executor.specs.Executed.{Yields, data_of, runs}
 use Rattle.graphql_executor.specs.Resolvers.{Resolver}

@@ -13,7 +13,7 @@ use Rattle.graphql_schema.specs.Schemas.{roots_of}
 use Rattle.graphql_schema.specs.declared.root_node.RootNode.{RootNode}
 use Rattle.graphql_semantics.specs.Completion.{Members, object_members}
 use Rattle.graphql_execution_walk.specs.declared.asked.Asked.TheVariants as asked
-use Rattle.graphql_requests.specs.Scalars.{Scalars}
+use Rattle.graphql_schema.specs.Scalars.{Scalars}
 use Rattle.graphql_requests.proofs.ChosenOperations.{chosen-in}
 use Rattle.graphql_executor.specs.Executed.{data_of, runs}
 use Rattle.graphql_executor.specs.Resolvers.{Resolver}

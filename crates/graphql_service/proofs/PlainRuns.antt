@@ -6,7 +6,7 @@ use Rattle.graphql_written_out.specs.FinalValues.{final_value}
 use Rattle.graphql_execution_walk.specs.declared.asked.Asked.TheVariants as asked
 use Rattle.graphql_plain_answers.specs.Laws.{PlainDocumentIsPlain, PlainDocumentsAnswerAlike}
 use Rattle.graphql_plain_answers.specs.WithoutPlaces.{unlocated_run}
-use Rattle.graphql_requests.specs.Scalars.{Scalars}
+use Rattle.graphql_schema.specs.Scalars.{Scalars}
 use Rattle.graphql_executor.specs.Executed.{runs}
 use Rattle.graphql_service.specs.Yields.{PlainOperationsYieldAlike, PlainRunsAreAlike}
 use Rattle.graphql_service.proofs.AlikeYields.{yield-alike}

@@ -11,7 +11,7 @@ use Rattle.graphql_plain_requests.specs.AcceptedAgain.{IsPlainPair}
 use Rattle.graphql_plain_requests.specs.Laws.{PlainTextsAreDocuments}
 use Rattle.graphql_plain_requests.specs.PlainRequests.{asked_at}
 use Rattle.graphql_requests.specs.Asked.{OneIsExecuted}
-use Rattle.graphql_requests.specs.Scalars.{Scalars}
+use Rattle.graphql_schema.specs.Scalars.{Scalars}
 use Rattle.graphql_requests.proofs.ChosenOperations.{chosen-listed}
 use Rattle.graphql_executor.specs.Executed.{Yields}
 use Rattle.graphql_executor.specs.Resolvers.{Resolver}

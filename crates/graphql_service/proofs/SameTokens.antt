@@ -14,7 +14,7 @@ use Rattle.graphql_plain_answers.specs.Lawful.{IsLawful}
 use Rattle.graphql_plain_answers.specs.WithoutPlaces.{unlocated_run}
 use Rattle.graphql_plain_requests.specs.PlainRequests.{asked_at}
 use Rattle.graphql_requests.specs.Asked.{OneIsExecuted}
-use Rattle.graphql_requests.specs.Scalars.{Scalars}
+use Rattle.graphql_schema.specs.Scalars.{Scalars}
 use Rattle.graphql_executor.specs.Executed.{Yields, runs}
 use Rattle.graphql_executor.specs.Resolvers.{Resolver}
 use Rattle.graphql_plain_requests.specs.Laws.{AreValidAlike}

@@ -20,7 +20,7 @@ use Rattle.graphql_execution_walk.specs.Engines.{engine_over}
 use Rattle.graphql_execution_walk.specs.FieldDeclarations.{is_possible_named}
 use Rattle.graphql_execution_walk.specs.declared.asked.Asked.{Asked}
 use Rattle.graphql_requests.specs.Operations.{chosen}
-use Rattle.graphql_requests.specs.Scalars.{Scalars}
+use Rattle.graphql_schema.specs.Scalars.{Scalars}
 use Rattle.graphql_validation.specs.AllRules.{IsValid}
 use Rattle.graphql_executor.specs.Executed.{data_of, runs}
 use Rattle.graphql_executor.specs.Resolvers.{Resolver}

@@ -11,7 +11,7 @@ use Rattle.graphql_field_results.specs.declared.execution_error.ExecutionError.{
 use Rattle.graphql_plain_requests.specs.AcceptedAgain.{AreEqualOn, used_by}
 use Rattle.graphql_plain_requests.specs.PlainRequests.{IsPlainText, asked_at}
 use Rattle.graphql_plain_requests.specs.StandIns.{TakesStandIn}
-use Rattle.graphql_requests.specs.Scalars.{Scalars}
+use Rattle.graphql_schema.specs.Scalars.{Scalars}
 use Rattle.graphql_executor.specs.Answered.{IsAnswered}
 use Rattle.graphql_executor.specs.Resolvers.{Resolver}
 

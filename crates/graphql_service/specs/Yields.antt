@@ -12,7 +12,7 @@ use Rattle.graphql_field_results.specs.declared.execution_error.ExecutionError.{
 use Rattle.graphql_plain_answers.specs.AgreeingValues.{AgreeOn, Values}
 use Rattle.graphql_plain_answers.specs.Lawful.{IsLawful}
 use Rattle.graphql_plain_answers.specs.WithoutPlaces.{unlocated_run}
-use Rattle.graphql_requests.specs.Scalars.{Scalars}
+use Rattle.graphql_schema.specs.Scalars.{Scalars}
 use Rattle.graphql_plain_requests.specs.AcceptedAgain.{IsPlainPair, used_by}
 use Rattle.graphql_executor.specs.Executed.{Yields, runs}
 use Rattle.graphql_executor.specs.Resolvers.{Resolver}

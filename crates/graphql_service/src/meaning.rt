@@ -16,9 +16,8 @@ use graphql_plain_requests::laws::{
     plain_texts_are_accepted, plain_texts_are_documents, same_tokens_are_asked_alike,
     unused_values_are_not_asked, valid_alike,
 };
-use graphql_requests::Meaning;
 use graphql_requests::laws::one_operation_is_executed;
-use graphql_schema::{RootNode, SchemaScalar};
+use graphql_schema::{Meaning, RootNode, SchemaScalar};
 
 /// An operation and the operation of its plain document give the same value, and the same failures
 /// but for their places, and leave the same context, at the root of queries and at that of

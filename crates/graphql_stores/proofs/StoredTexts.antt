@@ -1,7 +1,7 @@
 -- What is stored is allowed, however it is spelled, and stands for the requests that are allowed.
 use Rattle.graphql_executor.specs.Resolvers.{Resolver}
 use Rattle.graphql_plain_requests.specs.Laws.{PlainRequestsStay, SameTokensAreAskedAlike}
-use Rattle.graphql_requests.specs.Scalars.{Scalars}
+use Rattle.graphql_schema.specs.Scalars.{Scalars}
 use Rattle.graphql_schema.specs.declared.root_node.RootNode.{RootNode}
 use Rattle.graphql_service.specs.MeaningLaws.{PlainIsAnsweredToo, PlainMeansTheSame}
 use Rattle.graphql_stores.specs.AllowedLaws.{SameTokensAreAllowedAlike, StoredTextsAreAllowed, StoredTextsStandForRequests}

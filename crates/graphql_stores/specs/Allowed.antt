@@ -4,7 +4,7 @@ use Rattle.graphql_names.specs.Names.{Bytes}
 use Rattle.graphql_stores.specs.Stores.{is_allowed}
 use Rattle.graphql_stores.specs.declared.allowed_queries.AllowedQueries.{AllowedQueries}
 use Rattle.graphql_requests.specs.Asked.{Asking}
-use Rattle.graphql_requests.specs.Scalars.{Scalars}
+use Rattle.graphql_schema.specs.Scalars.{Scalars}
 use Rattle.graphql_plain_requests.specs.PlainRequests.{IsPlainTextWithin}
 
 -- by what scalars mean, a store, and the greatest size of a plain text

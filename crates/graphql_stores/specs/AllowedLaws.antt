@@ -12,7 +12,7 @@ use Rattle.graphql_field_results.specs.declared.execution_error.ExecutionError.{
 use Rattle.graphql_language.specs.Alike.{AreAlike}
 use Rattle.graphql_schema.specs.declared.root_node.RootNode.{RootNode}
 use Rattle.graphql_requests.specs.Asked.{Asking}
-use Rattle.graphql_requests.specs.Scalars.{Scalars}
+use Rattle.graphql_schema.specs.Scalars.{Scalars}
 use Rattle.graphql_plain_requests.specs.PlainRequests.{IsPlainTextWithin, asked_at}
 use Rattle.graphql_plain_requests.specs.StandIns.{TakesStandIn}
 use Rattle.graphql_executor.specs.Answered.{IsAnswered}

@@ -4,7 +4,7 @@ use Rattle.std.specs.Str.{chars, IsUtf8}
 use Rattle.graphql_names.specs.Names.{Bytes}
 use Rattle.graphql_schema.specs.declared.root_node.RootNode.{RootNode}
 use Rattle.graphql_language.specs.Alike.{AreAlike}
-use Rattle.graphql_requests.specs.Scalars.{Scalars}
+use Rattle.graphql_schema.specs.Scalars.{Scalars}
 use Rattle.graphql_stores.specs.AllowedLaws.{SameTokensAreAllowedAlike}
 use Rattle.graphql_stores_tests.specs.Stored.{AreAllowedAlike}
 

@@ -11,7 +11,7 @@ use Rattle.graphql_output_values.specs.declared.value.Value.{Value}
 use Rattle.graphql_field_results.specs.declared.execution_error.ExecutionError.{ExecutionError}
 use Rattle.graphql_schema.specs.declared.root_node.RootNode.{RootNode}
 use Rattle.graphql_lines.specs.declared.request.GraphQLRequest.{GraphQLRequest}
-use Rattle.graphql_requests.specs.Scalars.{Scalars}
+use Rattle.graphql_schema.specs.Scalars.{Scalars}
 use Rattle.graphql_plain_requests.specs.PlainRequests.{IsPlainTextWithin, asked_at, asked_of}
 use Rattle.graphql_plain_requests.specs.Laws.{PlainTextsAreOne}
 use Rattle.graphql_plain_requests.specs.StandIns.{TakesStandIn}

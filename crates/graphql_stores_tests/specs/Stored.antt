@@ -11,7 +11,7 @@ use Rattle.graphql_field_results.specs.declared.execution_error.ExecutionError.{
 use Rattle.graphql_schema.specs.declared.root_node.RootNode.{RootNode}
 use Rattle.graphql_lines.specs.declared.request.GraphQLRequest.{GraphQLRequest}
 use Rattle.graphql_requests.specs.Asked.{Asking}
-use Rattle.graphql_requests.specs.Scalars.{Scalars}
+use Rattle.graphql_schema.specs.Scalars.{Scalars}
 use Rattle.graphql_plain_requests.specs.PlainRequests.{asked_at}
 use Rattle.graphql_executor.specs.Answered.{IsAnswered}
 use Rattle.graphql_executor.specs.Resolvers.{Resolver}

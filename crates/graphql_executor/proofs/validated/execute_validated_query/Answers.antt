@@ -1,6 +1,6 @@
 use Rattle.std.proofs.Common.{inr, option_map, rules}
 use Rattle.std.specs.HashMap.{get_by_text}
-use Rattle.graphql_requests.specs.Scalars.{Scalars}
+use Rattle.graphql_schema.specs.Scalars.{Scalars}
 use Rattle.graphql_executor.specs.Resolvers.{Resolver}
 use Rattle.graphql_executor.proofs.Running.{schema-begun, schema-responds}
 use Rattle.graphql_executor.proofs.validated.execute_validated_query.Goals as goal

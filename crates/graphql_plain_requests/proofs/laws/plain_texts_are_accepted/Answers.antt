@@ -2,7 +2,7 @@ use Rattle.std.proofs.Common.{subst}
 use Rattle.graphql_schema.specs.Declarations.{declarations_of}
 use Rattle.graphql_schema.specs.declared.schema.SchemaType.{SchemaType}
 use Rattle.graphql_plain_validity.specs.Laws.{PlainTextsAreValid}
-use Rattle.graphql_requests.specs.Scalars.{Scalars}
+use Rattle.graphql_schema.specs.Scalars.{Scalars}
 use Rattle.graphql_plain_requests.proofs.AcceptedTexts.{plain-texts-are-accepted}
 use Rattle.graphql_plain_requests.proofs.laws.plain_texts_are_accepted.Goals as goal
 

@@ -1,5 +1,5 @@
 use Rattle.graphql_schema.specs.Declarations.{declarations_of}
-use Rattle.graphql_requests.specs.Scalars.{Scalars}
+use Rattle.graphql_schema.specs.Scalars.{Scalars}
 use Rattle.graphql_plain_requests.proofs.Alike.{same-tokens-are-asked-alike}
 use Rattle.graphql_plain_requests.proofs.laws.same_tokens_are_asked_alike.Goals as goal
 

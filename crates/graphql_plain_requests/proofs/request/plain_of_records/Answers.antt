@@ -3,7 +3,7 @@ use Rattle.std.specs.HashMap.{get_by_text}
 use Rattle.std.specs.String.{string_bytes}
 use Rattle.graphql_schema.specs.Declarations.{declarations_of}
 use Rattle.graphql_requests.specs.Asked.{Asking}
-use Rattle.graphql_requests.specs.Scalars.{Scalars}
+use Rattle.graphql_schema.specs.Scalars.{Scalars}
 use Rattle.graphql_requests.specs.Validity.{HasNoFault}
 use Rattle.graphql_plain_print.specs.declared.printed.Printed.{Printed}
 use Rattle.graphql_plain_requests.specs.PlainRequests.{asked_at}

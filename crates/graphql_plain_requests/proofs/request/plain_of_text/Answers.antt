@@ -2,7 +2,7 @@ use Rattle.std.proofs.Common.{option_map, rules}
 use Rattle.std.specs.HashMap.{get_by_text}
 use Rattle.std.specs.Str.{chars}
 use Rattle.graphql_requests.specs.Asked.{Asking}
-use Rattle.graphql_requests.specs.Scalars.{Scalars}
+use Rattle.graphql_schema.specs.Scalars.{Scalars}
 use Rattle.graphql_plain_requests.specs.PlainRequests.{asked_at}
 use Rattle.graphql_plain_requests.proofs.Refused.{lexical-refuses}
 use Rattle.graphql_plain_requests.proofs.request.plain_of_text.Goals as goal

@@ -1,7 +1,7 @@
 use Rattle.std.specs.Str.{chars}
 use Rattle.graphql_schema.specs.Declarations.{declarations_of}
 use Rattle.graphql_requests.specs.KeptTexts.{keeps}
-use Rattle.graphql_requests.specs.Scalars.{Scalars}
+use Rattle.graphql_schema.specs.Scalars.{Scalars}
 use Rattle.graphql_requests.proofs.KeptTexts.{kept-valid, read-valid}
 use Rattle.graphql_requests.proofs.prepared.read_request_with.Goals as goal
 

@@ -1,4 +1,4 @@
-use Rattle.graphql_requests.specs.Scalars.{Scalars}
+use Rattle.graphql_schema.specs.Scalars.{Scalars}
 use Rattle.graphql_executor.specs.Resolvers.{Resolver}
 use Rattle.graphql_service.proofs.JoinedData.{parts-of-queries-join}
 use Rattle.graphql_service.proofs.laws.parts_of_queries_join.Goals as goal

@@ -1,4 +1,4 @@
-use Rattle.graphql_requests.specs.Scalars.{Scalars}
+use Rattle.graphql_schema.specs.Scalars.{Scalars}
 use Rattle.graphql_executor.specs.Resolvers.{Resolver}
 use Rattle.graphql_service.proofs.AnsweredToo.{plain-is-answered-alike}
 use Rattle.graphql_service.proofs.meaning.plain_is_answered_alike.Goals as goal

@@ -1,4 +1,4 @@
-use Rattle.graphql_requests.specs.Scalars.{Scalars}
+use Rattle.graphql_schema.specs.Scalars.{Scalars}
 use Rattle.graphql_executor.specs.Resolvers.{Resolver}
 use Rattle.graphql_service.proofs.SameMeaning.{plain-means-the-same}
 use Rattle.graphql_service.proofs.meaning.plain_means_the_same.Goals as goal

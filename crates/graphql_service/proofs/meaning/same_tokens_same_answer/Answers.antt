@@ -1,5 +1,5 @@
 use Rattle.graphql_schema.specs.Declarations.{declarations_of}
-use Rattle.graphql_requests.specs.Scalars.{Scalars}
+use Rattle.graphql_schema.specs.Scalars.{Scalars}
 use Rattle.graphql_executor.specs.Resolvers.{Resolver}
 use Rattle.graphql_service.proofs.SameTokens.{same-tokens-same-answer}
 use Rattle.graphql_service.proofs.meaning.same_tokens_same_answer.Goals as goal

@@ -1,10 +1,10 @@
 //! What the scalars of a schema mean, by one word for contracts.
 
-use graphql_schema::SchemaScalar;
+use crate::check::SchemaScalar;
 
 /// What the scalars of a schema mean. Each scalar type of schemas has it.
 pub trait Meaning: SchemaScalar {
-    ghost use Rattle.graphql_requests.specs.Scalars.{Scalars};
+    ghost use Rattle.graphql_schema.specs.Scalars.{Scalars};
 
     /// What they mean.
     ghost meaning: { Scalars Self Self.Check };
