@@ -1,2 +1,1 @@
-mod FragmentLemmas
 pub mod NamesBehind

@@ -1,3 +1,2 @@
-pub mod FragmentLists
 pub mod Occurrences
 pub mod Requests

@@ -3,11 +3,9 @@
 #![tactic(auto)]
 
 mod collected_field;
-mod fragments;
 mod leaving_out;
 mod request;
 
 pub use collected_field::CollectedField;
-pub use fragments::Fragments;
 pub use leaving_out::drops;
 pub use request::Request;

@@ -1,8 +1,7 @@
 //! What stays the same while a request runs.
 
-use crate::fragments::Fragments;
 use graphql_schema::{SchemaScalar, SchemaType};
-use graphql_written_out::FinalVariables;
+use graphql_written_out::{FinalVariables, Fragments};
 
 /// A schema, the fragments of a document, and the final values of an operation's variables.
 #[derive(Drop)]

@@ -15,7 +15,7 @@ ghost use Rattle.graphql_executor.specs.Executed.{IsBegun, IsBegunAt, IsResponse
 ghost use Rattle.graphql_executor.specs.Executed.{runs};
 
 use crate::resolving::Resolving;
-use graphql_collected::{Fragments, Request};
+use graphql_collected::Request;
 use graphql_execution_walk::{
     Asked, Executor, GraphQLValue, Report, answer_selections, or_null, query_root_name,
 };
@@ -26,7 +26,7 @@ use graphql_schema::{Meaning, SchemaScalar, SchemaType};
 use graphql_text::{Items, SourcePosition, Spanning};
 use graphql_tree::{Definition, Operation, Selection};
 use graphql_values::Variables;
-use graphql_written_out::FinalVariables;
+use graphql_written_out::{FinalVariables, Fragments};
 use std::alloc::{AllocError, Global};
 
 /// Data, and the errors of fields without a value, in order (GraphQL October 2021, 7.1 Response

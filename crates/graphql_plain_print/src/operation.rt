@@ -20,12 +20,11 @@ use crate::printed::Printed;
 use crate::printing::print_set;
 use crate::variables::push_definitions;
 use crate::words::push_word;
-use graphql_collected::Fragments;
 use graphql_lexer::TokenRecords;
 use graphql_text::{Spanning, TextRef};
 use graphql_tree::{Definition, Operation, OperationType};
 use graphql_values::ScalarValue;
-use graphql_written_out::{FinalVariables, definitions_of};
+use graphql_written_out::{FinalVariables, Fragments, definitions_of};
 use std::alloc::{AllocError, Global};
 use std::collections::HashSet;
 

@@ -1,8 +1,7 @@
 //! What printing asks of a request.
 
-use graphql_collected::Fragments;
 use graphql_lexer::TokenRecords;
-use graphql_written_out::FinalVariables;
+use graphql_written_out::{FinalVariables, Fragments};
 
 /// What stays the same while an operation is printed.
 #[derive(Drop)]

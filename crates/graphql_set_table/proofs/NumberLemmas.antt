@@ -16,67 +16,10 @@ use Rattle.graphql_tree.specs.declared.document.Fragment.{Fragment}
 use Rattle.graphql_schema.specs.Declarations.{Declarations}
 use Rattle.graphql_written_out.specs.Written.{fragment_meant}
 use Rattle.graphql_tree.specs.Definitions.{fragments_listed}
-use Rattle.graphql_set_table.specs.FragmentNumbers.{defines_fragment, fragment_number}
+use Rattle.graphql_written_out.specs.FragmentNumbers.{fragment_number}
 use Rattle.graphql_set_table.specs.Numbered.{IsNumberOf, DefinitionsFirst}
 use Rattle.graphql_set_table.specs.SetsAt.{SetAt, definition_set, fragment_set}
 use Rattle.graphql_set_table.proofs.Rows.{zip-weaker, slice_get-take}
-
-module _ {S : Type 0} where
-  number-push : (ds : List (Definition S)) (d : Definition S) (name : Bytes)
-      → fragment_number (ds ++ d ∷ []) name ≡ option_or (fragment_number ds name) (cond (defines_fragment name d) (Some (length ds)) None)
-  number-push [] d name = refl
-  number-push (e ∷ ds) d name =
-      ap (λ o. cond (defines_fragment name e) (Some 0) (option_map suc o)) (number-push ds d name)
-      ∙ either (defines_fragment name e) (fragment_number ds name) (defines_fragment name d)
-    where
-      either : (b : Bool) (o : Option ℕ) (c : Bool)
-          → cond b (Some 0) (option_map suc (option_or o (cond c (Some (length ds)) None))) ≡ option_or (cond b (Some 0) (option_map suc o)) (cond c (Some (suc (length ds))) None)
-      either true o c = refl
-      either false (Some k) c = refl
-      either false None true = refl
-      either false None false = refl
-
-  -- one definition more
-  pub number-more : (document : List (Definition S)) (i : ℕ) (d : Definition S) → i < length document → d ≡ get_or document i d
-      → (name : Bytes) (old new : Option ℕ) → old ≡ fragment_number (take i document) name → new ≡ option_or old (cond (defines_fragment name d) (Some i) None)
-      → new ≡ fragment_number (take (i + 1) document) name
-  number-more document i d within is name old new before step =
-      let grown : take (i + 1) document ≡ take i document ++ d ∷ [] = take_more document i d within ∙ ap (λ x. take i document ++ x ∷ []) (sym is) in
-      let count : length (take i document) ≡ i = length-take-le i document (omega arith) in
-      step
-      ∙ (λ j. option_or (before j) (cond (defines_fragment name d) (Some (sym count j)) None))
-      ∙ sym (ap (λ ds. fragment_number ds name) grown ∙ number-push (take i document) d name)
-
--- a name that was not there is put at its number
-number-put : {H : Type 0} (put : Bytes) (number : ℕ) (old new : HashMap (Bor Bytes) ℕ H) → UpdatesBy (λ x y. bytes_eq x.now y.now) (λ k. bytes_eq put k.now) old new (Some number)
-    → get_by (λ k. bytes_eq put k.now) old ≡ None
-    → (name : Bytes) → get_by (λ k. bytes_eq name k.now) new ≡ option_or (get_by (λ k. bytes_eq name k.now) old) (cond (bytes_eq put name) (Some number) None)
-number-put put number old new updates absent name =
-    hash_map_updates_str put old new (Some number) updates name ∙ either (bytes_eq put name) refl (get_by (λ k. bytes_eq name k.now) old) refl
-  where
-    or-none : (o : Option ℕ) → o ≡ option_or o None
-    or-none None = refl
-    or-none (Some k) = refl
-
-    either : (b : Bool) → bytes_eq put name ≡ b → (o : Option ℕ) → get_by (λ k. bytes_eq name k.now) old ≡ o → cond b (Some number) o ≡ option_or o (cond b (Some number) None)
-    either true e o at =
-        let same : put ≡ name = (bytes_eq-Decides put name).0 e in
-        let none : o ≡ None = sym at ∙ sym (ap (λ bs. get_by (λ k. bytes_eq bs k.now) old) same) ∙ absent in
-        sym (ap (λ p. option_or p (Some number)) none)
-    either false e o at = or-none o
-
-not-there : {A : Type 0} (o : Option A) (there : Bool) → there ≡ is_some o → there ≡ false → o ≡ None
-not-there None there e n = refl
-not-there (Some x) there e n = cc
-
--- a fragment whose name was not there is added
-pub fragment-added : {S H : Type 0} (d : Definition S) (f : Placed (Fragment S)) → d ≡ definition.Fragment f → (put : Bytes) → put ≡ f.item.name.item
-    → (number : ℕ) (there : Bool) (old new : HashMap (Bor Bytes) ℕ H) → there ≡ is_some (get_by (λ k. bytes_eq put k.now) old) → there ≡ false
-    → UpdatesBy (λ x y. bytes_eq x.now y.now) (λ k. bytes_eq put k.now) old new (Some number)
-    → (name : Bytes) → get_by (λ k. bytes_eq name k.now) new ≡ option_or (get_by (λ k. bytes_eq name k.now) old) (cond (defines_fragment name d) (Some number) None)
-fragment-added d f is put named number there old new e n updates name =
-    number-put put number old new updates (not-there (get_by (λ k. bytes_eq put k.now) old) there e n) name
-    ∙ ap (λ b. option_or (get_by (λ k. bytes_eq name k.now) old) (cond b (Some number) None)) (ap (λ bs. bytes_eq bs name) named ∙ sym (ap (defines_fragment name) is))
 
 module _ {S C : Type 0} (schema : Declarations S C) where
   abbrev At : List (Definition S) → ℕ → SetAt S C → Type 0

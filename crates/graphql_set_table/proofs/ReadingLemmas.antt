@@ -24,7 +24,7 @@ use Rattle.graphql_merging.proofs.NodeEquations.{nodes-field, nodes-inline, node
 use Rattle.graphql_merging.specs.declared.table.WrittenField.{WrittenField}
 use Rattle.graphql_merging.specs.declared.table.WrittenSet.{WrittenSet}
 use Rattle.graphql_set_table.specs.declared.open_set.OpenSet.{OpenSet}
-use Rattle.graphql_set_table.specs.FragmentNumbers.{fragment_number}
+use Rattle.graphql_written_out.specs.FragmentNumbers.{fragment_number}
 use Rattle.graphql_set_table.specs.Numbered.{IsNumberOf, IsFieldOf, IsSetOf, DefinitionsFirst, field_at}
 use Rattle.graphql_set_table.specs.Reading.{Extends, AddsItems, ReadsSet, ReadsOnce, nodes_in, set_at, sets_at}
 use Rattle.graphql_set_table.specs.SetsAt.{SetAt, FieldAt, own_set, definition_set}

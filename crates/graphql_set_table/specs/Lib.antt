@@ -1,4 +1,3 @@
 pub mod SetsAt
 pub mod Numbered
-pub mod FragmentNumbers
 pub mod Reading

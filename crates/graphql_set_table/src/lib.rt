@@ -2,7 +2,6 @@
 //! Selection Sets, 2.8 Fragments): what the rule that fields merge goes through.
 #![tactic(auto)]
 
-mod fragment_numbers;
 mod open_set;
 mod reading;
 mod scopes;

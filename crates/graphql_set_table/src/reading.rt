@@ -8,19 +8,19 @@ ghost use Rattle.graphql_written_out.specs.Written.{condition_of};
 ghost use Rattle.graphql_merging.specs.FieldNodes.{selection_nodes, set_nodes};
 ghost use Rattle.graphql_merging.specs.Members.{inside};
 ghost use Rattle.graphql_tree.specs.Definitions.{fragments_listed};
-ghost use Rattle.graphql_set_table.specs.FragmentNumbers.{fragment_number};
+ghost use Rattle.graphql_written_out.specs.FragmentNumbers.{fragment_number};
 ghost use Rattle.graphql_set_table.specs.Numbered.{DefinitionsFirst, IsSetOf};
 ghost use Rattle.graphql_set_table.specs.Reading.{Extends, ReadsSet, ReadsOnce, nodes_in, set_at};
 ghost use Rattle.graphql_set_table.specs.Reading.{sets_at};
 ghost use Rattle.graphql_set_table.specs.SetsAt.{fields_selected, inner_of};
 
-use crate::fragment_numbers::FragmentNumbers;
 use crate::open_set::OpenSet;
 use crate::scopes::{set_of_field, set_of_inline};
 use graphql_merging::{SelectedField, WrittenField, WrittenSet};
 use graphql_schema::{MetaType, SchemaType};
 use graphql_text::{Items, Spanning};
 use graphql_tree::{Field, FragmentSpread, InlineFragment, Selection};
+use graphql_written_out::Fragments;
 use std::alloc::{AllocError, Global};
 
 /// Reads a field: its own set has a number from then on. An error is want of memory.
@@ -70,7 +70,7 @@ fn read_inline<'d, 'a, S, C>(
 /// Reads a spread: the fragment that it means has a number, if there is one. An error is want of
 /// memory.
 fn read_spread<'d, 'a, S, C>(
-    fragments: &FragmentNumbers<'d, 'a, S>,
+    fragments: &Fragments<'d, 'a, S>,
     spread: &FragmentSpread<'a, S>,
     written: &mut WrittenSet<'d, 'a, S, C>,
 ) -> Result<(), AllocError>
@@ -78,7 +78,7 @@ fn read_spread<'d, 'a, S, C>(
     ensures inner { let meant = fragment_number fragments.now.document.now spread.now.name.item in
         OnOk result (written.new.inner ≡ written.old.inner ++ option_to_list meant) }
 {
-    if let Some(number) = fragments.get(spread.name.item.as_str()) {
+    if let Some(number) = fragments.number(spread.name.item.as_str()) {
         written.inner.push(number)?;
     }
     Ok(())
@@ -87,7 +87,7 @@ fn read_spread<'d, 'a, S, C>(
 /// Reads a selection. An error is want of memory.
 fn read_selection<'d, 'a, S, C>(
     schema: &'d SchemaType<S, C>,
-    fragments: &FragmentNumbers<'d, 'a, S>,
+    fragments: &Fragments<'d, 'a, S>,
     parent: &'d MetaType<S, C>,
     selection: &'d Selection<'a, S>,
     ahead: &mut Items<OpenSet<'d, 'a, S, C>>,
@@ -117,7 +117,7 @@ fn read_selection<'d, 'a, S, C>(
 /// Reads the selections of a set, in order. An error is want of memory.
 fn read_selections<'d, 'a, S, C>(
     schema: &'d SchemaType<S, C>,
-    fragments: &FragmentNumbers<'d, 'a, S>,
+    fragments: &Fragments<'d, 'a, S>,
     parent: &'d MetaType<S, C>,
     selections: &'d [Selection<'a, S>],
     ahead: &mut Items<OpenSet<'d, 'a, S, C>>,
@@ -146,7 +146,7 @@ fn read_selections<'d, 'a, S, C>(
 pub(crate) fn read_set<'d, 'a, S, C>(
     alloc: Global,
     schema: &'d SchemaType<S, C>,
-    fragments: &FragmentNumbers<'d, 'a, S>,
+    fragments: &Fragments<'d, 'a, S>,
     set: OpenSet<'d, 'a, S, C>,
     ahead: &mut Items<OpenSet<'d, 'a, S, C>>,
 ) -> Result<WrittenSet<'d, 'a, S, C>, AllocError>

@@ -7,7 +7,6 @@ ghost use Rattle.graphql_set_table.specs.Numbered.{DefinitionsFirst, IsTable};
 ghost use Rattle.graphql_set_table.specs.Reading.{AddsSet, Extends, nodes_in, set_at, sets_at};
 ghost use Rattle.graphql_set_table.specs.SetsAt.{SetAt, definition_set};
 
-use crate::fragment_numbers::FragmentNumbers;
 use crate::open_set::OpenSet;
 use crate::reading::read_set;
 use crate::scopes::set_of_definition;
@@ -15,6 +14,7 @@ use graphql_merging::SetTable;
 use graphql_schema::SchemaType;
 use graphql_text::Items;
 use graphql_tree::Definition;
+use graphql_written_out::Fragments;
 use std::alloc::{AllocError, Global};
 
 /// The sets of the definitions, in order. An error is want of memory.
@@ -38,7 +38,7 @@ fn sets_of_definitions<'d, 'a, S, C>(
 fn add_set<'d, 'a, S, C>(
     alloc: Global,
     schema: &'d SchemaType<S, C>,
-    fragments: &FragmentNumbers<'d, 'a, S>,
+    fragments: &Fragments<'d, 'a, S>,
     set: OpenSet<'d, 'a, S, C>,
     ahead: &mut Items<OpenSet<'d, 'a, S, C>>,
     table: &mut SetTable<'d, 'a, S, C>,
@@ -66,7 +66,7 @@ fn add_set<'d, 'a, S, C>(
 fn add_sets<'d, 'a, S, C>(
     alloc: Global,
     schema: &'d SchemaType<S, C>,
-    fragments: &FragmentNumbers<'d, 'a, S>,
+    fragments: &Fragments<'d, 'a, S>,
     mut ahead: Items<OpenSet<'d, 'a, S, C>>,
     table: &mut SetTable<'d, 'a, S, C>,
 ) -> Result<(), AllocError>
@@ -109,7 +109,7 @@ pub fn numbered_sets<'d, 'a, S, C>(
         (λ table. (all : List (SetAt S C)) × IsTable declarations document.now all table.sets) }
     ensures once { IfOk result (λ table. fields_written table.sets ≤ document_nodes document.now) }
 {
-    let fragments = FragmentNumbers::new(alloc, document)?;
+    let fragments = Fragments::new(alloc, document)?;
     let ahead = sets_of_definitions(alloc, schema, document)?;
     let sets = Items::new(alloc);
     let mut table = SetTable { sets };

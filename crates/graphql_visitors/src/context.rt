@@ -12,12 +12,12 @@ ghost use Rattle.graphql_rule_errors.specs.declared.rule_error.RuleError.{RuleEr
 ghost use Rattle.graphql_tree.specs.Definitions.{fragment_named};
 ghost use Rattle.graphql_visitors.specs.Reports.{Adds, Reports};
 
-use crate::fragments::Fragments;
 use graphql_occurrences::{Around, InputPlace, SchemaType, TypeLiteral};
 use graphql_rule_errors::RuleError;
 use graphql_schema::{MetaType, SchemaScalar};
 use graphql_text::{Items, SourcePosition, Spanning, Text, TextRef};
 use graphql_tree::Definition;
+use graphql_written_out::Fragments;
 use std::alloc::{AllocError, Global};
 use std::mem;
 
@@ -74,7 +74,7 @@ impl<'a, 't, S, C> ValidatorContext<'a, 't, S, C> {
     pub fn document(&self) -> &'a [Definition<'t, S>]
         ensures { result ≡ self.now.fragments.document }
     {
-        self.fragments.document
+        self.fragments.document()
     }
 
     /// The type of what is selected where the visitor stands, if the schema has it.
@@ -192,20 +192,20 @@ impl<'a, 't, S, C> ValidatorContext<'a, 't, S, C> {
     }
 
     /// The type condition of the fragment that a spread of this name means: the first fragment of
-    /// the document that has the name. `None` where no fragment has it. Finds it by binary search.
+    /// the document that has the name. `None` where no fragment has it.
     pub fn fragment_condition(&self, name: &str) -> Option<&'a Spanning<TextRef<'t>>>
         ensures { option_copied result
             ≡ option_map (λ f. f.item.type_condition)
             (fragment_named self.now.fragments.document.now name.now) }
     {
-        self.fragments.condition(name)
+        Some(&self.fragments.get(name)?.type_condition)
     }
 
-    /// Whether the document has a fragment of this name. Finds it by binary search.
+    /// Whether the document has a fragment of this name.
     pub fn is_known_fragment(&self, name: &str) -> bool
         ensures { result ≡ is_some (fragment_named self.now.fragments.document.now name.now) }
     {
-        self.fragments.condition(name).is_some()
+        self.fragments.get(name).is_some()
     }
 }
 

@@ -3,7 +3,6 @@
 #![tactic(auto)]
 
 mod context;
-mod fragments;
 pub mod laws;
 mod multi;
 mod pushed;

@@ -2,3 +2,4 @@ pub mod WrittenEquations
 pub mod Layers
 pub mod FilledEquations
 pub mod FilledLaws
+pub mod FragmentLemmas

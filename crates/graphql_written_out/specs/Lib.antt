@@ -9,3 +9,4 @@ pub mod FinalVariables
 pub mod Filled
 pub mod Told
 pub mod Laws
+pub mod FragmentNumbers

@@ -1,4 +1,4 @@
-use Rattle.std.proofs.Common.{[], ◌∷◌, option_map, sym, subst}
+use Rattle.std.proofs.Common.{[], ◌∷◌, option_map, sym, ap, subst}
 use Rattle.graphql_tree.specs.Definitions.{fragments_listed}
 use Rattle.graphql_written_out.specs.FinalVariables.{value_in}
 use Rattle.graphql_written_out.specs.Written.{Settled, written}
@@ -8,7 +8,7 @@ use Rattle.graphql_executor.proofs.Running.{begun-at-once, on_err, over-document
 use Rattle.graphql_executor.proofs.operation.answer_over.Goals as goal
 
 pub answer_operation-requires : goal.answer_operation-requires
-answer_operation-requires g c = subst (λ d. Settled (fragments_listed d)) (sym c.in_ok-fragments.ensures) c.requires
+answer_operation-requires g c = subst (λ d. Settled (fragments_listed d)) (sym (ap (λ b. b.now) c.in_ok-fragments.ensures)) c.requires
 
 pub returns-in_err-fragments-clause-begun : goal.returns-in_err-fragments-clause-begun
 returns-in_err-fragments-clause-begun g c =
@@ -34,4 +34,4 @@ returns-clause-responds g c =
     let root = option_map (λ name. name.now) c.args.mutation_root in
     over-document _ m schema.query (asked.Own (r.root_node resolver)) root c.args.context.now _ _ _
     c.in_ok-fragments.fragments.document.now c.args.document.now c.as_slice-set.result.now
-    c.args.operation.now.item.selection_set c.in_ok-fragments.ensures c.as_slice-set.ensures c.in_ok-response.ensures.responds
+    c.args.operation.now.item.selection_set (ap (λ b. b.now) c.in_ok-fragments.ensures) c.as_slice-set.ensures c.in_ok-response.ensures.responds

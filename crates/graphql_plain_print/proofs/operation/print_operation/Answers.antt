@@ -14,7 +14,7 @@ use Rattle.graphql_plain_print.proofs.OperationLemmas.{operation-text}
 use Rattle.graphql_plain_print.proofs.operation.print_operation.Goals as goal
 
 pub print_set-requires : goal.print_set-requires
-print_set-requires g c = subst (λ d. Settled (fragments_listed d)) (sym c.in_ok-fragments.ensures) c.requires
+print_set-requires g c = subst (λ d. Settled (fragments_listed d)) (sym (ap (λ b. b.now) c.in_ok-fragments.ensures)) c.requires
 
 pub returns-clause-text : goal.returns-clause-text
 returns-clause-text g c =
@@ -23,7 +23,7 @@ returns-clause-text g c =
     let tokens = c.args.tokens.now.tokens in
     let tree = plain_by g.S.ScalarValue.answer g.S.ScalarValue.of_bool given (written (fragments_listed c.args.document.now) o.selection_set) in
     let of_plan = plain_by g.S.ScalarValue.answer g.S.ScalarValue.of_bool given (written (fragments_listed c.in_ok-fragments.fragments.document.now) c.as_slice.result.now) in
-    let same : of_plan ≡ tree = (λ i. plain_by g.S.ScalarValue.answer g.S.ScalarValue.of_bool given (written (fragments_listed (c.in_ok-fragments.ensures i)) (c.as_slice.ensures i))) in
+    let same : of_plan ≡ tree = (λ i. plain_by g.S.ScalarValue.answer g.S.ScalarValue.of_bool given (written (fragments_listed (c.in_ok-fragments.ensures i).now) (c.as_slice.ensures i))) in
     let names = c.print_set.new.used.keys in
     let fresh : AreSame names (variables_used of_plan) = subst (λ l. AreSame names (l ++ variables_used of_plan)) c.new-used.ensures.empty c.in_ok-print_set.ensures.uses in
     let set_text : string_bytes c.print_set.new.text ≡ spaced (in_braces (selection_tokens (tokens_within tokens) of_plan)) =
@@ -40,7 +40,7 @@ returns-clause-uses g c =
     let given = value_in c.args.variables.now in
     let tree = plain_by g.S.ScalarValue.answer g.S.ScalarValue.of_bool given (written (fragments_listed c.args.document.now) c.args.operation.now.selection_set) in
     let of_plan = plain_by g.S.ScalarValue.answer g.S.ScalarValue.of_bool given (written (fragments_listed c.in_ok-fragments.fragments.document.now) c.as_slice.result.now) in
-    let same : of_plan ≡ tree = (λ i. plain_by g.S.ScalarValue.answer g.S.ScalarValue.of_bool given (written (fragments_listed (c.in_ok-fragments.ensures i)) (c.as_slice.ensures i))) in
+    let same : of_plan ≡ tree = (λ i. plain_by g.S.ScalarValue.answer g.S.ScalarValue.of_bool given (written (fragments_listed (c.in_ok-fragments.ensures i).now) (c.as_slice.ensures i))) in
     let names = c.print_set.new.used.keys in
     subst (λ t. AreSame names (variables_used t)) same
     (subst (λ l. AreSame names (l ++ variables_used of_plan)) c.new-used.ensures.empty c.in_ok-print_set.ensures.uses)
@@ -50,7 +50,7 @@ returns-clause-fits g c =
     let given = value_in c.args.variables.now in
     let tree = plain_by g.S.ScalarValue.answer g.S.ScalarValue.of_bool given (written (fragments_listed c.args.document.now) c.args.operation.now.selection_set) in
     let of_plan = plain_by g.S.ScalarValue.answer g.S.ScalarValue.of_bool given (written (fragments_listed c.in_ok-fragments.fragments.document.now) c.as_slice.result.now) in
-    let same : of_plan ≡ tree = (λ i. plain_by g.S.ScalarValue.answer g.S.ScalarValue.of_bool given (written (fragments_listed (c.in_ok-fragments.ensures i)) (c.as_slice.ensures i))) in
+    let same : of_plan ≡ tree = (λ i. plain_by g.S.ScalarValue.answer g.S.ScalarValue.of_bool given (written (fragments_listed (c.in_ok-fragments.ensures i).now) (c.as_slice.ensures i))) in
     subst (λ t. size t ≤ c.args.limit) same c.in_ok-print_set.ensures.fits
 
 pub returns-in_err-print_set-clause-large : goal.returns-in_err-print_set-clause-large
@@ -58,6 +58,6 @@ returns-in_err-print_set-clause-large g c =
     let given = value_in c.args.variables.now in
     let tree = plain_by g.S.ScalarValue.answer g.S.ScalarValue.of_bool given (written (fragments_listed c.args.document.now) c.args.operation.now.selection_set) in
     let of_plan = plain_by g.S.ScalarValue.answer g.S.ScalarValue.of_bool given (written (fragments_listed c.in_ok-fragments.fragments.document.now) c.as_slice.result.now) in
-    let same : of_plan ≡ tree = (λ i. plain_by g.S.ScalarValue.answer g.S.ScalarValue.of_bool given (written (fragments_listed (c.in_ok-fragments.ensures i)) (c.as_slice.ensures i))) in
+    let same : of_plan ≡ tree = (λ i. plain_by g.S.ScalarValue.answer g.S.ScalarValue.of_bool given (written (fragments_listed (c.in_ok-fragments.ensures i).now) (c.as_slice.ensures i))) in
     too-large Unit c.from_residual-in_err-print_set.result c.in_err-print_set.field-0.0 (c.args.limit < size of_plan) (c.args.limit < size tree)
     c.from_residual-in_err-print_set.ensures.1 c.in_err-print_set.ensures.large (subst (λ t. c.args.limit < size t) same)

@@ -1,8 +1,8 @@
 use Rattle.std.proofs.Common.{◌≡◌, ℕ, List, take}
 use Rattle.std.specs.HashMap.{get_by}
 use Rattle.std.specs.Str.{bytes_eq}
-use Rattle.graphql_set_table.specs.FragmentNumbers.{fragment_number}
-use Rattle.graphql_set_table.proofs.fragment_numbers.FragmentNumbers.new.Given as goal
+use Rattle.graphql_written_out.specs.FragmentNumbers.{fragment_number}
+use Rattle.graphql_written_out.proofs.fragments.Fragments.new.Given as goal
 
 -- the fragments so far
 abbrev pub invariant-definitions : goal.invariant-definitions

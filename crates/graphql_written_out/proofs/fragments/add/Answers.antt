@@ -1,5 +1,5 @@
-use Rattle.graphql_set_table.proofs.NumberLemmas.{fragment-added}
-use Rattle.graphql_set_table.proofs.fragment_numbers.add.Goals as goal
+use Rattle.graphql_written_out.proofs.FragmentLemmas.{fragment-added}
+use Rattle.graphql_written_out.proofs.fragments.add.Goals as goal
 
 pub returns-in_ok-insert : goal.returns-in_ok-insert
 returns-in_ok-insert g c =

@@ -1,5 +1,5 @@
-use Rattle.graphql_set_table.proofs.NumberLemmas.{number-more}
-use Rattle.graphql_set_table.proofs.fragment_numbers.FragmentNumbers.new.Goals as goal
+use Rattle.graphql_written_out.proofs.FragmentLemmas.{number-more}
+use Rattle.graphql_written_out.proofs.fragments.Fragments.new.Goals as goal
 
 pub definitions-preserved : goal.definitions-preserved
 definitions-preserved g c = λ name.
