@@ -47,7 +47,7 @@ root_over schema = record { schema = schema; introspection_disabled = false }
 
 -- each default that the type of a name declares conforms, as a schema has it
 abbrev pub HasFitDefaults : {S C : Type 0} → Scalars S C → SchemaType S C → Bytes → Type 0
-HasFitDefaults s schema name = NamedConforms s.answer s.accepts schema.types name
+HasFitDefaults s schema name = NamedConforms s schema.types name
 
 -- by what scalars mean, of the roots that are named, the names of the types whose defaults are
 -- judged, a resolver, and a context

@@ -4,8 +4,8 @@ use Rattle.std.specs.Cmp.{IsEquivalence}
 use Rattle.std.proofs.lemmas.List.Elements.{All-cons, All-nil}
 use Rattle.graphql_names.specs.Names.{Bytes}
 use Rattle.graphql_scalars.specs.ScalarAnswers.{ScalarAnswer}
-use Rattle.graphql_values.specs.declared.input_value.InputValue.{InputValue}
 use Rattle.graphql_tree.specs.Definitions.{fragments_listed}
+use Rattle.graphql_schema.specs.Scalars.{Scalars}
 use Rattle.graphql_schema.specs.Declarations.{declarations_of}
 use Rattle.graphql_schema.specs.Lookups.{own_name}
 use Rattle.graphql_schema.specs.Subtypes.{is_named_subtype}
@@ -23,19 +23,18 @@ use Rattle.graphql_joins.specs.RequestLaws.{DocumentSetsFit, PartsJoin, Requests
 use Rattle.graphql_joins.proofs.SoundEngines.{can-be-below, sound-engine}
 use Rattle.graphql_joins.proofs.StandingSets.{sets-good}
 
-pub parts-join : {S C : Type 0} (of_text : Bytes → S) (of_bool : Bool → S) (answer : S → ScalarAnswer)
-    (eq : S → S → Bool) (accepts : C → InputValue S → Type 0) → IsEquivalence eq
-    → (N : Type 0) → PartsJoin of_text of_bool answer eq accepts N
+pub parts-join : {S C : Type 0} (scalars : Scalars S C) → IsEquivalence scalars.eq
+    → (N : Type 0) → PartsJoin scalars N
 unfolding engine_over
-parts-join {S} {C} of_text of_bool answer eq accepts laws N schema executable alike document valid parent first second
+parts-join {S} {C} scalars laws N schema executable alike document valid parent first second
     stands given type_of resolves respects path object node possible =
     let declarations = declarations_of schema in
-    let well = well_formed answer accepts (record { schema = declarations; document = document }) valid.no_fault in
+    let well = well_formed scalars (record { schema = declarations; document = document }) valid.no_fault in
     let good =
-    sets-good eq declarations (field-types-are-known declarations schema.faultless) document well valid.fields_merge
+    sets-good scalars.eq declarations (field-types-are-known declarations schema.faultless) document well valid.fields_merge
     (Some parent) (first ++ second) stands parent refl in
-    selections-join S C (Asked S N C) eq schema.types (engine_over of_text of_bool answer schema given type_of resolves)
-    (sound-engine schema executable of_text of_bool answer eq laws alike given type_of resolves respects)
+    selections-join S C (Asked S N C) scalars.eq schema.types (engine_over scalars.of_text scalars.of_bool scalars.answer schema given type_of resolves)
+    (sound-engine schema executable scalars.of_text scalars.of_bool scalars.answer scalars.eq laws alike given type_of resolves respects)
     (fragments_listed document) first second parent path object node
     (good.0, can-be-below schema executable (own_name parent) object possible) good.1 good.2
 
@@ -44,13 +43,12 @@ pub requests-are-sound : {S : Type 0} (of_text : Bytes → S) (of_bool : Bool �
 requests-are-sound of_text of_bool answer eq laws C N schema executable alike given type_of resolves respects =
     sound-engine schema executable of_text of_bool answer eq laws alike given type_of resolves respects
 
-pub document-sets-fit : {S C : Type 0} (eq : S → S → Bool) (answer : S → ScalarAnswer)
-    (accepts : C → InputValue S → Type 0) → DocumentSetsFit eq answer accepts
-document-sets-fit {S} {C} eq answer accepts schema executable document valid parent set stands object possible =
+pub document-sets-fit : {S C : Type 0} (scalars : Scalars S C) → DocumentSetsFit scalars
+document-sets-fit {S} {C} scalars schema executable document valid parent set stands object possible =
     let declarations = declarations_of schema in
-    let well = well_formed answer accepts (record { schema = declarations; document = document }) valid.no_fault in
+    let well = well_formed scalars (record { schema = declarations; document = document }) valid.no_fault in
     let good =
-    sets-good eq declarations (field-types-are-known declarations schema.faultless) document well valid.fields_merge
+    sets-good scalars.eq declarations (field-types-are-known declarations schema.faultless) document well valid.fields_merge
     (Some parent) set stands parent refl in
     let here : Set S C = record { scope = Some parent; tree = written (fragments_listed document) set } in
     let A : Set S C → Type 0 = IsAbove schema.types (is_named_subtype schema.types object) in
@@ -58,6 +56,6 @@ document-sets-fit {S} {C} eq answer accepts schema executable document valid par
       above = All-cons A here [] (good.0, can-be-below schema executable (own_name parent) object possible) (All-nil A);
       typed = (good.1, tt);
       merging =
-          subst (λ (ms : List (Member S C)). Merging eq schema.types ms)
+          subst (λ (ms : List (Member S C)). Merging scalars.eq schema.types ms)
           (sym (append-nil (members schema.types (Some parent) (written (fragments_listed document) set)))) good.2;
     }

@@ -16,6 +16,7 @@ use Rattle.graphql_tree.specs.declared.selection.Field.{Field}
 use Rattle.graphql_tree.specs.declared.selection.InlineFragment.{InlineFragment}
 use Rattle.graphql_tree.specs.declared.selection.Selection.{Selection}
 use Rattle.graphql_tree.specs.declared.selection.Selection.TheVariants as selection
+use Rattle.graphql_schema.specs.Scalars.{Scalars}
 use Rattle.graphql_schema.specs.Declarations.{Declarations, declarations_of}
 use Rattle.graphql_schema.specs.Executable.{is_executable}
 use Rattle.graphql_schema.specs.Lookups.{own_name}
@@ -90,12 +91,11 @@ module _ {S : Type 0} (of_text : Bytes → S) (of_bool : Bool → S) (answer : S
       → KeepsSchema eq schema.types
       (engine_over of_text of_bool answer schema given type_of resolves)
 
--- `accepts`: what the check of a type accepts
-module _ {S C : Type 0} (eq : S → S → Bool) (answer : S → ScalarAnswer)
-    (accepts : C → InputValue S → Type 0) where
+-- by what scalars mean
+module _ {S C : Type 0} (scalars : Scalars S C) where
   abbrev IsValidFor : SchemaType S C → List (Definition S) → Type 0
   IsValidFor schema document =
-      IsValid eq answer accepts (record { schema = declarations_of schema; document = document })
+      IsValid scalars (record { schema = declarations_of schema; document = document })
 
   -- over a schema that can be executed each set of a valid document can be selected from for each
   -- object type that is possible there
@@ -106,26 +106,26 @@ module _ {S C : Type 0} (eq : S → S → Bool) (answer : S → ScalarAnswer)
       → (parent : MetaType S C) (set : List (Selection S))
       → IsSetOf (declarations_of schema) document (Some parent) set
       → (object : Bytes) → is_possible_named schema.types (own_name parent) object ≡ true
-      → FitTogether eq schema.types (is_named_subtype schema.types object)
+      → FitTogether scalars.eq schema.types (is_named_subtype schema.types object)
       (record { scope = Some parent; tree = written (fragments_listed document) set } ∷ [])
 
-module _ {S C : Type 0} (of_text : Bytes → S) (of_bool : Bool → S) (answer : S → ScalarAnswer)
-    (eq : S → S → Bool) (accepts : C → InputValue S → Type 0) where
+module _ {S C : Type 0} (scalars : Scalars S C) where
   -- in a valid document, over a schema that can be executed: on a node, for an object type that is
   -- possible where they stand, and by any values of variables, selections one behind the other give
   -- the join of what each part gives
   abbrev pub PartsJoin : Type 0 → Type 0
   PartsJoin N =
       (schema : SchemaType S C) → is_executable schema.types (roots_of schema) ≡ true
-      → EqualsAnswerAlike eq answer
-      → (document : List (Definition S)) → IsValidFor eq answer accepts schema document
+      → EqualsAnswerAlike scalars.eq scalars.answer
+      → (document : List (Definition S)) → IsValidFor scalars schema document
       → (parent : MetaType S C) (first second : List (Selection S))
       → IsSetOf (declarations_of schema) document (Some parent) (first ++ second)
       → (given : Bytes → Option (InputValue S)) (type_of : N → Bytes) (resolves : Resolves S N)
-      → RespectsArguments eq resolves
+      → RespectsArguments scalars.eq resolves
       → (path : List Bytes) (object : Bytes) (node : Asked S N C)
       → is_possible_named schema.types (own_name parent) object ≡ true
       → (let gives : List (Selection S) → Outcome S (Members S) =
-      λ selections. evaluate (engine_over of_text of_bool answer schema given type_of resolves)
+      λ selections. evaluate
+      (engine_over scalars.of_text scalars.of_bool scalars.answer schema given type_of resolves)
       path object node (written (fragments_listed document) selections ∷ []) in
       OutcomesJoin (gives first) (gives second) (gives (first ++ second)))

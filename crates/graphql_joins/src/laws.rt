@@ -11,7 +11,7 @@ ghost use Rattle.graphql_joins.specs.RequestLaws.{QueriesStand, RequestsAreSound
 ghost use Rattle.graphql_schema.specs.Schemas.{roots_of};
 
 use graphql_scalars::{DefaultScalarValue, ScalarValue};
-use graphql_schema::{SchemaScalar, SchemaType};
+use graphql_schema::{Meaning, SchemaScalar, SchemaType};
 
 /// Two values have one join at most.
 pub fn joins_are_one<S>()
@@ -66,14 +66,14 @@ pub fn queries_stand<S, C>()
 /// parts give, and by [`own_sets_fit_together`] so do, however deep, the own selection sets of all
 /// fields of a response key in it.
 pub fn document_sets_fit<S: SchemaScalar>()
-    ensures { DocumentSetsFit S.eq S.answer S.Check.accepts }
+    ensures { DocumentSetsFit ⟦<S as Meaning>⟧.meaning }
 {}
 
 /// In a valid document, over a schema that can be executed and scalars of which those that are the
 /// same answer the same: on a node, for an object type that is possible where they stand, and by
 /// any values of variables, selections one behind the other give the join of what each part gives.
 pub fn parts_join<S: SchemaScalar, N>()
-    ensures { PartsJoin S.of_text S.of_bool S.answer S.eq S.Check.accepts N }
+    ensures { PartsJoin ⟦<S as Meaning>⟧.meaning N }
 {}
 
 /// Scalars of the default type that are the same answer the same.

@@ -5,9 +5,8 @@ use Rattle.std.specs.List.{All, Contains, IsDistinct, filter_map, flat_map}
 use Rattle.std.specs.Option.{ForSome, IsSome}
 use Rattle.std.specs.Str.{bytes_eq}
 use Rattle.graphql_names.specs.Names.{Bytes, named}
-use Rattle.graphql_scalars.specs.ScalarAnswers.{ScalarAnswer}
-use Rattle.graphql_values.specs.declared.input_value.InputValue.{InputValue}
 use Rattle.graphql_tree.specs.Definitions.{fragment_named}
+use Rattle.graphql_schema.specs.Scalars.{Scalars}
 use Rattle.graphql_schema.specs.declared.meta.MetaType.{MetaType}
 use Rattle.graphql_schema.specs.Faults.{is_composite}
 use Rattle.graphql_occurrences.specs.Lookups.{known}
@@ -145,13 +144,12 @@ module _ {S C : Type 0} (subject : Subject S C) where
       IsKnownAs subject.schema (λ m. not (is_composite m)) v.type_of.item.name) (parts subject)
       × EachOf Condition (λ name. IsKnownAs subject.schema is_composite name.item) (parts subject)
 
-module _ {S C : Type 0} (answer : S → ScalarAnswer) (accepts : C → InputValue S → Type 0)
-    (subject : Subject S C) where
+module _ {S C : Type 0} (scalars : Scalars S C) (subject : Subject S C) where
   pub record ValuesKeepTheRules : Type 0 where
     -- 5.6.1 Values of Correct Type
-    pub arguments_fit : EachOf Given (ArgumentsFit answer accepts subject.schema.types)
+    pub arguments_fit : EachOf Given (ArgumentsFit scalars subject.schema.types)
         (parts subject)
-    pub defaults_fit : EachOf VariableDefined (DefaultFits answer accepts subject.schema)
+    pub defaults_fit : EachOf VariableDefined (DefaultFits scalars subject.schema)
         (parts subject)
     -- 5.6.3 Input Object Field Uniqueness
     pub input_fields_distinct : EachOf ObjectOf

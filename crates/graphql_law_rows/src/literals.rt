@@ -10,7 +10,7 @@ ghost use Rattle.graphql_law_rows.specs.SampleLiterals as spec;
 use graphql_literal_checks::laws::conforming_without_places;
 use graphql_literal_checks::validate_literal_value;
 use graphql_names::Type;
-use graphql_schema::{SchemaScalar, SchemaType};
+use graphql_schema::{Meaning, SchemaScalar, SchemaType};
 use graphql_text::Text;
 use graphql_values::InputValue;
 use graphql_written_out::laws::{agrees_with_constants, constants_stay};
@@ -35,7 +35,7 @@ pub fn conforms_wherever_it_stands<S: SchemaScalar>(
     literal: &InputValue<S>,
 ) -> Result<bool, AllocError>
     ensures { let conforms_there =
-        Conforms S.answer S.Check.accepts schema.now.types Literal asked.now in
+        Conforms ⟦<S as Meaning>⟧.meaning schema.now.types Literal asked.now in
         IfOk result (λ conforms. (elsewhere : InputValue S)
         → unlocated elsewhere ≡ unlocated literal.now
         → (conforms ≡ true) ↔ conforms_there elsewhere) }

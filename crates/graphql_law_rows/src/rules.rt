@@ -14,7 +14,7 @@ ghost use Rattle.graphql_visitors.specs.Subjects.{Subject};
 ghost use Rattle.graphql_law_rows.specs.KeptRules.{KeepsTheRules, ScopesKeepTheRules};
 ghost use Rattle.graphql_law_rows.specs.KeptRules.{TypesAreOfTheirKinds, fragments};
 
-use graphql_schema::{SchemaScalar, SchemaType};
+use graphql_schema::{Meaning, SchemaScalar, SchemaType};
 use graphql_tree::Definition;
 use graphql_validation::laws::{
     arguments_are_declared, arguments_are_distinct, arguments_are_provided,
@@ -45,7 +45,7 @@ pub fn keeps_the_rules<'t, S: SchemaScalar>(
 ) -> Result<bool, AllocError>
     ensures rules { let subject : Subject S S.Check =
         record { schema = declarations_of schema.now; document = document.now } in
-        IfOk result (λ keeps. (keeps ≡ true) ↔ KeepsTheRules S.answer S.Check.accepts subject) }
+        IfOk result (λ keeps. (keeps ≡ true) ↔ KeepsTheRules ⟦<S as Meaning>⟧.meaning subject) }
     ensures ranked { let subject : Subject S S.Check =
         record { schema = declarations_of schema.now; document = document.now } in
         IfOk result (λ keeps. keeps ≡ true
@@ -73,8 +73,8 @@ pub fn keeps_the_rules<'t, S: SchemaScalar>(
 
 /// No rule of the first stage finds a fault exactly where the document keeps the rules.
 fn faultless_documents_keep_the_rules<S: SchemaScalar>()
-    ensures { (subject : Subject S S.Check) → HasNoFault S.answer S.Check.accepts subject
-        ↔ KeepsTheRules S.answer S.Check.accepts subject }
+    ensures { (subject : Subject S S.Check) → HasNoFault ⟦<S as Meaning>⟧.meaning subject
+        ↔ KeepsTheRules ⟦<S as Meaning>⟧.meaning subject }
 {
     faultless_scopes_keep_the_rules::<S, S::Check>();
     fields_are_declared::<S>();

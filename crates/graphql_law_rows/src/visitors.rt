@@ -29,7 +29,7 @@ use graphql_rules_document::laws::document_rules_tell_of_documents;
 use graphql_rules_document::{NoUnusedFragments, no_unused_fragments};
 use graphql_rules_merging::laws::{visitor_counts_comparisons, visitor_tells_of_document};
 use graphql_rules_merging::overlapping_fields_can_be_merged as merging;
-use graphql_schema::{SchemaScalar, SchemaType};
+use graphql_schema::{Meaning, SchemaScalar, SchemaType};
 use graphql_tree::Definition;
 use graphql_validation::first_stage_errors;
 use graphql_validation::laws::documents_without_a_fault_are_well_formed;
@@ -53,7 +53,7 @@ pub fn report_unknown_fragments<'a, 't, S: SchemaScalar>(context: &mut Validator
 /// Reports the arguments whose values do not conform. Whatever the checks answer, nothing else may
 /// be told of them.
 pub fn report_arguments<'a, 't, S: SchemaScalar>(context: &mut ValidatorContext<'a, 't, S>)
-    ensures { let may_tell = ArgumentsTold S.answer S.Check.accepts (subject_of context.old) in
+    ensures { let may_tell = ArgumentsTold ⟦<S as Meaning>⟧.meaning (subject_of context.old) in
         ReportsBy (IsOnlyTold may_tell) context.old context.new }
 {
     relational_rules_tell_of_occurrences::<S, ArgumentsOfCorrectType>();
@@ -64,7 +64,7 @@ pub fn report_arguments<'a, 't, S: SchemaScalar>(context: &mut ValidatorContext<
 
 /// The same of the defaults of variables.
 pub fn report_defaults<'a, 't, S: SchemaScalar>(context: &mut ValidatorContext<'a, 't, S>)
-    ensures { let may_tell = DefaultsTold S.answer S.Check.accepts (subject_of context.old) in
+    ensures { let may_tell = DefaultsTold ⟦<S as Meaning>⟧.meaning (subject_of context.old) in
         ReportsBy (IsOnlyTold may_tell) context.old context.new }
 {
     relational_rules_tell_of_occurrences::<S, DefaultValuesOfCorrectType>();

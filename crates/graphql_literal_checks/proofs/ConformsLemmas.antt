@@ -18,6 +18,7 @@ use Rattle.graphql_values.proofs.VariableLaws.{none_is_listed}
 use Rattle.graphql_names.specs.declared.type_modifier.TypeModifier.{TypeModifier}
 use Rattle.graphql_names.specs.declared.type_modifier.TypeModifier.TheVariants as modifier
 use Rattle.graphql_names.specs.declared.type_reference.«Type».{«Type»}
+use Rattle.graphql_schema.specs.Scalars.{Scalars}
 use Rattle.graphql_schema.specs.declared.meta.argument.Argument.{Argument}
 use Rattle.graphql_schema.specs.declared.meta.input_object.InputObjectMeta.{InputObjectMeta}
 use Rattle.graphql_schema.specs.declared.meta.MetaType.{MetaType}
@@ -105,19 +106,19 @@ module _ {S : Type 0} (answer : S → ScalarAnswer) (source : Source) where
 
 -- ---- conforming by the form of the value
 
-module _ {S C : Type 0} (answer : S → ScalarAnswer) (accepts : C → InputValue S → Type 0) (types : List (MetaType S C)) (source : Source) where
+module _ {S C : Type 0} (scalars : Scalars S C) (types : List (MetaType S C)) (source : Source) where
   abbrev pub Fits : TypeOf → InputValue S → Type 0
-  Fits = Conforms answer accepts types source
+  Fits = Conforms scalars types source
 
   abbrev pub Named : Option (MetaType S C) → InputValue S → Type 0
-  Named = NamedFits answer accepts types source
+  Named = NamedFits scalars types source
 
   abbrev out : InputValue S → InputValue-F S (InputValue S)
   out = out-InputValue S
 
   abbrev Level : TypeOf → InputValue-F S (InputValue S) → Type 0
   Level t InputValue-F.Null = refuses_null t ≡ false
-  Level t (InputValue-F.List xs) = ListFits answer accepts types source t xs
+  Level t (InputValue-F.List xs) = ListFits scalars types source t xs
   Level t _ = Unit {0}
 
   to_level : (t : TypeOf) (v : InputValue S) → Fits t v → Level t (out v)
@@ -135,17 +136,17 @@ module _ {S C : Type 0} (answer : S → ScalarAnswer) (accepts : C → InputValu
   pub null_of : (t : TypeOf) (v : InputValue S) → v ≡ value.Null → Fits t v → refuses_null t ≡ false
   null_of t v is h = level_of t v InputValue-F.Null (ap out is ∙ value.outs-Null) h
 
-  pub list_of : (t : TypeOf) (v : InputValue S) (xs : List (Placed (InputValue S))) → v ≡ value.List xs → Fits t v → ListFits answer accepts types source t xs
+  pub list_of : (t : TypeOf) (v : InputValue S) (xs : List (Placed (InputValue S))) → v ≡ value.List xs → Fits t v → ListFits scalars types source t xs
   list_of t v xs is h = level_of t v (InputValue-F.List xs) (ap out is ∙ value.outs-List xs) h
 
-  pub named_at : (o : Option (MetaType S C)) (t : TypeOf) (v : InputValue S) → type_named types t.name ≡ o → may_stand_alone t ≡ true → Named o v → AloneFits answer accepts types source t v
+  pub named_at : (o : Option (MetaType S C)) (t : TypeOf) (v : InputValue S) → type_named types t.name ≡ o → may_stand_alone t ≡ true → Named o v → AloneFits scalars types source t v
   named_at o t v there alone fits = (alone, subst (λ p. Named p v) (sym there) fits)
 
-  pub at_named : (o : Option (MetaType S C)) (t : TypeOf) (v : InputValue S) → type_named types t.name ≡ o → AloneFits answer accepts types source t v → Named o v
+  pub at_named : (o : Option (MetaType S C)) (t : TypeOf) (v : InputValue S) → type_named types t.name ≡ o → AloneFits scalars types source t v → Named o v
   at_named o t v there fits = subst (λ p. Named p v) there fits.1
 
   pub alone_of : (t : TypeOf) (v : InputValue S) → Fits t v → (v ≡ value.Null → ⊥) → ((name : Bytes) → v ≡ value.Variable name → ⊥) → ((xs : List (Placed (InputValue S))) → v ≡ value.List xs → ⊥)
-      → AloneFits answer accepts types source t v
+      → AloneFits scalars types source t v
   alone_of _ _ (null t h) no_null no_variable no_list = absurd (no_null refl)
   alone_of _ _ (variable t name) no_null no_variable no_list = absurd (no_variable name refl)
   alone_of _ _ (scalar t m s alone there accepted) no_null no_variable no_list = named_at (Some (meta.Scalar m)) t (value.Scalar s) there alone ((s, refl), accepted)
@@ -157,12 +158,12 @@ module _ {S C : Type 0} (answer : S → ScalarAnswer) (accepts : C → InputValu
 
   from_named : (o : Option (MetaType S C)) (t : TypeOf) (v : InputValue S) → type_named types t.name ≡ o → may_stand_alone t ≡ true → Named o v → Fits t v
   from_named (Some (meta.Scalar m)) t v there alone fits =
-      subst (Fits t) (sym fits.0.1) (scalar t m fits.0.0 alone there (subst (accepts m.check) fits.0.1 fits.1))
+      subst (Fits t) (sym fits.0.1) (scalar t m fits.0.0 alone there (subst (scalars.accepts m.check) fits.0.1 fits.1))
   from_named (Some (meta.Enum m)) t v there alone fits = from_name fits.0.1
     where
-      from_name : Names answer source v fits.0.0 → Fits t v
-      from_name (inl is) = subst (Fits t) (sym is) (enum t m fits.0.0 alone there fits.0.2 (subst (accepts m.check) is fits.1))
-      from_name (inr w) = subst (Fits t) (sym w.1.1) (sent_enum t m w.1.0 fits.0.0 w.0 w.1.2 alone there fits.0.2 (subst (accepts m.check) w.1.1 fits.1))
+      from_name : Names scalars.answer source v fits.0.0 → Fits t v
+      from_name (inl is) = subst (Fits t) (sym is) (enum t m fits.0.0 alone there fits.0.2 (subst (scalars.accepts m.check) is fits.1))
+      from_name (inr w) = subst (Fits t) (sym w.1.1) (sent_enum t m w.1.0 fits.0.0 w.0 w.1.2 alone there fits.0.2 (subst (scalars.accepts m.check) w.1.1 fits.1))
   from_named (Some (meta.InputObject m)) t v there alone fits = subst (Fits t) (sym fits.1) (object t m fits.0 alone there fits.2.0 fits.2.1)
   from_named (Some (meta.Object m)) t v there alone fits = absurd fits
   from_named (Some (meta.Interface m)) t v there alone fits = absurd fits
@@ -178,25 +179,25 @@ module _ {S C : Type 0} (answer : S → ScalarAnswer) (accepts : C → InputValu
   pub judged_variable : (t : TypeOf) (v : InputValue S) (name : Bytes) → v ≡ value.Variable name → Judged (Fits t v) (is_constant v) (Ok false)
   judged_variable t v name is = (subst (Fits t) (sym is) (variable t name), constant_variable S name ∙ ap is_constant (sym is))
 
-  pub list_fits : (t : TypeOf) (v : InputValue S) (xs ys : List (Placed (InputValue S))) → v ≡ value.List xs → ys ≡ xs → ListFits answer accepts types source t ys → Fits t v
+  pub list_fits : (t : TypeOf) (v : InputValue S) (xs ys : List (Placed (InputValue S))) → v ≡ value.List xs → ys ≡ xs → ListFits scalars types source t ys → Fits t v
   list_fits t v xs ys is same fits =
       subst (Fits t) (sym is) (subst (λ zs. Fits t (value.List zs)) same (list t fits.0 fits.1 ys fits.2 fits.3 fits.4))
 
-  pub fits_list : (t : TypeOf) (v : InputValue S) (xs ys : List (Placed (InputValue S))) → v ≡ value.List xs → ys ≡ xs → Fits t v → ListFits answer accepts types source t ys
-  fits_list t v xs ys is same fits = subst (ListFits answer accepts types source t) (sym same) (list_of t v xs is fits)
+  pub fits_list : (t : TypeOf) (v : InputValue S) (xs ys : List (Placed (InputValue S))) → v ≡ value.List xs → ys ≡ xs → Fits t v → ListFits scalars types source t ys
+  fits_list t v xs ys is same fits = subst (ListFits scalars types source t) (sym same) (list_of t v xs is fits)
 
-  pub alone_fits : (t : TypeOf) (v : InputValue S) → AloneFits answer accepts types source t v → Fits t v
+  pub alone_fits : (t : TypeOf) (v : InputValue S) → AloneFits scalars types source t v → Fits t v
   alone_fits t v fits = from_named (type_named types t.name) t v refl fits.0 fits.1
 
   -- ---- items
 
   abbrev pub Each : TypeOf → List (Placed (InputValue S)) → Type 0
-  Each = EachConforms answer accepts types source
+  Each = EachConforms scalars types source
 
-  pub list_with : (t asked : TypeOf) (size : Option ℕ) (within : List TypeModifier) (xs : List (Placed (InputValue S))) → IsListOf t.modifiers size within → allows size (length xs) ≡ true → asked ≡ record { name = t.name; modifiers = within } → Each asked xs → ListFits answer accepts types source t xs
+  pub list_with : (t asked : TypeOf) (size : Option ℕ) (within : List TypeModifier) (xs : List (Placed (InputValue S))) → IsListOf t.modifiers size within → allows size (length xs) ≡ true → asked ≡ record { name = t.name; modifiers = within } → Each asked xs → ListFits scalars types source t xs
   list_with t asked size within xs is allowed same each = (size, within, is, allowed, subst (λ u. Each u xs) same each)
 
-  pub within_list : (t asked : TypeOf) (size : Option ℕ) (within : List TypeModifier) (xs : List (Placed (InputValue S))) → IsListOf t.modifiers size within → asked ≡ record { name = t.name; modifiers = within } → ListFits answer accepts types source t xs → Each asked xs
+  pub within_list : (t asked : TypeOf) (size : Option ℕ) (within : List TypeModifier) (xs : List (Placed (InputValue S))) → IsListOf t.modifiers size within → asked ≡ record { name = t.name; modifiers = within } → ListFits scalars types source t xs → Each asked xs
   within_list t asked size within xs is same fits =
       let one : fits.1 ≡ within = (same_from_push fits.1 within (modifier.List fits.0) (modifier.List size) (sym fits.2 ∙ is)).0 in
       subst (λ u. Each u xs) (ap (λ m. record { name = t.name; modifiers = m }) one ∙ sym same) fits.4
@@ -215,11 +216,11 @@ module _ {S C : Type 0} (answer : S → ScalarAnswer) (accepts : C → InputValu
   -- ---- fields
 
   abbrev pub Fields : List (Argument S) → List (Pair (InputValue S)) → Type 0
-  Fields = FieldsConform answer accepts types source
+  Fields = FieldsConform scalars types source
 
   -- the field is declared, and its value conforms
   abbrev pub PairFits : List (Argument S) → Pair (InputValue S) → Type 0
-  PairFits declared p = FieldFits answer accepts types source declared p.0.item p.1.item
+  PairFits declared p = FieldFits scalars types source declared p.0.item p.1.item
 
   pub no_pair : (declared : List (Argument S)) (ps : List (Pair (InputValue S))) → length ps ≡ 0 → Fields declared ps
   no_pair declared ps none = subst (Fields declared) (sym (none_there ps none)) (no_fields declared)
@@ -232,13 +233,13 @@ module _ {S C : Type 0} (answer : S → ScalarAnswer) (accepts : C → InputValu
   pub with_field : (declared : List (Argument S)) (qs : List (Pair (InputValue S))) (p : Pair (InputValue S)) (ps : List (Pair (InputValue S))) → qs ≡ p ∷ ps → PairFits declared p → Fields declared ps → Fields declared qs
   with_field declared qs p ps is fits rest = subst (Fields declared) (sym is) (more_fields declared fits.0 p ps fits.1 fits.2 rest)
 
-  pub no_field : (declared : List (Argument S)) (name : Bytes) (v : InputValue S) → argument_named declared name ≡ None → FieldFits answer accepts types source declared name v → ⊥
+  pub no_field : (declared : List (Argument S)) (name : Bytes) (v : InputValue S) → argument_named declared name ≡ None → FieldFits scalars types source declared name v → ⊥
   no_field declared name v none fits = none-some fits.0 (sym none ∙ fits.1)
 
-  pub field_fits : (declared : List (Argument S)) (name : Bytes) (v : InputValue S) (a : Argument S) (t : TypeOf) → argument_named declared name ≡ Some a → t ≡ a.arg_type → Fits t v → FieldFits answer accepts types source declared name v
+  pub field_fits : (declared : List (Argument S)) (name : Bytes) (v : InputValue S) (a : Argument S) (t : TypeOf) → argument_named declared name ≡ Some a → t ≡ a.arg_type → Fits t v → FieldFits scalars types source declared name v
   field_fits declared name v a t there same fits = (a, there, subst (λ u. Fits u v) same fits)
 
-  pub fits_field : (declared : List (Argument S)) (name : Bytes) (v : InputValue S) (a : Argument S) (t : TypeOf) → argument_named declared name ≡ Some a → t ≡ a.arg_type → FieldFits answer accepts types source declared name v → Fits t v
+  pub fits_field : (declared : List (Argument S)) (name : Bytes) (v : InputValue S) (a : Argument S) (t : TypeOf) → argument_named declared name ≡ Some a → t ≡ a.arg_type → FieldFits scalars types source declared name v → Fits t v
   fits_field declared name v a t there same fits = subst (λ u. Fits u v) (ap (λ (b : Argument S). b.arg_type) (same_Some fits.0 a (sym fits.1 ∙ there)) ∙ sym same) fits.2
 
   -- ---- objects
@@ -252,13 +253,13 @@ module _ {S C : Type 0} (answer : S → ScalarAnswer) (accepts : C → InputValu
 
   -- the fields conform, none is missing, and the type accepts the object where no variable stands in it
   abbrev pub Whole : InputObjectMeta S C → InputValue S → List (Pair (InputValue S)) → Type 0
-  Whole m v ps = Fields m.input_fields ps × WholeFits accepts m v ps (have_constants ps ≡ true)
+  Whole m v ps = Fields m.input_fields ps × WholeFits scalars.accepts m v ps (have_constants ps ≡ true)
 
-  pub object_fits : (m : InputObjectMeta S C) (v : InputValue S) (ps : List (Pair (InputValue S))) → v ≡ value.Object ps → Whole m v ps → IsObject (ObjectFits answer accepts types source m) v
-  object_fits m v ps is whole = (ps, is, (whole.0, (whole.1.0, λ no_variable. subst (accepts m.check) is (whole.1.1 (constant_object ps ∙ constant_if (value.Object ps) no_variable)))))
+  pub object_fits : (m : InputObjectMeta S C) (v : InputValue S) (ps : List (Pair (InputValue S))) → v ≡ value.Object ps → Whole m v ps → IsObject (ObjectFits scalars types source m) v
+  object_fits m v ps is whole = (ps, is, (whole.0, (whole.1.0, λ no_variable. subst (scalars.accepts m.check) is (whole.1.1 (constant_object ps ∙ constant_if (value.Object ps) no_variable)))))
 
-  fits_whole : (m : InputObjectMeta S C) (v : InputValue S) (ps : List (Pair (InputValue S))) → v ≡ value.Object ps → ObjectFits answer accepts types source m ps → Whole m v ps
-  fits_whole m v ps is fits = (fits.0, (fits.1.0, λ h. subst (accepts m.check) (sym is) (fits.1.1 (is_constant_if (value.Object ps) (sym (constant_object ps) ∙ h)))))
+  fits_whole : (m : InputObjectMeta S C) (v : InputValue S) (ps : List (Pair (InputValue S))) → v ≡ value.Object ps → ObjectFits scalars types source m ps → Whole m v ps
+  fits_whole m v ps is fits = (fits.0, (fits.1.0, λ h. subst (scalars.accepts m.check) (sym is) (fits.1.1 (is_constant_if (value.Object ps) (sym (constant_object ps) ∙ h)))))
 
-  pub fits_object : (m : InputObjectMeta S C) (v : InputValue S) (ps : List (Pair (InputValue S))) → v ≡ value.Object ps → IsObject (ObjectFits answer accepts types source m) v → Whole m v ps
-  fits_object m v ps is fits = fits_whole m v ps is (subst (ObjectFits answer accepts types source m) (objects_same fits.0 ps (sym fits.1 ∙ is)) fits.2)
+  pub fits_object : (m : InputObjectMeta S C) (v : InputValue S) (ps : List (Pair (InputValue S))) → v ≡ value.Object ps → IsObject (ObjectFits scalars types source m) v → Whole m v ps
+  fits_object m v ps is fits = fits_whole m v ps is (subst (ObjectFits scalars types source m) (objects_same fits.0 ps (sym fits.1 ∙ is)) fits.2)

@@ -3,7 +3,6 @@ use Rattle.std.proofs.Common.{◌≡◌, ◌&&◌, ◌+◌, ◌*◌, ◌<◌, Bo
 use Rattle.std.specs.Prelude.{◌↔◌, OnOk}
 use Rattle.std.proofs.lemmas.List.Sums.{sum_by_push, sum_by-cons}
 use Rattle.graphql_text.specs.Memory.{UnlessMemory}
-use Rattle.graphql_scalars.specs.ScalarAnswers.{ScalarAnswer}
 use Rattle.graphql_values.specs.declared.input_value.InputValue.{InputValue}
 use Rattle.graphql_values.specs.declared.input_value.InputValue.TheVariants as value
 use Rattle.graphql_values.specs.InputValues.{Placed, Pair}
@@ -11,6 +10,7 @@ use Rattle.graphql_values.specs.Counts.{value_count, count_layer}
 use Rattle.graphql_values.proofs.CountEquations.{count_list, count_object, item_count, field_count}
 use Rattle.graphql_values.proofs.InputValueEquations.{fold_null, fold_scalar, fold_enum, fold_variable}
 use Rattle.graphql_values.proofs.InputValueInduction.{value_ind}
+use Rattle.graphql_schema.specs.Scalars.{Scalars}
 use Rattle.graphql_schema.specs.declared.meta.MetaType.{MetaType}
 use Rattle.graphql_literal_checks.specs.declared.misfit.Misfit.{Misfit}
 use Rattle.graphql_literal_checks.specs.declared.open_values.Open.{Open}
@@ -27,15 +27,15 @@ module _ {S C : Type 0} where
 
 -- ---- what is asked
 
-module _ {S C : Type 0} (answer : S → ScalarAnswer) (accepts : C → InputValue S → Type 0) (types : List (MetaType S C)) (source : Source) where
+module _ {S C : Type 0} (scalars : Scalars S C) (types : List (MetaType S C)) (source : Source) where
   abbrev One : Bool → Open S C → Type 0
-  One = Owes answer accepts types source
+  One = Owes scalars types source
 
   abbrev All : Bool → List (Open S C) → Type 0
-  All = Owed answer accepts types source
+  All = Owed scalars types source
 
   abbrev Opened : Type 0 → Bool → Result Bool Misfit → List (Open S C) → List (Open S C) → Type 0
-  Opened = LeavesAsked answer accepts types source
+  Opened = LeavesAsked scalars types source
 
   owed_push : (here : Bool) (fs : List (Open S C)) (f : Open S C) → All here (fs ++ f ∷ []) → One here f × All (stays_constant here f) fs
   owed_push here [] f h = (h.0, tt)

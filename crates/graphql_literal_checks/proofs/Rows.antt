@@ -1,13 +1,14 @@
 -- Values over a small schema, and whether they conform.
-use Rattle.std.specs.Prelude.{◌≡◌, refl, ℕ, true, false, List, [], ◌∷◌, Some, None, codes}
+use Rattle.std.specs.Prelude.{◌≡◌, refl, ℕ, true, false, List, [], ◌∷◌, Some, None, Ok, nat_eq, codes}
 use Rattle.std.proofs.Common.{sym}
 use Rattle.std.proofs.lemmas.Bool.{false≢true}
-use Rattle.graphql_scalars.specs.ScalarAnswers.{ScalarAnswer, text}
+use Rattle.graphql_scalars.specs.ScalarAnswers.{text}
 use Rattle.graphql_values.specs.declared.input_value.InputValue.{InputValue}
 use Rattle.graphql_values.specs.declared.input_value.InputValue.TheVariants as value
 use Rattle.graphql_values.specs.InputValues.{unplaced, unplaced_pair}
 use Rattle.graphql_names.specs.declared.type_modifier.TypeModifier.{TypeModifier}
 use Rattle.graphql_names.specs.declared.type_modifier.TypeModifier.TheVariants as modifier
+use Rattle.graphql_schema.specs.Scalars.{Scalars}
 use Rattle.graphql_schema.specs.declared.meta.argument.Argument.{Argument}
 use Rattle.graphql_schema.specs.declared.meta.deprecation.DeprecationStatus.TheVariants as status
 use Rattle.graphql_schema.specs.declared.meta.enumeration.EnumMeta.{EnumMeta}
@@ -24,11 +25,16 @@ use Rattle.graphql_literal_checks.specs.InputTypes.{is_complete}
 use Rattle.graphql_literal_checks.proofs.ConformsLemmas.{null_of}
 
 -- every scalar is the text RED, and each check accepts every value
-abbrev answer : ℕ → ScalarAnswer
-answer s = text (codes "RED")
-
-abbrev accepts : ℕ → InputValue ℕ → Type 0
-accepts check v = Unit {0}
+abbrev scalars : Scalars ℕ ℕ
+scalars = record {
+  reads = λ token. Ok 0;
+  of_bool = λ b. 0;
+  of_int = λ n. 0;
+  of_text = λ t. 0;
+  eq = nat_eq;
+  answer = λ s. text (codes "RED");
+  accepts = λ check v. Unit {0};
+}
 
 -- `scalar Int`, `enum Color { RED }`, `input Point { x: Int! }`
 abbrev int : ScalarMeta ℕ
@@ -57,7 +63,7 @@ abbrev asked : Bytes → List TypeModifier → TypeOf
 asked name modifiers = record { name = name; modifiers = modifiers }
 
 abbrev Fits : Source → TypeOf → InputValue ℕ → Type 0
-Fits = Conforms answer accepts types
+Fits = Conforms scalars types
 
 -- an integer at `Int`, at `[Int]` as its one item, and at no list of two
 pub at_int : Fits Literal (asked (codes "Int") []) (value.Scalar 1)
@@ -71,7 +77,7 @@ pub null_at_int : Fits Literal (asked (codes "Int") []) value.Null
 null_at_int = null (asked (codes "Int") []) refl
 
 pub no_null : Fits Literal (asked (codes "Int") (modifier.NonNull ∷ [])) value.Null → ⊥
-no_null h = false≢true (sym (null_of answer accepts types Literal (asked (codes "Int") (modifier.NonNull ∷ [])) value.Null refl h))
+no_null h = false≢true (sym (null_of scalars types Literal (asked (codes "Int") (modifier.NonNull ∷ [])) value.Null refl h))
 
 -- a variable anywhere
 pub variable_at_int : Fits Literal (asked (codes "Int") (modifier.NonNull ∷ [])) (value.Variable (codes "v"))

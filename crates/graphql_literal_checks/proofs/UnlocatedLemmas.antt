@@ -1,9 +1,8 @@
 -- A value conforms exactly where it does without its places.
-use Rattle.std.proofs.Common.{◌≡◌, ◌↔◌, refl, sym, ◌∙◌, ap, subst, suc, arith, ℕ, Bool, true, cond, List, [], ◌∷◌, map, Option, Some}
+use Rattle.std.proofs.Common.{◌≡◌, ◌↔◌, refl, sym, ◌∙◌, ap, subst, suc, arith, ℕ, true, cond, List, [], ◌∷◌, map, Option, Some}
 use Rattle.std.specs.Cmp.{IsEquivalence}
 use Rattle.std.proofs.lemmas.List.{length-map}
 use Rattle.std.proofs.lemmas.Simd.{map-map}
-use Rattle.graphql_scalars.specs.ScalarAnswers.{ScalarAnswer}
 use Rattle.graphql_values.specs.declared.input_value.InputValue.{InputValue, out-InputValue}
 use Rattle.graphql_values.specs.declared.input_value.InputValue.TheOpen.{InputValue-F}
 use Rattle.graphql_values.specs.declared.input_value.InputValue.TheVariants as value
@@ -16,6 +15,7 @@ use Rattle.graphql_values.proofs.SamePlaces.{unlocated_item, unlocated_pair, sam
 use Rattle.graphql_values.proofs.SameValueLaws.{either_way}
 use Rattle.graphql_values.proofs.UnlocatedVariables.{same_constant}
 use Rattle.graphql_names.specs.declared.type_modifier.TypeModifier.{TypeModifier}
+use Rattle.graphql_schema.specs.Scalars.{Scalars}
 use Rattle.graphql_schema.specs.declared.meta.argument.Argument.{Argument}
 use Rattle.graphql_schema.specs.declared.meta.input_object.InputObjectMeta.{InputObjectMeta}
 use Rattle.graphql_schema.specs.declared.meta.MetaType.{MetaType}
@@ -30,30 +30,30 @@ use Rattle.graphql_literal_checks.specs.Laws.{ConformsWithoutPlaces}
 use Rattle.graphql_literal_checks.proofs.ConformsLemmas.{first_field, first_item, list_of}
 
 -- of values that are the same, checks accept all or none
-abbrev Respects : {S C : Type 0} → (S → S → Bool) → (C → InputValue S → Type 0) → Type 0
-Respects {S} {C} eq accepts = (c : C) (a b : InputValue S) → SameValue S eq a b → accepts c a → accepts c b
+abbrev Respects : {S C : Type 0} → Scalars S C → Type 0
+Respects {S} {C} scalars = (c : C) (a b : InputValue S) → SameValue S scalars.eq a b → scalars.accepts c a → scalars.accepts c b
 
-module _ {S C : Type 0} (answer : S → ScalarAnswer) (accepts : C → InputValue S → Type 0) (types : List (MetaType S C)) (source : Source) where
+module _ {S C : Type 0} (scalars : Scalars S C) (types : List (MetaType S C)) (source : Source) where
   abbrev Fits : TypeOf → InputValue S → Type 0
-  Fits = Conforms answer accepts types source
+  Fits = Conforms scalars types source
 
   abbrev EachFits : TypeOf → List (Placed (InputValue S)) → Type 0
-  EachFits = EachConforms answer accepts types source
+  EachFits = EachConforms scalars types source
 
   abbrev FieldsFit : List (Argument S) → List (Pair (InputValue S)) → Type 0
-  FieldsFit = FieldsConform answer accepts types source
+  FieldsFit = FieldsConform scalars types source
 
   -- ---- lists and objects that conform
 
   list_fits_as : (t : TypeOf) (v : InputValue S) (xs : List (Placed (InputValue S))) → v ≡ value.List xs
-      → ListFits answer accepts types source t xs → Fits t v
+      → ListFits scalars types source t xs → Fits t v
   list_fits_as t v xs is h = subst (Fits t) (sym is) (list t h.0 h.1 xs h.2 h.3 h.4)
 
   -- an object of these fields conforms: the type is an input object
   abbrev FitsAsObject : TypeOf → List (Pair (InputValue S)) → Type 0
   FitsAsObject t ps =
       (m : InputObjectMeta S C) × (may_stand_alone t ≡ true) × (type_named types t.name ≡ Some (meta.InputObject m))
-      × ObjectFits answer accepts types source m ps
+      × ObjectFits scalars types source m ps
 
   abbrev IfObject : TypeOf → InputValue-F S (InputValue S) → Type 0
   IfObject t (InputValue-F.Object ps) = FitsAsObject t ps
@@ -95,9 +95,9 @@ module _ {S C : Type 0} (answer : S → ScalarAnswer) (accepts : C → InputValu
       let ys = map unlocated_item xs in
       let first = each 0 x (omega arith) t in
       let rest = each_alike xs (λ k d within. each (suc k) d (omega arith)) t in (
-        λ h. let fits = first_item answer accepts types source t (x ∷ xs) h x xs refl in
+        λ h. let fits = first_item scalars types source t (x ∷ xs) h x xs refl in
             more_items t y ys (first.0 fits.0) (rest.0 fits.1),
-        λ h. let fits = first_item answer accepts types source t (y ∷ ys) h y ys refl in
+        λ h. let fits = first_item scalars types source t (y ∷ ys) h y ys refl in
             more_items t x xs (first.1 fits.0) (rest.1 fits.1),
       )
 
@@ -107,10 +107,10 @@ module _ {S C : Type 0} (answer : S → ScalarAnswer) (accepts : C → InputValu
       let u = unlocated (value.List xs) in
       let as_long = λ (size : Option ℕ). ap (allows size) (length-map xs unlocated_item) in
       let within : List TypeModifier → TypeOf = λ modifiers. record { name = t.name; modifiers = modifiers } in (
-        λ h. let fits = list_of answer accepts types source t (value.List xs) xs refl h in
+        λ h. let fits = list_of scalars types source t (value.List xs) xs refl h in
             list_fits_as t u ys (unlocated_list xs)
             (fits.0, fits.1, fits.2, as_long fits.0 ∙ fits.3, (each_alike xs each (within fits.1)).0 fits.4),
-        λ h. let fits = list_of answer accepts types source t u ys (unlocated_list xs) h in
+        λ h. let fits = list_of scalars types source t u ys (unlocated_list xs) h in
             list_fits_as t (value.List xs) xs refl
             (fits.0, fits.1, fits.2, sym (as_long fits.0) ∙ fits.3, (each_alike xs each (within fits.1)).1 fits.4),
       )
@@ -124,10 +124,10 @@ module _ {S C : Type 0} (answer : S → ScalarAnswer) (accepts : C → InputValu
       let qs = map unlocated_pair ps in
       let first = each 0 p (omega arith) in
       let rest = fields_alike ps (λ k d within. each (suc k) d (omega arith)) declared in (
-        λ h. let fits = first_field answer accepts types source declared (p ∷ ps) h p ps refl in
+        λ h. let fits = first_field scalars types source declared (p ∷ ps) h p ps refl in
             let a = fits.0.0 in
             more_fields declared a q qs fits.0.1 ((first a.arg_type).0 fits.0.2) (rest.0 fits.1),
-        λ h. let fits = first_field answer accepts types source declared (q ∷ qs) h q qs refl in
+        λ h. let fits = first_field scalars types source declared (q ∷ qs) h q qs refl in
             let a = fits.0.0 in
             more_fields declared a p ps fits.0.1 ((first a.arg_type).1 fits.0.2) (rest.1 fits.1),
       )
@@ -153,17 +153,17 @@ module _ {S C : Type 0} (answer : S → ScalarAnswer) (accepts : C → InputValu
       (map-map (λ p. p.0.item) unlocated_pair ps)
       ∙ ap (λ b. cond m.exactly_one b (none_missing m.input_fields (map (λ p. p.0.item) ps))) (one_given_alike ps)
 
-  module _ (eq : S → S → Bool) (laws : IsEquivalence eq) (respects : Respects eq accepts) where
+  module _ (laws : IsEquivalence scalars.eq) (respects : Respects scalars) where
     -- the check accepts the value where no variable stands in it
     abbrev Passes : C → InputValue S → Type 0
-    Passes check v = IsConstant v → accepts check v
+    Passes check v = IsConstant v → scalars.accepts check v
 
     passes_alike : (check : C) (v : InputValue S) → Passes check v ↔ Passes check (unlocated v)
     passes_alike check v =
         let u = unlocated v in
-        let same = same_unlocated eq laws v in (
+        let same = same_unlocated scalars.eq laws v in (
           λ h constant. respects check v u same (h ((same_constant v).1 constant)),
-          λ h constant. respects check u v (either_way eq laws v u same) (h ((same_constant v).0 constant)),
+          λ h constant. respects check u v (either_way scalars.eq laws v u same) (h ((same_constant v).0 constant)),
         )
 
     object_alike : (ps : List (Pair (InputValue S))) → HoldsOfPairs FitsAlike ps → FitsAlike (value.Object ps)
@@ -195,8 +195,7 @@ module _ {S C : Type 0} (answer : S → ScalarAnswer) (accepts : C → InputValu
         list_alike
         object_alike
 
-pub conforms_without_places : {S C : Type 0} (eq : S → S → Bool) → IsEquivalence eq
-    → (answer : S → ScalarAnswer) (accepts : C → InputValue S → Type 0) → Respects eq accepts
-    → ConformsWithoutPlaces answer accepts
-conforms_without_places eq laws answer accepts respects types source t v =
-    value_alike answer accepts types source eq laws respects v t
+pub conforms_without_places : {S C : Type 0} (scalars : Scalars S C) → IsEquivalence scalars.eq
+    → Respects scalars → ConformsWithoutPlaces scalars
+conforms_without_places scalars laws respects types source t v =
+    value_alike scalars types source laws respects v t

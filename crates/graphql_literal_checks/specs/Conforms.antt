@@ -1,7 +1,7 @@
 -- Which values conform to a type (GraphQL October 2021, 5.6.1 Values of Correct Type; 3.5, 3.9,
 -- 3.10, 3.11, 3.12: input coercion).
 use Rattle.std.specs.Prelude.{◌≡◌, ◌++◌, ℕ, true, false, List, [], ◌∷◌, length, Option, Some}
-use Rattle.graphql_scalars.specs.ScalarAnswers.{ScalarAnswer, as_text}
+use Rattle.graphql_scalars.specs.ScalarAnswers.{as_text}
 use Rattle.graphql_values.specs.declared.input_value.InputValue.{InputValue}
 use Rattle.graphql_values.specs.declared.input_value.InputValue.TheVariants as value
 use Rattle.graphql_values.specs.InputValues.{Placed, Pair}
@@ -9,6 +9,7 @@ use Rattle.graphql_values.specs.Variables.{IsConstant}
 use Rattle.graphql_names.specs.TypeReference.{nullable}
 use Rattle.graphql_names.specs.declared.type_modifier.TypeModifier.{TypeModifier}
 use Rattle.graphql_names.specs.declared.type_modifier.TypeModifier.TheVariants as modifier
+use Rattle.graphql_schema.specs.Scalars.{Scalars}
 use Rattle.graphql_schema.specs.declared.meta.argument.Argument.{Argument}
 use Rattle.graphql_schema.specs.declared.meta.scalar.ScalarMeta.{ScalarMeta}
 use Rattle.graphql_schema.specs.declared.meta.enumeration.EnumMeta.{EnumMeta}
@@ -23,9 +24,8 @@ use Rattle.graphql_literal_checks.specs.declared.source.Source.TheVariants.{Sent
 use Rattle.graphql_literal_checks.specs.InputTypes.{WholeFits, allows}
 use Rattle.graphql_literal_checks.specs.InputTypes.{may_stand_alone, declares, argument_named}
 
--- by what a scalar answers, what the check of a type accepts, the types of a schema, and where the
--- value comes from
-module _ {S C : Type 0} (answer : S → ScalarAnswer) (accepts : C → InputValue S → Type 0)
+-- by what scalars mean, the types of a schema, and where the value comes from
+module _ {S C : Type 0} (scalars : Scalars S C)
     (types : List (MetaType S C)) (source : Source) where
   mutual
     pub data Conforms : TypeOf → InputValue S → Type 0 where
@@ -33,17 +33,18 @@ module _ {S C : Type 0} (answer : S → ScalarAnswer) (accepts : C → InputValu
       -- whether a variable may stand there is asked of its type (5.8.5)
       variable : (t : TypeOf) (name : Bytes) → Conforms t (value.Variable name)
       scalar : (t : TypeOf) (m : ScalarMeta C) (s : S) → may_stand_alone t ≡ true
-          → type_named types t.name ≡ Some (meta.Scalar m) → accepts m.check (value.Scalar s)
+          → type_named types t.name ≡ Some (meta.Scalar m)
+          → scalars.accepts m.check (value.Scalar s)
           → Conforms t (value.Scalar s)
       enum : (t : TypeOf) (m : EnumMeta C) (name : Bytes) → may_stand_alone t ≡ true
           → type_named types t.name ≡ Some (meta.Enum m) → declares m name ≡ true
-          → accepts m.check (value.Enum name)
+          → scalars.accepts m.check (value.Enum name)
           → Conforms t (value.Enum name)
       -- a text names an enum's value only where it was sent (3.9)
       sent_enum : (t : TypeOf) (m : EnumMeta C) (s : S) (name : Bytes) → source ≡ Sent
-          → as_text (answer s) ≡ Some name → may_stand_alone t ≡ true
+          → as_text (scalars.answer s) ≡ Some name → may_stand_alone t ≡ true
           → type_named types t.name ≡ Some (meta.Enum m) → declares m name ≡ true
-          → accepts m.check (value.Scalar s) → Conforms t (value.Scalar s)
+          → scalars.accepts m.check (value.Scalar s) → Conforms t (value.Scalar s)
       list : (t : TypeOf) (size : Option ℕ) (within : List TypeModifier)
           (items : List (Placed (InputValue S)))
           → nullable t.modifiers
@@ -55,7 +56,7 @@ module _ {S C : Type 0} (answer : S → ScalarAnswer) (accepts : C → InputValu
       object : (t : TypeOf) (m : InputObjectMeta S C) (pairs : List (Pair (InputValue S)))
           → may_stand_alone t ≡ true → type_named types t.name ≡ Some (meta.InputObject m)
           → FieldsConform m.input_fields pairs
-          → WholeFits accepts m (value.Object pairs) pairs (IsConstant (value.Object pairs))
+          → WholeFits scalars.accepts m (value.Object pairs) pairs (IsConstant (value.Object pairs))
           → Conforms t (value.Object pairs)
 
     -- each item conforms

@@ -4,8 +4,7 @@ use Rattle.std.specs.Prelude.{List, Option, Some, None, IfSome}
 use Rattle.std.specs.Borrow.{Bor}
 use Rattle.std.specs.List.{All}
 use Rattle.graphql_names.specs.Names.{Bytes}
-use Rattle.graphql_scalars.specs.ScalarAnswers.{ScalarAnswer}
-use Rattle.graphql_values.specs.declared.input_value.InputValue.{InputValue}
+use Rattle.graphql_schema.specs.Scalars.{Scalars}
 use Rattle.graphql_schema.specs.declared.meta.argument.Argument.{Argument}
 use Rattle.graphql_schema.specs.declared.meta.field.Field.{Field}
 use Rattle.graphql_schema.specs.declared.meta.MetaType.{MetaType}
@@ -15,13 +14,12 @@ use Rattle.graphql_schema.specs.Promises.{IsFirstWithout}
 use Rattle.graphql_literal_checks.specs.Conforms.{Conforms}
 use Rattle.graphql_literal_checks.specs.declared.source.Source.TheVariants.{Literal}
 
--- by what a scalar answers, what the checks of types accept, and the types of a schema
-module _ {S C : Type 0} (answer : S → ScalarAnswer) (accepts : C → InputValue S → Type 0)
-    (types : List (MetaType S C)) where
+-- by what scalars mean, and the types of a schema
+module _ {S C : Type 0} (scalars : Scalars S C) (types : List (MetaType S C)) where
   -- its default, where it has one, conforms to its type
   abbrev pub ArgumentConforms : Argument S → Type 0
   ArgumentConforms argument =
-      IfSome argument.default_value (Conforms answer accepts types Literal argument.arg_type)
+      IfSome argument.default_value (Conforms scalars types Literal argument.arg_type)
 
   abbrev pub FieldConforms : Field S → Type 0
   FieldConforms field = All ArgumentConforms (arguments_of field)

@@ -14,6 +14,7 @@ use Rattle.graphql_names.specs.TypeReference.{nullable}
 use Rattle.graphql_names.specs.declared.type_modifier.TypeModifier.{TypeModifier}
 use Rattle.graphql_names.specs.declared.type_modifier.TypeModifier.TheVariants as modifier
 use Rattle.graphql_names.specs.declared.type_reference.«Type».{«Type»}
+use Rattle.graphql_schema.specs.Scalars.{Scalars}
 use Rattle.graphql_schema.specs.declared.meta.argument.Argument.{Argument}
 use Rattle.graphql_schema.specs.declared.meta.enumeration.EnumMeta.{EnumMeta}
 use Rattle.graphql_schema.specs.declared.meta.scalar.ScalarMeta.{ScalarMeta}
@@ -78,23 +79,23 @@ abbrev pub IsOfEnum : {S C : Type 0} → (S → ScalarAnswer) → Source → Enu
     → Type 0
 IsOfEnum answer source m v = (name : Bytes) × Names answer source v name × (declares m name ≡ true)
 
-module _ {S C : Type 0} (accepts : C → InputValue S → Type 0) where
+module _ {S C : Type 0} (scalars : Scalars S C) where
   abbrev pub ScalarFits : ScalarMeta C → InputValue S → Type 0
-  ScalarFits m v = ((s : S) × (v ≡ value.Scalar s)) × accepts m.check v
+  ScalarFits m v = ((s : S) × (v ≡ value.Scalar s)) × scalars.accepts m.check v
 
-  abbrev pub EnumFits : (S → ScalarAnswer) → Source → EnumMeta C → InputValue S → Type 0
-  EnumFits answer source m v = IsOfEnum answer source m v × accepts m.check v
+  abbrev pub EnumFits : Source → EnumMeta C → InputValue S → Type 0
+  EnumFits source m v = IsOfEnum scalars.answer source m v × scalars.accepts m.check v
 
-module _ {S C : Type 0} (answer : S → ScalarAnswer) (accepts : C → InputValue S → Type 0)
+module _ {S C : Type 0} (scalars : Scalars S C)
     (types : List (MetaType S C)) (source : Source) where
   abbrev pub ObjectFits : InputObjectMeta S C → List (Pair (InputValue S)) → Type 0
-  ObjectFits m pairs = FieldsConform answer accepts types source m.input_fields pairs
-      × WholeFits accepts m (value.Object pairs) pairs (IsConstant (value.Object pairs))
+  ObjectFits m pairs = FieldsConform scalars types source m.input_fields pairs
+      × WholeFits scalars.accepts m (value.Object pairs) pairs (IsConstant (value.Object pairs))
 
   -- the value fits the named type, of which this is known
   abbrev pub NamedFits : Option (MetaType S C) → InputValue S → Type 0
-  NamedFits (Some (meta.Scalar m)) v = ScalarFits accepts m v
-  NamedFits (Some (meta.Enum m)) v = EnumFits accepts answer source m v
+  NamedFits (Some (meta.Scalar m)) v = ScalarFits scalars m v
+  NamedFits (Some (meta.Enum m)) v = EnumFits scalars source m v
   NamedFits (Some (meta.InputObject m)) v = IsObject (ObjectFits m) v
   NamedFits _ v = ⊥
 
@@ -108,11 +109,11 @@ module _ {S C : Type 0} (answer : S → ScalarAnswer) (accepts : C → InputValu
       × (within : List TypeModifier)
       × IsListOf t.modifiers size within
       × (allows size (length items) ≡ true)
-      × EachConforms answer accepts types source
+      × EachConforms scalars types source
       (record { name = t.name; modifiers = within }) items
 
   -- a field of this name is declared, and the value conforms to its type
   abbrev pub FieldFits : List (Argument S) → Bytes → InputValue S → Type 0
   FieldFits declared name v = (a : Argument S)
       × (argument_named declared name ≡ Some a)
-      × Conforms answer accepts types source a.arg_type v
+      × Conforms scalars types source a.arg_type v

@@ -3,10 +3,10 @@
 use Rattle.std.specs.Prelude.{◌≡◌, ◌↔◌, ◌&&◌, ◌+◌, ◌*◌, ℕ, Bool, true, List, [], ◌∷◌, Result}
 use Rattle.std.specs.List.{sum_by}
 use Rattle.graphql_text.specs.Memory.{Answers}
-use Rattle.graphql_scalars.specs.ScalarAnswers.{ScalarAnswer}
 use Rattle.graphql_values.specs.declared.input_value.InputValue.{InputValue}
 use Rattle.graphql_values.specs.Counts.{value_count}
 use Rattle.graphql_values.specs.InputValues.{Placed, Pair}
+use Rattle.graphql_schema.specs.Scalars.{Scalars}
 use Rattle.graphql_schema.specs.declared.meta.MetaType.{MetaType}
 use Rattle.graphql_literal_checks.specs.declared.misfit.Misfit.{Misfit}
 use Rattle.graphql_literal_checks.specs.declared.open_values.Open.{Open}
@@ -53,17 +53,17 @@ module _ {S C : Type 0} where
   abbrev pub all_left : List (Open S C) → ℕ
   all_left fs = sum_by left_in fs
 
-module _ {S C : Type 0} (answer : S → ScalarAnswer) (accepts : C → InputValue S → Type 0)
+module _ {S C : Type 0} (scalars : Scalars S C)
     (types : List (MetaType S C)) (source : Source) where
   -- the rest of the items conform
   abbrev pub ListOwes : OpenList S → Type 0
-  ListOwes l = EachConforms answer accepts types source (lent l.asked) l.rest.now
+  ListOwes l = EachConforms scalars types source (lent l.asked) l.rest.now
 
   -- the rest of the fields conform, none is missing, and the type accepts the object where no
   -- variable stands in it
   abbrev pub ObjectOwes : Bool → OpenObject S C → Type 0
-  ObjectOwes here o = FieldsConform answer accepts types source o.meta.now.input_fields o.rest.now
-      × WholeFits accepts o.meta.now o.value.now o.pairs.now (object_constant here o ≡ true)
+  ObjectOwes here o = FieldsConform scalars types source o.meta.now.input_fields o.rest.now
+      × WholeFits scalars.accepts o.meta.now o.value.now o.pairs.now (object_constant here o ≡ true)
 
   abbrev pub Owes : Bool → Open S C → Type 0
   Owes here (around.List l) = ListOwes l

@@ -20,7 +20,7 @@ use crate::reasons::{invalid_value, null_given, unknown_field, wrong_size};
 use crate::source::Source;
 use crate::wraps::{allows, list_within, size_but_one};
 use graphql_names::BorrowedType;
-use graphql_schema::{InputObjectMeta, MetaType, SchemaScalar, SchemaType};
+use graphql_schema::{InputObjectMeta, Meaning, MetaType, SchemaScalar, SchemaType};
 use graphql_text::{Items, Spanning, TextRef};
 use graphql_values::InputValue;
 use std::alloc::Global;
@@ -41,7 +41,7 @@ impl<'a, S: SchemaScalar> Judge<'a, S> {
         asked: &BorrowedType<'a>,
         value: &'a InputValue<S>,
     ) -> Result<(), Misfit>
-        ensures { Told IsMemory result (Conforms S.answer S.Check.accepts self.now.schema.now.types
+        ensures { Told IsMemory result (Conforms ⟦<S as Meaning>⟧.meaning self.now.schema.now.types
             self.now.source (lent asked.now) value.now) }
     {
         let mut opened: Items<Open<'a, S>> = Items::new(self.alloc);
@@ -63,8 +63,8 @@ impl<'a, S: SchemaScalar> Judge<'a, S> {
         asked: &BorrowedType<'a>,
         value: &'a InputValue<S>,
     ) -> Result<bool, Misfit>
-        ensures fits { LeavesAsked S.answer S.Check.accepts self.now.schema.now.types
-            self.now.source (Conforms S.answer S.Check.accepts self.now.schema.now.types
+        ensures fits { LeavesAsked ⟦<S as Meaning>⟧.meaning self.now.schema.now.types
+            self.now.source (Conforms ⟦<S as Meaning>⟧.meaning self.now.schema.now.types
             self.now.source
             (lent asked.now) value.now) (is_constant value.now) result opened.old opened.new }
         ensures ends { OnOk result
@@ -92,8 +92,8 @@ impl<'a, S: SchemaScalar> Judge<'a, S> {
         items: &'a [Spanning<InputValue<S>>],
         value: &InputValue<S>,
     ) -> Result<bool, Misfit>
-        ensures fits { LeavesAsked S.answer S.Check.accepts self.now.schema.now.types
-            self.now.source (ListFits S.answer S.Check.accepts self.now.schema.now.types
+        ensures fits { LeavesAsked ⟦<S as Meaning>⟧.meaning self.now.schema.now.types
+            self.now.source (ListFits ⟦<S as Meaning>⟧.meaning self.now.schema.now.types
             self.now.source
             (lent asked.now) items.now) (are_constant items.now) result opened.old opened.new }
         ensures ends { OnOk result
@@ -130,8 +130,8 @@ impl<'a, S: SchemaScalar> Judge<'a, S> {
         asked: &BorrowedType<'a>,
         value: &'a InputValue<S>,
     ) -> Result<bool, Misfit>
-        ensures fits { LeavesAsked S.answer S.Check.accepts self.now.schema.now.types
-            self.now.source (AloneFits S.answer S.Check.accepts self.now.schema.now.types
+        ensures fits { LeavesAsked ⟦<S as Meaning>⟧.meaning self.now.schema.now.types
+            self.now.source (AloneFits ⟦<S as Meaning>⟧.meaning self.now.schema.now.types
             self.now.source
             (lent asked.now) value.now) (is_constant value.now) result opened.old opened.new }
         ensures ends { OnOk result
@@ -157,8 +157,8 @@ impl<'a, S: SchemaScalar> Judge<'a, S> {
         meta: &'a InputObjectMeta<S, S::Check>,
         value: &'a InputValue<S>,
     ) -> Result<bool, Misfit>
-        ensures fits { LeavesAsked S.answer S.Check.accepts self.now.schema.now.types
-            self.now.source (IsObject (ObjectFits S.answer S.Check.accepts self.now.schema.now.types
+        ensures fits { LeavesAsked ⟦<S as Meaning>⟧.meaning self.now.schema.now.types
+            self.now.source (IsObject (ObjectFits ⟦<S as Meaning>⟧.meaning self.now.schema.now.types
             self.now.source
             meta.now) value.now) (is_constant value.now) result opened.old opened.new }
         ensures ends { OnOk result
@@ -195,8 +195,8 @@ impl<'a, S: SchemaScalar> Judge<'a, S> {
         innermost: Open<'a, S>,
         constant: bool,
     ) -> Result<bool, Misfit>
-        ensures fits { LeavesAsked S.answer S.Check.accepts self.now.schema.now.types
-            self.now.source (Owes S.answer S.Check.accepts self.now.schema.now.types
+        ensures fits { LeavesAsked ⟦<S as Meaning>⟧.meaning self.now.schema.now.types
+            self.now.source (Owes ⟦<S as Meaning>⟧.meaning self.now.schema.now.types
             self.now.source constant
             innermost.entry) (stays_constant constant innermost.entry) result opened.old
             opened.new }
@@ -216,8 +216,8 @@ impl<'a, S: SchemaScalar> Judge<'a, S> {
         list: OpenList<'a, S>,
         constant: bool,
     ) -> Result<bool, Misfit>
-        ensures fits { LeavesAsked S.answer S.Check.accepts self.now.schema.now.types
-            self.now.source (ListOwes S.answer S.Check.accepts self.now.schema.now.types
+        ensures fits { LeavesAsked ⟦<S as Meaning>⟧.meaning self.now.schema.now.types
+            self.now.source (ListOwes ⟦<S as Meaning>⟧.meaning self.now.schema.now.types
             self.now.source list.entry)
             (list_constant constant list.entry) result opened.old opened.new }
         ensures ends { OnOk result
@@ -251,8 +251,8 @@ impl<'a, S: SchemaScalar> Judge<'a, S> {
         object: OpenObject<'a, S>,
         constant: bool,
     ) -> Result<bool, Misfit>
-        ensures fits { LeavesAsked S.answer S.Check.accepts self.now.schema.now.types
-            self.now.source (ObjectOwes S.answer S.Check.accepts self.now.schema.now.types
+        ensures fits { LeavesAsked ⟦<S as Meaning>⟧.meaning self.now.schema.now.types
+            self.now.source (ObjectOwes ⟦<S as Meaning>⟧.meaning self.now.schema.now.types
             self.now.source constant
             object.entry) (object_constant constant object.entry) result opened.old opened.new }
         ensures ends { OnOk result
@@ -290,10 +290,10 @@ impl<'a, S: SchemaScalar> Judge<'a, S> {
         object: OpenObject<'a, S>,
         field: &'a Pair<S>,
     ) -> Result<bool, Misfit>
-        ensures fits { LeavesAsked S.answer S.Check.accepts self.now.schema.now.types
-            self.now.source (FieldFits S.answer S.Check.accepts self.now.schema.now.types
+        ensures fits { LeavesAsked ⟦<S as Meaning>⟧.meaning self.now.schema.now.types
+            self.now.source (FieldFits ⟦<S as Meaning>⟧.meaning self.now.schema.now.types
             self.now.source object.entry.meta.now.input_fields field.now.0.item field.now.1.item
-            × ObjectOwes S.answer S.Check.accepts self.now.schema.now.types
+            × ObjectOwes ⟦<S as Meaning>⟧.meaning self.now.schema.now.types
             self.now.source (is_constant field.now.1.item) object.entry)
             (object_constant (is_constant field.now.1.item) object.entry) result opened.old
             opened.new }

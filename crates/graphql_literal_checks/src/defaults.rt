@@ -8,7 +8,7 @@ ghost use Rattle.graphql_literal_checks.specs.Defaults as spec;
 
 use crate::validate_literal_value;
 use graphql_names::Type;
-use graphql_schema::{Argument, Field, MetaType, SchemaScalar, SchemaType};
+use graphql_schema::{Argument, Field, Meaning, MetaType, SchemaScalar, SchemaType};
 use graphql_text::Text;
 use graphql_values::InputValue;
 use std::alloc::{AllocError, Global};
@@ -22,7 +22,7 @@ fn value_conforms<S: SchemaScalar>(
 ) -> Result<bool, AllocError>
     ensures { IfOk result (λ told.
         IsTrue told
-        ↔ Conforms S.answer S.Check.accepts schema.now.types Literal asked.now value.now) }
+        ↔ Conforms ⟦<S as Meaning>⟧.meaning schema.now.types Literal asked.now value.now) }
 {
     match validate_literal_value(alloc, schema, asked, value)? {
         Some(_) => Ok(false),
@@ -39,7 +39,7 @@ fn argument_conforms<S: SchemaScalar>(
 ) -> Result<bool, AllocError>
     ensures { IfOk result (λ told.
         IsTrue told
-        ↔ spec.ArgumentConforms S.answer S.Check.accepts schema.now.types argument.now) }
+        ↔ spec.ArgumentConforms ⟦<S as Meaning>⟧.meaning schema.now.types argument.now) }
 {
     match &argument.default_value {
         Some(value) => value_conforms(alloc, schema, &argument.arg_type, value),
@@ -55,7 +55,7 @@ fn arguments_conform<S: SchemaScalar>(
 ) -> Result<bool, AllocError>
     ensures { IfOk result (λ told.
         IsTrue told
-        ↔ All (spec.ArgumentConforms S.answer S.Check.accepts schema.now.types) arguments.now) }
+        ↔ All (spec.ArgumentConforms ⟦<S as Meaning>⟧.meaning schema.now.types) arguments.now) }
 {
     'arguments: for argument in arguments {
         if !argument_conforms(alloc, schema, argument)? {
@@ -72,7 +72,7 @@ fn field_conforms<S: SchemaScalar>(
     field: &Field<S>,
 ) -> Result<bool, AllocError>
     ensures { IfOk result (λ told.
-        IsTrue told ↔ spec.FieldConforms S.answer S.Check.accepts schema.now.types field.now) }
+        IsTrue told ↔ spec.FieldConforms ⟦<S as Meaning>⟧.meaning schema.now.types field.now) }
 {
     arguments_conform(alloc, schema, field.arguments())
 }
@@ -85,7 +85,7 @@ fn fields_conform<S: SchemaScalar>(
 ) -> Result<bool, AllocError>
     ensures { IfOk result (λ told.
         IsTrue told
-        ↔ All (spec.FieldConforms S.answer S.Check.accepts schema.now.types) fields.now) }
+        ↔ All (spec.FieldConforms ⟦<S as Meaning>⟧.meaning schema.now.types) fields.now) }
 {
     'fields: for field in fields {
         if !field_conforms(alloc, schema, field)? {
@@ -103,7 +103,7 @@ fn type_conforms<S: SchemaScalar>(
     meta: &MetaType<S>,
 ) -> Result<bool, AllocError>
     ensures { IfOk result (λ told.
-        IsTrue told ↔ spec.TypeConforms S.answer S.Check.accepts schema.now.types meta.now) }
+        IsTrue told ↔ spec.TypeConforms ⟦<S as Meaning>⟧.meaning schema.now.types meta.now) }
 {
     if !fields_conform(alloc, schema, meta.fields())? {
         return Ok(false);
@@ -122,7 +122,7 @@ pub fn type_defaults_conform<S: SchemaScalar>(
     name: &str,
 ) -> Result<bool, AllocError>
     ensures { IfOk result (λ told.
-        IsTrue told ↔ spec.NamedConforms S.answer S.Check.accepts schema.now.types name.now) }
+        IsTrue told ↔ spec.NamedConforms ⟦<S as Meaning>⟧.meaning schema.now.types name.now) }
 {
     match schema.concrete_type_by_name(name) {
         Some(meta) => type_conforms(alloc, schema, meta),
@@ -138,7 +138,7 @@ pub fn first_with_bad_default<'a, S: SchemaScalar>(
     schema: &SchemaType<S>,
     names: &[&'a str],
 ) -> Result<Option<&'a str>, AllocError>
-    ensures { IfOk result (spec.IsFirstUnfit S.answer S.Check.accepts schema.now.types
+    ensures { IfOk result (spec.IsFirstUnfit ⟦<S as Meaning>⟧.meaning schema.now.types
         (map (λ name. name.now) names.now)) }
 {
     'names: for name in names {

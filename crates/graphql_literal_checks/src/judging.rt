@@ -19,7 +19,8 @@ use crate::source::Source;
 use graphql_names::{BorrowedType, NamedItems};
 use graphql_scalars::CheckError;
 use graphql_schema::{
-    Check, EnumMeta, EnumValue, InputObjectMeta, MetaType, ScalarMeta, SchemaScalar, SchemaType,
+    Check, EnumMeta, EnumValue, InputObjectMeta, Meaning, MetaType, ScalarMeta, SchemaScalar,
+    SchemaType,
 };
 use graphql_values::InputValue;
 use std::alloc::Global;
@@ -30,8 +31,8 @@ pub(crate) fn judge_scalar<S: SchemaScalar>(
     meta: &ScalarMeta<S::Check>,
     value: &InputValue<S>,
 ) -> Result<bool, Misfit>
-    ensures { Judged (ScalarFits S.Check.accepts meta.now value.now) (is_constant value.now)
-        result }
+    ensures { Judged (ScalarFits ⟦<S as Meaning>⟧.meaning meta.now value.now)
+        (is_constant value.now) result }
 {
     match value {
         InputValue::Scalar(_) => match meta.check.check(value) {
@@ -87,7 +88,7 @@ pub(crate) fn judge_enum<S: SchemaScalar>(
     meta: &EnumMeta<S::Check>,
     value: &InputValue<S>,
 ) -> Result<bool, Misfit>
-    ensures { Judged (EnumFits S.Check.accepts S.answer source meta.now value.now)
+    ensures { Judged (EnumFits ⟦<S as Meaning>⟧.meaning source meta.now value.now)
         (is_constant value.now) result }
 {
     if !is_of_enum(source, meta, value) {

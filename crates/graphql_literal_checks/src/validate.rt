@@ -9,7 +9,7 @@ use crate::conforming::Judge;
 use crate::misfit::Misfit;
 use crate::source::Source;
 use graphql_names::{Type, TypeModifier};
-use graphql_schema::{SchemaScalar, SchemaType};
+use graphql_schema::{Meaning, SchemaScalar, SchemaType};
 use graphql_text::Text;
 use graphql_values::InputValue;
 use std::alloc::{AllocError, Global};
@@ -27,8 +27,8 @@ pub fn validate_literal_value<S: SchemaScalar, N: AsStr, M: AsSlice<TypeModifier
     value: &InputValue<S>,
 ) -> Result<Option<Text>, AllocError>
     ensures { IfOk result
-        (λ reason. MatchOption reason (Conforms S.answer S.Check.accepts schema.now.types Literal
-        (asked_for N.text M.items asked.now) value.now) (λ _. Conforms S.answer S.Check.accepts
+        (λ reason. MatchOption reason (Conforms ⟦<S as Meaning>⟧.meaning schema.now.types Literal
+        (asked_for N.text M.items asked.now) value.now) (λ _. Conforms ⟦<S as Meaning>⟧.meaning
         schema.now.types Literal (asked_for N.text M.items asked.now) value.now → ⊥)) }
 {
     validate_value(alloc, schema, Source::Literal, asked, value)
@@ -43,8 +43,8 @@ pub fn validate_value<S: SchemaScalar, N: AsStr, M: AsSlice<TypeModifier>>(
     value: &InputValue<S>,
 ) -> Result<Option<Text>, AllocError>
     ensures { IfOk result
-        (λ reason. MatchOption reason (Conforms S.answer S.Check.accepts schema.now.types source
-        (asked_for N.text M.items asked.now) value.now) (λ _. Conforms S.answer S.Check.accepts
+        (λ reason. MatchOption reason (Conforms ⟦<S as Meaning>⟧.meaning schema.now.types source
+        (asked_for N.text M.items asked.now) value.now) (λ _. Conforms ⟦<S as Meaning>⟧.meaning
         schema.now.types source (asked_for N.text M.items asked.now) value.now → ⊥)) }
 {
     let judge = Judge {

@@ -85,7 +85,7 @@ module _ {S : Type 0} where
 -- ---- the text
 
 module _ {S C : Type 0} (s : Scalars S C) (root : RootNode S C)
-    (valid_texts : PlainTextsAreValid s.eq s.answer s.reads s.of_bool s.accepts (declarations_of root.schema))
+    (valid_texts : PlainTextsAreValid s (declarations_of root.schema))
     (printed : PlainTextIsDocument S s.reads s.of_bool s.answer) where
   pub plain-texts-are-accepted : PlainTextsAreAccepted s root
   plain-texts-are-accepted takes source name given bytes utf8 text =
@@ -99,7 +99,7 @@ module _ {S C : Type 0} (s : Scalars S C) (root : RootNode S C)
       let among = chosen-in name document o ready.chosen in
       let known = root-known root.schema o.item.operation_type ready.root ready.served in
       let filled =
-      full s.answer s.of_bool s.accepts s.reads schema
+      full s schema
       (field-types-are-known schema root.schema.faultless) document
       read.valid.valid.no_fault (chars source) read.spelled o among known in
       let spelled : IsTextOf S s.reads s.of_bool bytes (document_of p) =
@@ -107,9 +107,9 @@ module _ {S C : Type 0} (s : Scalars S C) (root : RootNode S C)
       (printed source text.tokens text.finish document o (values_for s a o.item) utf8 text.cut
       read.spelled among filled.0 filled.1) in
       let again : List (Definition S) = spelled.again in
-      let valid_text : IsValidText s.eq s.answer s.reads s.of_bool s.accepts schema root.introspection_disabled bytes =
+      let valid_text : IsValidText s schema root.introspection_disabled bytes =
       subst
-      (IsValidText s.eq s.answer s.reads s.of_bool s.accepts schema root.introspection_disabled)
+      (IsValidText s schema root.introspection_disabled)
       (sym text.is)
       (valid_texts takes.conditions takes.truth source text.tokens text.finish document o
       (values_for s a o.item) utf8 text.cut read.spelled among known root.introspection_disabled
@@ -139,7 +139,7 @@ module _ {S C : Type 0} (s : Scalars S C) (root : RootNode S C)
                 ap (λ (d : List (Definition S)). chosen name d) x.1
                 ∙ chosen-again p document o x.0 refl x.2 name ready.chosen;
             takes_values =
-                accepted-again s.answer s.accepts root.schema.types given p (variables_used p.set)
+                accepted-again s root.schema.types given p (variables_used p.set)
                 (variables_in o.item.variable_definitions) x.0.item refl x.2 ready.takes_values;
             root = ready.root;
             served =

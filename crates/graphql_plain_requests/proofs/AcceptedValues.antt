@@ -4,7 +4,6 @@ use Rattle.std.proofs.Common.{◌≡◌, sym, ◌∙◌, ap, subst, not, ◌||�
 use Rattle.std.specs.List.{Contains}
 use Rattle.std.specs.Option.{is_some}
 use Rattle.graphql_names.specs.Names.{Bytes}
-use Rattle.graphql_scalars.specs.ScalarAnswers.{ScalarAnswer}
 use Rattle.graphql_values.specs.InputValues.{unlocated}
 use Rattle.graphql_values.specs.declared.input_value.InputValue.{InputValue}
 use Rattle.graphql_tree.specs.Documents.{variables_in}
@@ -12,6 +11,7 @@ use Rattle.graphql_tree.specs.Unlocated.{unlocated_operation, without_place}
 use Rattle.graphql_tree.specs.Variables.{Variable}
 use Rattle.graphql_tree.specs.declared.document.Operation.{Operation}
 use Rattle.graphql_written_out.specs.FinalValues.{variable_name}
+use Rattle.graphql_schema.specs.Scalars.{Scalars}
 use Rattle.graphql_schema.specs.declared.meta.MetaType.{MetaType}
 use Rattle.graphql_schema.specs.Types.{refuses_null}
 use Rattle.graphql_rules_document.proofs.ListItems.{contains-map, image-of}
@@ -32,13 +32,13 @@ module _ {S : Type 0} where
       variables-alike x (operation_as p) same
       ∙ ap unlocated_definitions (definitions-back p.variables)
 
-module _ {S C : Type 0} (answer : S → ScalarAnswer) (accepts : C → InputValue S → Type 0)
+module _ {S C : Type 0} (scalars : Scalars S C)
     (types : List (MetaType S C)) where
   abbrev Fits : Variable S → Option (InputValue S) → Type 0
-  Fits = FitsVariable answer accepts types
+  Fits = FitsVariable scalars types
 
   abbrev Accepted : (Bytes → Option (InputValue S)) → List (Variable S) → Type 0
-  Accepted = AreAccepted answer accepts types
+  Accepted = AreAccepted scalars types
 
   absent-alike : (v : Variable S)
       → (not (refuses_null (variable_type v)) || is_some (unlocated_defined v).1.default_value)
@@ -69,18 +69,18 @@ module _ {S C : Type 0} (answer : S → ScalarAnswer) (accepts : C → InputValu
       let v = image-of unlocated_defined vs (unlocated_defined w)
       (subst (λ (us : List (Variable S)). Contains us (unlocated_defined w)) (sym alike)
       (contains-map unlocated_defined ws w i)) in
-      let before : IsAccepted answer accepts types given (unlocated_defined v.0) = λ h.
+      let before : IsAccepted scalars types given (unlocated_defined v.0) = λ h.
       fits-unlocated v.0 (given (variable_name v.0)) (accepted v.0 v.1 h) in
       fits-placed w (given (variable_name w))
-      (subst (λ (u : Variable S). IsAccepted answer accepts types given u) v.2 before is_known)
+      (subst (λ (u : Variable S). IsAccepted scalars types given u) v.2 before is_known)
 
   accepted-used : (given : Bytes → Option (InputValue S)) (names : List Bytes)
       (vs : List (Variable S)) → Accepted given vs → Accepted given (definitions_used names vs)
   accepted-used given names vs accepted w i =
       let v = used-from names vs w i in
-      let before : IsAccepted answer accepts types given (without_directives v.0) = λ h.
+      let before : IsAccepted scalars types given (without_directives v.0) = λ h.
       fits-without v.0 (given (variable_name v.0)) (accepted v.0 v.1 h) in
-      subst (λ (u : Variable S). IsAccepted answer accepts types given u) v.2 before
+      subst (λ (u : Variable S). IsAccepted scalars types given u) v.2 before
 
   -- so do those of used names, places and directives aside
   pub accepted-again : (given : Bytes → Option (InputValue S)) (p : PlainOperation S)

@@ -21,7 +21,7 @@ other-way text other h =
     }
 
 pub same-tokens-are-asked-alike : {S C : Type 0} (s : Scalars S C) (root : RootNode S C)
-    → AreValidAlike s.eq s.answer s.accepts (declarations_of root.schema)
+    → AreValidAlike s (declarations_of root.schema)
     → SameTokensAreAskedAlike s root
 same-tokens-are-asked-alike s root valid one other name given utf8 utf8_other alike =
     let back = other-way (chars one) (chars other) alike in

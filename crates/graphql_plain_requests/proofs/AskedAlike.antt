@@ -29,7 +29,7 @@ use Rattle.graphql_plain_requests.proofs.AcceptedValues.{accepted-alike}
 use Rattle.graphql_plain_requests.proofs.TruthsAlike.{operations-same, variables-same}
 
 module _ {S C : Type 0} (s : Scalars S C) (root : RootNode S C)
-    (valid : AreValidAlike s.eq s.answer s.accepts (declarations_of root.schema))
+    (valid : AreValidAlike s (declarations_of root.schema))
     (name : Option Bytes) (given : Bytes → Option (InputValue S)) (one other : Bytes)
     (alike : AreAlike (chars one) (chars other)) where
   abbrev pub this : Asking S C
@@ -95,13 +95,13 @@ module _ {S C : Type 0} (s : Scalars S C) (root : RootNode S C)
 
     takes-again : TakesValues s root.schema given o → TakesValues s root.schema given p
     takes-again =
-        accepted-alike s.answer s.accepts root.schema.types given
+        accepted-alike s root.schema.types given
         (variables_in o.item.variable_definitions)
         (variables_in p.item.variable_definitions) (variables-same o.item p.item same-item)
 
     takes-before : TakesValues s root.schema given p → TakesValues s root.schema given o
     takes-before =
-        accepted-alike s.answer s.accepts root.schema.types given
+        accepted-alike s root.schema.types given
         (variables_in p.item.variable_definitions)
         (variables_in o.item.variable_definitions) (variables-same p.item o.item (sym same-item))
 

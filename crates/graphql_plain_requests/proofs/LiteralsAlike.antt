@@ -1,14 +1,14 @@
 -- Literals conform in a document where they do in one that differs in places alone.
-use Rattle.std.proofs.Common.{◌≡◌, refl, sym, ◌∙◌, ap, subst, Bool, List}
+use Rattle.std.proofs.Common.{◌≡◌, refl, sym, ◌∙◌, ap, subst, List}
 use Rattle.std.specs.Cmp.{IsEquivalence}
 use Rattle.std.specs.List.{Contains}
 use Rattle.std.specs.Option.{IsSome, option_map}
-use Rattle.graphql_scalars.specs.ScalarAnswers.{ScalarAnswer}
 use Rattle.graphql_values.specs.InputValues.{Placed, unplaced, unlocated}
 use Rattle.graphql_values.specs.SameValue.{SameValue}
 use Rattle.graphql_values.specs.declared.input_value.InputValue.{InputValue}
 use Rattle.graphql_tree.specs.Unlocated.{without_place, unlocated_document}
 use Rattle.graphql_tree.specs.declared.document.Definition.{Definition}
+use Rattle.graphql_schema.specs.Scalars.{Scalars}
 use Rattle.graphql_schema.specs.Types.{TypeOf}
 use Rattle.graphql_schema.specs.Declarations.{Declarations}
 use Rattle.graphql_literal_checks.specs.Conforms.{Conforms}
@@ -57,9 +57,8 @@ module _ {S C : Type 0} where
   variable-of (ObjectOf n) v e = absurd (cc)
   variable-of (VariableUsed u) v e = absurd (cc)
 
-module _ {S C : Type 0} (eq : S → S → Bool) (laws : IsEquivalence eq) (answer : S → ScalarAnswer)
-    (accepts : C → InputValue S → Type 0)
-    (respects : (c : C) (a b : InputValue S) → SameValue S eq a b → accepts c a → accepts c b)
+module _ {S C : Type 0} (scalars : Scalars S C) (laws : IsEquivalence scalars.eq)
+    (respects : (c : C) (a b : InputValue S) → SameValue S scalars.eq a b → scalars.accepts c a → scalars.accepts c b)
     (schema : Declarations S C) (document again : List (Definition S))
     (same : unlocated_document document ≡ unlocated_document again) where
   -- a part of the one is, places aside, a part of the other
@@ -73,37 +72,37 @@ module _ {S C : Type 0} (eq : S → S → Bool) (laws : IsEquivalence eq) (answe
       ∙ document_unlocated schema document)
       (contains-map unlocated_part (occurrences schema again) x i))
 
-  pub arguments-conform : ArgumentsConform schema answer accepts document
-      → ArgumentsConform schema answer accepts again
+  pub arguments-conform : ArgumentsConform schema scalars document
+      → ArgumentsConform schema scalars again
   arguments-conform told =
-      (arguments_none answer accepts (record { schema = schema; document = again })
+      (arguments_none scalars (record { schema = schema; document = again })
       (occurrences schema again)).1
       (λ g i.
       let p = part-of (Given g) i in
       let h = given-of p.0 g p.2 in
-      arguments-respect eq laws answer accepts respects schema.types h.0 g h.2
-      ((arguments_none answer accepts (record { schema = schema; document = document })
+      arguments-respect scalars laws respects schema.types h.0 g h.2
+      ((arguments_none scalars (record { schema = schema; document = document })
       (occurrences schema document)).0 told
       h.0 (subst (Contains (occurrences schema document)) h.1 p.1)))
 
   abbrev F : TypeOf → InputValue S → Type 0
-  F = Conforms answer accepts schema.types Literal
+  F = Conforms scalars schema.types Literal
 
   same-fits : (t : TypeOf) (v w : InputValue S) → unlocated v ≡ unlocated w → F t v → F t w
   same-fits t v w alike h =
-      (conforms_without_places eq laws answer accepts respects schema.types Literal t w).1
+      (conforms_without_places scalars laws respects schema.types Literal t w).1
       (subst (F t) alike
-      ((conforms_without_places eq laws answer accepts respects schema.types Literal t v).0 h))
+      ((conforms_without_places scalars laws respects schema.types Literal t v).0 h))
 
-  pub defaults-conform : DefaultsConform schema answer accepts document
-      → DefaultsConform schema answer accepts again
+  pub defaults-conform : DefaultsConform schema scalars document
+      → DefaultsConform schema scalars again
   defaults-conform told =
-      (defaults_none answer accepts (record { schema = schema; document = again })
+      (defaults_none scalars (record { schema = schema; document = again })
       (occurrences schema again)).1
       (λ w i is_known default is.
       let p = part-of (VariableDefined w) i in
       let v = variable-of p.0 w p.2 in
-      let fit = (defaults_none answer accepts (record { schema = schema; document = document })
+      let fit = (defaults_none scalars (record { schema = schema; document = document })
       (occurrences schema document)).0 told
       v.0 (subst (Contains (occurrences schema document)) v.1 p.1) in
       let type : w.type_of.item ≡ v.0.type_of.item =

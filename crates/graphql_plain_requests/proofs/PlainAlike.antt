@@ -133,7 +133,7 @@ module _ {S : Type 0} (reads : ScalarToken → Result S ParseError) (of_bool : B
 -- ---- requests
 
 module _ {S C : Type 0} (s : Scalars S C) (root : RootNode S C)
-    (valid : AreValidAlike s.eq s.answer s.accepts (declarations_of root.schema))
+    (valid : AreValidAlike s (declarations_of root.schema))
     (name : Option Bytes) (given : Bytes → Option (InputValue S)) (one other : Bytes)
     (utf8 : IsUtf8 one) (utf8_other : IsUtf8 other)
     (alike : AreAlike (chars one) (chars other)) where
@@ -149,7 +149,7 @@ module _ {S C : Type 0} (s : Scalars S C) (root : RootNode S C)
       → (is_empty (written (fragments_listed d) o.item.selection_set) ≡ false)
       × IsFilled (written (fragments_listed d) o.item.selection_set)
   full-of text d o x =
-      full s.answer s.of_bool s.accepts s.reads (declarations_of root.schema)
+      full s (declarations_of root.schema)
       (field-types-are-known (declarations_of root.schema) root.schema.faultless) d
       x.read.valid.valid.no_fault (chars text) x.read.spelled o
       (chosen-in name d o x.ready.chosen) (root-known root.schema o.item.operation_type

@@ -69,7 +69,7 @@ module _ {S : Type 0} where
 
 module _ {S C : Type 0} (s : Scalars S C) (root : RootNode S C) (whole : SpelledSetsAreWhole S s.reads s.of_bool)
     (filled : WrittenSetsAreFilled (declarations_of root.schema))
-    (well_formed : (subject : Subject S C) → HasNoFault s.answer s.accepts subject → IsWellFormed subject)
+    (well_formed : (subject : Subject S C) → HasNoFault s subject → IsWellFormed subject)
     (printed : PlainTextIsDocument S s.reads s.of_bool s.answer) where
   pub plain-texts-are-documents : PlainTextsAreDocuments s root
   plain-texts-are-documents source name given bytes utf8 p =

@@ -23,7 +23,7 @@ module _ {S C : Type 0} (s : Scalars S C) (root : RootNode S C) where
       let o = t.operation in
       let there = accepted takes source name given bytes utf8 t in
       let among = chosen-in name t.document o x.ready.chosen in
-      let filled = full s.answer s.of_bool s.accepts s.reads (declarations_of root.schema)
+      let filled = full s (declarations_of root.schema)
       (field-types-are-known (declarations_of root.schema) root.schema.faultless) t.document
       x.read.valid.valid.no_fault (chars source) x.read.spelled o
       among (root-known root.schema o.item.operation_type x.ready.root x.ready.served) in

@@ -2,7 +2,6 @@
 use Rattle.std.proofs.Common.{◌≡◌, refl, sym, ◌∙◌, ap, subst, List, [], ◌∷◌, Option}
 use Rattle.std.specs.List.{Contains}
 use Rattle.graphql_names.specs.Names.{Bytes}
-use Rattle.graphql_scalars.specs.ScalarAnswers.{ScalarAnswer}
 use Rattle.graphql_values.specs.InputValues.{Placed}
 use Rattle.graphql_values.specs.declared.input_value.InputValue.{InputValue}
 use Rattle.graphql_tree.specs.Definitions.{fragments_listed, operations_of}
@@ -56,15 +55,15 @@ module _ {S : Type 0} where
       (ap (λ (z : Variable S). variable_name z) u.2 ∙ ap (λ (z : Variable S). variable_name z) v.2)
       (among names (variable_name u.0) u.3)
 
-module _ {S C : Type 0} (answer : S → ScalarAnswer) (accepts : C → InputValue S → Type 0)
+module _ {S C : Type 0} (scalars : Scalars S C)
     (types : List (MetaType S C)) where
   taken-too : (given others : Bytes → Option (InputValue S)) (p : PlainOperation S) (names : List Bytes)
       (vs : List (Variable S)) (x : Operation S) → p.variables ≡ definitions_used names vs
       → unlocated_operation x ≡ unlocated_operation (operation_as p) → AreEqualOn given others names
-      → AreAccepted answer accepts types given (variables_in x.variable_definitions)
-      → AreAccepted answer accepts types others (variables_in x.variable_definitions)
+      → AreAccepted scalars types given (variables_in x.variable_definitions)
+      → AreAccepted scalars types others (variables_in x.variable_definitions)
   taken-too given others p names vs x are same equal accepted w i is_known =
-      subst (λ o. FitsVariable answer accepts types w o)
+      subst (λ o. FitsVariable scalars types w o)
       (sym (equal (variable_name w) (defined-used p names vs x are same w i)))
       (accepted w i is_known)
 
@@ -80,7 +79,7 @@ module _ {S C : Type 0} (s : Scalars S C) where
         ready = record {
           chosen = executable.ready.chosen;
           takes_values =
-              taken-too s.answer s.accepts schema.types given others p (variables_used p.set)
+              taken-too s schema.types given others p (variables_used p.set)
               definitions x.item refl (lone again p pair.same x pair.among) equal
               executable.ready.takes_values;
           root = executable.ready.root;

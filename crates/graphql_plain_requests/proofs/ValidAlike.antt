@@ -1,11 +1,11 @@
 -- Of documents that differ in places alone the one is valid where the other is: rule by rule.
-use Rattle.std.proofs.Common.{◌≡◌, Bool, List}
+use Rattle.std.proofs.Common.{◌≡◌, List}
 use Rattle.std.specs.Cmp.{IsEquivalence}
-use Rattle.graphql_scalars.specs.ScalarAnswers.{ScalarAnswer}
 use Rattle.graphql_values.specs.SameValue.{SameValue}
 use Rattle.graphql_values.specs.declared.input_value.InputValue.{InputValue}
 use Rattle.graphql_tree.specs.Unlocated.{unlocated_document}
 use Rattle.graphql_tree.specs.declared.document.Definition.{Definition}
+use Rattle.graphql_schema.specs.Scalars.{Scalars}
 use Rattle.graphql_schema.specs.Declarations.{Declarations}
 use Rattle.graphql_occurrences.specs.Occurrences.{occurrences}
 use Rattle.graphql_visitors.specs.Subjects.{Subject}
@@ -26,9 +26,8 @@ use Rattle.graphql_plain_requests.proofs.LocalRules as rules
 use Rattle.graphql_plain_requests.proofs.MergingAlike.{merging-alike}
 use Rattle.graphql_plain_requests.proofs.ScopeRules.{anonymous-erased, cycles-erased, disallowed-erased, fragments-repeated, never-erased, operations-repeated, scopes-alike, undefined-erased, unused-variables-erased, variables-repeated}
 
-module _ {S C : Type 0} (eq : S → S → Bool) (laws : IsEquivalence eq) (answer : S → ScalarAnswer)
-    (accepts : C → InputValue S → Type 0)
-    (respects : (c : C) (a b : InputValue S) → SameValue S eq a b → accepts c a → accepts c b)
+module _ {S C : Type 0} (scalars : Scalars S C) (laws : IsEquivalence scalars.eq)
+    (respects : (c : C) (a b : InputValue S) → SameValue S scalars.eq a b → scalars.accepts c a → scalars.accepts c b)
     (schema : Declarations S C) (document again : List (Definition S))
     (same : unlocated_document document ≡ unlocated_document again) where
   abbrev s : List (Definition S) → Subject S C
@@ -62,11 +61,11 @@ module _ {S C : Type 0} (eq : S → S → Bool) (laws : IsEquivalence eq) (answe
         (disallowed-erased schema.types) h.variables_in_allowed_position;
   }
 
-  no-fault : HasNoFault answer accepts (s document) → HasNoFault answer accepts (s again)
+  no-fault : HasNoFault scalars (s document) → HasNoFault scalars (s again)
   no-fault h = record {
-    arguments_of_correct_type = arguments-conform eq laws answer accepts respects schema document
+    arguments_of_correct_type = arguments-conform scalars laws respects schema document
         again same h.arguments_of_correct_type;
-    default_values_of_correct_type = defaults-conform eq laws answer accepts respects schema
+    default_values_of_correct_type = defaults-conform scalars laws respects schema
         document again same h.default_values_of_correct_type;
     fields_on_correct_type = rules.fields-alike schema document again same h.fields_on_correct_type;
     scalar_leafs = rules.leaves-alike schema document again same h.scalar_leafs;
@@ -88,14 +87,13 @@ module _ {S C : Type 0} (eq : S → S → Bool) (laws : IsEquivalence eq) (answe
     in_scopes = scopes-stay h.in_scopes;
   }
 
-pub valid-alike : {S C : Type 0} (eq : S → S → Bool) (laws : IsEquivalence eq)
-    (answer : S → ScalarAnswer) (accepts : C → InputValue S → Type 0)
-    → ((c : C) (a b : InputValue S) → SameValue S eq a b → accepts c a → accepts c b)
-    → (schema : Declarations S C) → AreValidAlike eq answer accepts schema
-valid-alike eq laws answer accepts respects schema document again same disabled h = record {
+pub valid-alike : {S C : Type 0} (scalars : Scalars S C) (laws : IsEquivalence scalars.eq)
+    → ((c : C) (a b : InputValue S) → SameValue S scalars.eq a b → scalars.accepts c a → scalars.accepts c b)
+    → (schema : Declarations S C) → AreValidAlike scalars schema
+valid-alike scalars laws respects schema document again same disabled h = record {
   valid = record {
-    no_fault = no-fault eq laws answer accepts respects schema document again same h.valid.no_fault;
-    fields_merge = merging-alike schema eq laws document again same h.valid.fields_merge;
+    no_fault = no-fault scalars laws respects schema document again same h.valid.no_fault;
+    fields_merge = merging-alike schema scalars.eq laws document again same h.valid.fields_merge;
   };
   introspects_nothing = λ e.
       (no_introspection (record { schema = schema; document = again }) (occurrences schema again)).0

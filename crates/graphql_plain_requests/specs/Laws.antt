@@ -114,20 +114,16 @@ module _ (S : Type 0) (reads : ScalarToken → Result S ParseError) (of_bool : B
       → (let p = plain_operation answer of_bool values (fragments_listed document) o.item in
       IsPlainStill (plain_text tokens p) p)
 
--- `eq`: the equality of scalars; `answer`: what a scalar answers; `accepts`: what the check of a
--- type
--- accepts
-module _ {S C : Type 0} (eq : S → S → Bool) (answer : S → ScalarAnswer)
-    (accepts : C → InputValue S → Type 0)
-    (schema : Declarations S C) where
+-- by what scalars mean, and what a schema declares
+module _ {S C : Type 0} (scalars : Scalars S C) (schema : Declarations S C) where
   -- where the one is valid so is the other
   abbrev pub AreValidAlike : Type 0
   AreValidAlike =
       (document again : List (Definition S)) → unlocated_document document
       ≡ unlocated_document again
       → (introspection_disabled : Bool)
-      → IsValidDocument eq answer accepts schema introspection_disabled document
-      → IsValidDocument eq answer accepts schema introspection_disabled again
+      → IsValidDocument scalars schema introspection_disabled document
+      → IsValidDocument scalars schema introspection_disabled again
 
 -- by what scalars mean, and what a request asks
 module _ {S C : Type 0} (s : Scalars S C) (a : Asking S C) where

@@ -91,7 +91,7 @@ pub fn plain_text_stays<S: ScalarValue>()
 /// fault in the one where it finds none in the other.
 pub fn valid_alike<S: SchemaScalar>()
     ensures { (schema : Declarations S S.Check)
-        → AreValidAlike S.eq S.answer S.Check.accepts schema }
+        → AreValidAlike ⟦<S as Meaning>⟧.meaning schema }
 {}
 
 /// A plain text within a limit, asked again with the same operation name, the same values for

@@ -1,15 +1,15 @@
 -- Literals that conform in a document conform in its plain document (GraphQL October 2021, 5.6.1 Values of Correct Type).
-use Rattle.std.proofs.Common.{◌≡◌, refl, sym, ◌∙◌, ap, subst, Bool, true, List, [], ◌∷◌, Option, Some, None, codes}
+use Rattle.std.proofs.Common.{◌≡◌, refl, sym, ◌∙◌, ap, subst, true, List, [], ◌∷◌, Option, Some, None, codes}
 use Rattle.std.specs.Cmp.{IsEquivalence}
 use Rattle.std.specs.Option.{IsSome, option_map}
 use Rattle.std.proofs.lemmas.Option.{none-some, same_Some}
-use Rattle.graphql_scalars.specs.ScalarAnswers.{ScalarAnswer}
 use Rattle.graphql_values.specs.InputValues.{Placed, unplaced, unlocated}
 use Rattle.graphql_values.specs.SameValue.{SameValue}
 use Rattle.graphql_values.specs.declared.input_value.InputValue.{InputValue}
 use Rattle.graphql_values.specs.declared.input_value.InputValue.TheVariants as value
 use Rattle.graphql_tree.specs.Arguments.{Argument}
 use Rattle.graphql_tree.specs.Unlocated.{without_place}
+use Rattle.graphql_schema.specs.Scalars.{Scalars}
 use Rattle.graphql_schema.specs.Types.{TypeOf}
 use Rattle.graphql_schema.specs.declared.meta.argument.Argument.{Argument as Declared}
 use Rattle.graphql_schema.specs.declared.meta.MetaType.{MetaType}
@@ -39,21 +39,20 @@ pub mapped-from : {A B : Type 0} (f : A → B) (o : Option A) (y : B) → option
 mapped-from f (Some x) y e = (x, refl, same_Some (f x) y e)
 mapped-from f None y e = absurd (none-some y e)
 
-module _ {S C : Type 0} (eq : S → S → Bool) (laws : IsEquivalence eq) (answer : S → ScalarAnswer)
-    (accepts : C → InputValue S → Type 0)
-    (respects : (c : C) (a b : InputValue S) → SameValue S eq a b → accepts c a → accepts c b) where
+module _ {S C : Type 0} (scalars : Scalars S C) (laws : IsEquivalence scalars.eq)
+    (respects : (c : C) (a b : InputValue S) → SameValue S scalars.eq a b → scalars.accepts c a → scalars.accepts c b) where
   module _ (types : List (MetaType S C)) where
     abbrev F : TypeOf → InputValue S → Type 0
-    F = Conforms answer accepts types Literal
+    F = Conforms scalars types Literal
 
     -- of values that are the same without places one conforms where the other does
     same-fits : (t : TypeOf) (v w : InputValue S) → unlocated v ≡ unlocated w → F t v → F t w
     same-fits t v w same h =
-        (conforms_without_places eq laws answer accepts respects types Literal t w).1
+        (conforms_without_places scalars laws respects types Literal t w).1
         (subst (F t) same
-        ((conforms_without_places eq laws answer accepts respects types Literal t v).0 h))
+        ((conforms_without_places scalars laws respects types Literal t v).0 h))
 
-    pub arguments-respect : Respects unplaced_given (ArgumentsFit answer accepts types)
+    pub arguments-respect : Respects unplaced_given (ArgumentsFit scalars types)
     arguments-respect g h same fit declared is a there d found =
         let b = also-given g h same a there in
         let declares : g.declared ≡ Some declared =
@@ -63,8 +62,8 @@ module _ {S C : Type 0} (eq : S → S → Bool) (laws : IsEquivalence eq) (answe
         same-fits d.arg_type b.0.1.item a.1.item (ap (λ (x : Argument S). x.1.item) b.2)
         (fit declared declares b.0 b.1 d named)
 
-  module _ (schema : Declarations S C) (of_bool : Bool → S) where
-    pub defaults-respect : Respects unlocated_variable_part (DefaultFits answer accepts schema)
+  module _ (schema : Declarations S C) where
+    pub defaults-respect : Respects unlocated_variable_part (DefaultFits scalars schema)
     defaults-respect v w same fit is_known default is =
         let type : w.type_of.item ≡ v.type_of.item =
         ap (λ (x : VariablePart S). x.type_of.item) same in
@@ -76,22 +75,22 @@ module _ {S C : Type 0} (eq : S → S → Bool) (laws : IsEquivalence eq) (answe
         (ap (λ (x : Placed (InputValue S)). x.item) o.2)
         (fit (subst (λ t. IsSome (known schema t.name)) type is_known) o.0 o.1))
 
-    pub defaults-stay : DefaultsStayConforming answer of_bool schema accepts
+    pub defaults-stay : DefaultsStayConforming scalars schema
     defaults-stay document again is told =
-        (defaults_none answer accepts (record { schema = schema; document = again })
+        (defaults_none scalars (record { schema = schema; document = again })
         (occurrences schema again)).1
-        (variables-stay answer of_bool schema document again is
-        (DefaultFits answer accepts schema) defaults-respect
-        ((defaults_none answer accepts (record { schema = schema; document = document })
+        (variables-stay scalars.answer scalars.of_bool schema document again is
+        (DefaultFits scalars schema) defaults-respect
+        ((defaults_none scalars (record { schema = schema; document = document })
         (occurrences schema document)).0 told))
 
     module _ (standard : has_standard_conditions schema.directives ≡ true)
-        (takes : TakesTrue accepts schema of_bool) where
+        (takes : TakesTrue scalars.accepts schema scalars.of_bool) where
       -- `true` conforms to `Boolean!`
-      true-fits : F schema.types (if_argument {S = S} (skip-declares schema standard).0).arg_type (value.Scalar (of_bool true))
-      true-fits = scalar _ takes.boolean (of_bool true) refl takes.declared takes.takes
+      true-fits : F schema.types (if_argument {S = S} (skip-declares schema standard).0).arg_type (value.Scalar (scalars.of_bool true))
+      true-fits = scalar _ takes.boolean (scalars.of_bool true) refl takes.declared takes.takes
 
-      skip-fits : ArgumentsFit answer accepts schema.types (skip_given schema of_bool)
+      skip-fits : ArgumentsFit scalars schema.types (skip_given schema scalars.of_bool)
       skip-fits declared is a there d found =
           let one = only-one _ a there in
           let argument = if_argument {S = S} (skip-declares schema standard).0 in
@@ -104,12 +103,12 @@ module _ {S C : Type 0} (eq : S → S → Bool) (laws : IsEquivalence eq) (answe
           subst (λ (x : Declared S). F schema.types x.arg_type a.1.item) same
           (subst (λ (x : Argument S). F schema.types argument.arg_type x.1.item) one true-fits)
 
-    pub arguments-stay : ArgumentsStayConforming answer of_bool schema accepts
+    pub arguments-stay : ArgumentsStayConforming scalars schema
     arguments-stay standard takes document again is told =
-        (arguments_none answer accepts (record { schema = schema; document = again })
+        (arguments_none scalars (record { schema = schema; document = again })
         (occurrences schema again)).1
-        (givens-stay answer of_bool schema document again is
-        (ArgumentsFit answer accepts schema.types) (arguments-respect schema.types)
+        (givens-stay scalars.answer scalars.of_bool schema document again is
+        (ArgumentsFit scalars schema.types) (arguments-respect schema.types)
         (skip-fits standard takes)
-        ((arguments_none answer accepts (record { schema = schema; document = document })
+        ((arguments_none scalars (record { schema = schema; document = document })
         (occurrences schema document)).0 told))

@@ -2,10 +2,11 @@
 use Rattle.std.proofs.Common.{◌≡◌, Bool, true, List}
 use Rattle.std.specs.Cmp.{IsEquivalence}
 use Rattle.std.specs.Option.{IsSome}
-use Rattle.graphql_scalars.specs.ScalarAnswers.{ScalarAnswer, boolean}
+use Rattle.graphql_scalars.specs.ScalarAnswers.{boolean}
 use Rattle.graphql_values.specs.SameValue.{SameValue}
 use Rattle.graphql_values.specs.declared.input_value.InputValue.{InputValue}
 use Rattle.graphql_tree.specs.declared.document.Definition.{Definition}
+use Rattle.graphql_schema.specs.Scalars.{Scalars}
 use Rattle.graphql_schema.specs.Declarations.{Declarations}
 use Rattle.graphql_schema.specs.Directives.{has_standard_conditions}
 use Rattle.graphql_occurrences.specs.DeclaredLookups.{root_of}
@@ -29,47 +30,46 @@ use Rattle.graphql_plain_validity.proofs.UsedVariables.{variables-stay-used}
 use Rattle.graphql_plain_validity.proofs.MergingStays.{fields-stay-merging}
 use Rattle.graphql_plain_validity.specs.Laws.{PlainDocumentsStayValid}
 
-module _ {S C : Type 0} (eq : S → S → Bool) (laws : IsEquivalence eq) (answer : S → ScalarAnswer) (of_bool : Bool → S) (answers : (b : Bool) → answer (of_bool b) ≡ boolean b)
-    (accepts : C → InputValue S → Type 0) (respects : (c : C) (a b : InputValue S)
-    → SameValue S eq a b → accepts c a → accepts c b)
+module _ {S C : Type 0} (scalars : Scalars S C) (laws : IsEquivalence scalars.eq) (answers : (b : Bool) → scalars.answer (scalars.of_bool b) ≡ boolean b)
+    (respects : (c : C) (a b : InputValue S) → SameValue S scalars.eq a b → scalars.accepts c a → scalars.accepts c b)
     (schema : Declarations S C) (closed : FieldTypesAreKnown schema) where
   abbrev s : List (Definition S) → Subject S C
   s document = record { schema = schema; document = document }
 
-  module _ (standard : has_standard_conditions schema.directives ≡ true) (takes : TakesTrue accepts schema of_bool) (document again : List (Definition S)) (is : IsPlainDocument answer of_bool document again)
+  module _ (standard : has_standard_conditions schema.directives ≡ true) (takes : TakesTrue scalars.accepts schema scalars.of_bool) (document again : List (Definition S)) (is : IsPlainDocument scalars.answer scalars.of_bool document again)
       (root : IsSome (root_of schema is.operation.item.operation_type))
       (constant : DefaultsAreConstant document) where
-    no-fault : HasNoFault answer accepts (s document) → HasNoFault answer accepts (s again)
+    no-fault : HasNoFault scalars (s document) → HasNoFault scalars (s again)
     no-fault h =
         let one : HasOneOperation schema again =
-        one-operation-is-left answer of_bool schema document again is in
+        one-operation-is-left scalars.answer scalars.of_bool schema document again is in
         record {
           arguments_of_correct_type =
-              arguments-stay eq laws answer accepts respects schema of_bool standard takes document again is h.arguments_of_correct_type;
+              arguments-stay scalars laws respects schema standard takes document again is h.arguments_of_correct_type;
           default_values_of_correct_type =
-              defaults-stay eq laws answer accepts respects schema of_bool document again is h.default_values_of_correct_type;
+              defaults-stay scalars laws respects schema document again is h.default_values_of_correct_type;
           fields_on_correct_type =
-              declared-fields-stay answer of_bool schema document again is h.fields_on_correct_type;
-          scalar_leafs = leaves-stay answer of_bool schema document again is h.scalar_leafs;
+              declared-fields-stay scalars.answer scalars.of_bool schema document again is h.fields_on_correct_type;
+          scalar_leafs = leaves-stay scalars.answer scalars.of_bool schema document again is h.scalar_leafs;
           fragments_on_composite_types =
-              conditions-stay-composite answer of_bool schema document again is h.fragments_on_composite_types;
+              conditions-stay-composite scalars.answer scalars.of_bool schema document again is h.fragments_on_composite_types;
           known_type_names =
-              types-stay-known answer of_bool schema document again is h.known_type_names;
+              types-stay-known scalars.answer scalars.of_bool schema document again is h.known_type_names;
           variables_are_input_types =
-              variables-stay-input answer of_bool schema document again is h.variables_are_input_types;
+              variables-stay-input scalars.answer scalars.of_bool schema document again is h.variables_are_input_types;
           known_fragment_names =
-              no-spread-is-left answer of_bool schema document again is h.known_fragment_names;
+              no-spread-is-left scalars.answer scalars.of_bool schema document again is h.known_fragment_names;
           possible_fragment_spreads =
-              spreads-stay-possible answer of_bool schema document again is h.possible_fragment_spreads;
-          known_directives = directives-are-placed answer of_bool schema standard document again is;
+              spreads-stay-possible scalars.answer scalars.of_bool schema document again is h.possible_fragment_spreads;
+          known_directives = directives-are-placed scalars.answer scalars.of_bool schema standard document again is;
           known_argument_names =
-              arguments-stay-declared answer of_bool schema standard document again is h.known_argument_names;
+              arguments-stay-declared scalars.answer scalars.of_bool schema standard document again is h.known_argument_names;
           provided_non_null_arguments =
-              arguments-stay-provided answer of_bool schema standard document again is h.provided_non_null_arguments;
+              arguments-stay-provided scalars.answer scalars.of_bool schema standard document again is h.provided_non_null_arguments;
           unique_argument_names =
-              arguments-stay-distinct answer of_bool schema document again is h.unique_argument_names;
+              arguments-stay-distinct scalars.answer scalars.of_bool schema document again is h.unique_argument_names;
           unique_input_field_names =
-              input-fields-stay-distinct answer of_bool schema document again is h.unique_input_field_names;
+              input-fields-stay-distinct scalars.answer scalars.of_bool schema document again is h.unique_input_field_names;
           in_scopes = record {
             unique_operation_names = one.unique_operation_names;
             lone_anonymous_operation = one.lone_anonymous_operation;
@@ -77,26 +77,26 @@ module _ {S C : Type 0} (eq : S → S → Bool) (laws : IsEquivalence eq) (answe
             no_unused_fragments = one.no_unused_fragments;
             no_fragment_cycles = one.no_fragment_cycles;
             unique_variable_names =
-                variable-names-stay answer of_bool schema document again is h.in_scopes.unique_variable_names;
+                variable-names-stay scalars.answer scalars.of_bool schema document again is h.in_scopes.unique_variable_names;
             no_undefined_variables =
-                uses-stay-defined answer of_bool answers schema document again is constant h.in_scopes.no_undefined_variables;
+                uses-stay-defined scalars.answer scalars.of_bool answers schema document again is constant h.in_scopes.no_undefined_variables;
             no_unused_variables =
-                variables-stay-used schema answer of_bool closed document again is root h.fields_on_correct_type h.known_type_names;
+                variables-stay-used schema scalars.answer scalars.of_bool closed document again is root h.fields_on_correct_type h.known_type_names;
             variables_in_allowed_position =
-                uses-stay-allowed answer of_bool schema document again is h.in_scopes.variables_in_allowed_position;
+                uses-stay-allowed scalars.answer scalars.of_bool schema document again is h.in_scopes.variables_in_allowed_position;
           };
         }
 
-  pub plain-documents-stay-valid : PlainDocumentsStayValid eq answer of_bool accepts schema
+  pub plain-documents-stay-valid : PlainDocumentsStayValid scalars schema
   plain-documents-stay-valid standard takes document again is root constant disabled h = record {
     valid = record {
       no_fault = no-fault standard takes document again is root constant h.valid.no_fault;
       fields_merge =
-          fields-stay-merging eq laws answer of_bool schema document again is h.valid.fields_merge;
+          fields-stay-merging scalars.eq laws scalars.answer scalars.of_bool schema document again is h.valid.fields_merge;
     };
     introspects_nothing = λ e.
         (no_introspection (s again) (occurrences schema again)).0
-        (introspection-stays answer of_bool schema document again is
+        (introspection-stays scalars.answer scalars.of_bool schema document again is
         ((no_introspection (s document) (occurrences schema document)).1
         (h.introspects_nothing e)));
   }

@@ -1,13 +1,11 @@
 -- The plain text of a valid text is valid.
-use Rattle.std.proofs.Common.{◌≡◌, refl, ◌∙◌, ap, subst, ℕ, Bool, List, Option, Some, None, Result}
+use Rattle.std.proofs.Common.{◌≡◌, refl, ◌∙◌, ap, subst, ℕ, Bool, List, Option, Some, None}
 use Rattle.std.specs.Cmp.{IsEquivalence}
 use Rattle.std.specs.List.{Contains}
 use Rattle.std.specs.Option.{IsSome, is_some, option_map}
 use Rattle.std.specs.Str.{chars}
 use Rattle.graphql_names.specs.Names.{Bytes}
-use Rattle.graphql_text.specs.declared.token.ScalarToken.{ScalarToken}
-use Rattle.graphql_text.specs.declared.parse_error.ParseError.{ParseError}
-use Rattle.graphql_scalars.specs.ScalarAnswers.{ScalarAnswer, boolean}
+use Rattle.graphql_scalars.specs.ScalarAnswers.{boolean}
 use Rattle.graphql_values.specs.InputValues.{Placed}
 use Rattle.graphql_values.specs.SameValue.{SameValue}
 use Rattle.graphql_values.specs.declared.input_value.InputValue.{InputValue}
@@ -17,6 +15,7 @@ use Rattle.graphql_tree.specs.declared.document.Definition.TheVariants as defini
 use Rattle.graphql_tree.specs.declared.document.Fragment.{Fragment}
 use Rattle.graphql_tree.specs.declared.document.Operation.{Operation}
 use Rattle.graphql_language.specs.Texts.{IsDocument}
+use Rattle.graphql_schema.specs.Scalars.{Scalars}
 use Rattle.graphql_schema.specs.Declarations.{Declarations}
 use Rattle.graphql_occurrences.specs.DeclaredLookups.{root_of}
 use Rattle.graphql_occurrences.specs.Occurrences.{occurrences}
@@ -41,10 +40,9 @@ some-map : {A B : Type 0} (f : A → B) (o : Option A) → is_some (option_map f
 some-map f None = refl
 some-map f (Some x) = refl
 
-module _ {S C : Type 0} (answer : S → ScalarAnswer) (of_bool : Bool → S) (accepts : C → InputValue S → Type 0) (reads : ScalarToken → Result S ParseError)
-    (schema : Declarations S C) (closed : FieldTypesAreKnown schema)
+module _ {S C : Type 0} (scalars : Scalars S C) (schema : Declarations S C) (closed : FieldTypesAreKnown schema)
     (document : List (Definition S))
-    (no_fault : HasNoFault answer accepts (record { schema = schema; document = document })) where
+    (no_fault : HasNoFault scalars (record { schema = schema; document = document })) where
   abbrev s : Subject S C
   s = record { schema = schema; document = document }
 
@@ -69,27 +67,25 @@ module _ {S C : Type 0} (answer : S → ScalarAnswer) (of_bool : Bool → S) (ac
       subst (λ n. IsSome (fragment_meant (fragments_listed document) n)) h.2 (same ∙ there)
 
   -- an operation of a document that tokens spell has selections wherever a set was written
-  pub full : (text : List ℕ) → IsDocument S reads of_bool text document → (o : Placed (Operation S))
+  pub full : (text : List ℕ) → IsDocument S scalars.reads scalars.of_bool text document → (o : Placed (Operation S))
       → Contains document (definition.Operation o) → IsSome (root_of schema o.item.operation_type)
       → IsFull (written (fragments_listed document) o.item.selection_set)
   full text is o among root =
       written-sets-are-filled schema closed document o
-      (document-whole reads of_bool is.tokens document is.spells) among root known meant
+      (document-whole scalars.reads scalars.of_bool is.tokens document is.spells) among root known meant
       ((fragments_end (fragment_scopes schema document)).0 no_fault.in_scopes.no_fragment_cycles)
 
-module _ {S C : Type 0} (eq : S → S → Bool) (laws : IsEquivalence eq) (answer : S → ScalarAnswer) (of_bool : Bool → S) (answers : (b : Bool) → answer (of_bool b) ≡ boolean b)
-    (accepts : C → InputValue S → Type 0) (respects : (c : C) (a b : InputValue S)
-    → SameValue S eq a b → accepts c a → accepts c b) (reads : ScalarToken
-    → Result S ParseError)
+module _ {S C : Type 0} (scalars : Scalars S C) (laws : IsEquivalence scalars.eq) (answers : (b : Bool) → scalars.answer (scalars.of_bool b) ≡ boolean b)
+    (respects : (c : C) (a b : InputValue S) → SameValue S scalars.eq a b → scalars.accepts c a → scalars.accepts c b)
     (schema : Declarations S C) (closed : FieldTypesAreKnown schema) where
-  pub plain-texts-are-valid : PlainTextsAreValid eq answer reads of_bool accepts schema
+  pub plain-texts-are-valid : PlainTextsAreValid scalars schema
   plain-texts-are-valid standard takes source tokens finish document o given utf8 cut is among root disabled valid =
       let filled =
-      full answer of_bool accepts reads schema closed document valid.valid.no_fault
+      full scalars schema closed document valid.valid.no_fault
       (chars source) is o among root in
       let text =
-      plain-document reads of_bool answer source tokens finish document o given utf8 cut is among filled.0 filled.1 in
-      let plain : IsPlainDocument answer of_bool document text.again =
+      plain-document scalars.reads scalars.of_bool scalars.answer source tokens finish document o given utf8 cut is among filled.0 filled.1 in
+      let plain : IsPlainDocument scalars.answer scalars.of_bool document text.again =
       record { operation = o; among = among; filled = filled.1; given = given; same = text.same } in
       record {
         utf8 = text.utf8;
@@ -97,6 +93,6 @@ module _ {S C : Type 0} (eq : S → S → Bool) (laws : IsEquivalence eq) (answe
         is = text.is;
         only = text.only;
         valid =
-            plain-documents-stay-valid eq laws answer of_bool answers accepts respects schema closed standard takes document text.again plain root
-            (spelled-defaults reads of_bool is.tokens document is.spells) disabled valid;
+            plain-documents-stay-valid scalars laws answers respects schema closed standard takes document text.again plain root
+            (spelled-defaults scalars.reads scalars.of_bool is.tokens document is.spells) disabled valid;
       }

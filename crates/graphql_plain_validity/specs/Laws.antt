@@ -9,7 +9,6 @@ use Rattle.graphql_names.specs.Names.{Bytes}
 use Rattle.graphql_text.specs.declared.position.Span.{Span}
 use Rattle.graphql_text.specs.declared.token.ScalarToken.{ScalarToken}
 use Rattle.graphql_text.specs.declared.parse_error.ParseError.{ParseError}
-use Rattle.graphql_scalars.specs.ScalarAnswers.{ScalarAnswer}
 use Rattle.graphql_values.specs.InputValues.{Placed}
 use Rattle.graphql_values.specs.declared.input_value.InputValue.{InputValue}
 use Rattle.graphql_grammar.specs.Input.{Located}
@@ -18,6 +17,7 @@ use Rattle.graphql_tree.specs.declared.document.Definition.{Definition}
 use Rattle.graphql_tree.specs.declared.document.Definition.TheVariants as definition
 use Rattle.graphql_tree.specs.declared.document.Operation.{Operation}
 use Rattle.graphql_language.specs.Texts.{IsCut, IsDocument, OnlyDocument}
+use Rattle.graphql_schema.specs.Scalars.{Scalars}
 use Rattle.graphql_schema.specs.Declarations.{Declarations}
 use Rattle.graphql_schema.specs.Directives.{has_standard_conditions}
 use Rattle.graphql_occurrences.specs.DeclaredLookups.{root_of}
@@ -37,54 +37,48 @@ use Rattle.graphql_written_out.specs.Written.{fragment_meant, written}
 use Rattle.graphql_rules_document.specs.Counted.{IsSpread, AreKnown}
 use Rattle.graphql_plain_validity.specs.WholeSets.{IsWholeSet, definition_set}
 
--- `eq`: the equality of scalars; `answer`: what a scalar answers; `accepts`: what the check of a
--- type accepts
-module _ {S C : Type 0} (eq : S → S → Bool) (answer : S → ScalarAnswer) where
-  module _ (accepts : C → InputValue S → Type 0) (schema : Declarations S C) where
-    -- the document is valid, by whether introspection is disabled
-    abbrev pub IsValidDocument : Bool → List (Definition S) → Type 0
-    IsValidDocument introspection_disabled document =
-        IsValidAt eq answer accepts (record { schema = schema; document = document })
-        introspection_disabled
+-- by what scalars mean, and what a schema declares
+module _ {S C : Type 0} (scalars : Scalars S C) (schema : Declarations S C) where
+  -- the document is valid, by whether introspection is disabled
+  abbrev pub IsValidDocument : Bool → List (Definition S) → Type 0
+  IsValidDocument introspection_disabled document =
+      IsValidAt scalars (record { schema = schema; document = document }) introspection_disabled
 
-  module _ (of_bool : Bool → S) (accepts : C → InputValue S → Type 0)
-      (schema : Declarations S C) where
-    -- where a document is valid so is its plain document
-    abbrev pub PlainDocumentsStayValid : Type 0
-    PlainDocumentsStayValid =
-        has_standard_conditions schema.directives ≡ true → TakesTrue accepts schema of_bool
-        → (document again : List (Definition S))
-        (is : IsPlainDocument answer of_bool document again)
-        → IsSome (root_of schema is.operation.item.operation_type) → DefaultsAreConstant document
-        → (introspection_disabled : Bool)
-        → IsValidDocument accepts schema introspection_disabled document
-        → IsValidDocument accepts schema introspection_disabled again
+  -- where a document is valid so is its plain document
+  abbrev pub PlainDocumentsStayValid : Type 0
+  PlainDocumentsStayValid =
+      has_standard_conditions schema.directives ≡ true
+      → TakesTrue scalars.accepts schema scalars.of_bool
+      → (document again : List (Definition S))
+      (is : IsPlainDocument scalars.answer scalars.of_bool document again)
+      → IsSome (root_of schema is.operation.item.operation_type) → DefaultsAreConstant document
+      → (introspection_disabled : Bool) → IsValidDocument introspection_disabled document
+      → IsValidDocument introspection_disabled again
 
-  module _ (reads : ScalarToken → Result S ParseError) (of_bool : Bool → S)
-      (accepts : C → InputValue S → Type 0) (schema : Declarations S C) where
-    -- the bytes are a text that is a valid document, and no other
-    pub record IsValidText (introspection_disabled : Bool) (bytes : Bytes) : Type 0 where
-      pub utf8 : IsUtf8 bytes
-      pub document : List (Definition S)
-      pub is : IsDocument S reads of_bool (chars bytes) document
-      pub only : OnlyDocument S reads of_bool (chars bytes) document
-      pub valid : IsValidDocument accepts schema introspection_disabled document
+  -- the bytes are a text that is a valid document, and no other
+  pub record IsValidText (introspection_disabled : Bool) (bytes : Bytes) : Type 0 where
+    pub utf8 : IsUtf8 bytes
+    pub document : List (Definition S)
+    pub is : IsDocument S scalars.reads scalars.of_bool (chars bytes) document
+    pub only : OnlyDocument S scalars.reads scalars.of_bool (chars bytes) document
+    pub valid : IsValidDocument introspection_disabled document
 
-    -- `source`: the bytes of a text that is a valid document, with one of its operations; then the
-    -- plain text is a valid document
-    abbrev pub PlainTextsAreValid : Type 0
-    PlainTextsAreValid =
-        has_standard_conditions schema.directives ≡ true → TakesTrue accepts schema of_bool
-        → (source : Bytes) (tokens : List Located) (finish : Span) (document : List (Definition S))
-        (o : Placed (Operation S)) (given : Bytes → Option (InputValue S))
-        → IsUtf8 source → IsCut (chars source) tokens finish
-        → IsDocument S reads of_bool (chars source) document
-        → Contains document (definition.Operation o) → IsSome (root_of schema o.item.operation_type)
-        → (introspection_disabled : Bool)
-        → IsValidDocument accepts schema introspection_disabled document
-        → IsValidText introspection_disabled
-        (plain_text tokens
-        (plain_operation answer of_bool given (fragments_listed document) o.item))
+  -- `source`: the bytes of a text that is a valid document, with one of its operations; then the
+  -- plain text is a valid document
+  abbrev pub PlainTextsAreValid : Type 0
+  PlainTextsAreValid =
+      has_standard_conditions schema.directives ≡ true
+      → TakesTrue scalars.accepts schema scalars.of_bool
+      → (source : Bytes) (tokens : List Located) (finish : Span) (document : List (Definition S))
+      (o : Placed (Operation S)) (given : Bytes → Option (InputValue S))
+      → IsUtf8 source → IsCut (chars source) tokens finish
+      → IsDocument S scalars.reads scalars.of_bool (chars source) document
+      → Contains document (definition.Operation o) → IsSome (root_of schema o.item.operation_type)
+      → (introspection_disabled : Bool)
+      → IsValidDocument introspection_disabled document
+      → IsValidText introspection_disabled
+      (plain_text tokens
+      (plain_operation scalars.answer scalars.of_bool given (fragments_listed document) o.item))
 
 -- the sets of all definitions are whole
 abbrev pub AreWhole : {S : Type 0} → List (Definition S) → Type 0

@@ -2,8 +2,8 @@
 -- Validation).
 use Rattle.std.specs.Prelude.{◌≡◌, Bool, true, List, []}
 use Rattle.graphql_scalars.specs.ScalarAnswers.{ScalarAnswer}
-use Rattle.graphql_values.specs.declared.input_value.InputValue.{InputValue}
 use Rattle.graphql_tree.specs.declared.document.Definition.{Definition}
+use Rattle.graphql_schema.specs.Scalars.{Scalars}
 use Rattle.graphql_schema.specs.Declarations.{Declarations}
 use Rattle.graphql_schema.specs.Directives.{has_standard_conditions}
 use Rattle.graphql_occurrences.specs.Occurrences.{occurrences}
@@ -47,17 +47,17 @@ module _ {S C : Type 0} (schema : Declarations S C) where
     -- 5.5.2.2 Fragment Spreads Must Not Form Cycles
     pub no_fragment_cycles : no_fragment_cycles_faults (fragment_scopes schema document) ≡ []
 
-  -- `answer`: what a scalar answers; `accepts`: what the check of a type accepts
-  module _ (answer : S → ScalarAnswer) (accepts : C → InputValue S → Type 0) where
+  -- by what scalars mean
+  module _ (scalars : Scalars S C) where
     -- 5.6.1 Values of Correct Type
     abbrev pub ArgumentsConform : List (Definition S) → Type 0
     ArgumentsConform document =
-        Tell (arguments_of_correct_type_faults answer accepts (subject_of document))
+        Tell (arguments_of_correct_type_faults scalars (subject_of document))
         (occurrences schema document) []
 
     abbrev pub DefaultsConform : List (Definition S) → Type 0
     DefaultsConform document =
-        Tell (default_values_of_correct_type_faults answer accepts (subject_of document))
+        Tell (default_values_of_correct_type_faults scalars (subject_of document))
         (occurrences schema document) []
 
 -- `answer`: what a scalar answers; `of_bool`: the scalar of a boolean
@@ -80,24 +80,27 @@ module _ {S C : Type 0} (answer : S → ScalarAnswer) (of_bool : Bool → S)
       → (document again : List (Definition S)) → IsPlainDocument answer of_bool document again
       → IsSilent schema known_directives_faults again
 
-  -- `accepts`: what the check of a type accepts
-  module _ (accepts : C → InputValue S → Type 0) where
-    -- likewise where moreover the schema's `Boolean` takes `true` (5.6.1 Values of Correct Type)
-    abbrev pub ArgumentsStayConforming : Type 0
-    ArgumentsStayConforming =
-        has_standard_conditions schema.directives ≡ true → TakesTrue accepts schema of_bool
-        → (document again : List (Definition S)) → IsPlainDocument answer of_bool document again
-        → ArgumentsConform schema answer accepts document
-        → ArgumentsConform schema answer accepts again
-
-    abbrev pub DefaultsStayConforming : Type 0
-    DefaultsStayConforming =
-        (document again : List (Definition S)) → IsPlainDocument answer of_bool document again
-        → DefaultsConform schema answer accepts document
-        → DefaultsConform schema answer accepts again
-
   -- a plain document is one operation
   abbrev pub OneOperationIsLeft : Type 0
   OneOperationIsLeft =
       (document again : List (Definition S)) → IsPlainDocument answer of_bool document again
       → HasOneOperation schema again
+
+-- by what scalars mean
+module _ {S C : Type 0} (scalars : Scalars S C) (schema : Declarations S C) where
+  -- where the rule finds no fault in a document it finds none in its plain document, if the
+  -- schema's `skip` is the standard's and its `Boolean` takes `true` (5.6.1 Values of Correct Type)
+  abbrev pub ArgumentsStayConforming : Type 0
+  ArgumentsStayConforming =
+      has_standard_conditions schema.directives ≡ true
+      → TakesTrue scalars.accepts schema scalars.of_bool
+      → (document again : List (Definition S))
+      → IsPlainDocument scalars.answer scalars.of_bool document again
+      → ArgumentsConform schema scalars document → ArgumentsConform schema scalars again
+
+  -- likewise of each schema
+  abbrev pub DefaultsStayConforming : Type 0
+  DefaultsStayConforming =
+      (document again : List (Definition S))
+      → IsPlainDocument scalars.answer scalars.of_bool document again
+      → DefaultsConform schema scalars document → DefaultsConform schema scalars again

@@ -5,22 +5,20 @@ ghost use Rattle.graphql_schema.specs.Declarations.{declarations_of};
 ghost use Rattle.graphql_plain_validity.specs.Laws.{PlainDocumentsStayValid, PlainTextsAreValid};
 ghost use Rattle.graphql_plain_validity.specs.Laws.{SpelledSetsAreWhole, WrittenSetsAreFilled};
 
-use graphql_schema::{SchemaScalar, SchemaType};
+use graphql_schema::{Meaning, SchemaScalar, SchemaType};
 use graphql_values::ScalarValue;
 
 /// The plain document of a valid document is valid. For this the schema has the standard's `skip`
 /// and a `Boolean` that takes `true`, the operation's root type is there, and no variable stands in
 /// a default.
 pub fn plain_documents_stay_valid<S: SchemaScalar>(schema: &SchemaType<S>)
-    ensures { PlainDocumentsStayValid S.eq S.answer S.of_bool S.Check.accepts
-        (declarations_of schema.now) }
+    ensures { PlainDocumentsStayValid ⟦<S as Meaning>⟧.meaning (declarations_of schema.now) }
 {}
 
 /// The plain text of an operation of a text that is a valid document is a valid document itself,
 /// cut and parsed anew, and that document alone, over the same schemas.
 pub fn plain_texts_are_valid<S: SchemaScalar>(schema: &SchemaType<S>)
-    ensures { PlainTextsAreValid S.eq S.answer S.reads S.of_bool S.Check.accepts
-        (declarations_of schema.now) }
+    ensures { PlainTextsAreValid ⟦<S as Meaning>⟧.meaning (declarations_of schema.now) }
 {}
 
 /// In a document that tokens spell each selection set that is written has a selection.

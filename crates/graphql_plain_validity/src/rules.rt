@@ -23,7 +23,7 @@ ghost use Rattle.graphql_plain_validity.specs.RuleLaws.{
   StaysSilentBesideSkip,
 };
 
-use graphql_schema::SchemaScalar;
+use graphql_schema::{Meaning, SchemaScalar};
 use graphql_values::ScalarValue;
 
 /// `FieldsOnCorrectType` finds no fault in a plain document where it finds none in the request's
@@ -113,14 +113,14 @@ pub fn arguments_stay_provided<S: ScalarValue, C>()
 /// Values of Correct Type).
 pub fn arguments_stay_conforming<S: SchemaScalar>()
     ensures { (schema : Declarations S S.Check)
-        → ArgumentsStayConforming S.answer S.of_bool schema S.Check.accepts }
+        → ArgumentsStayConforming ⟦<S as Meaning>⟧.meaning schema }
 {}
 
 /// `DefaultValuesOfCorrectType` finds no fault in a plain document where it finds none in the
 /// request's document (5.6.1 Values of Correct Type).
 pub fn defaults_stay_conforming<S: SchemaScalar>()
     ensures { (schema : Declarations S S.Check)
-        → DefaultsStayConforming S.answer S.of_bool schema S.Check.accepts }
+        → DefaultsStayConforming ⟦<S as Meaning>⟧.meaning schema }
 {}
 
 /// A plain document is one operation without fragments. So five rules find no fault in it, whatever

@@ -43,8 +43,8 @@ module _ {S C : Type 0} (s : Scalars S C) (a : Asking S C) where
       absurd (not_both s.reads s.of_bool a.text document fault h.spelled u)
   unread document h (error.ValidationError errors) u =
       let same : u.document ≡ document = h.alone u.document u.spelled in
-      let told = subst (λ (d : List (Definition S)). RequestTold s.eq s.answer s.accepts (subject_of d) a.introspection_disabled (places errors)) same u.told in
-      absurd (u.at_least_one (no-places errors ((root_exactly s.eq s.answer s.accepts (subject_of document) a.introspection_disabled (places errors) told).1 h.valid)))
+      let told = subst (λ (d : List (Definition S)). RequestTold s (subject_of d) a.introspection_disabled (places errors)) same u.told in
+      absurd (u.at_least_one (no-places errors ((root_exactly s (subject_of document) a.introspection_disabled (places errors) told).1 h.valid)))
   unread document h error.NoOperationProvided u = absurd u
   unread document h error.MultipleOperationsProvided u = absurd u
   unread document h error.UnknownOperationName u = absurd u
@@ -61,8 +61,8 @@ module _ {S C : Type 0} (s : Scalars S C) (a : Asking S C) where
     values : (errors : List RuleError) → AreRefused s a.schema a.given operation errors → ⊥
     values errors u =
         let defs = variables_in operation.item.variable_definitions in
-        let none = (told_none s.answer s.accepts a.schema.types a.given defs).1 r.takes_values in
-        let told = told_one s.answer s.accepts a.schema.types a.given defs u.told.0 [] u.told.1 none in
+        let none = (told_none s a.schema.types a.given defs).1 r.takes_values in
+        let told = told_one s a.schema.types a.given defs u.told.0 [] u.told.1 none in
         u.at_least_one (no-places errors ((none_moved u.told.0 (places errors) u.told.2).0 told))
 
     held : (e : GraphQLError) → IsHeld s a.schema a.given operation e → e ≡ error.Memory

@@ -51,7 +51,7 @@ module _ {S C : Type 0} (s : Scalars S C) (a : Asking S C) where
         validation,
         not_valid u.document (record { spelled = u.spelled; alone = u.alone })
             (λ valid.
-            u.at_least_one (no-places errors ((root_exactly s.eq s.answer s.accepts
+            u.at_least_one (no-places errors ((root_exactly s
             (subject_of u.document) a.introspection_disabled (places errors) u.told).1 valid))),
         (errors, refl),
       )
@@ -69,8 +69,8 @@ module _ {S C : Type 0} (s : Scalars S C) (a : Asking S C) where
           → TakesValues s a.schema a.given o → ⊥
       values-refused errors u takes =
           let defs = variables_in o.item.variable_definitions in
-          let none = (told_none s.answer s.accepts a.schema.types a.given defs).1 takes in
-          let told = told_one s.answer s.accepts a.schema.types a.given defs u.told.0 [] u.told.1
+          let none = (told_none s a.schema.types a.given defs).1 takes in
+          let told = told_one s a.schema.types a.given defs u.told.0 [] u.told.1
           none in
           u.at_least_one (no-places errors ((none_moved u.told.0 (places errors) u.told.2).0 told))
 

@@ -29,7 +29,7 @@ errors_of _ = []
 abbrev pub IsValidIn : {S C : Type 0} → Scalars S C → Declarations S C → Bool → List (Definition S)
     → Type 0
 IsValidIn s schema introspection_disabled document =
-    IsValidAt s.eq s.answer s.accepts (record { schema = schema; document = document })
+    IsValidAt s (record { schema = schema; document = document })
     introspection_disabled
 
 -- the text spells this document and no other
@@ -61,7 +61,7 @@ module _ {S C : Type 0} (s : Scalars S C) (schema : Declarations S C)
     pub document : List (Definition S)
     pub spelled : IsDocument S s.reads s.of_bool text document
     pub alone : OnlyDocument S s.reads s.of_bool text document
-    pub told : RequestTold s.eq s.answer s.accepts (subject_with document) introspection_disabled
+    pub told : RequestTold s (subject_with document) introspection_disabled
         (places errors)
     pub at_least_one : errors ≡ [] → ⊥
 
@@ -84,7 +84,7 @@ module _ {S C : Type 0} (s : Scalars S C) (schema : SchemaType S C)
   -- each variable of the operation accepts what is given for it
   abbrev pub TakesValues : Placed (Operation S) → Type 0
   TakesValues operation =
-      AreAccepted s.answer s.accepts schema.types given
+      AreAccepted s schema.types given
       (variables_in operation.item.variable_definitions)
 
   -- the operation is chosen, takes the values, and is executed: `root` is its root, of a mutation
@@ -97,7 +97,7 @@ module _ {S C : Type 0} (s : Scalars S C) (schema : SchemaType S C)
 
   -- what is said of the values that are given for variables
   pub record AreRefused (operation : Placed (Operation S)) (errors : List RuleError) : Type 0 where
-    pub told : ValuesTold s.answer s.accepts schema.types given
+    pub told : ValuesTold s schema.types given
         (variables_in operation.item.variable_definitions) (places errors)
     pub at_least_one : errors ≡ [] → ⊥
 

@@ -5,14 +5,13 @@ use Rattle.std.specs.Option.{ForSome, is_some, option_map, option_to_list}
 use Rattle.std.proofs.lemmas.Bool.{false≢true}
 use Rattle.std.proofs.lemmas.List.Elements.{All-contains, All-from_recursion, recursion_from_All, Contains-get_or}
 use Rattle.std.proofs.lemmas.Option.{none-some, same_Some}
+use Rattle.graphql_schema.specs.Scalars.{Scalars}
 use Rattle.graphql_schema.specs.declared.meta.argument.Argument.{Argument as Declared}
 use Rattle.graphql_schema.specs.declared.meta.MetaType.{MetaType}
 use Rattle.graphql_occurrences.specs.Lookups.{argument_named, known}
 use Rattle.graphql_occurrences.specs.Parts.{GivenPart, Part, VariablePart, VariableDefined, Given}
 use Rattle.graphql_rule_errors.specs.Places.{Places}
-use Rattle.graphql_scalars.specs.ScalarAnswers.{ScalarAnswer}
 use Rattle.graphql_tree.specs.Arguments.{Argument}
-use Rattle.graphql_values.specs.declared.input_value.InputValue.{InputValue}
 use Rattle.graphql_visitors.specs.Rules.{Tell}
 use Rattle.graphql_visitors.specs.Subjects.{Subject}
 use Rattle.graphql_rules.specs.ArgumentsOfCorrectType.{arguments_of_correct_type_faults, asked_argument, literal_of, literals_among}
@@ -61,76 +60,76 @@ module _ {A : Type 0} (P : A → Type 0) where
   each_option f None = (λ h x is. absurd (none-some x is), λ h. tt)
   each_option f (Some b) = (λ h x is. subst (λ y. P (f y)) (same_Some b x is) h.0, λ h. (h b refl, tt))
 
-module _ {S C : Type 0} (answer : S → ScalarAnswer) (accepts : C → InputValue S → Type 0) (types : List (MetaType S C)) where
-  judged_one : (a : Asked S) (ts us : Places) → LiteralJudged answer accepts types a ts → LiteralJudged answer accepts types a us → ts ≡ us
+module _ {S C : Type 0} (scalars : Scalars S C) (types : List (MetaType S C)) where
+  judged_one : (a : Asked S) (ts us : Places) → LiteralJudged scalars types a ts → LiteralJudged scalars types a us → ts ≡ us
   judged_one a ts us (inl h) (inl k) = h.1 ∙ sym k.1
   judged_one a ts us (inl h) (inr k) = absurd (k.0 h.0)
   judged_one a ts us (inr h) (inl k) = absurd (h.0 k.0)
   judged_one a ts us (inr h) (inr k) = h.1 ∙ sym k.1
 
-  judged_fits : (a : Asked S) → LiteralJudged answer accepts types a [] → LiteralConforms answer accepts types a
+  judged_fits : (a : Asked S) → LiteralJudged scalars types a [] → LiteralConforms scalars types a
   judged_fits a (inl h) = h.0
   judged_fits a (inr h) = absurd (omega (arith, ap length h.1))
 
-  pub fits_each : (asked : List (Asked S)) → Misfits answer accepts types asked [] ↔ Each (LiteralConforms answer accepts types) asked
+  pub fits_each : (asked : List (Asked S)) → Misfits scalars types asked [] ↔ Each (LiteralConforms scalars types) asked
   fits_each [] = (λ h. tt, λ h. refl)
   fits_each (a ∷ asked) = (
-    λ h. let each = (tell_none (LiteralJudged answer accepts types) (a ∷ asked)).0 h in (judged_fits a each.0, (fits_each asked).0 ((tell_none (LiteralJudged answer accepts types) asked).1 each.1)),
+    λ h. let each = (tell_none (LiteralJudged scalars types) (a ∷ asked)).0 h in (judged_fits a each.0, (fits_each asked).0 ((tell_none (LiteralJudged scalars types) asked).1 each.1)),
     λ h. ([], [], refl, inl (h.0, refl), (fits_each asked).1 h.1),
   )
 
   -- nothing is told of literals exactly where each of them conforms
-  pub misfits_none : (asked : List (Asked S)) → Misfits answer accepts types asked [] ↔ ((a : Asked S) → Contains asked a → LiteralConforms answer accepts types a)
-  misfits_none asked = (λ h. (each_contained (LiteralConforms answer accepts types) asked).0 ((fits_each asked).0 h), λ h. (fits_each asked).1 ((each_contained (LiteralConforms answer accepts types) asked).1 h))
+  pub misfits_none : (asked : List (Asked S)) → Misfits scalars types asked [] ↔ ((a : Asked S) → Contains asked a → LiteralConforms scalars types a)
+  misfits_none asked = (λ h. (each_contained (LiteralConforms scalars types) asked).0 ((fits_each asked).0 h), λ h. (fits_each asked).1 ((each_contained (LiteralConforms scalars types) asked).1 h))
 
   -- what is told of literals is determined
-  pub misfits_one : (asked : List (Asked S)) (ts us : Places) → Misfits answer accepts types asked ts → Misfits answer accepts types asked us → ts ≡ us
-  misfits_one = tell_one (LiteralJudged answer accepts types) judged_one
+  pub misfits_one : (asked : List (Asked S)) (ts us : Places) → Misfits scalars types asked ts → Misfits scalars types asked us → ts ≡ us
+  misfits_one = tell_one (LiteralJudged scalars types) judged_one
 
   abbrev Fit : List (Declared S) → Argument S → Type 0
-  Fit declared a = ForSome (argument_named declared a.0.item) (λ d. LiteralConforms answer accepts types (asked_argument a d))
+  Fit declared a = ForSome (argument_named declared a.0.item) (λ d. LiteralConforms scalars types (asked_argument a d))
 
-  arguments_fit : (g : GivenPart S) → Each (LiteralConforms answer accepts types) (literals_among g.declared g.given) ↔ ArgumentsFit answer accepts types g
+  arguments_fit : (g : GivenPart S) → Each (LiteralConforms scalars types) (literals_among g.declared g.given) ↔ ArgumentsFit scalars types g
   arguments_fit g = among g.declared g.given
     where
-      each_fits : (declared : List (Declared S)) (given : List (Argument S)) → Each (LiteralConforms answer accepts types) (flat_map (literal_of declared) given) ↔ ((a : Argument S) → Contains given a → Fit declared a)
+      each_fits : (declared : List (Declared S)) (given : List (Argument S)) → Each (LiteralConforms scalars types) (flat_map (literal_of declared) given) ↔ ((a : Argument S) → Contains given a → Fit declared a)
       each_fits declared given = (
-        λ h a there. (each_option (LiteralConforms answer accepts types) (asked_argument a) (argument_named declared a.0.item)).0
-            ((each_contained (λ b. Each (LiteralConforms answer accepts types) (literal_of declared b)) given).0 ((each_flat (LiteralConforms answer accepts types) (literal_of declared) given).0 h) a there),
-        λ h. (each_flat (LiteralConforms answer accepts types) (literal_of declared) given).1
-            ((each_contained (λ b. Each (LiteralConforms answer accepts types) (literal_of declared b)) given).1
-            (λ a there. (each_option (LiteralConforms answer accepts types) (asked_argument a) (argument_named declared a.0.item)).1 (h a there))),
+        λ h a there. (each_option (LiteralConforms scalars types) (asked_argument a) (argument_named declared a.0.item)).0
+            ((each_contained (λ b. Each (LiteralConforms scalars types) (literal_of declared b)) given).0 ((each_flat (LiteralConforms scalars types) (literal_of declared) given).0 h) a there),
+        λ h. (each_flat (LiteralConforms scalars types) (literal_of declared) given).1
+            ((each_contained (λ b. Each (LiteralConforms scalars types) (literal_of declared b)) given).1
+            (λ a there. (each_option (LiteralConforms scalars types) (asked_argument a) (argument_named declared a.0.item)).1 (h a there))),
       )
 
-      among : (declared : Option (List (Declared S))) (given : List (Argument S)) → Each (LiteralConforms answer accepts types) (literals_among declared given) ↔ ForSome declared (λ ds. (a : Argument S) → Contains given a → Fit ds a)
+      among : (declared : Option (List (Declared S))) (given : List (Argument S)) → Each (LiteralConforms scalars types) (literals_among declared given) ↔ ForSome declared (λ ds. (a : Argument S) → Contains given a → Fit ds a)
       among None given = (λ h x is. absurd (none-some x is), λ h. tt)
       among (Some ds) given = (λ h x is. subst (λ xs. (a : Argument S) → Contains given a → Fit xs a) (same_Some ds x is) ((each_fits ds given).0 h), λ h. (each_fits ds given).1 (h ds refl))
 
-module _ {S C : Type 0} (answer : S → ScalarAnswer) (accepts : C → InputValue S → Type 0) (subject : Subject S C) (parts : List (Part S C)) where
+module _ {S C : Type 0} (scalars : Scalars S C) (subject : Subject S C) (parts : List (Part S C)) where
   abbrev FitHere : Asked S → Type 0
-  FitHere = LiteralConforms answer accepts subject.schema.types
+  FitHere = LiteralConforms scalars subject.schema.types
 
   -- nothing is told of arguments exactly where those that are declared conform
-  pub arguments_none : Tell (arguments_of_correct_type_faults answer accepts subject) parts [] ↔ ((g : GivenPart S) → Contains parts (Given g) → ArgumentsFit answer accepts subject.schema.types g)
+  pub arguments_none : Tell (arguments_of_correct_type_faults scalars subject) parts [] ↔ ((g : GivenPart S) → Contains parts (Given g) → ArgumentsFit scalars subject.schema.types g)
   arguments_none = (
-    λ h g there. (arguments_fit answer accepts subject.schema.types g).0 ((fits_each answer accepts subject.schema.types (literals_among g.declared g.given)).0
-        ((each_contained (λ p. arguments_of_correct_type_faults answer accepts subject p []) parts).0 ((tell_none (arguments_of_correct_type_faults answer accepts subject) parts).0 h) (Given g) there)),
-    λ h. (tell_none (arguments_of_correct_type_faults answer accepts subject) parts).1 ((each_contained (λ p. arguments_of_correct_type_faults answer accepts subject p []) parts).1 (at h)),
+    λ h g there. (arguments_fit scalars subject.schema.types g).0 ((fits_each scalars subject.schema.types (literals_among g.declared g.given)).0
+        ((each_contained (λ p. arguments_of_correct_type_faults scalars subject p []) parts).0 ((tell_none (arguments_of_correct_type_faults scalars subject) parts).0 h) (Given g) there)),
+    λ h. (tell_none (arguments_of_correct_type_faults scalars subject) parts).1 ((each_contained (λ p. arguments_of_correct_type_faults scalars subject p []) parts).1 (at h)),
   )
     where
-      at : ((g : GivenPart S) → Contains parts (Given g) → ArgumentsFit answer accepts subject.schema.types g) → (p : Part S C) → Contains parts p → arguments_of_correct_type_faults answer accepts subject p []
-      at h (Given g) there = (fits_each answer accepts subject.schema.types (literals_among g.declared g.given)).1 ((arguments_fit answer accepts subject.schema.types g).1 (h g there))
+      at : ((g : GivenPart S) → Contains parts (Given g) → ArgumentsFit scalars subject.schema.types g) → (p : Part S C) → Contains parts p → arguments_of_correct_type_faults scalars subject p []
+      at h (Given g) there = (fits_each scalars subject.schema.types (literals_among g.declared g.given)).1 ((arguments_fit scalars subject.schema.types g).1 (h g there))
       at h _ there = refl
 
   -- what is told of arguments is determined
-  pub arguments_one : (ts us : Places) → Tell (arguments_of_correct_type_faults answer accepts subject) parts ts → Tell (arguments_of_correct_type_faults answer accepts subject) parts us → ts ≡ us
-  arguments_one = tell_one (arguments_of_correct_type_faults answer accepts subject) one parts
+  pub arguments_one : (ts us : Places) → Tell (arguments_of_correct_type_faults scalars subject) parts ts → Tell (arguments_of_correct_type_faults scalars subject) parts us → ts ≡ us
+  arguments_one = tell_one (arguments_of_correct_type_faults scalars subject) one parts
     where
-      one : (p : Part S C) (ts us : Places) → arguments_of_correct_type_faults answer accepts subject p ts → arguments_of_correct_type_faults answer accepts subject p us → ts ≡ us
-      one (Given g) ts us h k = misfits_one answer accepts subject.schema.types (literals_among g.declared g.given) ts us h k
+      one : (p : Part S C) (ts us : Places) → arguments_of_correct_type_faults scalars subject p ts → arguments_of_correct_type_faults scalars subject p us → ts ≡ us
+      one (Given g) ts us h k = misfits_one scalars subject.schema.types (literals_among g.declared g.given) ts us h k
       one _ ts us h k = h ∙ sym k
 
-  default_fits : (v : VariablePart S) → Each FitHere (defaults_asked subject.schema v) ↔ DefaultFits answer accepts subject.schema v
+  default_fits : (v : VariablePart S) → Each FitHere (defaults_asked subject.schema v) ↔ DefaultFits scalars subject.schema v
   default_fits v = either (is_some (known subject.schema v.type_of.item.name))
     where
       either : (b : Bool) → Each FitHere (if b then option_to_list (option_map (asked_default v) v.default) else []) ↔ (b ≡ true → ForSome v.default (λ default. FitHere (asked_default v default)))
@@ -138,21 +137,21 @@ module _ {S C : Type 0} (answer : S → ScalarAnswer) (accepts : C → InputValu
       either false = (λ h there. absurd (false≢true there), λ h. tt)
 
   -- nothing is told of defaults exactly where those of known types conform
-  pub defaults_none : Tell (default_values_of_correct_type_faults answer accepts subject) parts [] ↔ ((v : VariablePart S) → Contains parts (VariableDefined v) → DefaultFits answer accepts subject.schema v)
+  pub defaults_none : Tell (default_values_of_correct_type_faults scalars subject) parts [] ↔ ((v : VariablePart S) → Contains parts (VariableDefined v) → DefaultFits scalars subject.schema v)
   defaults_none = (
-    λ h v there. (default_fits v).0 ((fits_each answer accepts subject.schema.types (defaults_asked subject.schema v)).0
-        ((each_contained (λ p. default_values_of_correct_type_faults answer accepts subject p []) parts).0 ((tell_none (default_values_of_correct_type_faults answer accepts subject) parts).0 h) (VariableDefined v) there)),
-    λ h. (tell_none (default_values_of_correct_type_faults answer accepts subject) parts).1 ((each_contained (λ p. default_values_of_correct_type_faults answer accepts subject p []) parts).1 (at h)),
+    λ h v there. (default_fits v).0 ((fits_each scalars subject.schema.types (defaults_asked subject.schema v)).0
+        ((each_contained (λ p. default_values_of_correct_type_faults scalars subject p []) parts).0 ((tell_none (default_values_of_correct_type_faults scalars subject) parts).0 h) (VariableDefined v) there)),
+    λ h. (tell_none (default_values_of_correct_type_faults scalars subject) parts).1 ((each_contained (λ p. default_values_of_correct_type_faults scalars subject p []) parts).1 (at h)),
   )
     where
-      at : ((v : VariablePart S) → Contains parts (VariableDefined v) → DefaultFits answer accepts subject.schema v) → (p : Part S C) → Contains parts p → default_values_of_correct_type_faults answer accepts subject p []
-      at h (VariableDefined v) there = (fits_each answer accepts subject.schema.types (defaults_asked subject.schema v)).1 ((default_fits v).1 (h v there))
+      at : ((v : VariablePart S) → Contains parts (VariableDefined v) → DefaultFits scalars subject.schema v) → (p : Part S C) → Contains parts p → default_values_of_correct_type_faults scalars subject p []
+      at h (VariableDefined v) there = (fits_each scalars subject.schema.types (defaults_asked subject.schema v)).1 ((default_fits v).1 (h v there))
       at h _ there = refl
 
   -- what is told of defaults is determined
-  pub defaults_one : (ts us : Places) → Tell (default_values_of_correct_type_faults answer accepts subject) parts ts → Tell (default_values_of_correct_type_faults answer accepts subject) parts us → ts ≡ us
-  defaults_one = tell_one (default_values_of_correct_type_faults answer accepts subject) one parts
+  pub defaults_one : (ts us : Places) → Tell (default_values_of_correct_type_faults scalars subject) parts ts → Tell (default_values_of_correct_type_faults scalars subject) parts us → ts ≡ us
+  defaults_one = tell_one (default_values_of_correct_type_faults scalars subject) one parts
     where
-      one : (p : Part S C) (ts us : Places) → default_values_of_correct_type_faults answer accepts subject p ts → default_values_of_correct_type_faults answer accepts subject p us → ts ≡ us
-      one (VariableDefined v) ts us h k = misfits_one answer accepts subject.schema.types (defaults_asked subject.schema v) ts us h k
+      one : (p : Part S C) (ts us : Places) → default_values_of_correct_type_faults scalars subject p ts → default_values_of_correct_type_faults scalars subject p us → ts ≡ us
+      one (VariableDefined v) ts us h k = misfits_one scalars subject.schema.types (defaults_asked subject.schema v) ts us h k
       one _ ts us h k = h ∙ sym k

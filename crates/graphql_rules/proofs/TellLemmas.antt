@@ -3,10 +3,9 @@ use Rattle.std.proofs.Common.{◌≡◌, ℕ, ◌+◌, ◌<◌, List, [], ◌∷
 use Rattle.std.specs.List.{flat_map}
 use Rattle.std.proofs.lemmas.Grind.{flat_map-append}
 use Rattle.std.proofs.lemmas.List.{take_more}
+use Rattle.graphql_schema.specs.Scalars.{Scalars}
 use Rattle.graphql_schema.specs.declared.meta.MetaType.{MetaType}
 use Rattle.graphql_rule_errors.specs.Places.{Places}
-use Rattle.graphql_scalars.specs.ScalarAnswers.{ScalarAnswer}
-use Rattle.graphql_values.specs.declared.input_value.InputValue.{InputValue}
 use Rattle.graphql_visitors.specs.Reports.{ReportsBy}
 use Rattle.graphql_visitors.specs.Rules.{Tell}
 use Rattle.graphql_visitors.specs.declared.context.ValidatorContext.{ValidatorContext}
@@ -18,10 +17,10 @@ module _ {S C : Type 0} (Told : Places → Type 0) (c : ValidatorContext S C) wh
   reports_none : Told [] → ReportsBy Told c c
   reports_none met = record { as_before = refl; reported = λ m. ([], met, reported_none c m) }
 
-module _ {S C : Type 0} (answer : S → ScalarAnswer) (accepts : C → InputValue S → Type 0) (types : List (MetaType S C)) where
+module _ {S C : Type 0} (scalars : Scalars S C) (types : List (MetaType S C)) where
   -- of no literal nothing is told
-  pub reports_no_literal : (asked : List (Asked S)) (c : ValidatorContext S C) → asked ≡ [] → ReportsBy (Misfits answer accepts types asked) c c
-  reports_no_literal asked c none = subst (λ xs. ReportsBy (Misfits answer accepts types xs) c c) (sym none) (reports_none (Misfits answer accepts types []) c refl)
+  pub reports_no_literal : (asked : List (Asked S)) (c : ValidatorContext S C) → asked ≡ [] → ReportsBy (Misfits scalars types asked) c c
+  reports_no_literal asked c none = subst (λ xs. ReportsBy (Misfits scalars types xs) c c) (sym none) (reports_none (Misfits scalars types []) c refl)
 
 module _ {S C X A : Type 0} (Says : List (MetaType S C) → X → Places → Type 0) (f : A → List X) where
   -- a loop past i of the items, by the types of the context's schema

@@ -3,12 +3,11 @@
 use Rattle.std.specs.Prelude.{List, [], Option, Some, None}
 use Rattle.std.specs.List.{flat_map}
 use Rattle.std.specs.Option.{option_map, option_to_list}
+use Rattle.graphql_schema.specs.Scalars.{Scalars}
 use Rattle.graphql_schema.specs.declared.meta.argument.Argument.{Argument as Declared}
 use Rattle.graphql_occurrences.specs.Lookups.{argument_named}
 use Rattle.graphql_occurrences.specs.Parts.{Part, Given}
-use Rattle.graphql_scalars.specs.ScalarAnswers.{ScalarAnswer}
 use Rattle.graphql_tree.specs.Arguments.{Argument}
-use Rattle.graphql_values.specs.declared.input_value.InputValue.{InputValue}
 use Rattle.graphql_visitors.specs.Rules.{Relation}
 use Rattle.graphql_rules.specs.Literals.{Asked, Misfits}
 
@@ -31,8 +30,8 @@ module _ {S C : Type 0} where
   literals_at (Given g) = literals_among g.declared g.given
   literals_at _ = []
 
-module _ {S C : Type 0} (answer : S → ScalarAnswer) (accepts : C → InputValue S → Type 0) where
+module _ {S C : Type 0} (scalars : Scalars S C) where
   -- each argument's literal that does not conform
   abbrev pub arguments_of_correct_type_faults : Relation S C
   arguments_of_correct_type_faults subject part =
-      Misfits answer accepts subject.schema.types (literals_at part)
+      Misfits scalars subject.schema.types (literals_at part)

@@ -4,7 +4,7 @@ use Rattle.std.specs.Prelude.{List, [], if◌then◌else◌}
 use Rattle.std.specs.Option.{is_some, option_map, option_to_list}
 use Rattle.graphql_occurrences.specs.Lookups.{known}
 use Rattle.graphql_occurrences.specs.Parts.{Part, VariablePart, VariableDefined}
-use Rattle.graphql_scalars.specs.ScalarAnswers.{ScalarAnswer}
+use Rattle.graphql_schema.specs.Scalars.{Scalars}
 use Rattle.graphql_schema.specs.Declarations.{Declarations}
 use Rattle.graphql_values.specs.InputValues.{Placed}
 use Rattle.graphql_values.specs.declared.input_value.InputValue.{InputValue}
@@ -25,8 +25,8 @@ module _ {S C : Type 0} (schema : Declarations S C) where
   defaults_at (VariableDefined v) = defaults_asked v
   defaults_at _ = []
 
-module _ {S C : Type 0} (answer : S → ScalarAnswer) (accepts : C → InputValue S → Type 0) where
+module _ {S C : Type 0} (scalars : Scalars S C) where
   -- each default that does not conform
   abbrev pub default_values_of_correct_type_faults : Relation S C
   default_values_of_correct_type_faults subject part =
-      Misfits answer accepts subject.schema.types (defaults_at subject.schema part)
+      Misfits scalars subject.schema.types (defaults_at subject.schema part)

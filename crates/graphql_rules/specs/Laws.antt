@@ -4,6 +4,7 @@ use Rattle.std.specs.Prelude.{◌≡◌, ◌||◌, Bool, true, false, List, [], 
 use Rattle.std.specs.List.{Contains, IsDistinct, flat_map}
 use Rattle.std.specs.Option.{ForSome, IsSome}
 use Rattle.std.specs.Str.{bytes_eq}
+use Rattle.graphql_schema.specs.Scalars.{Scalars}
 use Rattle.graphql_schema.specs.declared.directive.DirectiveType.{DirectiveType}
 use Rattle.graphql_schema.specs.declared.meta.argument.Argument.{Argument as Declared}
 use Rattle.graphql_schema.specs.declared.meta.field.Field.{Field as DeclaredField}
@@ -20,8 +21,6 @@ use Rattle.graphql_tree.specs.Arguments.{Argument}
 use Rattle.graphql_visitors.specs.Rules.{Rule}
 use Rattle.graphql_visitors.specs.Subjects.{Subject}
 use Rattle.graphql_rules.specs.ScalarLeafs.{is_leaf}
-use Rattle.graphql_scalars.specs.ScalarAnswers.{ScalarAnswer}
-use Rattle.graphql_values.specs.declared.input_value.InputValue.{InputValue}
 use Rattle.graphql_rules.specs.ArgumentsOfCorrectType.{asked_argument}
 use Rattle.graphql_rules.specs.DefaultValuesOfCorrectType.{asked_default}
 use Rattle.graphql_rules.specs.Literals.{LiteralConforms}
@@ -82,15 +81,15 @@ module _ {S : Type 0} where
   AreProvided g = ForSome g.declared (λ declared. (a : Declared S) → Contains declared a
       → is_optional a ≡ false → is_one_of (map (λ b. b.0.item) g.given) a.name ≡ true)
 
-module _ {S C : Type 0} (answer : S → ScalarAnswer) (accepts : C → InputValue S → Type 0) where
+module _ {S C : Type 0} (scalars : Scalars S C) where
   -- the value of each argument that is declared conforms to the type that is declared
   abbrev pub ArgumentsFit : List (MetaType S C) → GivenPart S → Type 0
   ArgumentsFit types g = ForSome g.declared (λ declared. (a : Argument S) → Contains g.given a
       → ForSome (argument_named declared a.0.item)
-      (λ d. LiteralConforms answer accepts types (asked_argument a d)))
+      (λ d. LiteralConforms scalars types (asked_argument a d)))
 
   -- the default, where there is one and the variable's type is known, conforms to that type
   abbrev pub DefaultFits : Declarations S C → VariablePart S → Type 0
   DefaultFits schema v = IsSome (known schema v.type_of.item.name)
       → ForSome v.default
-      (λ default. LiteralConforms answer accepts schema.types (asked_default v default))
+      (λ default. LiteralConforms scalars schema.types (asked_default v default))

@@ -3,10 +3,10 @@
 use Rattle.std.specs.Prelude.{◌≡◌, ◌⊎◌, List, [], ◌∷◌}
 use Rattle.graphql_literal_checks.specs.Conforms.{Conforms}
 use Rattle.graphql_literal_checks.specs.declared.source.Source.TheVariants.{Literal}
+use Rattle.graphql_schema.specs.Scalars.{Scalars}
 use Rattle.graphql_schema.specs.declared.meta.MetaType.{MetaType}
 use Rattle.graphql_schema.specs.Types.{TypeOf}
 use Rattle.graphql_rule_errors.specs.Places.{Places}
-use Rattle.graphql_scalars.specs.ScalarAnswers.{ScalarAnswer}
 use Rattle.graphql_values.specs.InputValues.{Placed}
 use Rattle.graphql_values.specs.declared.input_value.InputValue.{InputValue}
 use Rattle.graphql_visitors.specs.Rules.{Tell}
@@ -16,11 +16,10 @@ pub record Asked (S : Type 0) : Type 0 where
   pub type_of : TypeOf
   pub literal : Placed (InputValue S)
 
--- by what a scalar answers, what the check of a type accepts, and the types of a schema
-module _ {S C : Type 0} (answer : S → ScalarAnswer) (accepts : C → InputValue S → Type 0)
-    (types : List (MetaType S C)) where
+-- by what scalars mean, and the types of a schema
+module _ {S C : Type 0} (scalars : Scalars S C) (types : List (MetaType S C)) where
   abbrev pub LiteralConforms : Asked S → Type 0
-  LiteralConforms a = Conforms answer accepts types Literal a.type_of a.literal.item
+  LiteralConforms a = Conforms scalars types Literal a.type_of a.literal.item
 
   -- no error where a literal conforms, and one at its start where it does not
   abbrev pub LiteralJudged : Asked S → Places → Type 0

@@ -14,7 +14,7 @@ use crate::literals::{Role, report_literal};
 use graphql_occurrences::{
     DeclaredArguments, Event, KnownField, Node, arguments_of_field, declared_by_directive,
 };
-use graphql_schema::SchemaScalar;
+use graphql_schema::{Meaning, SchemaScalar};
 use graphql_text::{Spanning, TextRef};
 use graphql_tree::{Field, arguments_in};
 use graphql_values::InputValue;
@@ -40,10 +40,10 @@ impl<S: SchemaScalar> RelationalRule<S> for ArgumentsOfCorrectType {
     ghost use Rattle.graphql_visitors.specs.Subjects.{seen_in, subject_of};
     ghost use Rattle.graphql_rules.specs.ArgumentsOfCorrectType.{arguments_of_correct_type_faults};
 
-    ghost says = { arguments_of_correct_type_faults S.answer S.Check.accepts };
+    ghost says = { arguments_of_correct_type_faults ⟦<S as Meaning>⟧.meaning };
 
     fn tell<'a, 't>(&self, context: &mut ValidatorContext<'a, 't, S>, event: &Event<'a, 't, S>)
-        ensures { ReportsBy (TellAt (arguments_of_correct_type_faults S.answer S.Check.accepts)
+        ensures { ReportsBy (TellAt (arguments_of_correct_type_faults ⟦<S as Meaning>⟧.meaning)
             (subject_of context.old) (seen_in context.old event.now)) context.old context.new }
     {
         report_event(context, event);
@@ -56,7 +56,7 @@ fn report_event<'a, 't, S: SchemaScalar>(
     context: &mut ValidatorContext<'a, 't, S>,
     event: &Event<'a, 't, S>,
 )
-    ensures { ReportsBy (Misfits S.answer S.Check.accepts context.old.schema.now.types
+    ensures { ReportsBy (Misfits ⟦<S as Meaning>⟧.meaning context.old.schema.now.types
         (flat_map literals_at (parts_of (seen_in context.old event.now)))) context.old context.new }
 {
     match event {
@@ -70,7 +70,7 @@ fn report_node<'a, 't, S: SchemaScalar>(
     context: &mut ValidatorContext<'a, 't, S>,
     node: &Node<'a, 't, S>,
 )
-    ensures { ReportsBy (Misfits S.answer S.Check.accepts context.old.schema.now.types
+    ensures { ReportsBy (Misfits ⟦<S as Meaning>⟧.meaning context.old.schema.now.types
         (flat_map literals_at (parts_of (seen_in context.old (Event.Enter node.now))))) context.old
         context.new }
 {
@@ -91,7 +91,7 @@ fn report_field<'a, 't, S: SchemaScalar>(
     field: &'a Spanning<Field<'t, S>>,
 )
     ensures { ReportsBy
-        (Misfits S.answer S.Check.accepts context.old.schema.now.types (flat_map literals_at
+        (Misfits ⟦<S as Meaning>⟧.meaning context.old.schema.now.types (flat_map literals_at
         (parts_of (seen_in context.old (Event.Enter (Node.Field known.entry field.entry))))))
         context.old context.new }
 {
@@ -107,7 +107,7 @@ fn report_given<'a, 't, S: SchemaScalar>(
     declared: Option<DeclaredArguments<'a, S>>,
     given: &'a [(Spanning<TextRef<'t>>, Spanning<InputValue<S>>)],
 )
-    ensures { ReportsBy (Misfits S.answer S.Check.accepts context.old.schema.now.types
+    ensures { ReportsBy (Misfits ⟦<S as Meaning>⟧.meaning context.old.schema.now.types
         (literals_among (option_map arguments_lent declared.entry) given.now)) context.old
         context.new }
 {
@@ -122,7 +122,7 @@ fn report_arguments<'a, 't, S: SchemaScalar>(
     declared: DeclaredArguments<'a, S>,
     given: &'a [(Spanning<TextRef<'t>>, Spanning<InputValue<S>>)],
 )
-    ensures { ReportsBy (Misfits S.answer S.Check.accepts context.old.schema.now.types
+    ensures { ReportsBy (Misfits ⟦<S as Meaning>⟧.meaning context.old.schema.now.types
         (flat_map (literal_of (arguments_lent declared.entry)) given.now)) context.old context.new }
 {
     'arguments: for argument in given {
@@ -136,7 +136,7 @@ fn report_argument<'a, 't, S: SchemaScalar>(
     declared: DeclaredArguments<'a, S>,
     argument: &'a (Spanning<TextRef<'t>>, Spanning<InputValue<S>>),
 )
-    ensures { ReportsBy (Misfits S.answer S.Check.accepts context.old.schema.now.types
+    ensures { ReportsBy (Misfits ⟦<S as Meaning>⟧.meaning context.old.schema.now.types
         (literal_of (arguments_lent declared.entry) argument.now)) context.old context.new }
 {
     let name = argument.0.item.as_str();

@@ -14,7 +14,7 @@ ghost use Rattle.graphql_rules.specs.Literals.{Misfits};
 
 use crate::literals::{Role, report_literal};
 use graphql_occurrences::{Event, Node};
-use graphql_schema::{SchemaScalar, SchemaType};
+use graphql_schema::{Meaning, SchemaScalar, SchemaType};
 use graphql_text::{Spanning, TextRef};
 use graphql_tree::VariableDefinition;
 use graphql_visitors::{Relational, RelationalRule, ValidatorContext};
@@ -38,10 +38,10 @@ impl<S: SchemaScalar> RelationalRule<S> for DefaultValuesOfCorrectType {
     ghost use Rattle.graphql_visitors.specs.Subjects.{seen_in, subject_of};
     ghost use Rattle.graphql_rules.specs.DefaultValuesOfCorrectType.{default_values_of_correct_type_faults};
 
-    ghost says = { default_values_of_correct_type_faults S.answer S.Check.accepts };
+    ghost says = { default_values_of_correct_type_faults ⟦<S as Meaning>⟧.meaning };
 
     fn tell<'a, 't>(&self, context: &mut ValidatorContext<'a, 't, S>, event: &Event<'a, 't, S>)
-        ensures { ReportsBy (TellAt (default_values_of_correct_type_faults S.answer S.Check.accepts)
+        ensures { ReportsBy (TellAt (default_values_of_correct_type_faults ⟦<S as Meaning>⟧.meaning)
             (subject_of context.old) (seen_in context.old event.now)) context.old context.new }
     {
         report_event(context, event);
@@ -53,7 +53,7 @@ fn report_event<'a, 't, S: SchemaScalar>(
     context: &mut ValidatorContext<'a, 't, S>,
     event: &Event<'a, 't, S>,
 )
-    ensures { ReportsBy (Misfits S.answer S.Check.accepts context.old.schema.now.types
+    ensures { ReportsBy (Misfits ⟦<S as Meaning>⟧.meaning context.old.schema.now.types
         (flat_map (defaults_at (declarations_of context.old.schema.now))
         (parts_of (seen_in context.old event.now)))) context.old context.new }
 {
@@ -68,7 +68,7 @@ fn report_node<'a, 't, S: SchemaScalar>(
     context: &mut ValidatorContext<'a, 't, S>,
     node: &Node<'a, 't, S>,
 )
-    ensures { ReportsBy (Misfits S.answer S.Check.accepts context.old.schema.now.types
+    ensures { ReportsBy (Misfits ⟦<S as Meaning>⟧.meaning context.old.schema.now.types
         (flat_map (defaults_at (declarations_of context.old.schema.now))
         (parts_of (seen_in context.old (Event.Enter node.now))))) context.old context.new }
 {
@@ -82,7 +82,7 @@ fn report_variable<'a, 't, S: SchemaScalar>(
     context: &mut ValidatorContext<'a, 't, S>,
     variable: &'a (Spanning<TextRef<'t>>, VariableDefinition<'t, S>),
 )
-    ensures { ReportsBy (Misfits S.answer S.Check.accepts context.old.schema.now.types
+    ensures { ReportsBy (Misfits ⟦<S as Meaning>⟧.meaning context.old.schema.now.types
         (defaults_asked (declarations_of context.old.schema.now) (variable_part variable.now)))
         context.old context.new }
 {

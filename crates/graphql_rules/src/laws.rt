@@ -40,7 +40,7 @@ ghost use Rattle.graphql_rules.specs.ArgumentsOfCorrectType.{arguments_of_correc
 ghost use Rattle.graphql_rules.specs.DefaultValuesOfCorrectType.{default_values_of_correct_type_faults};
 ghost use Rattle.graphql_visitors.specs.Rules.{Tell};
 
-use graphql_schema::SchemaScalar;
+use graphql_schema::{Meaning, SchemaScalar};
 
 /// `KnownFragmentNames` finds no fault exactly where each spread's name is that of a fragment of
 /// the document (GraphQL October 2021, 5.5.2.1 Fragment Spread Target Defined).
@@ -184,17 +184,17 @@ pub fn input_fields_are_distinct<S: SchemaScalar>()
 /// conforms to the type that is declared.
 pub fn declared_arguments_conform<S: SchemaScalar>()
     ensures { (subject : Subject S S.Check) → (parts : List (Part S S.Check))
-        → Tell (arguments_of_correct_type_faults S.answer S.Check.accepts subject) parts []
+        → Tell (arguments_of_correct_type_faults ⟦<S as Meaning>⟧.meaning subject) parts []
         ↔ ((g : GivenPart S) → Contains parts (Given g)
-        → ArgumentsFit S.answer S.Check.accepts subject.schema.types g) }
+        → ArgumentsFit ⟦<S as Meaning>⟧.meaning subject.schema.types g) }
 {}
 
 /// What `ArgumentsOfCorrectType` tells is determined.
 pub fn told_of_arguments_is_determined<S: SchemaScalar>()
     ensures { (subject : Subject S S.Check) → (parts : List (Part S S.Check))
         → (told other : Places)
-        → Tell (arguments_of_correct_type_faults S.answer S.Check.accepts subject) parts told
-        → Tell (arguments_of_correct_type_faults S.answer S.Check.accepts subject) parts other
+        → Tell (arguments_of_correct_type_faults ⟦<S as Meaning>⟧.meaning subject) parts told
+        → Tell (arguments_of_correct_type_faults ⟦<S as Meaning>⟧.meaning subject) parts other
         → told ≡ other }
 {}
 
@@ -202,16 +202,16 @@ pub fn told_of_arguments_is_determined<S: SchemaScalar>()
 /// is known conforms to that type.
 pub fn defaults_conform<S: SchemaScalar>()
     ensures { (subject : Subject S S.Check) → (parts : List (Part S S.Check))
-        → Tell (default_values_of_correct_type_faults S.answer S.Check.accepts subject) parts []
+        → Tell (default_values_of_correct_type_faults ⟦<S as Meaning>⟧.meaning subject) parts []
         ↔ ((v : VariablePart S) → Contains parts (VariableDefined v)
-        → DefaultFits S.answer S.Check.accepts subject.schema v) }
+        → DefaultFits ⟦<S as Meaning>⟧.meaning subject.schema v) }
 {}
 
 /// What `DefaultValuesOfCorrectType` tells is determined.
 pub fn told_of_defaults_is_determined<S: SchemaScalar>()
     ensures { (subject : Subject S S.Check) → (parts : List (Part S S.Check))
         → (told other : Places)
-        → Tell (default_values_of_correct_type_faults S.answer S.Check.accepts subject) parts told
-        → Tell (default_values_of_correct_type_faults S.answer S.Check.accepts subject) parts other
+        → Tell (default_values_of_correct_type_faults ⟦<S as Meaning>⟧.meaning subject) parts told
+        → Tell (default_values_of_correct_type_faults ⟦<S as Meaning>⟧.meaning subject) parts other
         → told ≡ other }
 {}

@@ -6,7 +6,7 @@ ghost use Rattle.graphql_rules.specs.Literals.{LiteralJudged};
 
 use graphql_literal_checks::validate_literal_value;
 use graphql_names::{Type, TypeModifier};
-use graphql_schema::SchemaScalar;
+use graphql_schema::{Meaning, SchemaScalar};
 use graphql_text::{Spanning, Text};
 use graphql_values::InputValue;
 use graphql_visitors::ValidatorContext;
@@ -30,7 +30,7 @@ pub(crate) fn report_literal<'a, 't, S: SchemaScalar, N: AsStr, M: AsSlice<TypeM
     asked: &Type<N, M>,
     literal: &Spanning<InputValue<S>>,
 )
-    ensures { ReportsBy (LiteralJudged S.answer S.Check.accepts context.old.schema.now.types
+    ensures { ReportsBy (LiteralJudged ⟦<S as Meaning>⟧.meaning context.old.schema.now.types
         (record { type_of = asked_for N.text M.items asked.now; literal = literal.now }))
         context.old context.new }
 {

@@ -5,7 +5,6 @@ use Rattle.serde_json.specs.Data.{Data}
 use Rattle.graphql_lines.specs.declared.refusal.LineRefusal.{LineRefusal}
 use Rattle.graphql_lines.specs.declared.refusal.LineRefusal.TheVariants as refusal
 use Rattle.graphql_schema.specs.declared.meta.MetaType.{MetaType}
-use Rattle.graphql_scalars.specs.DefaultScalar.{scalar_answer}
 use Rattle.graphql_schema.specs.declared.root_node.RootNode.{RootNode}
 use Rattle.graphql_schema.specs.declared.schema.SchemaType.{SchemaType}
 use Rattle.graphql_schema_files.specs.Shapes.{schema_of}
@@ -17,7 +16,7 @@ use Rattle.graphql_schema_files.specs.FirstItems.{IsFirst}
 use Rattle.graphql_schema_files.specs.UnfitDefaults.{IsUnfitType}
 use Rattle.graphql_schema_files.specs.declared.declaration_place.DeclarationPlace.{DeclarationPlace}
 use Rattle.graphql_schema_files.specs.Refusals.{fault_of}
-use Rattle.graphql_schema_files.specs.SchemaFiles.{HasDefaults, HasTypes, IsDue, IsNamed, IsRoot, IsSchemaOf, Judges, MakesRoot, MakingDue, ReadsData, ReadsDraft, ReadsShape}
+use Rattle.graphql_schema_files.specs.SchemaFiles.{HasDefaults, HasTypes, IsDue, IsNamed, IsRoot, IsSchemaOf, Judges, MakesRoot, MakingDue, ReadsData, ReadsDraft, ReadsShape, default_scalars}
 use Rattle.graphql_schema_files.specs.declared.schema_file_error.SchemaFileError.{SchemaFileError}
 use Rattle.graphql_schema_files.specs.declared.schema_file_error.SchemaFileError.TheVariants as fault
 
@@ -36,12 +35,12 @@ refused_json r json e is told other = subst (λ f. (f ≡ fault.NotJson) × (jso
 
 -- whether the defaults conform
 module _ {C : Type 0} (accepts : C → Value → Type 0) (file : SchemaDraft) (schema : SchemaType S C) (drafts : List TypeDraft) (same : drafts ≡ file.types) (found : Option DeclarationPlace)
-    (told : IsFirst (IsUnfitType scalar_answer accepts schema.types) drafts found) where
+    (told : IsFirst (IsUnfitType (default_scalars accepts) schema.types) drafts found) where
   pub conforming : (root : RootNode S C) → root ≡ record { schema = schema; introspection_disabled = false } → found ≡ None → Judges accepts file schema (Ok root)
-  conforming root is none = (is, subst (λ ds. IsFirst (IsUnfitType scalar_answer accepts schema.types) ds None) same (subst (IsFirst (IsUnfitType scalar_answer accepts schema.types) drafts) none told))
+  conforming root is none = (is, subst (λ ds. IsFirst (IsUnfitType (default_scalars accepts) schema.types) ds None) same (subst (IsFirst (IsUnfitType (default_scalars accepts) schema.types) drafts) none told))
 
   pub not_conforming : (place : DeclarationPlace) → found ≡ Some place → Judges accepts file schema (Err (fault.UnfitDefault place))
-  not_conforming place some = λ other. subst (λ ds. IsFirst (IsUnfitType scalar_answer accepts schema.types) ds (Some place)) same (subst (IsFirst (IsUnfitType scalar_answer accepts schema.types) drafts) some told)
+  not_conforming place some = λ other. subst (λ ds. IsFirst (IsUnfitType (default_scalars accepts) schema.types) ds (Some place)) same (subst (IsFirst (IsUnfitType (default_scalars accepts) schema.types) drafts) some told)
 
 -- a file whose types are read, but not all of it: some default is no literal
 pub unsound : (file : SchemaDraft) → HasTypes file → (All TypeIsSound file.types → ⊥) → HasDefaults file → ⊥

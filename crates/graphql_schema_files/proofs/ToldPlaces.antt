@@ -9,11 +9,10 @@ use Rattle.graphql_lines.specs.Request.{data_of}
 use Rattle.graphql_schema.specs.declared.meta.MetaType.{MetaType}
 use Rattle.graphql_schema_files.specs.DeclarationPlaces.{IsPlaceAmong, IsPlaceIn, IsPlaceOf, IsTypePlace}
 use Rattle.graphql_schema_files.specs.DraftedTypes.{S, TypeHasDefaults, TypeHasTypes}
-use Rattle.graphql_scalars.specs.DefaultScalar.{scalar_answer}
 use Rattle.graphql_schema_files.specs.Laws.{FaultsHavePlaces, ToldFaultsHavePlaces, UnfitDefaultsDoNotConform}
 use Rattle.graphql_schema_files.specs.UnfitDefaults.{IsUnfitType}
 use Rattle.graphql_schema_files.specs.NamedDrafts.{argument_is_named, field_is_named, is_name, type_is_named}
-use Rattle.graphql_schema_files.specs.SchemaFiles.{HasDefaults, HasTypes, IsDue, IsNamed, ReadsData, ReadsShape}
+use Rattle.graphql_schema_files.specs.SchemaFiles.{HasDefaults, HasTypes, IsDue, IsNamed, ReadsData, ReadsShape, default_scalars}
 use Rattle.graphql_schema_files.specs.Shapes.{schema_of}
 use Rattle.graphql_schema_files.specs.SpelledTexts.{Value}
 use Rattle.graphql_schema_files.specs.declared.declaration_place.DeclarationPlace.{DeclarationPlace}
@@ -112,7 +111,7 @@ told_faults_have_places accepts builtin bytes fault.Memory found read is place =
 -- ---- a default of which it is told that it does not conform
 
 pub unfit_defaults_do_not_conform : {C : Type 0} (accepts : C → Value → Type 0) → UnfitDefaultsDoNotConform accepts
-unfit_defaults_do_not_conform accepts file schema (fault.UnfitDefault place) unfit conform = first_or_none (IsUnfitType scalar_answer accepts schema.types) file.types place unfit conform
+unfit_defaults_do_not_conform accepts file schema (fault.UnfitDefault place) unfit conform = first_or_none (IsUnfitType (default_scalars accepts) schema.types) file.types place unfit conform
 unfit_defaults_do_not_conform accepts file schema fault.NotJson unfit conform = unfit
 unfit_defaults_do_not_conform accepts file schema fault.BadShape unfit conform = unfit
 unfit_defaults_do_not_conform accepts file schema fault.BadName unfit conform = unfit

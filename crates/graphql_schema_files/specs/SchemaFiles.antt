@@ -7,8 +7,10 @@ use Rattle.serde_json.specs.Data.{Data}
 use Rattle.graphql_text.specs.Memory.{Answers}
 use Rattle.graphql_lines.specs.Request.{data_of}
 use Rattle.graphql_names.specs.Names.{Bytes}
-use Rattle.graphql_scalars.specs.DefaultScalar.{scalar_answer}
+use Rattle.graphql_scalars.specs.DefaultScalar.{reads, scalar_answer}
+use Rattle.graphql_scalars.specs.contracts.default_scalar.DefaultScalarValuePartialEq.TheImpl.{ghosts}
 use Rattle.graphql_scalars.specs.declared.default_scalar.DefaultScalarValue.TheVariants as scalar
+use Rattle.graphql_schema.specs.Scalars.{Scalars}
 use Rattle.graphql_schema.specs.declared.meta.MetaType.{MetaType}
 use Rattle.graphql_schema.specs.declared.root_node.RootNode.{RootNode}
 use Rattle.graphql_schema.specs.declared.schema.SchemaType.{SchemaType}
@@ -50,16 +52,29 @@ HasDefaults file = All TypeHasDefaults file.types
 abbrev pub IsMemory : SchemaFileError → Type 0
 IsMemory e = e ≡ fault.Memory
 
+-- what the default scalars mean, by what the checks of types accept
+abbrev pub default_scalars : {C : Type 0} → (C → Value → Type 0) → Scalars S C
+default_scalars accepts = record {
+  reads = reads;
+  of_bool = scalar.Boolean;
+  of_int = scalar.Int;
+  of_text = scalar.String;
+  eq = ghosts.eq;
+  answer = scalar_answer;
+  accepts = accepts;
+}
+
 -- by what the checks of types accept
 module _ {C : Type 0} (accepts : C → Value → Type 0) where
   -- its defaults conform in the schema
   abbrev pub DefaultsConform : SchemaDraft → SchemaType S C → Type 0
-  DefaultsConform file schema = All (DraftConforms scalar_answer accepts schema.types) file.types
+  DefaultsConform file schema =
+      All (DraftConforms (default_scalars accepts) schema.types) file.types
 
   -- the first default of the file that does not conform in the schema
   abbrev pub IsFirstUnfit : SchemaDraft → SchemaType S C → SchemaFileError → Type 0
   IsFirstUnfit file schema (fault.UnfitDefault place) =
-      IsFirst (IsUnfitType scalar_answer accepts schema.types) file.types (Some place)
+      IsFirst (IsUnfitType (default_scalars accepts) schema.types) file.types (Some place)
   IsFirstUnfit file schema _ = ⊥
 
   -- a root node over the schema, or the first default that does not conform in it

@@ -3,26 +3,24 @@
 use Rattle.std.specs.Prelude.{◌≡◌, List, Option, Some, None, IfSome, MatchOption}
 use Rattle.graphql_literal_checks.specs.Defaults.{ArgumentConforms}
 use Rattle.graphql_names.specs.Names.{Bytes}
-use Rattle.graphql_scalars.specs.ScalarAnswers.{ScalarAnswer}
+use Rattle.graphql_schema.specs.Scalars.{Scalars}
 use Rattle.graphql_schema.specs.Lookups.{type_named}
 use Rattle.graphql_schema.specs.Types.{arguments_of, fields_of, input_fields_of}
 use Rattle.graphql_schema.specs.declared.meta.argument.Argument.{Argument}
 use Rattle.graphql_schema.specs.declared.meta.field.Field.{Field}
 use Rattle.graphql_schema.specs.declared.meta.MetaType.{MetaType}
-use Rattle.graphql_values.specs.declared.input_value.InputValue.{InputValue}
 use Rattle.graphql_schema_files.specs.FirstItems.{IsFirst}
 use Rattle.graphql_schema_files.specs.declared.declaration_place.DeclarationPlace.{DeclarationPlace}
 use Rattle.graphql_schema_files.specs.declared.declaration_place.FieldPlace.{FieldPlace}
 use Rattle.graphql_schema_files.specs.declared.drafts.TypeDraft.{TypeDraft}
 
--- by what a scalar answers, what the checks of types accept, and the types of a schema
-module _ {S C : Type 0} (answer : S → ScalarAnswer) (accepts : C → InputValue S → Type 0)
-    (types : List (MetaType S C)) where
+-- by what scalars mean, and the types of a schema
+module _ {S C : Type 0} (scalars : Scalars S C) (types : List (MetaType S C)) where
   -- the argument or the input field itself
   abbrev pub IsUnfitArgument : Argument S → Option Bytes → Type 0
-  IsUnfitArgument argument None = ArgumentConforms answer accepts types argument
+  IsUnfitArgument argument None = ArgumentConforms scalars types argument
   IsUnfitArgument argument (Some name) =
-      (ArgumentConforms answer accepts types argument → ⊥) × (name ≡ argument.name)
+      (ArgumentConforms scalars types argument → ⊥) × (name ≡ argument.name)
 
   -- the field, by its first such argument
   abbrev pub IsUnfitField : Field S → Option FieldPlace → Type 0

@@ -7,7 +7,7 @@ ghost use Rattle.graphql_schema_files.specs.UnfitDefaults as spec;
 use crate::TypeDraft;
 use crate::declaration_place::{DeclarationPlace, FieldPlace};
 use graphql_literal_checks::validate_literal_value;
-use graphql_schema::{Argument, Field, MetaType, SchemaScalar, SchemaType};
+use graphql_schema::{Argument, Field, Meaning, MetaType, SchemaScalar, SchemaType};
 use graphql_text::Text;
 use std::alloc::{AllocError, Global};
 
@@ -19,7 +19,7 @@ fn unfit_argument<S: SchemaScalar>(
     schema: &SchemaType<S>,
     argument: &Argument<S>,
 ) -> Result<Option<Text>, AllocError>
-    ensures { IfOk result (spec.IsUnfitArgument S.answer S.Check.accepts schema.now.types
+    ensures { IfOk result (spec.IsUnfitArgument ⟦<S as Meaning>⟧.meaning schema.now.types
         argument.now) }
 {
     let Some(value) = &argument.default_value else {
@@ -38,7 +38,7 @@ fn argument_among<S: SchemaScalar>(
     arguments: &[Argument<S>],
 ) -> Result<Option<Text>, AllocError>
     ensures { IfOk result (IsFirst
-        (spec.IsUnfitArgument S.answer S.Check.accepts schema.now.types) arguments.now) }
+        (spec.IsUnfitArgument ⟦<S as Meaning>⟧.meaning schema.now.types) arguments.now) }
 {
     'arguments: for argument in arguments {
         match unfit_argument(alloc, schema, argument)? {
@@ -57,7 +57,7 @@ fn unfit_field<S: SchemaScalar>(
     schema: &SchemaType<S>,
     field: &Field<S>,
 ) -> Result<Option<FieldPlace>, AllocError>
-    ensures { IfOk result (spec.IsUnfitField S.answer S.Check.accepts schema.now.types
+    ensures { IfOk result (spec.IsUnfitField ⟦<S as Meaning>⟧.meaning schema.now.types
         field.now) }
 {
     match argument_among(alloc, schema, field.arguments())? {
@@ -79,7 +79,7 @@ fn field_among<S: SchemaScalar>(
     fields: &[Field<S>],
 ) -> Result<Option<FieldPlace>, AllocError>
     ensures { IfOk result (IsFirst
-        (spec.IsUnfitField S.answer S.Check.accepts schema.now.types) fields.now) }
+        (spec.IsUnfitField ⟦<S as Meaning>⟧.meaning schema.now.types) fields.now) }
 {
     'fields: for field in fields {
         match unfit_field(alloc, schema, field)? {
@@ -98,7 +98,7 @@ fn unfit_meta<S: SchemaScalar>(
     schema: &SchemaType<S>,
     meta: &MetaType<S>,
 ) -> Result<Option<FieldPlace>, AllocError>
-    ensures { IfOk result (spec.IsUnfitMeta S.answer S.Check.accepts schema.now.types meta.now) }
+    ensures { IfOk result (spec.IsUnfitMeta ⟦<S as Meaning>⟧.meaning schema.now.types meta.now) }
 {
     if let Some(place) = field_among(alloc, schema, meta.fields())? {
         return Ok(Some(place));
@@ -120,7 +120,7 @@ fn unfit_type<S: SchemaScalar>(
     schema: &SchemaType<S>,
     draft: &TypeDraft<'_>,
 ) -> Result<Option<DeclarationPlace>, AllocError>
-    ensures { IfOk result (spec.IsUnfitType S.answer S.Check.accepts schema.now.types
+    ensures { IfOk result (spec.IsUnfitType ⟦<S as Meaning>⟧.meaning schema.now.types
         draft.now) }
 {
     let Some(meta) = schema.concrete_type_by_name(draft.name.as_str()) else {
@@ -146,7 +146,7 @@ pub(crate) fn unfit_default<S: SchemaScalar>(
     drafts: &[TypeDraft<'_>],
 ) -> Result<Option<DeclarationPlace>, AllocError>
     ensures { IfOk result (IsFirst
-        (spec.IsUnfitType S.answer S.Check.accepts schema.now.types) drafts.now) }
+        (spec.IsUnfitType ⟦<S as Meaning>⟧.meaning schema.now.types) drafts.now) }
 {
     'drafts: for draft in drafts {
         match unfit_type(alloc, schema, draft)? {

@@ -33,7 +33,7 @@ module _ {S : Type 0} where
 
 module _ {S C N X : Type 0} (s : Scalars S C) (root : RootNode S C) (r : Resolver S N X) where
   pub join-of-two-sets : is_executable root.schema.types (roots_of root.schema) ≡ true
-      → PartsJoin s.of_text s.of_bool s.answer s.eq s.accepts N
+      → PartsJoin s N
       → ((context : X) → RespectsArguments s.eq (r.answer context)) → JoinOfTwoSets s root r
   join-of-two-sets executable parts respects alike document valid parent first second stand given context object node
       possible =

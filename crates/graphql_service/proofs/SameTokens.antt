@@ -25,7 +25,7 @@ use Rattle.graphql_plain_answers.specs.Laws.{SameDocumentsAnswerAlike}
 use Rattle.graphql_service.proofs.AlikeYields.{yield-alike}
 
 module _ {S C N X : Type 0} (s : Scalars S C) (root : RootNode S C) (r : Resolver S N X)
-    (valid : AreValidAlike s.eq s.answer s.accepts (declarations_of root.schema))
+    (valid : AreValidAlike s (declarations_of root.schema))
     (asked_alike : SameTokensAreAskedAlike s root)
     (one_executed : OneIsExecuted s) (lawful : IsLawful s.eq r.answer r.changes)
     (law : SameDocumentsAnswerAlike s.of_text s.of_bool s.answer s.eq C N X) where

@@ -31,8 +31,7 @@ use Rattle.graphql_joins.specs.RequestLaws.{EqualsAnswerAlike, IsSetOf}
 module _ {S C : Type 0} (s : Scalars S C) (root : RootNode S C) where
   abbrev IsValidHere : List (Definition S) → Type 0
   IsValidHere document =
-      IsValid s.eq s.answer s.accepts
-      (record { schema = declarations_of root.schema; document = document })
+      IsValid s (record { schema = declarations_of root.schema; document = document })
 
   -- where selections stand one behind the other in a set of a valid document, the data that both
   -- give on a node, for an object type that is possible there, are the join of the data that each

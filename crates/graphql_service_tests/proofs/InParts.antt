@@ -58,8 +58,7 @@ module _ {S C N X : Type 0} (s : Scalars S C) (root : RootNode S C) (r : Resolve
   with_set query set = record query { item = record query.item { selection_set = set } }
 
   pub joined : PartsOfQueriesJoin s root r → EqualsAnswerAlike s.eq s.answer
-      → IsValid s.eq s.answer s.accepts
-      (record { schema = declarations_of root.schema; document = document })
+      → IsValid s (record { schema = declarations_of root.schema; document = document })
       → (query one two : Placed (Operation S)) → chosen None document ≡ Ok query
       → query.item.operation_type ≡ kind.Query
       → one ≡ with_set query (take 1 query.item.selection_set)

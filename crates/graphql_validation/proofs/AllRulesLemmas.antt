@@ -1,4 +1,5 @@
 -- What all rules tell, and of which documents nothing.
+use Rattle.graphql_schema.specs.Scalars.{Scalars}
 use Rattle.std.proofs.Common.{◌≡◌, ◌↔◌, refl, sym, ap, subst, ◌∙◌, Bool, true, false, List, [], ◌∷◌, ◌++◌, length, Option, Some, append-nil, arith, Result, Ok, Err, IfOk}
 use Rattle.std.specs.Prelude.{IsPermutation}
 use Rattle.std.specs.List.{All, Contains}
@@ -6,8 +7,6 @@ use Rattle.std.specs.Option.{IsSome}
 use Rattle.std.proofs.lemmas.Bool.{false≢true}
 use Rattle.std.proofs.lemmas.List.{map-append, nil_from_length}
 use Rattle.std.proofs.lemmas.List.Sorted.{All-permutation, Contains-permutation, IsPermutation-map, length_permutation}
-use Rattle.graphql_values.specs.declared.input_value.InputValue.{InputValue}
-use Rattle.graphql_scalars.specs.ScalarAnswers.{ScalarAnswer}
 use Rattle.graphql_rule_errors.proofs.NoFaultLemmas.{append_none}
 use Rattle.graphql_rule_errors.specs.Places.{Places, places}
 use Rattle.graphql_rule_errors.specs.declared.rule_error.RuleError.{RuleError}
@@ -71,21 +70,21 @@ module _ {S C : Type 0} (subject : Subject S C) where
     conditions = λ n i. some-of _ (well.conditions n i).0 (well.conditions n i).1;
   }) well.fragments_end
 
-module _ {S C : Type 0} (eq : S → S → Bool) (answer : S → ScalarAnswer) (accepts : C → InputValue S → Type 0) (subject : Subject S C) where
+module _ {S C : Type 0} (scalars : Scalars S C) (subject : Subject S C) where
   -- nothing is told exactly of valid documents
-  pub all-exactly : (told : Places) → AllRules eq answer accepts subject told → (told ≡ []) ↔ IsValid eq answer accepts subject
-  all-exactly told (of_first_stage first some) = ((λ e. absurd (some e)), λ v. first_then answer accepts subject told first v.no_fault)
+  pub all-exactly : (told : Places) → AllRules scalars subject told → (told ≡ []) ↔ IsValid scalars subject
+  all-exactly told (of_first_stage first some) = ((λ e. absurd (some e)), λ v. first_then scalars subject told first v.no_fault)
   all-exactly told (of_merging first merging) = (
-    (λ e. record { no_fault = first_none answer accepts subject [] first refl; fields_merge = merging.complete e }),
-    λ v. none-sound eq subject told merging.sound v.fields_merge,
+    (λ e. record { no_fault = first_none scalars subject [] first refl; fields_merge = merging.complete e }),
+    λ v. none-sound scalars.eq subject told merging.sound v.fields_merge,
   )
 
   -- of errors in some other order the same holds
-  pub all_permuted : (told other : Places) → IsPermutation told other → AllRules eq answer accepts subject told → AllRules eq answer accepts subject other
-  all_permuted told other p (of_first_stage first some) = of_first_stage (first_permuted answer accepts subject told other p first) (λ e. some (none-before told other p e))
-  all_permuted told other p (of_merging first merging) = of_merging first (merging_permuted eq subject told other p merging)
+  pub all_permuted : (told other : Places) → IsPermutation told other → AllRules scalars subject told → AllRules scalars subject other
+  all_permuted told other p (of_first_stage first some) = of_first_stage (first_permuted scalars subject told other p first) (λ e. some (none-before told other p e))
+  all_permuted told other p (of_merging first merging) = of_merging first (merging_permuted scalars.eq subject told other p merging)
 
-  pub root_exactly : (is_disabled : Bool) (told : Places) → RequestTold eq answer accepts subject is_disabled told → (told ≡ []) ↔ IsValidAt eq answer accepts subject is_disabled
+  pub root_exactly : (is_disabled : Bool) (told : Places) → RequestTold scalars subject is_disabled told → (told ≡ []) ↔ IsValidAt scalars subject is_disabled
   root_exactly false told h = let all = all-exactly told h in (λ e. record { valid = all.0 e; introspects_nothing = λ t. absurd (false≢true t) }, λ v. all.1 v.valid)
   root_exactly true told h =
       let all = all-exactly h.of_rules h.rules_told in
@@ -95,8 +94,8 @@ module _ {S C : Type 0} (eq : S → S → Bool) (answer : S → ScalarAnswer) (a
       )
 
   -- what all rules tell, and beside it what the rule against introspection tells where it is asked
-  pub told_beside : {E : Type 0} (is_disabled : Bool) (rules kept : List RuleError) (r : Result (List RuleError) E) → AllRules eq answer accepts subject (places rules) → places kept ≡ asked_places is_disabled subject
-      → IfOk r (IsPermutation (rules ++ kept)) → IfOk r (λ es. RequestTold eq answer accepts subject is_disabled (places es))
+  pub told_beside : {E : Type 0} (is_disabled : Bool) (rules kept : List RuleError) (r : Result (List RuleError) E) → AllRules scalars subject (places rules) → places kept ≡ asked_places is_disabled subject
+      → IfOk r (IsPermutation (rules ++ kept)) → IfOk r (λ es. RequestTold scalars subject is_disabled (places es))
   told_beside is_disabled rules kept (Err e) all is moved = tt
   told_beside is_disabled rules kept (Ok es) all is moved = at is_disabled is
     where
@@ -105,14 +104,14 @@ module _ {S C : Type 0} (eq : S → S → Bool) (answer : S → ScalarAnswer) (a
           subst (λ ps. IsPermutation ps (places es)) (map-append (λ (e : RuleError). e.locations) rules kept)
           (IsPermutation-map {P = RuleError} {X = List SourcePosition} (λ e. e.locations) (rules ++ kept) es moved)
 
-      at : (q : Bool) → places kept ≡ asked_places q subject → RequestTold eq answer accepts subject q (places es)
+      at : (q : Bool) → places kept ≡ asked_places q subject → RequestTold scalars subject q (places es)
       at true is = record { of_rules = places rules; rules_told = all; all = subst (λ ps. IsPermutation (places rules ++ ps) (places es)) is together }
       at false is = all_permuted (places rules) (places es) (subst (λ ps. IsPermutation ps (places es)) (ap (λ ps. places rules ++ ps) is ∙ append-nil (places rules)) together) all
 
   -- errors of the rule that fields merge, where the first stage told nothing
-  pub merged : {E : Type 0} (r : Result (List RuleError) E) → FirstStage answer accepts subject [] → Settled (fragments_listed subject.document)
-      → IfOk r (λ es. Settled (fragments_listed subject.document) → IsSound eq subject.schema.types (document_sets subject.schema subject.document) (places es)
-      × IsDirect eq subject.schema.types (document_sets subject.schema subject.document) (places es) × IsComplete eq subject.schema.types (document_sets subject.schema subject.document) (places es))
-      → IfOk r (λ es. AllRules eq answer accepts subject (places es))
+  pub merged : {E : Type 0} (r : Result (List RuleError) E) → FirstStage scalars subject [] → Settled (fragments_listed subject.document)
+      → IfOk r (λ es. Settled (fragments_listed subject.document) → IsSound scalars.eq subject.schema.types (document_sets subject.schema subject.document) (places es)
+      × IsDirect scalars.eq subject.schema.types (document_sets subject.schema subject.document) (places es) × IsComplete scalars.eq subject.schema.types (document_sets subject.schema subject.document) (places es))
+      → IfOk r (λ es. AllRules scalars subject (places es))
   merged (Ok es) first settled h = let p = h settled in of_merging first (record { sound = p.0; direct = p.1; complete = p.2 })
   merged (Err e) first settled h = tt

@@ -1,10 +1,9 @@
 -- What the rules of the first stage report.
+use Rattle.graphql_schema.specs.Scalars.{Scalars}
 use Rattle.std.proofs.Common.{◌≡◌, ◌↔◌, false, List, [], ◌++◌, Result, Ok, Err, OnOk, IfOk, length, sym, ap, subst, ◌∙◌}
 use Rattle.std.specs.Prelude.{IsPermutation}
 use Rattle.std.proofs.lemmas.List.{length-map, nil_from_length}
 use Rattle.std.proofs.lemmas.List.Sorted.{IsPermutation-map, IsPermutation-refl}
-use Rattle.graphql_values.specs.declared.input_value.InputValue.{InputValue}
-use Rattle.graphql_scalars.specs.ScalarAnswers.{ScalarAnswer}
 use Rattle.graphql_rule_errors.specs.Places.{Places, places}
 use Rattle.graphql_rule_errors.specs.declared.rule_error.RuleError.{RuleError}
 use Rattle.graphql_rules_document.specs.Scopes.{Scopes}
@@ -32,10 +31,10 @@ module _ {S C : Type 0} where
       let told : places d.errors ≡ r.0 = (r.2).errors.at ∙ ap (λ x. places x ++ r.0) none in
       permuted r.0 (places es) (subst (λ x. IsPermutation x (places es)) told (IsPermutation-map (λ e. e.locations) d.errors es p)) r.1
 
-  module _ (answer : S → ScalarAnswer) (accepts : C → InputValue S → Type 0) where
+  module _ (scalars : Scalars S C) where
     -- the rules for one part at a time, and then those for operations and fragments
-    pub stage_reported : (a b d : ValidatorContext S C) (held : Scopes S) → ReportsBy (PartsTold answer accepts (subject_of a)) a b → (b.failed ≡ false → held ≡ scopes (subject_of a))
-        → Reports (document_places b.schema.now.types held) b d → ReportsBy (FirstStage answer accepts (subject_of a)) a d
+    pub stage_reported : (a b d : ValidatorContext S C) (held : Scopes S) → ReportsBy (PartsTold scalars (subject_of a)) a b → (b.failed ≡ false → held ≡ scopes (subject_of a))
+        → Reports (document_places b.schema.now.types held) b d → ReportsBy (FirstStage scalars (subject_of a)) a d
     stage_reported a b d held h gathered k = record {
       as_before = as_before_after a b d h.as_before k.as_before;
       reported = λ m.

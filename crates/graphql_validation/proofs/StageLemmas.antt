@@ -3,8 +3,6 @@ use Rattle.std.proofs.Common.{◌≡◌, Bool, List, [], ◌++◌, sym, ap, subs
 use Rattle.std.specs.Prelude.{IsPermutation}
 use Rattle.std.specs.List.{flat_map}
 use Rattle.std.proofs.lemmas.List.Sorted.{IsPermutation-append_right, IsPermutation-refl, IsPermutation-trans}
-use Rattle.graphql_values.specs.declared.input_value.InputValue.{InputValue}
-use Rattle.graphql_scalars.specs.ScalarAnswers.{ScalarAnswer}
 use Rattle.graphql_occurrences.proofs.TellsDefinitions.{events_told}
 use Rattle.graphql_occurrences.specs.Events.{events}
 use Rattle.graphql_occurrences.specs.Nodes.{Seen}
@@ -25,6 +23,7 @@ use Rattle.graphql_rules.proofs.SpreadLemmas.{spreads_told}
 use Rattle.graphql_rules.specs.PossibleFragmentSpreads.{possible_fragment_spreads_faults}
 use Rattle.graphql_rules.specs.PossibleVisitor.{by_names}
 use Rattle.graphql_rules.specs.declared.possible_fragment_spreads.PossibleFragmentSpreads.{PossibleFragmentSpreads}
+use Rattle.graphql_schema.specs.Scalars.{Scalars}
 use Rattle.graphql_schema.specs.Declarations.{declarations_of}
 use Rattle.graphql_rules.specs.ProvidedNonNullArguments.{provided_non_null_arguments_faults}
 use Rattle.graphql_rules.specs.ScalarLeafs.{scalar_leafs_faults}
@@ -111,14 +110,14 @@ module _ {S C : Type 0} (subject : Subject S C) where
         (tells_rule provided_non_null_arguments_faults _ _ _ (tells_rule unique_argument_names_faults _ _ _ (tells_rule unique_input_field_names_faults _ _ _ tells_none)))))))))))).all v w ts
         (tt, (tt, (tt, (tt, (tt, (tt, (made, (tt, (tt, (tt, (tt, (tt, tt)))))))))))) runs
 
-    module _ (A B : Type 0) (answer : S → ScalarAnswer) (accepts : C → InputValue S → Type 0) where
+    module _ (A B : Type 0) (scalars : Scalars S C) where
       abbrev first_step : VisitorStep (MultiVisitorCons A (MultiVisitorCons B LocalVisitors)) S C
-      first_step = both_steps (locally {V = A} (arguments_of_correct_type_faults answer accepts)) (both_steps (locally {V = B} (default_values_of_correct_type_faults answer accepts)) local_step)
+      first_step = both_steps (locally {V = A} (arguments_of_correct_type_faults scalars)) (both_steps (locally {V = B} (default_values_of_correct_type_faults scalars)) local_step)
 
-      pub parts_told : (v w : MultiVisitorCons A (MultiVisitorCons B LocalVisitors)) (ts : List Places) → IsMadeFor (spreads_among v.second.second) → Runs first_step subject v document_events w ts → PartsTold answer accepts subject (joined ts)
+      pub parts_told : (v w : MultiVisitorCons A (MultiVisitorCons B LocalVisitors)) (ts : List Places) → IsMadeFor (spreads_among v.second.second) → Runs first_step subject v document_events w ts → PartsTold scalars subject (joined ts)
       parts_told v w ts made runs =
-          let one = asks_before (arguments_of_correct_type_faults answer accepts) (both_steps (locally {V = B} (default_values_of_correct_type_faults answer accepts)) local_step) v w ts runs in
-          let two = asks_before (default_values_of_correct_type_faults answer accepts) local_step v.second w.second one.1 one.3 in
+          let one = asks_before (arguments_of_correct_type_faults scalars) (both_steps (locally {V = B} (default_values_of_correct_type_faults scalars)) local_step) v w ts runs in
+          let two = asks_before (default_values_of_correct_type_faults scalars) local_step v.second w.second one.1 one.3 in
           record {
             arguments = one.0;
             arguments_told = one.2;
@@ -134,7 +133,7 @@ module _ {S C : Type 0} (subject : Subject S C) where
 
       -- the same, where the rule against introspection keeps its errors apart before them
       pub parts_told_beside : (v w : MultiVisitorCons Introspection (MultiVisitorCons A (MultiVisitorCons B LocalVisitors))) (ts : List Places) → IsMadeFor (spreads_among v.second.second.second)
-          → Runs (both_steps keeps_apart first_step) subject v document_events w ts → PartsTold answer accepts subject (joined ts)
+          → Runs (both_steps keeps_apart first_step) subject v document_events w ts → PartsTold scalars subject (joined ts)
       parts_told_beside v w ts made runs =
           let split = runs_both keeps_apart first_step subject v w document_events ts runs in
           let told = parts_told v.second w.second split.1 made split.3 in

@@ -1,10 +1,9 @@
 -- No error exactly where no rule finds a fault.
+use Rattle.graphql_schema.specs.Scalars.{Scalars}
 use Rattle.std.proofs.Common.{◌≡◌, ◌↔◌, List, [], ◌++◌, length, sym, ap, subst, ◌∙◌}
 use Rattle.std.specs.Prelude.{IsPermutation}
 use Rattle.std.proofs.lemmas.List.{nil_from_length}
 use Rattle.std.proofs.lemmas.List.Sorted.{IsPermutation-trans, length_permutation}
-use Rattle.graphql_values.specs.declared.input_value.InputValue.{InputValue}
-use Rattle.graphql_scalars.specs.ScalarAnswers.{ScalarAnswer}
 use Rattle.graphql_rule_errors.proofs.NoFaultLemmas.{append_none}
 use Rattle.graphql_rule_errors.specs.Places.{Places}
 use Rattle.graphql_visitors.specs.Subjects.{Subject}
@@ -23,25 +22,25 @@ module _ {A : Type 0} where
   none_after : (xs ys : List A) → IsPermutation xs ys → xs ≡ [] → ys ≡ []
   none_after xs ys p h = nil_from_length ys (length_permutation xs ys p ∙ ap length h)
 
-module _ {S C : Type 0} (answer : S → ScalarAnswer) (accepts : C → InputValue S → Type 0) (subject : Subject S C) where
+module _ {S C : Type 0} (scalars : Scalars S C) (subject : Subject S C) where
   -- what the rules say of one part at a time
   abbrev pub OfParts : Type 0
-  OfParts = ArgumentsTold answer accepts subject [] × DefaultsTold answer accepts subject [] × (local_places subject ≡ [])
+  OfParts = ArgumentsTold scalars subject [] × DefaultsTold scalars subject [] × (local_places subject ≡ [])
 
-  parts_none : (told : Places) → PartsTold answer accepts subject told → told ≡ [] → OfParts
+  parts_none : (told : Places) → PartsTold scalars subject told → told ≡ [] → OfParts
   parts_none told h none =
       let all : h.arguments ++ (h.defaults ++ local_places subject) ≡ [] = none_before _ told h.all none in
       let rest : h.defaults ++ local_places subject ≡ [] = (append_none h.arguments (h.defaults ++ local_places subject) all).1 in (
-        subst (ArgumentsTold answer accepts subject) ((append_none h.arguments (h.defaults ++ local_places subject) all).0) h.arguments_told,
-        subst (DefaultsTold answer accepts subject) ((append_none h.defaults (local_places subject) rest).0) h.defaults_told,
+        subst (ArgumentsTold scalars subject) ((append_none h.arguments (h.defaults ++ local_places subject) all).0) h.arguments_told,
+        subst (DefaultsTold scalars subject) ((append_none h.defaults (local_places subject) rest).0) h.defaults_told,
         (append_none h.defaults (local_places subject) rest).1,
       )
 
-  parts_then : (told : Places) → PartsTold answer accepts subject told → OfParts → told ≡ []
+  parts_then : (told : Places) → PartsTold scalars subject told → OfParts → told ≡ []
   parts_then told h k =
       none_after (h.arguments ++ (h.defaults ++ local_places subject)) told h.all
-      (none_both h.arguments (h.defaults ++ local_places subject) (arguments_one answer accepts subject (parts subject) h.arguments [] h.arguments_told k.0)
-      (none_both h.defaults (local_places subject) (defaults_one answer accepts subject (parts subject) h.defaults [] h.defaults_told k.1) k.2))
+      (none_both h.arguments (h.defaults ++ local_places subject) (arguments_one scalars subject (parts subject) h.arguments [] h.arguments_told k.0)
+      (none_both h.defaults (local_places subject) (defaults_one scalars subject (parts subject) h.defaults [] h.defaults_told k.1) k.2))
 
   -- what the rules say of operations and fragments
   abbrev of_scopes : Places
@@ -87,7 +86,7 @@ module _ {S C : Type 0} (answer : S → ScalarAnswer) (accepts : C → InputValu
       ++ (h.unique_variable_names i ++ h.no_undefined_variables i ++ h.no_unused_variables i ++ h.variables_in_allowed_position i)
 
   -- no error of the first stage exactly where no rule finds a fault
-  pub first_none : (told : Places) → FirstStage answer accepts subject told → told ≡ [] → HasNoFault answer accepts subject
+  pub first_none : (told : Places) → FirstStage scalars subject told → told ≡ [] → HasNoFault scalars subject
   first_none told h none =
       let all : h.of_parts ++ of_scopes ≡ [] = none_before _ told h.all none in
       let of_parts = parts_none h.of_parts h.parts_told ((append_none h.of_parts of_scopes all).0) in
@@ -121,18 +120,18 @@ module _ {S C : Type 0} (answer : S → ScalarAnswer) (accepts : C → InputValu
         in_scopes = scopes_none ((append_none h.of_parts of_scopes all).1);
       }
 
-  locals_then : HasNoFault answer accepts subject → local_places subject ≡ []
+  locals_then : HasNoFault scalars subject → local_places subject ≡ []
   locals_then h = λ i.
       h.fields_on_correct_type i ++ (h.scalar_leafs i ++ (h.fragments_on_composite_types i ++ (h.known_type_names i ++ (h.variables_are_input_types i ++ (h.known_fragment_names i ++ (h.possible_fragment_spreads i ++ (h.known_directives i ++ (h.known_argument_names i ++ (h.provided_non_null_arguments i ++ (h.unique_argument_names i ++ (h.unique_input_field_names i ++ [])))))))))))
 
-  pub first_then : (told : Places) → FirstStage answer accepts subject told → HasNoFault answer accepts subject → told ≡ []
+  pub first_then : (told : Places) → FirstStage scalars subject told → HasNoFault scalars subject → told ≡ []
   first_then told h k =
       none_after (h.of_parts ++ of_scopes) told h.all
       (none_both h.of_parts of_scopes (parts_then h.of_parts h.parts_told (k.arguments_of_correct_type, k.default_values_of_correct_type, locals_then k)) (scopes_then k.in_scopes))
 
   -- of errors in some other order the same holds
-  pub first_permuted : (told other : Places) → IsPermutation told other → FirstStage answer accepts subject told → FirstStage answer accepts subject other
+  pub first_permuted : (told other : Places) → IsPermutation told other → FirstStage scalars subject told → FirstStage scalars subject other
   first_permuted told other p h = record { of_parts = h.of_parts; parts_told = h.parts_told; all = IsPermutation-trans (h.of_parts ++ of_scopes) told other h.all p }
 
-  pub first_exactly : (told : Places) → FirstStage answer accepts subject told → (told ≡ []) ↔ HasNoFault answer accepts subject
+  pub first_exactly : (told : Places) → FirstStage scalars subject told → (told ≡ []) ↔ HasNoFault scalars subject
   first_exactly told h = (first_none told h, first_then told h)

@@ -1,6 +1,5 @@
 -- What holds of a document in which no rule of the first stage finds a fault.
-use Rattle.graphql_values.specs.declared.input_value.InputValue.{InputValue}
-use Rattle.graphql_scalars.specs.ScalarAnswers.{ScalarAnswer}
+use Rattle.graphql_schema.specs.Scalars.{Scalars}
 use Rattle.graphql_rules_document.proofs.CycleLaws.{fragments_end}
 use Rattle.graphql_rules_document.proofs.RuleLaws.{distinct_fragments, distinct_operations, distinct_variables}
 use Rattle.graphql_rules.proofs.LawLemmas.{arguments_distinct, fields_declared_and_selected, spreads_known, types_known_as}
@@ -9,8 +8,8 @@ use Rattle.graphql_validation.specs.FirstStage.{parts, scopes}
 use Rattle.graphql_validation.specs.Valid.{HasNoFault}
 use Rattle.graphql_validation.specs.WellFormed.{IsWellFormed}
 
-module _ {S C : Type 0} (answer : S → ScalarAnswer) (accepts : C → InputValue S → Type 0) (subject : Subject S C) where
-  pub well_formed : HasNoFault answer accepts subject → IsWellFormed subject
+module _ {S C : Type 0} (scalars : Scalars S C) (subject : Subject S C) where
+  pub well_formed : HasNoFault scalars subject → IsWellFormed subject
   well_formed h =
       let types = (types_known_as subject (parts subject)).0 (h.known_type_names, h.variables_are_input_types, h.fragments_on_composite_types) in
       record {

@@ -1,8 +1,7 @@
 -- What all rules tell, and valid documents (GraphQL October 2021, 5 Validation).
+use Rattle.graphql_schema.specs.Scalars.{Scalars}
 use Rattle.std.specs.Prelude.{◌≡◌, Bool, true, false, [], ◌++◌, IsPermutation}
 use Rattle.std.specs.List.{All}
-use Rattle.graphql_values.specs.declared.input_value.InputValue.{InputValue}
-use Rattle.graphql_scalars.specs.ScalarAnswers.{ScalarAnswer}
 use Rattle.graphql_occurrences.specs.Parts.{AField}
 use Rattle.graphql_rule_errors.specs.Places.{Places}
 use Rattle.graphql_visitors.specs.Subjects.{Subject}
@@ -20,17 +19,16 @@ module _ {S C : Type 0} (eq : S → S → Bool) (subject : Subject S C) where
   FieldsMerge = All (λ set. Merging eq subject.schema.types (members_of subject.schema.types set))
       (document_sets subject.schema subject.document)
 
-module _ {S C : Type 0} (eq : S → S → Bool) (answer : S → ScalarAnswer)
-    (accepts : C → InputValue S → Type 0) (subject : Subject S C) where
+module _ {S C : Type 0} (scalars : Scalars S C) (subject : Subject S C) where
   -- what all rules tell: the first stage, if it tells anything, else the rule that fields merge
   pub data AllRules (told : Places) : Type 0 where
-    of_first_stage : FirstStage answer accepts subject told → (told ≡ [] → ⊥) → AllRules told
-    of_merging : FirstStage answer accepts subject [] → MergingTold eq subject told → AllRules told
+    of_first_stage : FirstStage scalars subject told → (told ≡ [] → ⊥) → AllRules told
+    of_merging : FirstStage scalars subject [] → MergingTold scalars.eq subject told → AllRules told
 
   -- a valid document: no rule of the first stage finds a fault, and fields merge
   pub record IsValid : Type 0 where
-    pub no_fault : HasNoFault answer accepts subject
-    pub fields_merge : FieldsMerge eq subject
+    pub no_fault : HasNoFault scalars subject
+    pub fields_merge : FieldsMerge scalars.eq subject
 
   -- what all rules tell, and what the rule against introspection tells
   pub record WithoutIntrospection (told : Places) : Type 0 where

@@ -1,9 +1,8 @@
 -- The errors of the rules of the first stage: all rules for documents but the one that fields merge
 -- (GraphQL October 2021, 5 Validation).
+use Rattle.graphql_schema.specs.Scalars.{Scalars}
 use Rattle.std.specs.Prelude.{List, [], ◌∷◌, ◌++◌, IsPermutation}
 use Rattle.std.specs.List.{flat_map}
-use Rattle.graphql_values.specs.declared.input_value.InputValue.{InputValue}
-use Rattle.graphql_scalars.specs.ScalarAnswers.{ScalarAnswer}
 use Rattle.graphql_occurrences.specs.Occurrences.{occurrences}
 use Rattle.graphql_occurrences.specs.Parts.{Part}
 use Rattle.graphql_rule_errors.specs.Places.{Places}
@@ -56,13 +55,12 @@ module _ {S C : Type 0} (subject : Subject S C) where
   abbrev pub introspection_places : Places
   introspection_places = places_of disable_introspection_faults
 
-module _ {S C : Type 0} (answer : S → ScalarAnswer) (accepts : C → InputValue S → Type 0)
-    (subject : Subject S C) where
+module _ {S C : Type 0} (scalars : Scalars S C) (subject : Subject S C) where
   abbrev pub ArgumentsTold : Places → Type 0
-  ArgumentsTold = Tell (arguments_of_correct_type_faults answer accepts subject) (parts subject)
+  ArgumentsTold = Tell (arguments_of_correct_type_faults scalars subject) (parts subject)
 
   abbrev pub DefaultsTold : Places → Type 0
-  DefaultsTold = Tell (default_values_of_correct_type_faults answer accepts subject) (parts subject)
+  DefaultsTold = Tell (default_values_of_correct_type_faults scalars subject) (parts subject)
 
   -- what the rules tell that look at one part at a time, in some order
   pub record PartsTold (told : Places) : Type 0 where

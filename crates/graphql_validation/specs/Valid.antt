@@ -1,7 +1,6 @@
 -- Documents in which no rule of the first stage finds a fault (GraphQL October 2021, 5 Validation).
+use Rattle.graphql_schema.specs.Scalars.{Scalars}
 use Rattle.std.specs.Prelude.{◌≡◌, []}
-use Rattle.graphql_values.specs.declared.input_value.InputValue.{InputValue}
-use Rattle.graphql_scalars.specs.ScalarAnswers.{ScalarAnswer}
 use Rattle.graphql_visitors.specs.Subjects.{Subject}
 use Rattle.graphql_rules.specs.FieldsOnCorrectType.{fields_on_correct_type_faults}
 use Rattle.graphql_rules.specs.FragmentsOnCompositeTypes.{fragments_on_composite_types_faults}
@@ -43,10 +42,9 @@ pub record HasNoFaultInScopes {S C : Type 0} (subject : Subject S C) : Type 0 wh
       (scopes subject).operations (scopes subject).fragments ≡ []
 
 -- nor at any one part of it: a member for each rule
-pub record HasNoFault {S C : Type 0} (answer : S → ScalarAnswer)
-    (accepts : C → InputValue S → Type 0) (subject : Subject S C) : Type 0 where
-  pub arguments_of_correct_type : ArgumentsTold answer accepts subject []
-  pub default_values_of_correct_type : DefaultsTold answer accepts subject []
+pub record HasNoFault {S C : Type 0} (scalars : Scalars S C) (subject : Subject S C) : Type 0 where
+  pub arguments_of_correct_type : ArgumentsTold scalars subject []
+  pub default_values_of_correct_type : DefaultsTold scalars subject []
   pub fields_on_correct_type : places_of subject fields_on_correct_type_faults ≡ []
   pub scalar_leafs : places_of subject scalar_leafs_faults ≡ []
   pub fragments_on_composite_types : places_of subject fragments_on_composite_types_faults ≡ []

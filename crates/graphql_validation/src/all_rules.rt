@@ -13,7 +13,7 @@ ghost use Rattle.graphql_visitors.specs.Subjects.{subject_of};
 use crate::first_stage::{first_stage_errors, stage_errors};
 use graphql_rule_errors::RuleError;
 use graphql_rules_merging::overlapping_fields_can_be_merged::overlapping_fields_can_be_merged;
-use graphql_schema::{RootNode, SchemaScalar, SchemaType};
+use graphql_schema::{Meaning, RootNode, SchemaScalar, SchemaType};
 use graphql_text::Items;
 use graphql_tree::Definition;
 use graphql_visitors::ValidatorContext;
@@ -28,10 +28,10 @@ pub fn validation_errors<'t, S: SchemaScalar>(
     schema: &SchemaType<S>,
     document: &[Definition<'t, S>],
 ) -> Result<Items<RuleError>, AllocError>
-    ensures told { IfOk result (λ errors. AllRules S.eq S.answer S.Check.accepts
+    ensures told { IfOk result (λ errors. AllRules ⟦<S as Meaning>⟧.meaning
         (record { schema = declarations_of schema.now; document = document.now }) (places errors)) }
     ensures none { IfOk result (λ errors. (errors ≡ [])
-        ↔ IsValid S.eq S.answer S.Check.accepts
+        ↔ IsValid ⟦<S as Meaning>⟧.meaning
         (record { schema = declarations_of schema.now; document = document.now })) }
     ensures sorted { IfOk result (IsSorted ⟦<RuleError as Ord>⟧.cmp) }
 {
@@ -47,16 +47,16 @@ fn or_merging<'t, S: SchemaScalar>(
     document: &[Definition<'t, S>],
     stage: Items<RuleError>,
 ) -> Result<Items<RuleError>, AllocError>
-    requires told { FirstStage S.answer S.Check.accepts
+    requires told { FirstStage ⟦<S as Meaning>⟧.meaning
         (record { schema = declarations_of schema.now; document = document.now }) (places stage) }
     requires none { (stage ≡ [])
-        ↔ HasNoFault S.answer S.Check.accepts
+        ↔ HasNoFault ⟦<S as Meaning>⟧.meaning
         (record { schema = declarations_of schema.now; document = document.now }) }
     requires sorted { IsSorted ⟦<RuleError as Ord>⟧.cmp stage }
-    ensures told { IfOk result (λ errors. AllRules S.eq S.answer S.Check.accepts
+    ensures told { IfOk result (λ errors. AllRules ⟦<S as Meaning>⟧.meaning
         (record { schema = declarations_of schema.now; document = document.now }) (places errors)) }
     ensures none { IfOk result (λ errors. (errors ≡ [])
-        ↔ IsValid S.eq S.answer S.Check.accepts
+        ↔ IsValid ⟦<S as Meaning>⟧.meaning
         (record { schema = declarations_of schema.now; document = document.now })) }
     ensures sorted { IfOk result (IsSorted ⟦<RuleError as Ord>⟧.cmp) }
 {
@@ -84,7 +84,7 @@ fn in_order(
 /// behind the errors that are there, which do not count: the rule that fields merge is asked where
 /// those of the first stage find no fault. Where memory runs out the context has failed.
 pub fn visit_all_rules<'a, 't, S: SchemaScalar>(context: &mut ValidatorContext<'a, 't, S>)
-    ensures { ReportsBy (AllRules S.eq S.answer S.Check.accepts (subject_of context.old))
+    ensures { ReportsBy (AllRules ⟦<S as Meaning>⟧.meaning (subject_of context.old))
         context.old context.new }
 {
     match validation_errors(context.alloc(), context.schema(), context.document()) {
@@ -105,12 +105,12 @@ pub fn request_errors<'a, 't, S: SchemaScalar>(
     introspection_disabled: bool,
 ) -> Result<Items<RuleError>, AllocError>
     ensures told { IfOk result (λ errors.
-        RequestTold S.eq S.answer S.Check.accepts (record {
+        RequestTold ⟦<S as Meaning>⟧.meaning (record {
           schema = declarations_of schema.now;
           document = document.now;
         }) introspection_disabled (places errors)) }
     ensures none { IfOk result (λ errors. (errors ≡ [])
-        ↔ IsValidAt S.eq S.answer S.Check.accepts (record {
+        ↔ IsValidAt ⟦<S as Meaning>⟧.meaning (record {
           schema = declarations_of schema.now;
           document = document.now;
         }) introspection_disabled) }
@@ -127,11 +127,11 @@ pub fn root_node_errors<'a, 't, S: SchemaScalar>(
     root: &'a RootNode<S>,
     document: &'a [Definition<'t, S>],
 ) -> Result<Items<RuleError>, AllocError>
-    ensures told { IfOk result (λ errors. RequestTold S.eq S.answer S.Check.accepts
+    ensures told { IfOk result (λ errors. RequestTold ⟦<S as Meaning>⟧.meaning
         (record { schema = declarations_of root.now.schema; document = document.now })
         root.now.introspection_disabled (places errors)) }
     ensures none { IfOk result (λ errors. (errors ≡ [])
-        ↔ IsValidAt S.eq S.answer S.Check.accepts
+        ↔ IsValidAt ⟦<S as Meaning>⟧.meaning
         (record { schema = declarations_of root.now.schema; document = document.now })
         root.now.introspection_disabled) }
     ensures sorted { IfOk result (IsSorted ⟦<RuleError as Ord>⟧.cmp) }

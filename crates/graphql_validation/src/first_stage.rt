@@ -25,7 +25,7 @@ use graphql_rules::{
     scalar_leafs, unique_argument_names, unique_input_field_names, variables_are_input_types,
 };
 use graphql_rules_document::{Scopes, scope_errors};
-use graphql_schema::{SchemaScalar, SchemaType};
+use graphql_schema::{Meaning, SchemaScalar, SchemaType};
 use graphql_text::Items;
 use graphql_tree::Definition;
 use graphql_visitors::{MultiVisitorNil, ValidatorContext};
@@ -35,7 +35,7 @@ use std::alloc::{AllocError, Global};
 /// merge (GraphQL October 2021, 5 Validation). What they report comes behind the errors that are
 /// there. Walks over the document once. Where memory runs out the context has failed.
 pub fn visit_first_stage<'a, 't, S: SchemaScalar>(context: &mut ValidatorContext<'a, 't, S>)
-    ensures { ReportsBy (FirstStage S.answer S.Check.accepts (subject_of context.old)) context.old
+    ensures { ReportsBy (FirstStage ⟦<S as Meaning>⟧.meaning (subject_of context.old)) context.old
         context.new }
 {
     let _introspection = visit_stage(context, false);
@@ -48,7 +48,7 @@ fn visit_stage<'a, 't, S: SchemaScalar>(
     context: &mut ValidatorContext<'a, 't, S>,
     introspection_disabled: bool,
 ) -> Items<RuleError>
-    ensures reports { ReportsBy (FirstStage S.answer S.Check.accepts (subject_of context.old))
+    ensures reports { ReportsBy (FirstStage ⟦<S as Meaning>⟧.meaning (subject_of context.old))
         context.old context.new }
     ensures introspection { context.new.failed ≡ false
         → places result ≡ asked_places introspection_disabled (subject_of context.old) }
@@ -71,7 +71,7 @@ fn visit_parts<'a, 't, S: SchemaScalar>(
     context: &mut ValidatorContext<'a, 't, S>,
     introspection_disabled: bool,
 ) -> Walked<'a, 't, S>
-    ensures reports { ReportsBy (PartsTold S.answer S.Check.accepts (subject_of context.old))
+    ensures reports { ReportsBy (PartsTold ⟦<S as Meaning>⟧.meaning (subject_of context.old))
         context.old context.new }
     ensures gathered { context.new.failed ≡ false
         → scopes_told result.scopes ≡ scopes_held (subject_of context.old) }
@@ -137,10 +137,10 @@ pub fn first_stage_errors<'a, 't, S: SchemaScalar>(
     schema: &'a SchemaType<S>,
     document: &'a [Definition<'t, S>],
 ) -> Result<Items<RuleError>, AllocError>
-    ensures told { IfOk result (λ errors. FirstStage S.answer S.Check.accepts
+    ensures told { IfOk result (λ errors. FirstStage ⟦<S as Meaning>⟧.meaning
         (record { schema = declarations_of schema.now; document = document.now }) (places errors)) }
     ensures none { IfOk result (λ errors. (errors ≡ [])
-        ↔ HasNoFault S.answer S.Check.accepts
+        ↔ HasNoFault ⟦<S as Meaning>⟧.meaning
         (record { schema = declarations_of schema.now; document = document.now })) }
     ensures sorted { IfOk result (IsSorted ⟦<RuleError as Ord>⟧.cmp) }
 {
@@ -168,12 +168,12 @@ pub(crate) fn stage_errors<'a, 't, S: SchemaScalar>(
     introspection_disabled: bool,
 ) -> Result<StageErrors, AllocError>
     ensures told { IfOk result
-        (λ found. FirstStage S.answer S.Check.accepts (record {
+        (λ found. FirstStage ⟦<S as Meaning>⟧.meaning (record {
           schema = declarations_of schema.now;
           document = document.now;
         }) (places found.stage)) }
     ensures none { IfOk result (λ found. (found.stage ≡ [])
-        ↔ HasNoFault S.answer S.Check.accepts
+        ↔ HasNoFault ⟦<S as Meaning>⟧.meaning
         (record { schema = declarations_of schema.now; document = document.now })) }
     ensures sorted { IfOk result (λ found. IsSorted ⟦<RuleError as Ord>⟧.cmp found.stage) }
     ensures introspection { IfOk result

@@ -42,7 +42,7 @@ pub use graphql_schema::laws::{
     overlap_is_symmetric, possible_is_below, subtype_is_reflexive, subtype_is_transitive,
     wrapped_subtype_decides,
 };
-use graphql_schema::{SchemaScalar, SchemaType};
+use graphql_schema::{Meaning, SchemaScalar, SchemaType};
 pub use graphql_variable_checks::laws::{
     accepted_variables_are_not_told, definitions_of_distinct_names_are_found,
     final_values_are_given_or_defaults, given_values_conform, non_null_variables_have_values,
@@ -58,7 +58,7 @@ pub use graphql_visitors::laws::{
 /// out, each variable's type is a known input type, and each field is declared and has a selection
 /// set exactly where its type has fields.
 pub fn documents_without_a_fault_are_well_formed<S: SchemaScalar>()
-    ensures { (subject : Subject S S.Check) → HasNoFault S.answer S.Check.accepts subject
+    ensures { (subject : Subject S S.Check) → HasNoFault ⟦<S as Meaning>⟧.meaning subject
         → IsWellFormed subject }
 {}
 
@@ -67,7 +67,7 @@ pub fn documents_without_a_fault_are_well_formed<S: SchemaScalar>()
 /// defined over what is written out, speak of all of it.
 pub fn documents_without_a_fault_are_settled<S: SchemaScalar>(schema: &SchemaType<S>)
     ensures { (document : List (Definition S))
-        → HasNoFault S.answer S.Check.accepts
+        → HasNoFault ⟦<S as Meaning>⟧.meaning
         (record { schema = declarations_of schema.now; document = document })
         → Settled (fragments_listed document) }
 {}

@@ -1,9 +1,9 @@
 -- What a reason, or none, tells of a definition.
 use Rattle.std.proofs.Common.{◌≡◌, List, Bool, false, not, Option, Some, None, Result, Ok, Err, IfOk, MatchOption, Bor, refl, sym, ap, subst, ◌∙◌}
 use Rattle.std.specs.Option.{is_some, option_copied}
+use Rattle.graphql_schema.specs.Scalars.{Scalars}
 use Rattle.graphql_schema.specs.declared.meta.MetaType.{MetaType}
 use Rattle.graphql_names.specs.Names.{Bytes}
-use Rattle.graphql_scalars.specs.ScalarAnswers.{ScalarAnswer}
 use Rattle.graphql_schema.specs.Lookups.{type_named}
 use Rattle.graphql_tree.specs.Variables.{Variable}
 use Rattle.graphql_values.specs.declared.input_value.InputValue.{InputValue}
@@ -33,8 +33,8 @@ reason_as P Q to back (Ok None) h = to h
 reason_as P Q to back (Ok (Some x)) h = λ q. h (back q)
 reason_as P Q to back (Err e) h = tt
 
-module _ {S C A E : Type 0} (answer : S → ScalarAnswer) (accepts : C → InputValue S → Type 0) (types : List (MetaType S C)) (given : Bytes → Option (InputValue S)) where
+module _ {S C A E : Type 0} (scalars : Scalars S C) (types : List (MetaType S C)) (given : Bytes → Option (InputValue S)) where
   -- of a variable of a known type it tells whether what is given for its name fits
-  pub reason_of_known : (v : Variable S) (o : Option (InputValue S)) → IsKnown types v → given (variable_name v) ≡ o → (result : Result (Option A) E) → Reason (FitsVariable answer accepts types v o) result → Reason (IsAccepted answer accepts types given v) result
+  pub reason_of_known : (v : Variable S) (o : Option (InputValue S)) → IsKnown types v → given (variable_name v) ≡ o → (result : Result (Option A) E) → Reason (FitsVariable scalars types v o) result → Reason (IsAccepted scalars types given v) result
   reason_of_known v o known is =
-      reason_as (FitsVariable answer accepts types v o) (IsAccepted answer accepts types given v) (λ fits _. subst (FitsVariable answer accepts types v) (sym is) fits) (λ accepted. subst (FitsVariable answer accepts types v) is (accepted known))
+      reason_as (FitsVariable scalars types v o) (IsAccepted scalars types given v) (λ fits _. subst (FitsVariable scalars types v) (sym is) fits) (λ accepted. subst (FitsVariable scalars types v) is (accepted known))

@@ -7,11 +7,11 @@ use Rattle.std.proofs.lemmas.Bool.{false≢true}
 use Rattle.std.proofs.lemmas.List.{get_or-map, length-map}
 use Rattle.std.proofs.lemmas.List.Elements.{All-contains, All-from_recursion}
 use Rattle.std.proofs.lemmas.Map.Keys.{IsDistinct-head, IsDistinct-tail}
+use Rattle.graphql_schema.specs.Scalars.{Scalars}
 use Rattle.graphql_schema.specs.Types.{refuses_null}
 use Rattle.graphql_names.specs.Names.{Bytes, named}
 use Rattle.graphql_names.proofs.NameLemmas.{eq_itself, same_bytes}
 use Rattle.graphql_names.proofs.NameMaps.{found_is_in}
-use Rattle.graphql_scalars.specs.ScalarAnswers.{ScalarAnswer}
 use Rattle.graphql_values.specs.InputValues.{Placed}
 use Rattle.graphql_values.specs.declared.input_value.InputValue.{InputValue}
 use Rattle.graphql_written_out.specs.FinalValues.{default_named, default_of, variable_name}
@@ -53,24 +53,24 @@ module _ {S : Type 0} where
   pub distinct_found : DistinctNamesAreFound S
   distinct_found definitions distinct v there = distinct_is_found variable_name definitions v distinct there
 
-module _ {S C : Type 0} (answer : S → ScalarAnswer) (accepts : C → InputValue S → Type 0) where
-  pub given_conform : GivenValuesConform answer accepts
+module _ {S C : Type 0} (scalars : Scalars S C) where
+  pub given_conform : GivenValuesConform scalars
   given_conform types given definitions none v there known x is = (
     ap (λ o. option_or o (default_named definitions (variable_name v))) is,
-    subst (FitsVariable answer accepts types v) is ((told_none answer accepts types given definitions).0 none v there known),
+    subst (FitsVariable scalars types v) is ((told_none scalars types given definitions).0 none v there known),
   )
 
-  pub non_null_valued : NonNullHaveValues answer accepts
+  pub non_null_valued : NonNullHaveValues scalars
   non_null_valued types given definitions none name v is known refuses =
       let at = found_is_in variable_name definitions name v is in
       let same : variable_name v ≡ name = same_bytes (variable_name v) name at.0 in
-      let accepted = (told_none answer accepts types given definitions).0 none v at.1 known in
-      either (given name) (subst (λ n. FitsVariable answer accepts types v (given n)) same accepted)
+      let accepted = (told_none scalars types given definitions).0 none v at.1 known in
+      either (given name) (subst (λ n. FitsVariable scalars types v (given n)) same accepted)
     where
       default_there : may_be_absent v ≡ true → is_some (default_named definitions name) ≡ true
       default_there absent =
           ap is_some (ap (option_and_then default_of) is) ∙ mapped_there v.1.default_value (default_needed (refuses_null (variable_type v)) (is_some v.1.default_value) refuses absent)
 
-      either : (o : Option (InputValue S)) → FitsVariable answer accepts types v o → is_some (option_or o (default_named definitions name)) ≡ true
+      either : (o : Option (InputValue S)) → FitsVariable scalars types v o → is_some (option_or o (default_named definitions name)) ≡ true
       either (Some x) fits = refl
       either None absent = default_there absent

@@ -3,21 +3,21 @@ use Rattle.std.proofs.Common.{◌≡◌, ◌↔◌, ℕ, ◌+◌, ◌<◌, ◌�
 use Rattle.std.specs.List.{AllByRecursion as Each}
 use Rattle.std.proofs.lemmas.List.{take_all, take_more}
 use Rattle.std.proofs.lemmas.List.Elements.{All-contains, All-from_recursion, recursion_from_All, Contains-get_or}
+use Rattle.graphql_schema.specs.Scalars.{Scalars}
 use Rattle.graphql_schema.specs.declared.meta.MetaType.{MetaType}
 use Rattle.graphql_names.specs.Names.{Bytes}
 use Rattle.graphql_rule_errors.specs.Places.{Places, Reports, places}
 use Rattle.graphql_rule_errors.specs.declared.rule_error.RuleError.{RuleError}
-use Rattle.graphql_scalars.specs.ScalarAnswers.{ScalarAnswer}
 use Rattle.graphql_tree.specs.Variables.{Variable}
 use Rattle.graphql_values.specs.declared.input_value.InputValue.{InputValue}
 use Rattle.graphql_variable_checks.specs.Accepted.{AreAccepted, IsAccepted, Refusals, variable_place}
 
-module _ {S C : Type 0} (answer : S → ScalarAnswer) (accepts : C → InputValue S → Type 0) (types : List (MetaType S C)) (given : Bytes → Option (InputValue S)) where
+module _ {S C : Type 0} (scalars : Scalars S C) (types : List (MetaType S C)) (given : Bytes → Option (InputValue S)) where
   abbrev Accepted : Variable S → Type 0
-  Accepted = IsAccepted answer accepts types given
+  Accepted = IsAccepted scalars types given
 
   abbrev Told : List (Variable S) → Places → Type 0
-  Told = Refusals answer accepts types given
+  Told = Refusals scalars types given
 
   -- of one more definition nothing is told where it accepts what is given
   push_accepted : (vs : List (Variable S)) (v : Variable S) (told : Places) → Told vs told → Accepted v → Told (vs ++ v ∷ []) told
@@ -60,7 +60,7 @@ module _ {S C : Type 0} (answer : S → ScalarAnswer) (accepts : C → InputValu
   none_of_each (v ∷ vs) h = inl (h.0, none_of_each vs h.1)
 
   -- nothing is told exactly where each definition accepts what is given
-  pub told_none : (vs : List (Variable S)) → Told vs [] ↔ AreAccepted answer accepts types given vs
+  pub told_none : (vs : List (Variable S)) → Told vs [] ↔ AreAccepted scalars types given vs
   told_none vs = (
     λ h v there. All-contains Accepted vs v (All-from_recursion Accepted vs (each_accepted vs h)) there,
     λ h. none_of_each vs (recursion_from_All Accepted vs (λ k d within. h _ (Contains-get_or vs k d within))),
@@ -71,7 +71,7 @@ module _ {S C : Type 0} (answer : S → ScalarAnswer) (accepts : C → InputValu
   no_errors (e ∷ errors) none = absurd (omega (arith, ap length none))
 
   -- so behind the last definition there is no error exactly there
-  pub error_free : (vs ws : List (Variable S)) (i : ℕ) (errors : List RuleError) → length vs ≤ i → vs ≡ ws → Told (take i vs) (places errors) → (errors ≡ []) ↔ AreAccepted answer accepts types given ws
+  pub error_free : (vs ws : List (Variable S)) (i : ℕ) (errors : List RuleError) → length vs ≤ i → vs ≡ ws → Told (take i vs) (places errors) → (errors ≡ []) ↔ AreAccepted scalars types given ws
   error_free vs ws i errors past same h = (
     λ none. (told_none ws).0 (subst (Told ws) (ap places none) all),
     λ accepted. no_errors errors (told_one ws (places errors) [] all ((told_none ws).1 accepted)),

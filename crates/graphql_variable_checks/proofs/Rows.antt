@@ -1,6 +1,6 @@
 -- The variables of an operation over a small schema: what is given for them, what is told, and which values they have.
 use Rattle.std.proofs.Common.{◌≡◌, refl, sym, lit<, ℕ, List, [], ◌∷◌, map, Option, Some, None, inl, inr}
-use Rattle.std.specs.Prelude.{codes, if◌then◌else◌}
+use Rattle.std.specs.Prelude.{Ok, codes, if◌then◌else◌, nat_eq}
 use Rattle.std.specs.List.{IsDistinct}
 use Rattle.std.specs.Option.{IsSome}
 use Rattle.std.specs.Str.{bytes_eq}
@@ -9,10 +9,11 @@ use Rattle.graphql_written_out.specs.FinalValues.{definition_named, final_value,
 use Rattle.graphql_literal_checks.specs.Conforms.{Conforms, scalar, list, null, no_items, more_items}
 use Rattle.graphql_literal_checks.specs.declared.source.Source.TheVariants.{Sent}
 use Rattle.graphql_literal_checks.proofs.ConformsLemmas.{null_of}
+use Rattle.graphql_schema.specs.Scalars.{Scalars}
 use Rattle.graphql_schema.specs.Types.{TypeOf, reference_to}
 use Rattle.graphql_names.specs.Names.{Bytes}
 use Rattle.graphql_rule_errors.specs.Places.{Places}
-use Rattle.graphql_scalars.specs.ScalarAnswers.{ScalarAnswer, text}
+use Rattle.graphql_scalars.specs.ScalarAnswers.{text}
 use Rattle.graphql_schema.proofs.Rows.{beings, list_of, string_scalar, type_of}
 use Rattle.graphql_text.specs.declared.position.SourcePosition.{SourcePosition}
 use Rattle.graphql_tree.specs.Variables.{Variable}
@@ -24,11 +25,16 @@ use Rattle.graphql_variable_checks.proofs.LawLemmas.{distinct_found, given_confo
 use Rattle.graphql_variable_checks.proofs.RefusalLemmas.{told_none, told_one}
 
 -- every scalar is a text, and each check accepts every value
-abbrev answer : ℕ → ScalarAnswer
-answer s = text (codes "a")
-
-abbrev accepts : ℕ → InputValue ℕ → Type 0
-accepts check v = Unit {0}
+abbrev scalars : Scalars ℕ ℕ
+scalars = record {
+  reads = λ token. Ok 0;
+  of_bool = λ b. 0;
+  of_int = λ n. 0;
+  of_text = λ t. 0;
+  eq = nat_eq;
+  answer = λ s. text (codes "a");
+  accepts = λ check v. Unit {0};
+}
 
 abbrev at : ℕ → SourcePosition
 at n = record { index = n; line = 0; column = n }
@@ -83,7 +89,7 @@ all_null name = Some value.Null
 -- ---- accepted
 
 -- `[7, null]` is a list of texts
-pub many_conforms : Conforms answer accepts beings Sent texts some_values
+pub many_conforms : Conforms scalars beings Sent texts some_values
 many_conforms =
     list texts None [] (unplaced (value.Scalar 7) ∷ unplaced value.Null ∷ []) refl refl
     (more_items optional_text (unplaced (value.Scalar 7)) (unplaced value.Null ∷ [])
@@ -91,7 +97,7 @@ many_conforms =
     (more_items optional_text (unplaced value.Null) [] (null optional_text refl) (no_items optional_text)))
 
 -- each accepts what is given: a value, a list with a null, nothing where there is a default, all at an unknown type
-pub none_is_told : Refusals answer accepts beings given variables []
+pub none_is_told : Refusals scalars beings given variables []
 none_is_told =
     inl (
       λ known. scalar text_type string_scalar 5 refl refl tt,
@@ -99,40 +105,40 @@ none_is_told =
     )
 
 -- so each definition accepts what is given
-pub all_are_accepted : AreAccepted answer accepts beings given variables
-all_are_accepted = (told_none answer accepts beings given variables).0 none_is_told
+pub all_are_accepted : AreAccepted scalars beings given variables
+all_are_accepted = (told_none scalars beings given variables).0 none_is_told
 
 -- the value that is given for `$form` is its final value, and a `String!`
 pub value_of_form :
     (final_value given variables (codes "form") ≡ Some (value.Scalar 5))
-    × Conforms answer accepts beings Sent text_type (value.Scalar 5)
+    × Conforms scalars beings Sent text_type (value.Scalar 5)
 value_of_form =
-    given_conform answer accepts beings given variables none_is_told form (0, lit< tt, refl) refl (value.Scalar 5) refl
+    given_conform scalars beings given variables none_is_told form (0, lit< tt, refl) refl (value.Scalar 5) refl
 
 -- `$nick`, for which nothing is given, has a final value, since it is a `String!`
 pub nick_has_a_value : IsSome (final_value given variables (codes "nick"))
-nick_has_a_value = non_null_valued answer accepts beings given variables none_is_told (codes "nick") nick refl refl refl
+nick_has_a_value = non_null_valued scalars beings given variables none_is_told (codes "nick") nick refl refl refl
 
 -- ---- told
 
 -- null for each is refused at `$form` and at `$nick`, whose type keeps null out
-null_is_refused : Conforms answer accepts beings Sent text_type value.Null → ⊥
-null_is_refused h = false≢true (sym (null_of answer accepts beings Sent text_type value.Null refl h))
+null_is_refused : Conforms scalars beings Sent text_type value.Null → ⊥
+null_is_refused h = false≢true (sym (null_of scalars beings Sent text_type value.Null refl h))
 
 -- at `$nick` and behind it
-nick_is_refused : Refusals answer accepts beings all_null (nick ∷ odd ∷ []) ((at 3 ∷ []) ∷ [])
+nick_is_refused : Refusals scalars beings all_null (nick ∷ odd ∷ []) ((at 3 ∷ []) ∷ [])
 nick_is_refused = inr (λ accepted. null_is_refused (accepted refl), ([], refl, inl (λ known. absurd (false≢true known), refl)))
 
-pub two_are_told : Refusals answer accepts beings all_null variables ((at 1 ∷ []) ∷ (at 3 ∷ []) ∷ [])
+pub two_are_told : Refusals scalars beings all_null variables ((at 1 ∷ []) ∷ (at 3 ∷ []) ∷ [])
 two_are_told =
     let rest = inl (λ known. null texts refl, nick_is_refused) in
     inr (λ accepted. null_is_refused (accepted refl), ((at 3 ∷ []) ∷ [], refl, rest))
 
 -- so whatever is told of them is told at these two places
 pub just_two_are_told :
-    (told : Places) → Refusals answer accepts beings all_null variables told → told ≡ (at 1 ∷ []) ∷ (at 3 ∷ []) ∷ []
+    (told : Places) → Refusals scalars beings all_null variables told → told ≡ (at 1 ∷ []) ∷ (at 3 ∷ []) ∷ []
 just_two_are_told told h =
-    told_one answer accepts beings all_null variables told ((at 1 ∷ []) ∷ (at 3 ∷ []) ∷ []) h two_are_told
+    told_one scalars beings all_null variables told ((at 1 ∷ []) ∷ (at 3 ∷ []) ∷ []) h two_are_told
 
 -- ---- final values
 

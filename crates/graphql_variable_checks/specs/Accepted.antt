@@ -6,12 +6,12 @@ use Rattle.std.specs.List.{Contains}
 use Rattle.std.specs.Option.{IsSome, is_some}
 use Rattle.graphql_written_out.specs.FinalValues.{variable_name}
 use Rattle.graphql_literal_checks.specs.Conforms.{Conforms}
+use Rattle.graphql_schema.specs.Scalars.{Scalars}
 use Rattle.graphql_schema.specs.Types.{refuses_null, TypeOf}
 use Rattle.graphql_literal_checks.specs.declared.source.Source.TheVariants.{Sent}
 use Rattle.graphql_schema.specs.declared.meta.MetaType.{MetaType}
 use Rattle.graphql_names.specs.Names.{Bytes}
 use Rattle.graphql_rule_errors.specs.Places.{Places}
-use Rattle.graphql_scalars.specs.ScalarAnswers.{ScalarAnswer}
 use Rattle.graphql_schema.specs.Lookups.{type_named}
 use Rattle.graphql_text.specs.declared.position.SourcePosition.{SourcePosition}
 use Rattle.graphql_tree.specs.Variables.{Variable}
@@ -34,12 +34,11 @@ module _ {S : Type 0} where
 abbrev pub IsKnown : {S C : Type 0} → List (MetaType S C) → Variable S → Type 0
 IsKnown types v = IsSome (type_named types (variable_type v).name)
 
--- by what a scalar answers, what the check of a type accepts, and the types of a schema
-module _ {S C : Type 0} (answer : S → ScalarAnswer) (accepts : C → InputValue S → Type 0)
-    (types : List (MetaType S C)) where
+-- by what scalars mean, and the types of a schema
+module _ {S C : Type 0} (scalars : Scalars S C) (types : List (MetaType S C)) where
   -- a value that is given conforms, a null among them; an absent one may be absent
   abbrev pub FitsVariable : Variable S → Option (InputValue S) → Type 0
-  FitsVariable v (Some value) = Conforms answer accepts types Sent (variable_type v) value
+  FitsVariable v (Some value) = Conforms scalars types Sent (variable_type v) value
   FitsVariable v None = may_be_absent v ≡ true
 
   -- by the value that the request gives for each name; nothing is asked at a type that the schema

@@ -9,28 +9,28 @@ ghost use Rattle.graphql_variable_checks.specs.Laws.{
   ValuesAreGivenOrDefaults,
 };
 
-use graphql_schema::SchemaScalar;
+use graphql_schema::{Meaning, SchemaScalar};
 
 /// What is told of the values of variables is determined by the types of the schema, the
 /// definitions of the operation and the values that are given, whatever the checks of types answer.
 pub fn told_of_variables_is_determined<S: SchemaScalar>()
-    ensures { ToldIsDetermined S.answer S.Check.accepts }
+    ensures { ToldIsDetermined ⟦<S as Meaning>⟧.meaning }
 {}
 
 /// Nothing is told exactly where each definition accepts what is given for its name.
 pub fn accepted_variables_are_not_told<S: SchemaScalar>()
-    ensures { NoneToldWhereAccepted S.answer S.Check.accepts }
+    ensures { NoneToldWhereAccepted ⟦<S as Meaning>⟧.meaning }
 {}
 
 /// Where nothing is told, each value that is given for a variable of a known type is its final
 /// value, and conforms to the type.
 pub fn given_values_conform<S: SchemaScalar>()
-    ensures { GivenValuesConform S.answer S.Check.accepts }
+    ensures { GivenValuesConform ⟦<S as Meaning>⟧.meaning }
 {}
 
 /// Where nothing is told, a variable of a known type without `null` has a final value.
 pub fn non_null_variables_have_values<S: SchemaScalar>()
-    ensures { NonNullHaveValues S.answer S.Check.accepts }
+    ensures { NonNullHaveValues ⟦<S as Meaning>⟧.meaning }
 {}
 
 /// The final value of a variable is what is given for it, also where that is `null`. Where nothing

@@ -11,7 +11,7 @@ ghost use Rattle.graphql_variable_checks.specs.Accepted as spec;
 
 use graphql_literal_checks::{Source, validate_value};
 use graphql_rule_errors::{RuleError, report};
-use graphql_schema::{SchemaScalar, SchemaType};
+use graphql_schema::{Meaning, SchemaScalar, SchemaType};
 use graphql_text::{Items, Spanning, TextRef};
 use graphql_tree::Operation;
 use graphql_values::{InputValue, Type, Variables};
@@ -46,11 +46,11 @@ pub fn validate_input_values<'t, S: SchemaScalar>(
     schema: &SchemaType<S>,
 ) -> Result<Items<RuleError>, AllocError>
     ensures told { IfOk result
-        (λ errors. spec.ValuesTold S.answer S.Check.accepts schema.now.types (get_by_text
+        (λ errors. spec.ValuesTold ⟦<S as Meaning>⟧.meaning schema.now.types (get_by_text
         variables.now) (variables_in operation.now.item.variable_definitions) (places errors)) }
     ensures none { IfOk result
         (λ errors. (errors ≡ [])
-        ↔ spec.AreAccepted S.answer S.Check.accepts schema.now.types
+        ↔ spec.AreAccepted ⟦<S as Meaning>⟧.meaning schema.now.types
         (get_by_text variables.now) (variables_in operation.now.item.variable_definitions)) }
     ensures sorted { IfOk result (IsSorted ⟦<RuleError as Ord>⟧.cmp) }
 {
@@ -68,11 +68,11 @@ fn errors_of_definitions<'t, S: SchemaScalar>(
     schema: &SchemaType<S>,
 ) -> Result<Items<RuleError>, AllocError>
     ensures told { IfOk result
-        (λ errors. spec.Refusals S.answer S.Check.accepts schema.now.types (get_by_text
+        (λ errors. spec.Refusals ⟦<S as Meaning>⟧.meaning schema.now.types (get_by_text
         variables.now) (variables_in operation.now.item.variable_definitions) (places errors)) }
     ensures none { IfOk result
         (λ errors. (errors ≡ [])
-        ↔ spec.AreAccepted S.answer S.Check.accepts schema.now.types
+        ↔ spec.AreAccepted ⟦<S as Meaning>⟧.meaning schema.now.types
         (get_by_text variables.now) (variables_in operation.now.item.variable_definitions)) }
 {
     let mut errors = Items::new(alloc);
@@ -93,9 +93,11 @@ fn refusal<'t, S: SchemaScalar>(
     schema: &SchemaType<S>,
     variable: &Variable<'t, S>,
 ) -> Result<Option<String>, AllocError>
-    ensures { IfOk result (λ reason. MatchOption reason (spec.IsAccepted S.answer S.Check.accepts
-        schema.now.types (get_by_text variables.now) variable.now) (λ _. spec.IsAccepted S.answer
-        S.Check.accepts schema.now.types (get_by_text variables.now) variable.now → ⊥)) }
+    ensures { IfOk result (λ reason. MatchOption reason
+        (spec.IsAccepted ⟦<S as Meaning>⟧.meaning schema.now.types (get_by_text variables.now)
+        variable.now)
+        (λ _. spec.IsAccepted ⟦<S as Meaning>⟧.meaning schema.now.types
+        (get_by_text variables.now) variable.now → ⊥)) }
 {
     let name = variable.0.item.as_str();
     let asked = &variable.1.var_type.item;
@@ -118,8 +120,8 @@ fn refusal_of_value<S: SchemaScalar>(
     value: &InputValue<S>,
 ) -> Result<Option<String>, AllocError>
     ensures { IfOk result (λ reason. MatchOption reason
-        (Conforms S.answer S.Check.accepts schema.now.types Sent asked.now value.now)
-        (λ _. Conforms S.answer S.Check.accepts schema.now.types Sent asked.now value.now → ⊥)) }
+        (Conforms ⟦<S as Meaning>⟧.meaning schema.now.types Sent asked.now value.now)
+        (λ _. Conforms ⟦<S as Meaning>⟧.meaning schema.now.types Sent asked.now value.now → ⊥)) }
 {
     match validate_value(alloc, schema, Source::Sent, asked, value)? {
         Some(reason) => {

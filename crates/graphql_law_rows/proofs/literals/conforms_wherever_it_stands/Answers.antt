@@ -1,3 +1,4 @@
+use Rattle.graphql_schema.proofs.MeantScalars.{scalars_of}
 use Rattle.std.proofs.Common.{◌≡◌, ◌↔◌, refl, sym, subst, Bool, true, false, not, Option, Some, None}
 use Rattle.std.specs.Prelude.{MatchOption}
 use Rattle.std.specs.Option.{is_some}
@@ -15,8 +16,10 @@ where_no_reason Right (Some x) true h wrong = absurd (true≢false h)
 where_no_reason Right (Some x) false h wrong = (λ yes. absurd (false≢true yes), λ holds. absurd (wrong holds))
 
 pub returns : goal.returns
-returns g c = λ elsewhere same.
-    let ConformsThere = Conforms g.S.ScalarValue.answer g.S.Check.Check.accepts c.args.schema.now.types Literal c.args.asked.now in
+returns g c =
+    let scalars = scalars_of g.S.ParseScalarValue g.S.ScalarValue g.S.PartialEq g.S.Check.Check in
+    λ elsewhere same.
+    let ConformsThere = Conforms scalars c.args.schema.now.types Literal c.args.asked.now in
     let law = c.conforming_without_places.ensures c.args.schema.now.types Literal c.args.asked.now in
     let here = where_no_reason (ConformsThere c.args.literal.now) c.in_ok-reason.reason c.is_none.result c.is_none.ensures c.in_ok-reason.ensures in (
       λ yes. (law elsewhere).1 (subst ConformsThere (sym same) ((law c.args.literal.now).0 (here.0 yes))),

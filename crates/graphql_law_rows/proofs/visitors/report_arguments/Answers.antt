@@ -1,3 +1,4 @@
+use Rattle.graphql_schema.proofs.MeantScalars.{scalars_of}
 use Rattle.graphql_occurrences.specs.Events.{events}
 use Rattle.graphql_rules.specs.ArgumentsOfCorrectType.{arguments_of_correct_type_faults}
 use Rattle.graphql_validation.proofs.WalkLemmas.{reports_visited}
@@ -11,9 +12,8 @@ use Rattle.graphql_law_rows.proofs.visitors.report_arguments.Goals as goal
 pub returns : goal.returns
 returns g c =
     let subject = subject_of c.args.context.now in
-    let answer = g.S.ScalarValue.answer in
-    let accepts = g.S.Check.Check.accepts in
-    reports_visited (locally (arguments_of_correct_type_faults answer accepts)) (IsOnlyTold (ArgumentsTold answer accepts subject))
+    let scalars = scalars_of g.S.ParseScalarValue g.S.ScalarValue g.S.PartialEq g.S.Check.Check in
+    reports_visited (locally (arguments_of_correct_type_faults scalars)) (IsOnlyTold (ArgumentsTold scalars subject))
     (events subject.schema subject.document)
     c.factory-rule.result c.visit.new.visitor c.args.context.now c.visit.new.context
     c.visit.ensures.visited c.visit.ensures.around

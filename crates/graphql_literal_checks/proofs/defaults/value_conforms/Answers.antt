@@ -1,3 +1,4 @@
+use Rattle.graphql_schema.proofs.MeantScalars.{scalars_of}
 use Rattle.std.proofs.Common.{◌↔◌, IfOk, IsTrue, subst, sym}
 use Rattle.std.proofs.lemmas.Option.{MatchOption-at_none, MatchOption-at_some}
 use Rattle.graphql_literal_checks.specs.Conforms.{Conforms}
@@ -8,7 +9,8 @@ use Rattle.graphql_literal_checks.proofs.defaults.value_conforms.Goals.{in-None,
 
 pub returns : goal.returns
 returns g c =
-    let fact = Conforms g.S.ScalarValue.answer g.S.Check.Check.accepts c.args.schema.now.types Literal c.args.asked.now c.args.value.now in
+    let scalars = scalars_of g.S.ParseScalarValue g.S.ScalarValue g.S.PartialEq g.S.Check.Check in
+    let fact = Conforms scalars c.args.schema.now.types Literal c.args.asked.now c.args.value.now in
     elim c.match-branch-2.branch [
       | in-Some w ↦
           subst (λ r. IfOk r (λ told. IsTrue told ↔ fact)) (sym w.result-is)

@@ -18,6 +18,6 @@ returns g c =
       accepts = g.S.Check.Check.accepts;
     } in
     plain-texts-are-accepted s c.args.root_node.now
-    (subst (λ (schema : SchemaType g.row.S.Denot g.row.S-Check.Denot). PlainTextsAreValid s.eq s.answer s.reads s.of_bool s.accepts (declarations_of schema))
+    (subst (λ (schema : SchemaType g.row.S.Denot g.row.S-Check.Denot). PlainTextsAreValid s (declarations_of schema))
     c.schema.ensures c.plain_texts_are_valid.ensures)
     c.plain_text_is_document.ensures

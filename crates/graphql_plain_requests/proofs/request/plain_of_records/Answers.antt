@@ -1,6 +1,7 @@
 use Rattle.std.proofs.Common.{Result, Err, Ok, inl, option_map, sym, subst}
 use Rattle.std.specs.HashMap.{get_by_text}
 use Rattle.std.specs.String.{string_bytes}
+use Rattle.graphql_schema.proofs.MeantScalars.{scalars_of}
 use Rattle.graphql_schema.specs.Declarations.{declarations_of}
 use Rattle.graphql_requests.specs.Asked.{Asking}
 use Rattle.graphql_schema.specs.Scalars.{Scalars}
@@ -47,9 +48,10 @@ returns-in_err-operation-clause-refused g c = λ text recorded.
 
 pub plain_of_chosen-requires : goal.plain_of_chosen-requires
 plain_of_chosen-requires g c =
+    let scalars = scalars_of g.S.ParseScalarValue g.S.ScalarValue g.S.PartialEq g.S.Check.Check in
     let document = c.in_ok-document.document in
     let valid =
-    subst (λ s. HasNoFault g.S.ScalarValue.answer g.S.Check.Check.accepts (record { schema = declarations_of s; document = document }))
+    subst (λ s. HasNoFault scalars (record { schema = declarations_of s; document = document }))
     (sym c.schema.ensures) c.in_ok-document.ensures.valid.valid.no_fault in
     rw c.as_slice-definitions.ensures (c.documents_without_a_fault_are_settled.ensures document valid)
 

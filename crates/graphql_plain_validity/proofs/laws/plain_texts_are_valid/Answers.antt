@@ -1,3 +1,4 @@
+use Rattle.graphql_schema.proofs.MeantScalars.{scalars_of}
 use Rattle.graphql_schema.specs.Declarations.{declarations_of}
 use Rattle.graphql_rules_document.proofs.KnownFieldTypes.{field-types-are-known}
 use Rattle.graphql_plain_validity.proofs.ValidTexts.{plain-texts-are-valid}
@@ -6,5 +7,5 @@ use Rattle.graphql_plain_validity.proofs.laws.plain_texts_are_valid.Goals as goa
 pub returns : goal.returns
 returns g c =
     let schema = declarations_of c.args.schema.now in
-    plain-texts-are-valid _ g.met.S.Eq.laws _ _ g.met.S.ScalarValue.bool_answers g.S.Check.Check.accepts g.met.S.Check.Check.respects_same _ schema
+    plain-texts-are-valid (scalars_of g.S.ParseScalarValue g.S.ScalarValue g.S.PartialEq g.S.Check.Check) g.met.S.Eq.laws g.met.S.ScalarValue.bool_answers g.met.S.Check.Check.respects_same schema
     (field-types-are-known schema c.args.schema.now.faultless)

@@ -1,3 +1,4 @@
+use Rattle.graphql_schema.proofs.MeantScalars.{scalars_of}
 use Rattle.std.proofs.Common.{take}
 use Rattle.std.specs.List.{flat_map}
 use Rattle.graphql_occurrences.specs.Lent.{arguments_lent}
@@ -8,4 +9,5 @@ use Rattle.graphql_rules.proofs.arguments_of_correct_type.report_arguments.Given
 
 abbrev pub invariant-arguments : goal.invariant-arguments
 invariant-arguments g l =
-    ReportsBy (Misfits g.S.ScalarValue.answer g.S.Check.Check.accepts l.initial.context.schema.now.types (flat_map (literal_of (arguments_lent l.declared)) (take l.argument-index l.given))) l.initial.context l.context
+    let scalars = scalars_of g.S.ParseScalarValue g.S.ScalarValue g.S.PartialEq g.S.Check.Check in
+    ReportsBy (Misfits scalars l.initial.context.schema.now.types (flat_map (literal_of (arguments_lent l.declared)) (take l.argument-index l.given))) l.initial.context l.context

@@ -9,4 +9,4 @@ pub returns : goal.returns
 returns g c = λ document fault.
     let schema = declarations_of c.args.schema.now in
     settled-where-well-formed (record { schema = schema; document = document }) (ending-fragments-are-settled schema (field-types-are-known schema c.args.schema.now.faultless))
-    (well_formed _ _ (record { schema = schema; document = document }) fault)
+    (well_formed _ (record { schema = schema; document = document }) fault)

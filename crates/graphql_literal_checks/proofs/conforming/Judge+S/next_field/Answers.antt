@@ -1,3 +1,4 @@
+use Rattle.graphql_schema.proofs.MeantScalars.{scalars_of}
 use Rattle.std.proofs.Common.{◌+◌, ◌*◌, ◌<◌, arith}
 use Rattle.graphql_values.specs.Counts.{value_count}
 use Rattle.graphql_literal_checks.specs.OpenValues.{all_left, fields_left}
@@ -7,11 +8,10 @@ use Rattle.graphql_literal_checks.proofs.conforming.Judge+S.next_field.Goals as 
 
 pub returns-in-None-clause-fits : goal.returns-in-None-clause-fits
 returns-in-None-clause-fits g c =
-    let answer = g.S.ScalarValue.answer in
-    let accepts = g.S.Check.Check.accepts in
+    let scalars = scalars_of g.S.ParseScalarValue g.S.ScalarValue g.S.PartialEq g.S.Check.Check in
     let types = c.args.self.now.schema.now.types in
     let source = c.args.self.now.source in
-    object_ends answer accepts types source c.args.object c.args.constant c.judge_whole.result c.args.opened.now c.in-None.ensures.cases c.judge_whole.ensures
+    object_ends scalars types source c.args.object c.args.constant c.judge_whole.result c.args.opened.now c.in-None.ensures.cases c.judge_whole.ensures
 
 pub returns-in-None-clause-ends : goal.returns-in-None-clause-ends
 returns-in-None-clause-ends g c =
@@ -19,11 +19,10 @@ returns-in-None-clause-ends g c =
 
 pub returns-in-Some-clause-fits : goal.returns-in-Some-clause-fits
 returns-in-Some-clause-fits g c =
-    let answer = g.S.ScalarValue.answer in
-    let accepts = g.S.Check.Check.accepts in
+    let scalars = scalars_of g.S.ParseScalarValue g.S.ScalarValue g.S.PartialEq g.S.Check.Check in
     let types = c.args.self.now.schema.now.types in
     let source = c.args.self.now.source in
-    pair_opens answer accepts types source c.args.object c.args.constant c.in-Some.rest c.in-Some.field.now c.in-Some.ensures.cases.0 c.enter_field.result c.args.opened.now c.enter_field.new.opened c.enter_field.ensures.fits
+    pair_opens scalars types source c.args.object c.args.constant c.in-Some.rest c.in-Some.field.now c.in-Some.ensures.cases.0 c.enter_field.result c.args.opened.now c.enter_field.new.opened c.enter_field.ensures.fits
 
 pub returns-in-Some-clause-ends : goal.returns-in-Some-clause-ends
 returns-in-Some-clause-ends g c =

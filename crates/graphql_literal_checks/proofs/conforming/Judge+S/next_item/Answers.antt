@@ -2,6 +2,7 @@ use Rattle.std.proofs.Common.{◌≡◌, ◌&&◌, ◌+◌, ◌*◌, ◌<◌, Li
 use Rattle.graphql_values.specs.Counts.{value_count}
 use Rattle.graphql_names.specs.declared.type_modifier.TypeModifier.{TypeModifier}
 use Rattle.graphql_names.specs.declared.type_reference.«Type».{«Type»}
+use Rattle.graphql_schema.proofs.MeantScalars.{scalars_of}
 use Rattle.graphql_schema.specs.Types.{TypeOf}
 use Rattle.graphql_names.specs.Names.{Bytes}
 use Rattle.graphql_literal_checks.specs.Judged.{lent}
@@ -12,23 +13,21 @@ use Rattle.graphql_literal_checks.proofs.conforming.Judge+S.next_item.Goals as g
 
 pub returns-in-None-clause-fits : goal.returns-in-None-clause-fits
 returns-in-None-clause-fits g c =
-    let answer = g.S.ScalarValue.answer in
-    let accepts = g.S.Check.Check.accepts in
+    let scalars = scalars_of g.S.ParseScalarValue g.S.ScalarValue g.S.PartialEq g.S.Check.Check in
     let types = c.args.self.now.schema.now.types in
     let source = c.args.self.now.source in
     let l = c.args.list in
-    opens_none answer accepts types source (ListOwes answer accepts types source l) (list_constant c.args.constant l) (Ok (l.constant && c.args.constant)) c.args.opened.now (list_ends answer accepts types source l c.args.constant c.in-None.ensures.cases)
+    opens_none scalars types source (ListOwes scalars types source l) (list_constant c.args.constant l) (Ok (l.constant && c.args.constant)) c.args.opened.now (list_ends scalars types source l c.args.constant c.in-None.ensures.cases)
 
 pub returns-in_ok-add-in-Some-clause-fits : goal.returns-in_ok-add-in-Some-clause-fits
 returns-in_ok-add-in-Some-clause-fits g c =
-    let answer = g.S.ScalarValue.answer in
-    let accepts = g.S.Check.Check.accepts in
+    let scalars = scalars_of g.S.ParseScalarValue g.S.ScalarValue g.S.PartialEq g.S.Check.Check in
     let types = c.args.self.now.schema.now.types in
     let source = c.args.self.now.source in
     let l = c.args.list in
     let asked : «Type» Bytes (Bor (List TypeModifier)) = record { name = c.copied.result; modifiers = l.asked.modifiers } in
     let same : lent asked ≡ lent l.asked = ap (λ (n : Bytes). let t : TypeOf = record { name = n; modifiers = l.asked.modifiers.now } in t) c.copied.ensures in
-    item_opens answer accepts types source l c.args.constant c.in-Some.rest c.in-Some.item.now c.in-Some.ensures.cases.0 asked same c.enter.result c.args.opened.now c.add.new.opened c.enter.new.opened c.in_ok-add-in-Some.ensures c.enter.ensures.fits
+    item_opens scalars types source l c.args.constant c.in-Some.rest c.in-Some.item.now c.in-Some.ensures.cases.0 asked same c.enter.result c.args.opened.now c.add.new.opened c.enter.new.opened c.in_ok-add-in-Some.ensures c.enter.ensures.fits
 
 pub returns-in_ok-add-in-Some-clause-ends : goal.returns-in_ok-add-in-Some-clause-ends
 returns-in_ok-add-in-Some-clause-ends g c =

@@ -1,6 +1,7 @@
 use Rattle.std.proofs.Common.{List, subst, sym}
 use Rattle.std.specs.HashMap.{get_by_text}
 use Rattle.graphql_tree.specs.declared.document.Definition.{Definition}
+use Rattle.graphql_schema.proofs.MeantScalars.{scalars_of}
 use Rattle.graphql_schema.specs.Declarations.{declarations_of}
 use Rattle.graphql_schema.specs.declared.root_node.RootNode.{RootNode}
 use Rattle.graphql_requests.specs.Validity.{HasNoFault}
@@ -12,24 +13,27 @@ use Rattle.graphql_service_tests.proofs.service.in_parts.parts_of_query.Goals as
 
 pub data_of_query-requires-clause-settled : goal.data_of_query-requires-clause-settled
 data_of_query-requires-clause-settled g c =
+    let scalars = scalars_of g.S.ParseScalarValue g.S.ScalarValue g.S.PartialEq g.S.Check.Check in
     let document = c.in_ok-document.document in
-    let valid = subst (λ s. HasNoFault g.S.ScalarValue.answer g.S.Check.Check.accepts
+    let valid = subst (λ s. HasNoFault scalars
     (record { schema = declarations_of s; document = document })) (sym c.schema.ensures)
     c.in_ok-document.ensures.read.valid.valid.no_fault in
     rw c.as_slice-definitions.ensures (c.documents_without_a_fault_are_settled.ensures document valid)
 
 pub data_of_query-requires-2-clause-settled : goal.data_of_query-requires-2-clause-settled
 data_of_query-requires-2-clause-settled g c =
+    let scalars = scalars_of g.S.ParseScalarValue g.S.ScalarValue g.S.PartialEq g.S.Check.Check in
     let document = c.in_ok-document.document in
-    let valid = subst (λ s. HasNoFault g.S.ScalarValue.answer g.S.Check.Check.accepts
+    let valid = subst (λ s. HasNoFault scalars
     (record { schema = declarations_of s; document = document })) (sym c.schema.ensures)
     c.in_ok-document.ensures.read.valid.valid.no_fault in
     rw c.as_slice-definitions.ensures (c.documents_without_a_fault_are_settled.ensures document valid)
 
 pub data_of_query-requires-3-clause-settled : goal.data_of_query-requires-3-clause-settled
 data_of_query-requires-3-clause-settled g c =
+    let scalars = scalars_of g.S.ParseScalarValue g.S.ScalarValue g.S.PartialEq g.S.Check.Check in
     let document = c.in_ok-document.document in
-    let valid = subst (λ s. HasNoFault g.S.ScalarValue.answer g.S.Check.Check.accepts
+    let valid = subst (λ s. HasNoFault scalars
     (record { schema = declarations_of s; document = document })) (sym c.schema.ensures)
     c.in_ok-document.ensures.read.valid.valid.no_fault in
     rw c.as_slice-definitions.ensures (c.documents_without_a_fault_are_settled.ensures document valid)
@@ -56,11 +60,11 @@ returns g c = λ alike.
     } in
     let read = c.in_ok-document.ensures.read.valid.valid in
     let here =
-    subst (λ (n : RootNode g.row.S.Denot g.row.S-Check.Denot). IsValid s.eq s.answer s.accepts
+    subst (λ (n : RootNode g.row.S.Denot g.row.S-Check.Denot). IsValid s
     (record { schema = declarations_of n.schema; document = c.in_ok-document.document }))
     c.root_node-root.ensures read in
     let valid =
-    subst (λ (d : List (Definition g.row.S.Denot)). IsValid s.eq s.answer s.accepts
+    subst (λ (d : List (Definition g.row.S.Denot)). IsValid s
     (record { schema = declarations_of service.root_node.schema; document = d }))
     (sym c.as_slice-definitions.ensures) here in
     joined s service.root_node r c.as_slice-definitions.result.now (get_by_text c.args.variables.now)

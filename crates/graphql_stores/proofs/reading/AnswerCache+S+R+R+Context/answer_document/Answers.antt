@@ -1,4 +1,5 @@
 use Rattle.std.proofs.Common.{ap, option_map, refl, sym, subst, ◌∙◌}
+use Rattle.graphql_schema.proofs.MeantScalars.{scalars_of}
 use Rattle.graphql_schema.specs.Declarations.{declarations_of}
 use Rattle.graphql_requests.specs.Validity.{HasNoFault}
 use Rattle.graphql_stores.proofs.CachedAnswers.{refuses-request}
@@ -7,10 +8,11 @@ use Rattle.graphql_stores.proofs.reading.AnswerCache+S+R+R+Context.answer_docume
 
 pub answer_accepted-requires : goal.answer_accepted-requires
 answer_accepted-requires g c =
+    let scalars = scalars_of g.S.ParseScalarValue g.S.ScalarValue g.S.PartialEq g.S.Check.Check in
     let document = c.args.document.now in
     let its_schema = ap (λ n. n.schema) c.root_node-root_node.ensures in
     let valid =
-    subst (λ s. HasNoFault g.S.ScalarValue.answer g.S.Check.Check.accepts
+    subst (λ s. HasNoFault scalars
     (record { schema = declarations_of s; document = document }))
     (sym (c.schema.ensures ∙ its_schema)) c.requires.read.valid.valid.no_fault in
     let settled = c.documents_without_a_fault_are_settled.ensures document valid in
