@@ -12,7 +12,7 @@ use crate::response::push_response;
 use crate::{boolean_takes_true, operation_name_of};
 use graphql_answers::laws::values_are_lines;
 use graphql_executor::{GraphQLMutationValue, Meaning, ValidTexts, execute_with};
-use graphql_lines::{GraphQLRequest, LineRefusal, request_from_line};
+use graphql_lines::{GraphQLRequest, LineRefusal, RequestReader};
 use graphql_schema::{RootNode, SchemaScalar};
 use std::alloc::{AllocError, AllocFailed, Global};
 use std::error::Error;
@@ -105,6 +105,10 @@ pub struct Service<S, R, X, C = <S as SchemaScalar>::Check> {
     // The texts that were found valid among the lines that are being served.
     pub(crate) valid: ValidTexts,
 
+    // By what request lines are read. From the first line on it holds 16 KB, and in bytes up to the
+    // length of the longest line that was read.
+    reader: RequestReader,
+
     ghost executable: { is_executable root_node.schema.types (roots_of root_node.schema) ≡ true },
     ghost conditions: { has_standard_conditions root_node.schema.directives ≡ true },
 }
@@ -158,6 +162,7 @@ impl<S: SchemaScalar + Drop, R: GraphQLMutationValue<S>> Service<S, R, R::Contex
             valid_text_limit: VALID_TEXT_LIMIT,
             valid_byte_limit: VALID_BYTE_LIMIT,
             valid: ValidTexts::new(0, 0),
+            reader: RequestReader::new(),
         })
     }
 
@@ -303,7 +308,7 @@ impl<S: SchemaScalar + Drop, R: GraphQLMutationValue<S>> Service<S, R, R::Contex
         if line.len() > self.line_limit {
             return push_line_refusal(alloc, out, LineRefusal::LineTooLong, self.line_limit);
         }
-        match request_from_line(alloc, line) {
+        match self.reader.read(alloc, line) {
             Ok(request) => self.push_executed(alloc, &request, out),
             Err(refusal) => push_line_refusal(alloc, out, refusal, self.line_limit),
         }
