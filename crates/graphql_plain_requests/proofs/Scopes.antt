@@ -38,7 +38,6 @@ abbrev pub unlocated_fragment_scope : FragmentScope → FragmentScope
 unlocated_fragment_scope f = record {
   name = f.name;
   place = nowhere f.place;
-  condition = unlocated_name f.condition;
   uses = map unlocated_use f.uses;
   spreads = map unlocated_spread f.spreads;
 }
@@ -118,7 +117,6 @@ module _ {S C : Type 0} (schema : Declarations S C) where
       λ i. record {
         name = f.item.name.item;
         place = nowhere f.span.start;
-        condition = unlocated_name f.item.type_condition;
         uses = uses i;
         spreads = spreads i;
       }

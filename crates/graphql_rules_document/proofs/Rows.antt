@@ -46,7 +46,7 @@ abbrev pub use_of : Bytes → ℕ → Use
 use_of name n = record { name = name; place = at n; at = None }
 
 abbrev pub fragment : Bytes → ℕ → List Use → List Spread → FragmentScope
-fragment name n uses spreads = record { name = name; place = at n; condition = put n (codes "Human"); uses = uses; spreads = spreads }
+fragment name n uses spreads = record { name = name; place = at n; uses = uses; spreads = spreads }
 
 -- A spreads B, B spreads C and A, C spreads nothing and uses `$y`, and E spreads A
 abbrev pub some_fragments : List FragmentScope

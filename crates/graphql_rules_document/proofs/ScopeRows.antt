@@ -75,14 +75,14 @@ nobody_holds = simp (parts_field humans) refl
 -- `fragment A on Human { ...B }`
 pub fragment_holds :
     fragment_scopes humans (fragment 30 (codes "A") (spread 50 (codes "B") ∷ []) ∷ [])
-    ≡ record { name = codes "A"; place = at 30; condition = put 30 (codes "Human"); uses = []; spreads = record { name = codes "B"; place = at 50 } ∷ [] } ∷ []
+    ≡ record { name = codes "A"; place = at 30; uses = []; spreads = record { name = codes "B"; place = at 50 } ∷ [] } ∷ []
 fragment_holds = simp (parts_spread humans) refl
 
 abbrev pub x_at : Bytes → ℕ → Spread
 x_at name n = record { name = name; place = at n }
 
 abbrev pub scope : Bytes → List Spread → FragmentScope
-scope name spreads = record { name = name; place = at 0; condition = put 0 (codes "Human"); uses = []; spreads = spreads }
+scope name spreads = record { name = name; place = at 0; uses = []; spreads = spreads }
 
 -- A spreads B, B spreads C and A, one C spreads nothing, the other D, and E spreads A
 abbrev pub some_fragments : List FragmentScope

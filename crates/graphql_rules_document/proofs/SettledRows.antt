@@ -106,11 +106,10 @@ scopes =
     record {
       name = codes "A";
       place = at 20;
-      condition = put 20 (codes "Human");
       uses = [];
       spreads = of_b ∷ [];
     }
-    ∷ record { name = codes "B"; place = at 60; condition = put 60 (codes "Being"); uses = []; spreads = [] } ∷ []
+    ∷ record { name = codes "B"; place = at 60; uses = []; spreads = [] } ∷ []
 
 pub its_scopes : fragment_scopes beings_schema document ≡ scopes
 its_scopes = simp (parts_field beings_schema, parts_spread beings_schema) refl

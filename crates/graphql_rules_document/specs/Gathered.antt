@@ -53,7 +53,6 @@ module _ {S : Type 0} where
     fragments = g.fragments ++ record {
       name = f.item.name.item;
       place = f.span.start;
-      condition = f.item.type_condition;
       uses = g.uses;
       spreads = g.spreads;
     } ∷ [];

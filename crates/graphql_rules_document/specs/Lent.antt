@@ -24,7 +24,6 @@ abbrev pub fragment_of : FragmentScope → spec.FragmentScope
 fragment_of f = record {
   name = f.name.now;
   place = f.place;
-  condition = f.condition.now;
   uses = map use_of f.uses;
   spreads = map spread_of f.spreads;
 }

@@ -33,7 +33,6 @@ pub record OperationScope (S : Type 0) : Type 0 where
 pub record FragmentScope : Type 0 where
   pub name : Bytes
   pub place : SourcePosition
-  pub condition : Placed Bytes
   pub uses : List Use
   pub spreads : List Spread
 
@@ -69,7 +68,6 @@ module _ {S C : Type 0} (schema : Declarations S C) where
       record {
         name = f.item.name.item;
         place = f.span.start;
-        condition = f.item.type_condition;
         uses = flat_map use_at parts;
         spreads = flat_map spread_at parts;
       }

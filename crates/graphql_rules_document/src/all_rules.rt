@@ -78,7 +78,7 @@ fn operation_rules<S>(
 fn fragment_rules<'a, 't, S>(
     alloc: Global,
     operations: &[OperationScope<'a, 't, S>],
-    index: &FragmentIndex<'_, 'a, 't>,
+    index: &FragmentIndex<'_, 'a>,
     errors: &mut Items<RuleError>,
 ) -> Result<(), AllocError>
     ensures { OnOk result (Reports (spec.fragment_places (map operation_of operations.now)
@@ -95,7 +95,7 @@ fn variable_rules<'a, 't, S, C>(
     alloc: Global,
     schema: &SchemaType<S, C>,
     operations: &[OperationScope<'a, 't, S>],
-    index: &FragmentIndex<'_, 'a, 't>,
+    index: &FragmentIndex<'_, 'a>,
     errors: &mut Items<RuleError>,
 ) -> Result<(), AllocError>
     ensures { OnOk result (Reports (spec.variable_places schema.now.types (map operation_of

@@ -49,7 +49,7 @@ struct ComponentWalk {
 /// proportion to the fragments and their spreads. An error is want of memory.
 pub(crate) fn components_of(
     alloc: Global,
-    index: &FragmentIndex<'_, '_, '_>,
+    index: &FragmentIndex<'_, '_>,
 ) -> Result<Items<Option<Component>>, AllocError>
     ensures { IfOk result (λ components. Told index.now.fragments.now components) }
 {
@@ -62,7 +62,7 @@ pub(crate) fn components_of(
 
 impl ComponentWalk {
     /// Before the walk.
-    fn new(alloc: Global, index: &FragmentIndex<'_, '_, '_>) -> Result<ComponentWalk, AllocError>
+    fn new(alloc: Global, index: &FragmentIndex<'_, '_>) -> Result<ComponentWalk, AllocError>
         ensures { IfOk result (λ walk. IsWalk index.now.fragments.now walk) }
     {
         let mut positions = Items::new(alloc);
@@ -83,8 +83,8 @@ impl ComponentWalk {
     /// Walks over what is reached from the fragments of this one's name, unless they were met.
     fn visit(
         &mut self,
-        index: &FragmentIndex<'_, '_, '_>,
-        fragment: &FragmentScope<'_, '_>,
+        index: &FragmentIndex<'_, '_>,
+        fragment: &FragmentScope<'_>,
     ) -> Result<(), AllocError>
         ensures { OnOk result
             (IsWalk index.now.fragments.now self.old → IsWalk index.now.fragments.now self.new) }
@@ -102,7 +102,7 @@ impl ComponentWalk {
 
     /// Follows what is to be followed. The bound of the loop is out of reach, and stands for a
     /// measure: no more steps come than twice the fragments and the spreads.
-    fn follow_all(&mut self, index: &FragmentIndex<'_, '_, '_>) -> Result<(), AllocError>
+    fn follow_all(&mut self, index: &FragmentIndex<'_, '_>) -> Result<(), AllocError>
         ensures { OnOk result
             (IsWalk index.now.fragments.now self.old → IsWalk index.now.fragments.now self.new) }
     {
@@ -118,7 +118,7 @@ impl ComponentWalk {
     /// One step: the next spread of a fragment is followed, or the fragment is left.
     fn follow(
         &mut self,
-        index: &FragmentIndex<'_, '_, '_>,
+        index: &FragmentIndex<'_, '_>,
         following: Following,
     ) -> Result<(), AllocError>
         ensures { OnOk result
@@ -140,8 +140,8 @@ impl ComponentWalk {
     /// Follows a spread of a fragment.
     fn follow_spread(
         &mut self,
-        index: &FragmentIndex<'_, '_, '_>,
-        fragment: &FragmentScope<'_, '_>,
+        index: &FragmentIndex<'_, '_>,
+        fragment: &FragmentScope<'_>,
         spread: &Spread<'_>,
     ) -> Result<(), AllocError>
         ensures { OnOk result (Contains index.now.fragments.now fragment.now
@@ -176,9 +176,9 @@ impl ComponentWalk {
     /// before it are next, or all of this name are left.
     fn leave(
         &mut self,
-        index: &FragmentIndex<'_, '_, '_>,
+        index: &FragmentIndex<'_, '_>,
         place: usize,
-        fragment: &FragmentScope<'_, '_>,
+        fragment: &FragmentScope<'_>,
     ) -> Result<(), AllocError>
         ensures { OnOk result
             (IsWalk index.now.fragments.now self.old → IsWalk index.now.fragments.now self.new) }
@@ -199,7 +199,7 @@ impl ComponentWalk {
     }
 
     /// The last part of the path is a component, and is left.
-    fn close(&mut self, index: &FragmentIndex<'_, '_, '_>, first: usize)
+    fn close(&mut self, index: &FragmentIndex<'_, '_>, first: usize)
         ensures { slice_get self.old.path.path self.old.path.start ≡ Some first
             → IsWalk index.now.fragments.now self.old → IsWalk index.now.fragments.now self.new }
     {

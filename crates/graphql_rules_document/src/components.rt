@@ -35,7 +35,7 @@ impl FragmentComponents {
     /// spreads. An error is want of memory.
     pub fn new(
         alloc: Global,
-        index: &FragmentIndex<'_, '_, '_>,
+        index: &FragmentIndex<'_, '_>,
     ) -> Result<FragmentComponents, AllocError>
         ensures { IfOk result (λ components. IsComponents index.now.fragments.now components) }
     {
@@ -49,7 +49,7 @@ impl FragmentComponents {
     /// tell, which is at no spread of a fragment. An error is want of memory.
     pub fn leads_back(
         &self,
-        index: &FragmentIndex<'_, '_, '_>,
+        index: &FragmentIndex<'_, '_>,
         search: &mut ReachedFragments,
         place: usize,
         spread: &Spread<'_>,
@@ -83,7 +83,7 @@ impl FragmentComponents {
 }
 
 /// Whether no fragment spreads one of a greater number.
-fn all_fall(components: &Items<Option<Component>>, index: &FragmentIndex<'_, '_, '_>) -> bool
+fn all_fall(components: &Items<Option<Component>>, index: &FragmentIndex<'_, '_>) -> bool
     ensures { IsTrue result → Falling index.now.fragments.now components.now }
 {
     'fragments: for fragment in index.fragments() {
@@ -97,8 +97,8 @@ fn all_fall(components: &Items<Option<Component>>, index: &FragmentIndex<'_, '_,
 /// Whether the fragment spreads none of a greater number.
 fn falls(
     components: &Items<Option<Component>>,
-    index: &FragmentIndex<'_, '_, '_>,
-    fragment: &FragmentScope<'_, '_>,
+    index: &FragmentIndex<'_, '_>,
+    fragment: &FragmentScope<'_>,
 ) -> bool
     ensures { IsTrue result → Falls index.now.fragments.now components.now fragment.now }
 {
@@ -114,7 +114,7 @@ fn falls(
 /// The number of the component of the fragments of this name, or zero.
 fn number_named(
     components: &Items<Option<Component>>,
-    index: &FragmentIndex<'_, '_, '_>,
+    index: &FragmentIndex<'_, '_>,
     name: &str,
 ) -> usize
     ensures { result ≡ number_of index.now.fragments.now components.now name.now }
@@ -125,7 +125,7 @@ fn number_named(
 /// The component of the fragments of this name.
 fn component(
     components: &Items<Option<Component>>,
-    index: &FragmentIndex<'_, '_, '_>,
+    index: &FragmentIndex<'_, '_>,
     name: &str,
 ) -> Option<Component>
     ensures { result ≡ component_of index.now.fragments.now components.now name.now }

@@ -13,8 +13,8 @@ use std::collections::HashMap;
 
 /// The fragments of a document, found by their names, of which several may be the same.
 #[derive(Drop)]
-pub struct FragmentIndex<'b, 'a, 't> {
-    fragments: &'b [FragmentScope<'a, 't>],
+pub struct FragmentIndex<'b, 'a> {
+    fragments: &'b [FragmentScope<'a>],
 
     // The place of the last fragment of each name.
     last: HashMap<&'a str, usize>,
@@ -27,12 +27,12 @@ pub struct FragmentIndex<'b, 'a, 't> {
     ghost earliers: { earlier ≡ earlier_places (fragment_names fragments.now) },
 }
 
-impl<'b, 'a, 't> FragmentIndex<'b, 'a, 't> {
+impl<'b, 'a> FragmentIndex<'b, 'a> {
     /// An index of these fragments. Takes time in proportion to them. An error is want of memory.
     pub fn new(
         alloc: Global,
-        fragments: &'b [FragmentScope<'a, 't>],
-    ) -> Result<FragmentIndex<'b, 'a, 't>, AllocError>
+        fragments: &'b [FragmentScope<'a>],
+    ) -> Result<FragmentIndex<'b, 'a>, AllocError>
         ensures { IfOk result (λ index. index.fragments.now ≡ fragments.now) }
     {
         let mut last: HashMap<&str, usize> = HashMap::new(alloc);
@@ -49,7 +49,7 @@ impl<'b, 'a, 't> FragmentIndex<'b, 'a, 't> {
     }
 
     /// The fragments, in the order of the document.
-    pub fn fragments(&self) -> &'b [FragmentScope<'a, 't>]
+    pub fn fragments(&self) -> &'b [FragmentScope<'a>]
         ensures { result.now ≡ self.now.fragments.now }
     {
         self.fragments

@@ -31,7 +31,7 @@ use std::mem;
 pub struct Gathering<'a, 't, S> {
     // The operations and the fragments that are over.
     operations: Items<OperationScope<'a, 't, S>>,
-    fragments: Items<FragmentScope<'a, 't>>,
+    fragments: Items<FragmentScope<'a>>,
 
     // What the definition at hand uses and spreads.
     uses: Items<Use<'a>>,
@@ -110,7 +110,6 @@ impl<'a, 't, S> Gathering<'a, 't, S> {
         self.fragments.push(FragmentScope {
             name: fragment.item.name.item.as_str(),
             place: fragment.span.start,
-            condition: &fragment.item.type_condition,
             uses,
             spreads,
         })?;
@@ -247,9 +246,13 @@ impl<'a, 't, S> Gathering<'a, 't, S> {
     }
 
     /// With what is ahead of a walk.
-    fn take_all<C>(&mut self, alloc: Global, mut walk: Walk<'a, 't, S, C>) -> Result<(), AllocError>
+    fn take_all<C>(
+        &mut self,
+        alloc: Global,
+        walk: &mut Walk<'a, 't, S, C>,
+    ) -> Result<(), AllocError>
         ensures { OnOk result
-            (gathered self.new ≡ fold with_event (gathered self.old) (ahead walk.entry)) }
+            (gathered self.new ≡ fold with_event (gathered self.old) (ahead walk.old)) }
     {
         'events: while let Some(next) = walk.next()? {
             self.take_in(alloc, &next.around, &next.event)?;
@@ -261,12 +264,12 @@ impl<'a, 't, S> Gathering<'a, 't, S> {
 /// What the walk is to tell of operations and fragments. An error is want of memory.
 pub(crate) fn gather<'a, 't, S, C>(
     alloc: Global,
-    walk: Walk<'a, 't, S, C>,
+    mut walk: Walk<'a, 't, S, C>,
 ) -> Result<Scopes<'a, 't, S>, AllocError>
     ensures { GivesBy scopes_told result
         (scopes_gathered (fold with_event nothing (ahead walk.entry))) }
 {
     let mut gathering = Gathering::new(alloc);
-    gathering.take_all(alloc, walk)?;
+    gathering.take_all(alloc, &mut walk)?;
     Ok(gathering.into_scopes())
 }

@@ -78,7 +78,7 @@ impl<S: SchemaScalar> DocumentRule<S> for LoneAnonymousOperation {
         alloc: Global,
         schema: &SchemaType<S>,
         operations: &[OperationScope<'a, 't, S>],
-        index: &FragmentIndex<'_, 'a, 't>,
+        index: &FragmentIndex<'_, 'a>,
         errors: &mut Items<RuleError>,
     ) -> Result<(), AllocError>
         ensures { OnOk result (Reports (lone_anonymous_operation_faults

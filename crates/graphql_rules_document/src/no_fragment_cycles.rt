@@ -38,7 +38,7 @@ pub fn factory() -> Once<NoFragmentCycles>
 /// call is want of memory.
 pub fn no_fragment_cycles(
     alloc: Global,
-    index: &FragmentIndex<'_, '_, '_>,
+    index: &FragmentIndex<'_, '_>,
     errors: &mut Items<RuleError>,
 ) -> Result<(), AllocError>
     ensures { OnOk result (Reports (no_fragment_cycles_faults
@@ -65,9 +65,9 @@ fn report_cycles(
     alloc: Global,
     components: &FragmentComponents,
     search: &mut ReachedFragments,
-    index: &FragmentIndex<'_, '_, '_>,
+    index: &FragmentIndex<'_, '_>,
     place: usize,
-    fragment: &FragmentScope<'_, '_>,
+    fragment: &FragmentScope<'_>,
     errors: &mut Items<RuleError>,
 ) -> Result<(), AllocError>
     ensures { OnOk result (IsComponents index.now.fragments.now components.now
@@ -87,9 +87,9 @@ fn report_cycle(
     alloc: Global,
     components: &FragmentComponents,
     search: &mut ReachedFragments,
-    index: &FragmentIndex<'_, '_, '_>,
+    index: &FragmentIndex<'_, '_>,
     place: usize,
-    fragment: &FragmentScope<'_, '_>,
+    fragment: &FragmentScope<'_>,
     spread: &Spread<'_>,
     errors: &mut Items<RuleError>,
 ) -> Result<(), AllocError>
@@ -121,7 +121,7 @@ impl<S: SchemaScalar> DocumentRule<S> for NoFragmentCycles {
         alloc: Global,
         schema: &SchemaType<S>,
         operations: &[OperationScope<'a, 't, S>],
-        index: &FragmentIndex<'_, 'a, 't>,
+        index: &FragmentIndex<'_, 'a>,
         errors: &mut Items<RuleError>,
     ) -> Result<(), AllocError>
         ensures { OnOk result (Reports (no_fragment_cycles_faults

@@ -37,7 +37,7 @@ pub fn factory() -> Once<NoUnusedFragments>
 pub fn no_unused_fragments<'a, 't, S>(
     alloc: Global,
     operations: &[OperationScope<'a, 't, S>],
-    index: &FragmentIndex<'_, 'a, 't>,
+    index: &FragmentIndex<'_, 'a>,
     errors: &mut Items<RuleError>,
 ) -> Result<(), AllocError>
     ensures { OnOk result (Reports (no_unused_fragments_faults (map operation_of operations.now)
@@ -68,7 +68,7 @@ fn all_spreads<'a, 't, S>(
 fn report_all(
     alloc: Global,
     reached: &ReachedFragments,
-    index: &FragmentIndex<'_, '_, '_>,
+    index: &FragmentIndex<'_, '_>,
     errors: &mut Items<RuleError>,
 ) -> Result<(), AllocError>
     ensures { OnOk result ((names : List Bytes)
@@ -87,7 +87,7 @@ fn report_all(
 fn report_unused(
     alloc: Global,
     is_reached: bool,
-    fragment: &FragmentScope<'_, '_>,
+    fragment: &FragmentScope<'_>,
     errors: &mut Items<RuleError>,
 ) -> Result<(), AllocError>
     ensures { OnOk result
@@ -114,7 +114,7 @@ impl<S: SchemaScalar> DocumentRule<S> for NoUnusedFragments {
         alloc: Global,
         schema: &SchemaType<S>,
         operations: &[OperationScope<'a, 't, S>],
-        index: &FragmentIndex<'_, 'a, 't>,
+        index: &FragmentIndex<'_, 'a>,
         errors: &mut Items<RuleError>,
     ) -> Result<(), AllocError>
         ensures { let held = map operation_of operations.now in

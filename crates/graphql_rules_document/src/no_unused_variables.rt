@@ -40,7 +40,7 @@ pub fn factory() -> Once<NoUnusedVariables>
 pub fn no_unused_variables<'a, 't, S>(
     alloc: Global,
     operations: &[OperationScope<'a, 't, S>],
-    index: &FragmentIndex<'_, 'a, 't>,
+    index: &FragmentIndex<'_, 'a>,
     errors: &mut Items<RuleError>,
 ) -> Result<(), AllocError>
     ensures { OnOk result (Reports (spec.no_unused_variables_faults (map operation_of
@@ -57,7 +57,7 @@ pub fn no_unused_variables<'a, 't, S>(
 fn report_operation<'a, 't, S>(
     alloc: Global,
     reached: &mut ReachedFragments,
-    index: &FragmentIndex<'_, 'a, 't>,
+    index: &FragmentIndex<'_, 'a>,
     operation: &OperationScope<'a, 't, S>,
     errors: &mut Items<RuleError>,
 ) -> Result<(), AllocError>
@@ -118,7 +118,7 @@ impl<S: SchemaScalar> DocumentRule<S> for NoUnusedVariables {
         alloc: Global,
         schema: &SchemaType<S>,
         operations: &[OperationScope<'a, 't, S>],
-        index: &FragmentIndex<'_, 'a, 't>,
+        index: &FragmentIndex<'_, 'a>,
         errors: &mut Items<RuleError>,
     ) -> Result<(), AllocError>
         ensures { let held = map operation_of operations.now in

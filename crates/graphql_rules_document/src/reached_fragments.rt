@@ -50,7 +50,7 @@ impl ReachedFragments {
     /// tells nothing.
     pub fn search(
         &mut self,
-        index: &FragmentIndex<'_, '_, '_>,
+        index: &FragmentIndex<'_, '_>,
         spreads: &[Spread<'_>],
     ) -> Result<(), AllocError>
         ensures { OnOk result (self.new.marks
@@ -65,7 +65,7 @@ impl ReachedFragments {
     }
 
     /// No fragment is marked.
-    fn begin(&mut self, index: &FragmentIndex<'_, '_, '_>) -> Result<(), AllocError>
+    fn begin(&mut self, index: &FragmentIndex<'_, '_>) -> Result<(), AllocError>
         ensures { OnOk result ((self.new.marks ≡ map (λ _. false) index.now.fragments.now)
             × (self.new.waiting ≡ [])) }
     {
@@ -78,7 +78,7 @@ impl ReachedFragments {
     }
 
     /// Goes on with what the fragment at `place` spreads.
-    fn follow(&mut self, index: &FragmentIndex<'_, '_, '_>, place: usize) -> Result<(), AllocError>
+    fn follow(&mut self, index: &FragmentIndex<'_, '_>, place: usize) -> Result<(), AllocError>
         ensures { OnOk result
             (Marks (fragment_names index.now.fragments.now) (spread_names_at index.now.fragments.now
             place) self.old.marks self.old.waiting self.new.marks self.new.waiting) }
@@ -92,7 +92,7 @@ impl ReachedFragments {
     /// Marks the fragments that these spreads name.
     fn mark_all(
         &mut self,
-        index: &FragmentIndex<'_, '_, '_>,
+        index: &FragmentIndex<'_, '_>,
         spreads: &[Spread<'_>],
     ) -> Result<(), AllocError>
         ensures { OnOk result (Marks (fragment_names index.now.fragments.now) (spread_names
@@ -105,11 +105,7 @@ impl ReachedFragments {
     }
 
     /// Marks the fragments of this name, unless they are marked.
-    fn mark_named(
-        &mut self,
-        index: &FragmentIndex<'_, '_, '_>,
-        name: &str,
-    ) -> Result<(), AllocError>
+    fn mark_named(&mut self, index: &FragmentIndex<'_, '_>, name: &str) -> Result<(), AllocError>
         ensures { OnOk result (Marks (fragment_names index.now.fragments.now) (name.now ∷ [])
             self.old.marks self.old.waiting self.new.marks self.new.waiting) }
     {
@@ -136,11 +132,7 @@ impl ReachedFragments {
     }
 
     /// Marks the last fragment of a name, and those of this name before it.
-    fn mark_from(
-        &mut self,
-        index: &FragmentIndex<'_, '_, '_>,
-        last: usize,
-    ) -> Result<(), AllocError>
+    fn mark_from(&mut self, index: &FragmentIndex<'_, '_>, last: usize) -> Result<(), AllocError>
         ensures { OnOk result ((name : Bytes) (found : List Bytes)
             → last_place
             (fragment_names index.now.fragments.now) name ≡ Some last → is_one_of found name ≡ false

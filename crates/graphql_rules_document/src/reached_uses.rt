@@ -21,7 +21,7 @@ impl ReachedFragments {
     pub fn uses<'a, 't, S>(
         &mut self,
         alloc: Global,
-        index: &FragmentIndex<'_, 'a, 't>,
+        index: &FragmentIndex<'_, 'a>,
         operation: &OperationScope<'a, 't, S>,
     ) -> Result<Items<Use<'a>>, AllocError>
         ensures { GivesBy (map use_of) result
@@ -35,10 +35,10 @@ impl ReachedFragments {
     }
 
     /// Adds the uses in the fragments that are marked.
-    fn add_uses<'a, 't>(
+    fn add_uses<'a>(
         &self,
         uses: &mut Items<Use<'a>>,
-        index: &FragmentIndex<'_, 'a, 't>,
+        index: &FragmentIndex<'_, 'a>,
     ) -> Result<(), AllocError>
         ensures { OnOk result ((test : FragmentScope → Bool)
             → self.now.marks
@@ -56,10 +56,10 @@ impl ReachedFragments {
 }
 
 /// Adds the uses in a fragment, if it is marked.
-fn add_if<'a, 't>(
+fn add_if<'a>(
     uses: &mut Items<Use<'a>>,
     is_marked: bool,
-    fragment: &scopes::FragmentScope<'a, 't>,
+    fragment: &scopes::FragmentScope<'a>,
 ) -> Result<(), AllocError>
     ensures { OnOk result (map use_of uses.new
         ≡ map use_of uses.old

@@ -58,15 +58,12 @@ pub struct OperationScope<'a, 't, S> {
 
 /// What a fragment uses and spreads (GraphQL October 2021, 2.8 Fragments).
 #[derive(Drop)]
-pub struct FragmentScope<'a, 't> {
+pub struct FragmentScope<'a> {
     /// The fragment's name.
     pub name: &'a str,
 
     /// Where it begins: its word `fragment`.
     pub place: SourcePosition,
-
-    /// The type to which it applies.
-    pub condition: &'a Spanning<TextRef<'t>>,
 
     /// The variables within it where they are used, in order.
     pub uses: Items<Use<'a>>,
@@ -83,7 +80,7 @@ pub struct Scopes<'a, 't, S> {
     pub operations: Items<OperationScope<'a, 't, S>>,
 
     /// The fragments.
-    pub fragments: Items<FragmentScope<'a, 't>>,
+    pub fragments: Items<FragmentScope<'a>>,
 }
 
 /// What the operations and the fragments of `document` hold, with the types of `schema`. It lends

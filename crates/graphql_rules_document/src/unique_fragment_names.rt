@@ -34,7 +34,7 @@ pub fn factory() -> Once<UniqueFragmentNames>
 /// begins, and where it does. An error of the call is want of memory.
 pub fn unique_fragment_names(
     alloc: Global,
-    fragments: &[FragmentScope<'_, '_>],
+    fragments: &[FragmentScope<'_>],
     errors: &mut Items<RuleError>,
 ) -> Result<(), AllocError>
     ensures { OnOk result (Reports (unique_fragment_names_faults (map fragment_of fragments.now))
@@ -45,9 +45,9 @@ pub fn unique_fragment_names(
 }
 
 /// The names of fragments, where they begin.
-fn fragment_names<'a, 't>(
+fn fragment_names<'a>(
     alloc: Global,
-    fragments: &[FragmentScope<'a, 't>],
+    fragments: &[FragmentScope<'a>],
 ) -> Result<Items<LentMention<'a>>, AllocError>
     ensures { GivesBy (map mention_lent) result
         (map fragment_mention (map fragment_of fragments.now)) }
@@ -75,7 +75,7 @@ impl<S: SchemaScalar> DocumentRule<S> for UniqueFragmentNames {
         alloc: Global,
         schema: &SchemaType<S>,
         operations: &[OperationScope<'a, 't, S>],
-        index: &FragmentIndex<'_, 'a, 't>,
+        index: &FragmentIndex<'_, 'a>,
         errors: &mut Items<RuleError>,
     ) -> Result<(), AllocError>
         ensures { OnOk result (Reports (unique_fragment_names_faults

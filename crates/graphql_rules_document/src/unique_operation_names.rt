@@ -92,7 +92,7 @@ impl<S: SchemaScalar> DocumentRule<S> for UniqueOperationNames {
         alloc: Global,
         schema: &SchemaType<S>,
         operations: &[OperationScope<'a, 't, S>],
-        index: &FragmentIndex<'_, 'a, 't>,
+        index: &FragmentIndex<'_, 'a>,
         errors: &mut Items<RuleError>,
     ) -> Result<(), AllocError>
         ensures { OnOk result (Reports (unique_operation_names_faults

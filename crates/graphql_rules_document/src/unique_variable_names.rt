@@ -74,7 +74,7 @@ impl<S: SchemaScalar> DocumentRule<S> for UniqueVariableNames {
         alloc: Global,
         schema: &SchemaType<S>,
         operations: &[OperationScope<'a, 't, S>],
-        index: &FragmentIndex<'_, 'a, 't>,
+        index: &FragmentIndex<'_, 'a>,
         errors: &mut Items<RuleError>,
     ) -> Result<(), AllocError>
         ensures { OnOk result (Reports (unique_variable_names_faults

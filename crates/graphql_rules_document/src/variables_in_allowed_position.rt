@@ -53,7 +53,7 @@ pub fn variables_in_allowed_position<'a, 't, S, C>(
     alloc: Global,
     schema: &SchemaType<S, C>,
     operations: &[OperationScope<'a, 't, S>],
-    index: &FragmentIndex<'_, 'a, 't>,
+    index: &FragmentIndex<'_, 'a>,
     errors: &mut Items<RuleError>,
 ) -> Result<(), AllocError>
     ensures { OnOk result
@@ -72,7 +72,7 @@ fn report_operation<'a, 't, S, C>(
     alloc: Global,
     schema: &SchemaType<S, C>,
     reached: &mut ReachedFragments,
-    index: &FragmentIndex<'_, 'a, 't>,
+    index: &FragmentIndex<'_, 'a>,
     operation: &OperationScope<'a, 't, S>,
     errors: &mut Items<RuleError>,
 ) -> Result<(), AllocError>
@@ -281,7 +281,7 @@ impl<S: SchemaScalar> DocumentRule<S> for VariablesInAllowedPosition {
         alloc: Global,
         schema: &SchemaType<S>,
         operations: &[OperationScope<'a, 't, S>],
-        index: &FragmentIndex<'_, 'a, 't>,
+        index: &FragmentIndex<'_, 'a>,
         errors: &mut Items<RuleError>,
     ) -> Result<(), AllocError>
         ensures { let held = map operation_of operations.now in
