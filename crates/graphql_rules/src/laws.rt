@@ -31,7 +31,9 @@ ghost use Rattle.graphql_rules.specs.ScalarLeafs.{scalar_leafs_faults};
 ghost use Rattle.graphql_rules.specs.UniqueArgumentNames.{unique_argument_names_faults};
 ghost use Rattle.graphql_rules.specs.UniqueInputFieldNames.{unique_input_field_names_faults};
 ghost use Rattle.graphql_rules.specs.VariablesAreInputTypes.{variables_are_input_types_faults};
-ghost use Rattle.graphql_rules.specs.declared.possible_fragment_spreads.PossibleFragmentSpreads.{PossibleFragmentSpreads};
+ghost use Rattle.graphql_rules.specs.declared.possible_fragment_spreads.PossibleFragmentSpreads.{
+  PossibleFragmentSpreads,
+};
 ghost use Rattle.graphql_schema.specs.Declarations.{declarations_of};
 ghost use Rattle.graphql_schema.specs.Faults.{is_composite};
 ghost use Rattle.graphql_visitors.specs.Runs.{Runs, joined};

@@ -9,7 +9,9 @@ use Rattle.graphql_merging.specs.Sets.{document_sets}
 use Rattle.graphql_tree.specs.Definitions.{fragments_listed}
 use Rattle.graphql_visitors.specs.Runs.{VisitorStep}
 use Rattle.graphql_visitors.specs.Subjects.{Subject}
-use Rattle.graphql_rules_merging.specs.declared.overlapping_fields_can_be_merged.OverlappingFieldsCanBeMerged.{OverlappingFieldsCanBeMerged}
+use Rattle.graphql_rules_merging.specs.declared.overlapping_fields_can_be_merged.OverlappingFieldsCanBeMerged.{
+  OverlappingFieldsCanBeMerged,
+}
 
 module _ {S C : Type 0} (subject : Subject S C) where
   -- the field nodes of the document

@@ -5,7 +5,9 @@ ghost use Rattle.graphql_occurrences.specs.Events.{events};
 ghost use Rattle.graphql_rule_errors.specs.Places.{Places};
 ghost use Rattle.graphql_rules_merging.specs.OverlappingFieldsCanBeMerged.{IsCounted, RuleTold};
 ghost use Rattle.graphql_rules_merging.specs.OverlappingFieldsCanBeMerged.{asks_once};
-ghost use Rattle.graphql_rules_merging.specs.declared.overlapping_fields_can_be_merged.OverlappingFieldsCanBeMerged.{OverlappingFieldsCanBeMerged};
+ghost use Rattle.graphql_rules_merging.specs.declared.overlapping_fields_can_be_merged.OverlappingFieldsCanBeMerged.{
+  OverlappingFieldsCanBeMerged,
+};
 ghost use Rattle.graphql_visitors.specs.Runs.{Runs, joined};
 ghost use Rattle.graphql_visitors.specs.Subjects.{Subject};
 
