@@ -4,7 +4,6 @@ ghost use Rattle.std.specs.Prelude.{◌≡◌, option_map};
 ghost use Rattle.std.specs.Option.{option_copied};
 ghost use Rattle.graphql_text.specs.Memory.{Gives};
 ghost use Rattle.serde_json.specs.View.{items_view, members_view, view};
-ghost use Rattle.graphql_json.specs.Parts.{unless};
 ghost use Rattle.graphql_data_files.specs.RecordShapes as spec;
 
 use crate::data_file_error::DataFileError;
@@ -15,13 +14,6 @@ use graphql_json::{list_at, text_at};
 use graphql_text::Text;
 use serde_json::{Map, Value};
 use std::alloc::{AllocError, Global};
-
-/// The fault, where the shape is not right.
-fn unless(right: bool, place: ShapePlace) -> Option<ShapePlace>
-    ensures { result ≡ unless right place }
-{
-    if right { None } else { Some(place) }
-}
 
 /// The name of the first member that is no value of a field.
 fn misshapen(members: &Map<String, Value>) -> Option<&str>
@@ -71,9 +63,13 @@ fn fields_fault(alloc: Global, at: usize, json: &Value) -> Result<Option<ShapePl
 fn texts_fault(at: usize, json: &Value) -> Option<ShapePlace>
     ensures { result ≡ spec.texts_fault at (view json.now) }
 {
-    let id = unless(text_at(json, "id").is_some(), ShapePlace::Id(at));
-    let type_name = unless(text_at(json, "type").is_some(), ShapePlace::Type(at));
-    unless(json.is_object(), ShapePlace::Record(at)).or(id.or(type_name))
+    let id = text_at(json, "id").is_none().then_some(ShapePlace::Id(at));
+    let type_name = text_at(json, "type")
+        .is_none()
+        .then_some(ShapePlace::Type(at));
+    (!json.is_object())
+        .then_some(ShapePlace::Record(at))
+        .or(id.or(type_name))
 }
 
 /// The fault of the record at an index. An error is want of memory.
@@ -115,8 +111,10 @@ fn root_fault(json: &Value) -> Option<ShapePlace>
 {
     match json.get("roots") {
         Some(roots) => {
-            let query = unless(text_at(roots, "query").is_some(), ShapePlace::Root);
-            unless(roots.is_object(), ShapePlace::Roots).or(query)
+            let query = text_at(roots, "query")
+                .is_none()
+                .then_some(ShapePlace::Root);
+            (!roots.is_object()).then_some(ShapePlace::Roots).or(query)
         }
         None => Some(ShapePlace::Roots),
     }
@@ -126,7 +124,9 @@ fn root_fault(json: &Value) -> Option<ShapePlace>
 fn front_fault(json: &Value) -> Option<ShapePlace>
     ensures { result ≡ spec.front_fault (view json.now) }
 {
-    unless(json.is_object(), ShapePlace::File).or(root_fault(json))
+    (!json.is_object())
+        .then_some(ShapePlace::File)
+        .or(root_fault(json))
 }
 
 /// The fault of a file that is JSON. An error is want of memory.

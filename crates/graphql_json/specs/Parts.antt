@@ -1,5 +1,6 @@
 -- Texts and lists under the keys of a JSON object (RFC 8259).
-use Rattle.std.specs.Prelude.{Bool, if◌then◌else◌, List, [], ◌∷◌, Option, Some, None}
+use Rattle.std.specs.Prelude.{Bool, not, List, [], ◌∷◌, Option, Some, None}
+use Rattle.std.specs.Bool.{then_some}
 use Rattle.std.specs.Option.{option_and_then, option_or}
 use Rattle.serde_json.specs.Data.{Data, Items, no_items, item}
 use Rattle.serde_json.specs.Find.{get, as_str, as_array}
@@ -17,7 +18,7 @@ first or_else second = option_or first second
 
 -- the fault, where what it is told of is not right
 abbrev pub unless : {A : Type 0} → Bool → A → Option A
-unless right fault = if right then None else Some fault
+unless right fault = then_some (not right) fault
 
 abbrev pub text_of : Data → Option Bytes
 text_of = as_str

@@ -3,7 +3,6 @@
 ghost use Rattle.std.specs.Prelude.{◌≡◌};
 ghost use Rattle.graphql_text.specs.Memory.{Gives};
 ghost use Rattle.serde_json.specs.View.{items_view, view};
-ghost use Rattle.graphql_json.specs.Parts.{unless};
 ghost use Rattle.graphql_schema_files.specs.ShapeFaults as spec;
 ghost use Rattle.graphql_schema_files.specs.declared.wanted.Member.TheVariants as member;
 
@@ -63,25 +62,18 @@ fn at_member(member: Member, wanted: Wanted) -> ShapeFault
     }
 }
 
-/// The fault, where the shape is not right.
-fn unless(right: bool, fault: ShapeFault) -> Option<ShapeFault>
-    ensures { result ≡ unless right fault }
-{
-    if right { None } else { Some(fault) }
-}
-
 /// The fault of what has to be an object.
 fn object_fault(json: &Value) -> Option<ShapeFault>
     ensures { result ≡ spec.object_fault (view json.now) }
 {
-    unless(json.is_object(), here(Wanted::Object))
+    (!json.is_object()).then_some(here(Wanted::Object))
 }
 
 /// The fault of what has to be the name of a type.
 fn name_fault(json: &Value) -> Option<ShapeFault>
     ensures { result ≡ spec.name_fault (view json.now) }
 {
-    unless(json.is_string(), here(Wanted::Text))
+    (!json.is_string()).then_some(here(Wanted::Text))
 }
 
 /// The fault of a text that must stand under a key.
@@ -89,7 +81,7 @@ fn text_fault(json: &Value, member: Member) -> Option<ShapeFault>
     ensures { result ≡ spec.text_fault member (view json.now) }
 {
     let text = text_at(json, key_of(member));
-    unless(text.is_some(), at_member(member, Wanted::Text))
+    text.is_none().then_some(at_member(member, Wanted::Text))
 }
 
 /// The fault of a text that may be missing.
@@ -97,7 +89,7 @@ fn text_if_fault(json: &Value, member: Member) -> Option<ShapeFault>
     ensures { result ≡ spec.text_if_fault member (view json.now) }
 {
     let text = text_if(json, key_of(member));
-    unless(text.is_some(), at_member(member, Wanted::Text))
+    text.is_none().then_some(at_member(member, Wanted::Text))
 }
 
 /// The fault of an argument.
