@@ -4,4 +4,3 @@ pub mod Requests
 pub mod BadNumbers
 pub mod Constants
 pub mod Members
-pub mod Tokens

@@ -2,14 +2,10 @@
 #![tactic(auto)]
 
 pub mod laws;
-mod number;
-mod reading;
 mod refusal;
 mod request;
-mod request_reader;
 mod variables;
 
 pub use refusal::LineRefusal;
 pub use request::{GraphQLRequest, json_of_line, request_from_line, request_in};
-pub use request_reader::RequestReader;
 pub use variables::{variables_from_json, variables_of_json, whole};

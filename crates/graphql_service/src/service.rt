@@ -12,14 +12,14 @@ use crate::response::push_response;
 use crate::{boolean_takes_true, operation_name_of};
 use graphql_answers::laws::values_are_lines;
 use graphql_executor::{GraphQLMutationValue, Meaning, ValidTexts, execute_with};
-use graphql_lines::{GraphQLRequest, LineRefusal, RequestReader};
+use graphql_lines::{GraphQLRequest, LineRefusal, request_from_line};
 use graphql_schema::{RootNode, SchemaScalar};
 use std::alloc::{AllocError, AllocFailed, Global};
-use std::error::Error;
 use std::fmt;
+use thiserror::Error;
 
 /// Why there is no service.
-#[derive(Clone, Copy, Debug, PartialEq, Eq)]
+#[derive(Clone, Copy, Debug, Error, PartialEq, Eq)]
 pub enum ServiceFault {
     /// A type of the schema does not keep what it promises: `schema_is_executable` is false.
     NotExecutable,
@@ -77,8 +77,6 @@ impl fmt::Display for ServiceFault {
     }
 }
 
-impl Error for ServiceFault {}
-
 /// How many texts of requests a service keeps as valid while it serves lines, unless
 /// [`Service::keep_valid_texts`] says otherwise.
 pub const VALID_TEXT_LIMIT: usize = 1_000;
@@ -104,10 +102,6 @@ pub struct Service<S, R, X, C = <S as SchemaScalar>::Check> {
 
     // The texts that were found valid among the lines that are being served.
     pub(crate) valid: ValidTexts,
-
-    // By what request lines are read. From the first line on it holds 16 KB, and in bytes up to the
-    // length of the longest line that was read.
-    reader: RequestReader,
 
     ghost executable: { is_executable root_node.schema.types (roots_of root_node.schema) ≡ true },
     ghost conditions: { has_standard_conditions root_node.schema.directives ≡ true },
@@ -162,7 +156,6 @@ impl<S: SchemaScalar + Drop, R: GraphQLMutationValue<S>> Service<S, R, R::Contex
             valid_text_limit: VALID_TEXT_LIMIT,
             valid_byte_limit: VALID_BYTE_LIMIT,
             valid: ValidTexts::new(0, 0),
-            reader: RequestReader::new(),
         })
     }
 
@@ -308,7 +301,7 @@ impl<S: SchemaScalar + Drop, R: GraphQLMutationValue<S>> Service<S, R, R::Contex
         if line.len() > self.line_limit {
             return push_line_refusal(alloc, out, LineRefusal::LineTooLong, self.line_limit);
         }
-        match self.reader.read(alloc, line) {
+        match request_from_line(alloc, line) {
             Ok(request) => self.push_executed(alloc, &request, out),
             Err(refusal) => push_line_refusal(alloc, out, refusal, self.line_limit),
         }
