@@ -1,7 +1,7 @@
 -- What is given of a list's items, found item by item.
-use Rattle.std.proofs.Common.{◌≡◌, ℕ, ◌+◌, ◌<◌, List, [], ◌∷◌, ◌++◌, map, length, take, get_or, Option, Some, None, ap, sym, ◌∙◌, append-nil}
+use Rattle.std.proofs.Common.{◌≡◌, ℕ, ◌+◌, ◌<◌, List, [], ◌∷◌, ◌++◌, length, take, get_or, Option, Some, None, ap, sym, ◌∙◌, append-nil}
 use Rattle.std.specs.List.{filter_map, cons_option}
-use Rattle.std.proofs.lemmas.List.{take_more, map-append}
+use Rattle.std.proofs.lemmas.List.{take_more}
 use Rattle.std.proofs.lemmas.List.Elements.{filter_map-append}
 
 module _ {A B : Type 0} (h : A → Option B) (xs : List A) (i : ℕ) (x : A) (before after : List B) where
@@ -21,9 +21,3 @@ module _ {A B : Type 0} (h : A → Option B) (xs : List A) (i : ℕ) (x : A) (be
   -- one item more, of which there is nothing
   pub missed_more : before ≡ filter_map h (take i xs) → i < length xs → x ≡ get_or xs i x → h x ≡ None → after ≡ before → after ≡ filter_map h (take (i + 1) xs)
   missed_more so_far within is misses same = one_more None so_far within is misses (same ∙ sym (append-nil before))
-
-module _ {A B C : Type 0} (view : C → B) (h : A → Option B) (xs : List A) (i : ℕ) (x : A) (before after : List C) where
-  -- the same, of what a view shows
-  pub found_viewed : (y : C) → map view before ≡ filter_map h (take i xs) → i < length xs → x ≡ get_or xs i x → h x ≡ Some (view y) → after ≡ before ++ y ∷ [] → map view after ≡ filter_map h (take (i + 1) xs)
-  found_viewed y so_far within is gives grown =
-      found_more h xs i x (map view before) (map view after) (view y) so_far within is gives (ap (map view) grown ∙ map-append view before (y ∷ []))

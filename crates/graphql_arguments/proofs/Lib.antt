@@ -1,4 +1,5 @@
 mod Filtering
+pub mod FirstValues
 mod Making
 pub mod SameOrders
 mod WholeValues

@@ -1,5 +1,5 @@
 -- The argument values of a field (GraphQL October 2021, 6.4.1 Coercing Field Arguments).
-use Rattle.std.specs.Prelude.{◌++◌, Bool, List, Option, None, if◌then◌else◌}
+use Rattle.std.specs.Prelude.{◌++◌, Bool, List, [], ◌∷◌, Option, fold, if◌then◌else◌}
 use Rattle.std.specs.List.{filter_map, find, list_any}
 use Rattle.std.specs.Option.{option_map}
 use Rattle.std.specs.Str.{bytes_eq}
@@ -31,21 +31,29 @@ module _ {S : Type 0} where
   filled_argument given a =
       option_map (λ v. (a.0.item, record { item = v; span = a.1.span })) (filled given a.1.item)
 
-  -- the default of a declared argument that is absent, in no text
-  abbrev pub default_of : Given S → Argument S → Option (NamedValue S)
-  default_of values a = if has_value values a.name then None
-      else option_map (λ v. (a.name, unplaced v)) a.default_value
+  -- the default of a declared argument, in no text
+  abbrev pub default_of : Argument S → Option (NamedValue S)
+  default_of a = option_map (λ v. (a.name, unplaced v)) a.default_value
 
   -- the values that are written and given, in order
   abbrev pub written_values : (Bytes → Option (InputValue S)) → List (Written S) → Given S
   written_values given written = filter_map (filled_argument given) written
 
-  -- the defaults of declared arguments that are absent, in order
-  abbrev pub absent_defaults : List (Argument S) → Given S → Given S
-  absent_defaults declared values = filter_map (default_of values) declared
+  -- the defaults of declared arguments, in order
+  abbrev pub declared_defaults : List (Argument S) → Given S
+  declared_defaults declared = filter_map default_of declared
 
-  -- the written arguments that have a value, then the defaults of the declared ones that are absent
+  -- the values with one more, last, unless there is one of its name
+  abbrev pub with_value : Given S → NamedValue S → Given S
+  with_value values v = if has_value values v.0 then values else values ++ v ∷ []
+
+  -- the values with more of them, in turn
+  abbrev pub with_values : Given S → Given S → Given S
+  with_values values more = fold with_value values more
+
+  -- the written arguments that have a value, then the defaults of the declared ones: of each name
+  -- the first value, so the defaults of those that are absent
   abbrev pub argument_values : (Bytes → Option (InputValue S)) → List (Argument S)
       → List (Written S) → Given S
   argument_values given declared written =
-      written_values given written ++ absent_defaults declared (written_values given written)
+      with_values [] (written_values given written ++ declared_defaults declared)

@@ -24,7 +24,7 @@ module _ {S : Type 0} where
 
   -- what is held of a field's arguments
   abbrev pub arguments_told : Arguments S → Given S
-  arguments_told arguments = values_told arguments.held
+  arguments_told arguments = values_told arguments.held.entries
 
   -- a name with its value, at no place
   abbrev pub named_value : NamedValue S → Bytes × InputValue S

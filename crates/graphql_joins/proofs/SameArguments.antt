@@ -1,22 +1,22 @@
 -- Fields whose written arguments are the same, in whichever order, have the same argument values.
-use Rattle.std.proofs.Common.{◌≡◌, refl, sym, ◌∙◌, ap, subst, arith, Bool, true, false, ◌||◌, List, [], ◌∷◌, ◌++◌, map}
-use Rattle.std.proofs.Common.{Option, Some, None, cond, is_some, inl, inr}
+use Rattle.std.proofs.Common.{◌≡◌, refl, sym, ◌∙◌, ap, subst, arith, Bool, true, false, List, [], ◌∷◌, map}
+use Rattle.std.proofs.Common.{Option, Some, None, cond, inl, inr}
 use Rattle.std.specs.Cmp.{IsEquivalence}
 use Rattle.std.specs.List.{All, AllByRecursion, Contains, IsDistinct, cons_option, find}
-use Rattle.std.specs.Option.{option_and_then, option_map}
+use Rattle.std.specs.Option.{option_and_then, option_map, option_or}
 use Rattle.std.specs.Str.{bytes_eq}
 use Rattle.std.proofs.lemmas.List.Elements.{Contains-append_right, Contains-append_cases}
 use Rattle.std.proofs.lemmas.Slice.Eq.{bytes_eq-Decides}
 use Rattle.graphql_names.specs.Names.{Bytes}
-use Rattle.graphql_values.specs.InputValues.{unplaced}
 use Rattle.graphql_values.specs.SameValue.{SameValue}
 use Rattle.graphql_values.specs.declared.input_value.InputValue.{InputValue}
 use Rattle.graphql_tree.specs.Arguments.{Argument}
 use Rattle.graphql_written_out.specs.Filled.{filled}
 use Rattle.graphql_schema.specs.declared.meta.argument.Argument.{Argument as Declared}
-use Rattle.graphql_arguments.specs.ArgumentValues.{Given, NamedValue, absent_defaults, argument_values, has_value}
+use Rattle.graphql_arguments.specs.ArgumentValues.{Given, NamedValue, argument_values, declared_defaults}
 use Rattle.graphql_arguments.specs.ArgumentValues.{value_named, written_values}
 use Rattle.graphql_arguments.specs.SameArguments.{SameArguments as SameUnderNames, SameGiven}
+use Rattle.graphql_arguments.proofs.FirstValues.{first_named}
 use Rattle.graphql_merging.specs.Merging.{SameArguments, IsAmong}
 use Rattle.graphql_merging.proofs.Nested.{one-only, in-nothing}
 use Rattle.graphql_joins.specs.Laws.{SameArgumentsGiveTheSame}
@@ -94,43 +94,6 @@ module _ {S : Type 0} where
 
 -- ---- values by their names
 
-module _ {S : Type 0} where
-  abbrev or_else : Option (InputValue S) → Option (InputValue S) → Option (InputValue S)
-  or_else (Some v) o = Some v
-  or_else None o = o
-
-  named-append : (us vs : Given S) (name : Bytes)
-      → value_named (us ++ vs) name ≡ or_else (value_named us name) (value_named vs name)
-  named-append [] vs name = refl
-  named-append (u ∷ us) vs name =
-      at (bytes_eq u.0 name) (find (λ p. bytes_eq p.0 name) (us ++ vs)) (find (λ p. bytes_eq p.0 name) us)
-      (named-append us vs name)
-    where
-      at : (q : Bool) (o p : Option (NamedValue S))
-          → option_map (λ w. w.1.item) o ≡ or_else (option_map (λ w. w.1.item) p) (value_named vs name)
-          → option_map (λ w. w.1.item) (cond q (Some u) o)
-          ≡ or_else (option_map (λ w. w.1.item) (cond q (Some u) p)) (value_named vs name)
-      at true o p e = refl
-      at false o p e = e
-
-  has-named : (us : Given S) (name : Bytes) → has_value us name ≡ is_some (value_named us name)
-  has-named [] name = refl
-  has-named (u ∷ us) name =
-      at (bytes_eq u.0 name) (has_value us name) (find (λ p. bytes_eq p.0 name) us) (has-named us name)
-    where
-      at : (q r : Bool) (o : Option (NamedValue S)) → r ≡ is_some (option_map (λ w. w.1.item) o)
-          → (q || r) ≡ is_some (option_map (λ w. w.1.item) (cond q (Some u) o))
-      at true r o e = refl
-      at false r o e = e
-
-  same-defaults : (declared : List (Declared S)) (us vs : Given S)
-      → ((name : Bytes) → has_value us name ≡ has_value vs name)
-      → absent_defaults declared us ≡ absent_defaults declared vs
-  same-defaults [] us vs e = refl
-  same-defaults (a ∷ declared) us vs e =
-      λ i. cons_option (cond (e a.name i) None (option_map (λ v. (a.name, unplaced v)) a.default_value))
-      (same-defaults declared us vs e i)
-
 module _ {S : Type 0} (eq : S → S → Bool) (laws : IsEquivalence eq) (given : Bytes → Option (InputValue S)) where
   abbrev value_in : Option (Argument S) → Option (InputValue S)
   value_in o = option_and_then (λ v. filled given v.item) (option_map (λ a. a.1) o)
@@ -177,13 +140,7 @@ module _ {S : Type 0} (eq : S → S → Bool) (laws : IsEquivalence eq) (given :
           subst (λ o. SameGiven eq (filled given x.1.item) (value_in o)) (sym r.1 ∙ f)
           (filled-same eq laws given x.1.item r.0.1.item r.2)
 
-  both-there : (a b : Option (InputValue S)) → SameGiven eq a b → is_some a ≡ is_some b
-  both-there None None s = refl
-  both-there None (Some w) s = absurd s
-  both-there (Some v) None s = absurd s
-  both-there (Some v) (Some w) s = refl
-
-  or-same : (a b c : Option (InputValue S)) → SameGiven eq a b → SameGiven eq (or_else a c) (or_else b c)
+  or-same : (a b c : Option (InputValue S)) → SameGiven eq a b → SameGiven eq (option_or a c) (option_or b c)
   or-same None None c s = given-itself eq laws given c
   or-same None (Some w) c s = absurd s
   or-same (Some v) None c s = absurd s
@@ -196,16 +153,10 @@ module _ {S : Type 0} (eq : S → S → Bool) (laws : IsEquivalence eq) (given :
   same-values declared xs ys dx dy same name =
       let us : Given S = written_values given xs in
       let vs : Given S = written_values given ys in
-      let w = same-written xs ys dx dy same in
-      let there : (n : Bytes) → has_value us n ≡ has_value vs n =
-      λ n. has-named us n ∙ both-there (value_named us n) (value_named vs n) (w n) ∙ sym (has-named vs n) in
-      subst (λ o. SameGiven eq o (value_named (argument_values given declared ys) name))
-      (sym (named-append us (absent_defaults declared us) name))
-      (subst (λ o. SameGiven eq (or_else (value_named us name) (value_named (absent_defaults declared us) name)) o)
-      (sym (named-append vs (absent_defaults declared vs) name))
-      (subst (λ ds. SameGiven eq (or_else (value_named us name) (value_named (absent_defaults declared us) name))
-      (or_else (value_named vs name) (value_named ds name))) (same-defaults declared us vs there)
-      (or-same (value_named us name) (value_named vs name) (value_named (absent_defaults declared us) name) (w name))))
+      let ds : Given S = declared_defaults declared in
+      subst (λ o. SameGiven eq o (value_named (argument_values given declared ys) name)) (sym (first_named us ds name))
+      (subst (λ o. SameGiven eq (option_or (value_named us name) (value_named ds name)) o) (sym (first_named vs ds name))
+      (or-same (value_named us name) (value_named vs name) (value_named ds name) (same-written xs ys dx dy same name)))
 
 pub same-arguments-give-the-same : (S : Type 0) (eq : S → S → Bool) → IsEquivalence eq → SameArgumentsGiveTheSame S eq
 same-arguments-give-the-same S eq laws given = same-values eq laws given

@@ -1,6 +1,7 @@
 -- The argument values of a field depend on places in their own places alone, and on the values of
 -- the field's own variables.
-use Rattle.std.proofs.Common.{◌≡◌, refl, sym, ◌∙◌, ap, ◌||◌, List, [], ◌∷◌, ◌++◌, map, Option, Some, None, cond}
+use Rattle.std.proofs.Common.{◌≡◌, refl, sym, ◌∙◌, ap, Bool, true, false, ◌||◌, List, [], ◌∷◌, ◌++◌, map, Option, Some, None}
+use Rattle.std.specs.Prelude.{if◌then◌else◌}
 use Rattle.std.specs.List.{cons_option}
 use Rattle.std.specs.Option.{option_map}
 use Rattle.std.specs.Str.{bytes_eq}
@@ -12,9 +13,11 @@ use Rattle.graphql_values.specs.declared.input_value.InputValue.{InputValue}
 use Rattle.graphql_values.proofs.UnlocatedVariables.{same_variables}
 use Rattle.graphql_schema.specs.declared.meta.argument.Argument.{Argument as Declared}
 use Rattle.graphql_tree.specs.Arguments.{Argument}
-use Rattle.graphql_tree.specs.Unlocated.{unlocated_argument}
+use Rattle.graphql_tree.specs.Unlocated.{unlocated_argument, without_place}
 use Rattle.graphql_written_out.specs.Filled.{filled}
-use Rattle.graphql_arguments.specs.ArgumentValues.{Given, has_value, written_values, absent_defaults, argument_values}
+use Rattle.graphql_arguments.specs.ArgumentValues.{Given, NamedValue, argument_values}
+use Rattle.graphql_arguments.specs.ArgumentValues.{declared_defaults, has_value, with_value}
+use Rattle.graphql_arguments.specs.ArgumentValues.{with_values, written_values}
 use Rattle.graphql_plain_tree.specs.PlainOperations.{variables_given}
 use Rattle.graphql_plain_answers.specs.AgreeingValues.{AgreeOn, Values}
 use Rattle.graphql_plain_answers.specs.WithoutPlaces.{unlocated_given}
@@ -34,22 +37,34 @@ module _ {S : Type 0} where
       let is : unlocated a ≡ unlocated b = cc in
       λ i. (x.0.item, unplaced (is i)) ∷ rest i
 
-  -- ---- the defaults of absent arguments
+  -- ---- values put behind others
+
+  abbrev without : NamedValue S → NamedValue S
+  without v = (v.0, without_place unlocated v.1)
 
   has-unlocated : (values : Given S) (name : Bytes)
       → has_value (unlocated_given values) name ≡ has_value values name
   has-unlocated [] name = refl
   has-unlocated (v ∷ values) name = ap (λ q. bytes_eq v.0 name || q) (has-unlocated values name)
 
-  defaults-alike : (us vs : Given S) → unlocated_given us ≡ unlocated_given vs
-      → (declared : List (Declared S))
-      → absent_defaults declared us ≡ absent_defaults declared vs
-  defaults-alike us vs same [] = refl
-  defaults-alike us vs same (d ∷ ds) =
-      let has = sym (has-unlocated us d.name) ∙ ap (λ ws. has_value ws d.name) same
-      ∙ has-unlocated vs d.name in
-      λ i. cons_option (cond (has i) None (option_map (λ v. (d.name, unplaced v)) d.default_value))
-      (defaults-alike us vs same ds i)
+  put-unlocated : (us : Given S) (v : NamedValue S)
+      → unlocated_given (with_value us v) ≡ with_value (unlocated_given us) (without v)
+  put-unlocated us v =
+      either (has_value us v.0)
+      ∙ ap (λ has. if has then unlocated_given us else unlocated_given us ++ without v ∷ [])
+      (sym (has-unlocated us v.0))
+    where
+      either : (has : Bool) → unlocated_given (if has then us else us ++ v ∷ [])
+          ≡ (if has then unlocated_given us else unlocated_given us ++ without v ∷ [])
+      either true = refl
+      either false = map-append without us (v ∷ [])
+
+  all-unlocated : (us vs : Given S)
+      → unlocated_given (with_values us vs) ≡ with_values (unlocated_given us) (unlocated_given vs)
+  all-unlocated us [] = refl
+  all-unlocated us (v ∷ vs) =
+      all-unlocated (with_value us v) vs
+      ∙ ap (λ ws. with_values ws (unlocated_given vs)) (put-unlocated us v)
 
   -- ---- argument values, by two ways to give variables their values
 
@@ -71,10 +86,13 @@ module _ {S : Type 0} where
     values-unlocated xs agree =
         let us : Given S = written_values given (map unlocated_argument xs) in
         let vs : Given S = written_values other xs in
-        let same = written-alike xs agree in
-        map-append _ us (absent_defaults declared us)
-        ∙ (λ i. same i ++ unlocated_given (defaults-alike us vs same declared i))
-        ∙ sym (map-append _ vs (absent_defaults declared vs))
+        let ds : Given S = declared_defaults declared in
+        all-unlocated [] (us ++ ds)
+        ∙ ap (with_values {S = S} [])
+        (map-append without us ds
+        ∙ ap (λ ws. ws ++ unlocated_given ds) (written-alike xs agree)
+        ∙ sym (map-append without vs ds))
+        ∙ sym (all-unlocated [] (vs ++ ds))
 
   variables-unlocated : (xs : List (Argument S))
       → variables_given (map unlocated_argument xs) ≡ variables_given xs

@@ -20,7 +20,7 @@ module _ {S : Type 0} (held : List (Bytes × Placed (GivenValue S))) (i : ℕ) w
 
 pub returns-in-Some : goal.returns-in-Some
 returns-in-Some g c =
-    at-place c.args.self.now.held c.args.index c.in-Some.pair.now c.as_str.result.now c.value.result.now c.in-Some.ensures.value c.as_str.ensures c.value.ensures
+    at-place c.args.self.now.held.entries c.args.index (c.in-Some.name.now, c.in-Some.value.now) c.as_str.result.now c.value.result.now c.in-Some.ensures.entry c.as_str.ensures c.value.ensures
 
 pub returns-in-None : goal.returns-in-None
-returns-in-None g c = past-end c.args.self.now.held c.args.index c.in-None.ensures.value
+returns-in-None g c = past-end c.args.self.now.held.entries c.args.index c.in-None.ensures.entry
