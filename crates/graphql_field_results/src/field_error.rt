@@ -10,11 +10,12 @@ use graphql_scalars::ScalarValue;
 use graphql_text::Text;
 use std::alloc::{AllocError, Global};
 use std::fmt::{self, Display};
+use thiserror::Error;
 
 /// Why a field has no value (GraphQL October 2021, 6.4.4 Handling Field Errors): a reason in words,
 /// and what is told beside it (7.1.2 Errors). Errors are ordered by their reasons alone, and `==`
 /// is that of this order; `tells_the_same` compares what is told beside the reasons too.
-#[derive(Drop)]
+#[derive(Debug, Drop, Error)]
 #[derive_where(PartialEq, Eq, PartialOrd, Ord)]
 pub struct FieldError<S> {
     message: Text,

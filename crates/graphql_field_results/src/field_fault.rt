@@ -7,15 +7,18 @@ ghost use Rattle.graphql_field_results.specs.declared.field_fault.FieldFault.The
 use crate::field_error::FieldError;
 use graphql_output_values::Value;
 use std::alloc::{AllocError, AllocFailed};
+use thiserror::Error;
 
 /// Why a resolver has no answer: the error of the field, or want of memory, which tells nothing of
 /// the field.
-#[derive(Drop)]
+#[derive(Debug, Drop, Error)]
 pub enum FieldFault<S> {
     /// The field's error.
+    #[error("{0}")]
     Error(FieldError<S>),
 
     /// Memory ran out.
+    #[error("out of memory")]
     Memory,
 }
 

@@ -5,15 +5,18 @@ ghost use Rattle.graphql_joined_data.specs.declared.join_fault.JoinFault.TheVari
 
 use graphql_text::{Items, Text};
 use std::alloc::AllocError;
+use thiserror::Error;
 
 /// Why two data have no join.
-#[derive(Debug, Drop)]
+#[derive(Debug, Drop, Error)]
 pub enum JoinFault {
     /// Below these response keys, from the root down, the two have values that differ: scalars that
     /// are not equal, lists of other lengths, or values of two kinds. Places in lists are left out.
+    #[error("two data differ below one response key")]
     Disagree(Items<Text>),
 
     /// Memory ran out, which tells nothing of the data.
+    #[error("out of memory")]
     Memory,
 }
 

@@ -9,11 +9,11 @@ ghost use Rattle.graphql_plain_requests.specs.declared.plain_error.PlainError.Th
 use graphql_plain_print::PrintError;
 use graphql_requests::GraphQLError;
 use std::alloc::{AllocError, AllocFailed};
-use std::error::Error;
 use std::fmt;
+use thiserror::Error;
 
 /// Why a request has no plain text, or want of memory.
-#[derive(Debug, Drop)]
+#[derive(Debug, Drop, Error)]
 pub enum PlainError {
     /// The request is not executed: the first step that fails, as `execute_sync` tells it.
     Refused(GraphQLError),
@@ -79,5 +79,3 @@ impl fmt::Display for PlainError {
         }
     }
 }
-
-impl Error for PlainError {}

@@ -8,11 +8,12 @@ ghost use Rattle.graphql_rule_errors.specs.RuleErrorText.{place_text, rule_error
 use graphql_text::{Items, SourcePosition, Text};
 use std::alloc::{AllocError, Global};
 use std::fmt;
+use thiserror::Error;
 
 /// What a rule has against a document (GraphQL October 2021, 5 Validation), and the places in the
 /// document's text that it names. Errors are ordered by their places, from the first on, and errors
 /// of the same places by the bytes of their messages.
-#[derive(Clone, Debug, Drop, PartialEq, Eq, PartialOrd, Ord)]
+#[derive(Clone, Debug, Drop, Error, PartialEq, Eq, PartialOrd, Ord)]
 pub struct RuleError {
     locations: Items<SourcePosition>,
     message: Text,

@@ -10,11 +10,11 @@ use crate::lent_scalar::Scalar;
 use crate::scalar::ScalarValue;
 use graphql_text::{Text, TextRef};
 use std::alloc::{AllocError, AllocFailed, Global};
-use std::error::Error;
 use std::fmt;
+use thiserror::Error;
 
 /// Why a value is none of a type, or want of memory.
-#[derive(Debug, Drop, PartialEq, Eq)]
+#[derive(Debug, Drop, Error, PartialEq, Eq)]
 pub enum CheckError {
     /// What is wrong with the value, in words.
     Message(Text),
@@ -75,11 +75,9 @@ impl fmt::Display for CheckError {
     }
 }
 
-impl Error for CheckError {}
-
 /// A scalar that is none of a type: the type's name, and the scalar, lent (GraphQL October 2021,
 /// 3.5 Scalars, input coercion).
-#[derive(Debug, Drop)]
+#[derive(Debug, Drop, Error)]
 pub struct WrongInputScalarTypeError<'a, S> {
     /// The name of the type.
     pub type_name: TextRef<'a>,
@@ -112,5 +110,3 @@ impl<'a, S: ScalarValue> fmt::Display for WrongInputScalarTypeError<'a, S> {
         write!(f, "Expected `{type_name}`, found: {input}")
     }
 }
-
-impl<'a, S: ScalarValue + fmt::Debug> Error for WrongInputScalarTypeError<'a, S> {}

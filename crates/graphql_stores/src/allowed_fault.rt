@@ -1,11 +1,11 @@
 //! Why a file has no allowed queries.
 
 use std::alloc::AllocError;
-use std::error::Error;
 use std::fmt;
+use thiserror::Error;
 
 /// Why a file has no allowed queries.
-#[derive(Clone, Copy, Debug, PartialEq, Eq)]
+#[derive(Clone, Copy, Debug, Error, PartialEq, Eq)]
 pub enum AllowedFault {
     /// This line, counted from one, is the first that is neither empty nor a JSON object whose
     /// `plain` is a text.
@@ -40,5 +40,3 @@ impl fmt::Display for AllowedFault {
         }
     }
 }
-
-impl Error for AllowedFault {}

@@ -5,11 +5,11 @@ ghost use Rattle.graphql_streams.specs.Served.{serve_error_text};
 ghost use Rattle.graphql_streams.specs.declared.serve_error.ServeError.TheVariants.{Memory};
 
 use std::alloc::{AllocError, AllocFailed};
-use std::error::Error;
 use std::fmt;
+use thiserror::Error;
 
 /// Why no more lines are answered.
-#[derive(Clone, Copy, Debug, PartialEq, Eq)]
+#[derive(Clone, Copy, Debug, Error, PartialEq, Eq)]
 pub enum ServeError {
     /// A read failed.
     Read,
@@ -50,5 +50,3 @@ impl fmt::Display for ServeError {
         f.write_str(text)
     }
 }
-
-impl Error for ServeError {}

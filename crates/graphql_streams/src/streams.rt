@@ -5,11 +5,11 @@ ghost use Rattle.std.specs.Prelude.{Option, Some};
 ghost use Rattle.std.specs.Io.KnownBytes.{ReadConsumes, WriteAppends};
 ghost use Rattle.graphql_streams.specs.Counts.{risen, risen_if_none};
 
-use std::error::Error;
 use std::fmt;
+use thiserror::Error;
 
 /// A read failed.
-#[derive(Clone, Copy, Debug, PartialEq, Eq)]
+#[derive(Clone, Copy, Debug, Error, PartialEq, Eq)]
 pub struct ReadFailed;
 
 /// Writes that a read failed.
@@ -21,10 +21,8 @@ impl fmt::Display for ReadFailed {
     }
 }
 
-impl Error for ReadFailed {}
-
 /// A write failed.
-#[derive(Clone, Copy, Debug, PartialEq, Eq)]
+#[derive(Clone, Copy, Debug, Error, PartialEq, Eq)]
 pub struct WriteFailed;
 
 /// Writes that a write failed.
@@ -35,8 +33,6 @@ impl fmt::Display for WriteFailed {
         f.write_str("write failed")
     }
 }
-
-impl Error for WriteFailed {}
 
 /// Where bytes come from.
 pub trait ByteSource {

@@ -6,11 +6,11 @@ use crate::Text;
 use crate::spanning::Spanning;
 use crate::token::{LexerError, Token};
 use std::alloc::{AllocError, AllocFailed, Global};
-use std::error::Error;
 use std::fmt;
+use thiserror::Error;
 
 /// Why a text is not what was to be read from it, or want of memory.
-#[derive(Clone, Debug, Drop, PartialEq, Eq)]
+#[derive(Clone, Debug, Drop, Error, PartialEq, Eq)]
 pub enum ParseError {
     /// A token that can't stand where it does, by its source text.
     UnexpectedToken(Text),
@@ -58,8 +58,6 @@ impl fmt::Display for ParseError {
         }
     }
 }
-
-impl Error for ParseError {}
 
 impl From<AllocError> for ParseError {
     ghost use Rattle.graphql_text.specs.declared.parse_error.ParseError.TheVariants.{Memory};

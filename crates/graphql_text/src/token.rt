@@ -6,8 +6,8 @@ use crate::Text;
 use crate::spanning::Spanning;
 use crate::text_ref::TextRef;
 use std::alloc::{AllocError, AllocFailed};
-use std::error::Error;
 use std::fmt;
+use thiserror::Error;
 
 /// A literal of a scalar, as the text spells it (GraphQL October 2021, 2.9 Input Values).
 #[derive(Debug, Drop, PartialEq, Eq)]
@@ -156,7 +156,7 @@ impl fmt::Display for Token<'_> {
 }
 
 /// What is wrong with a text's characters, or want of memory.
-#[derive(Clone, Debug, Drop, PartialEq, Eq)]
+#[derive(Clone, Debug, Drop, Error, PartialEq, Eq)]
 pub enum LexerError {
     /// A character that begins no token.
     UnknownCharacter(char),
@@ -206,8 +206,6 @@ impl fmt::Display for LexerError {
         }
     }
 }
-
-impl Error for LexerError {}
 
 impl From<AllocError> for LexerError {
     ghost use Rattle.graphql_text.specs.declared.token.LexerError.TheVariants.{Memory};

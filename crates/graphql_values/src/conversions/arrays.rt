@@ -9,6 +9,7 @@ use super::FromInputValue;
 use super::lists::FromInputValueVecError;
 use crate::input_value::InputValue;
 use std::alloc::{AllocError, AllocFailed, Global};
+use std::error::Error;
 use std::fmt;
 
 /// Why a value means no list of the wanted length, by its items' errors.
@@ -162,3 +163,8 @@ where
         }
     }
 }
+
+impl<S: Drop, T: FromInputValue<S> + Drop> Error for FromInputValueArrayError<T, S>
+where
+    T::Error: fmt::Debug + fmt::Display + Drop,
+{}

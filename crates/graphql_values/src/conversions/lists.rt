@@ -11,6 +11,7 @@ use super::FromInputValue;
 use crate::input_value::InputValue;
 use graphql_text::Spanning;
 use std::alloc::{AllocError, AllocFailed, Global};
+use std::error::Error;
 use std::fmt;
 
 /// Why a value means no list, by its items' errors.
@@ -140,3 +141,8 @@ where
         }
     }
 }
+
+impl<S: Drop, T: FromInputValue<S> + Drop> Error for FromInputValueVecError<T, S>
+where
+    T::Error: fmt::Debug + fmt::Display + Drop,
+{}
