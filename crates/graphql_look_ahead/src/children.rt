@@ -5,6 +5,7 @@ ghost use Rattle.std.specs.List.{All, find};
 ghost use Rattle.std.specs.Option.{is_some, option_copied};
 ghost use Rattle.std.specs.Slice.Iter.{iter_rest, iter_steps};
 ghost use Rattle.std.specs.Iterator.Runs.{EveryRun, ItemsMapTo};
+ghost use Rattle.graphql_text.specs.Memory.{Gives};
 ghost use Rattle.graphql_collected.specs.declared.request.Request.{Request};
 ghost use Rattle.graphql_look_ahead.specs.declared.selection.LookAheadSelection.{LookAheadSelection};
 ghost use Rattle.graphql_look_ahead.specs.NamesLeft.{key_at, names_left};
@@ -17,7 +18,7 @@ use crate::selection::LookAheadSelection;
 use graphql_schema::SchemaScalar;
 use graphql_text::Items;
 pub use names::Names;
-use std::alloc::Global;
+use std::alloc::{AllocError, Global};
 use std::slice::Iter;
 
 /// The children of a field that is looked at, in order.
@@ -34,6 +35,18 @@ impl<'d, 'a, S, C> LookAheadChildren<'d, 'a, S, C> {
         LookAheadChildren {
             children: Items::new(alloc),
         }
+    }
+
+    /// The same children once more. An error is want of memory.
+    pub fn clone(&self) -> Result<LookAheadChildren<'d, 'a, S, C>, AllocError>
+        ensures { Gives result self.now }
+    {
+        let alloc = *self.children.allocator();
+        let mut children = Items::with_capacity(alloc, self.len())?;
+        for child in self.as_slice() {
+            children.push(child.lent())?;
+        }
+        Ok(LookAheadChildren { children })
     }
 
     /// The children, in order.

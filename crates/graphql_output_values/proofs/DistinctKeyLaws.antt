@@ -1,5 +1,5 @@
 -- The laws of distinct keys at every depth.
-use Rattle.std.proofs.Common.{◌≡◌, ◌↔◌, ℕ, Bool, true, false, cond, List, [], ◌∷◌, ◌++◌, map, ap, sym, subst, refl, ◌∙◌}
+use Rattle.std.proofs.Common.{◌≡◌, ◌↔◌, ℕ, zero, suc, Bool, true, false, cond, List, [], ◌∷◌, ◌++◌, map, ap, sym, subst, refl, ◌∙◌}
 use Rattle.std.specs.List.{All, IsDistinct, flat_map}
 use Rattle.std.specs.Map.{keys_of, values_of}
 use Rattle.std.specs.Str.{bytes_eq}
@@ -8,7 +8,8 @@ use Rattle.std.proofs.lemmas.List.Folds.{flat_map-map}
 use Rattle.std.proofs.lemmas.Map.{keys-set_value}
 use Rattle.std.proofs.lemmas.Map.Views.{All-values-set_value, IfSome-lookup_from_All}
 use Rattle.graphql_output_values.specs.DistinctKeys.{KeyLists, keys_layer, keys_fields_layer, keys_in, HasDistinctKeysThroughout, ObjectHasDistinctKeysThroughout}
-use Rattle.graphql_output_values.specs.DistinctLaws.{DistinctByForms, DistinctUnderKeys, DistinctOnceWritten, MadeDistinctThroughout}
+use Rattle.graphql_output_values.specs.DistinctLaws.{DistinctByForms, DistinctUnderKeys, DistinctOnceWritten, KeysStayInPlace, MadeDistinctThroughout}
+use Rattle.graphql_output_values.specs.Lending.{set_value_at}
 use Rattle.graphql_output_values.specs.Objects.{Pair, HasDistinctKeys, with_field, with_fields}
 use Rattle.graphql_output_values.specs.ValueEquations.{on_value, keys_on_value, fold_null, fold_scalar, fold_list, fold_object, fold_fields}
 use Rattle.graphql_output_values.specs.ValueInduction.{value_ind, HoldsOfItems, HoldsOfFields}
@@ -85,6 +86,27 @@ module _ {S : Type 0} where
   once_written object key written distinct fine = (
     subst (IsDistinct bytes_eq) (sym (keys-set_value (bytes_eq key) object.fields written)) distinct.0,
     All-values-set_value (bytes_eq key) HasDistinctKeysThroughout object.fields written distinct.1 fine,
+  )
+
+  -- the keys are not written at a place
+  keys_at : (place : ℕ) (v : Value S) (fs : List (Pair (Value S))) → keys_of (set_value_at place v fs) ≡ keys_of fs
+  keys_at place v [] = refl
+  keys_at zero v (f ∷ fs) = refl
+  keys_at (suc place) v (f ∷ fs) = λ i. f.0 ∷ keys_at place v fs i
+
+  -- and the values are the others and the new one
+  values_at : (P : Value S → Type 0) (place : ℕ) (v : Value S) (fs : List (Pair (Value S))) → All P (values_of fs) → P v → All P (values_of (set_value_at place v fs))
+  values_at P place v [] all fine = all
+  values_at P zero v (f ∷ fs) all fine = All-cons P v (values_of fs) fine (All-tail P f.1 (values_of fs) all)
+  values_at P (suc place) v (f ∷ fs) all fine = All-cons P f.1 (values_of (set_value_at place v fs)) (All-head P f.1 (values_of fs) all) (values_at P place v fs (All-tail P f.1 (values_of fs) all) fine)
+
+  pub stay_in_place : KeysStayInPlace S
+  stay_in_place object place written = (
+    keys_at place written object.fields,
+    λ distinct fine. (
+      subst Apart (sym (keys_at place written object.fields)) distinct.0,
+      values_at HasDistinctKeysThroughout place written object.fields distinct.1 fine,
+    ),
   )
 
   -- with one more value among the values

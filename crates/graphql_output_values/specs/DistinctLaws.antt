@@ -1,10 +1,11 @@
 -- Laws of distinct keys at every depth (GraphQL October 2021, 7.2.2 Serialized Map Ordering).
 use Rattle.std.specs.Prelude.{◌≡◌, ◌↔◌, ℕ, List, [], IfSome}
 use Rattle.std.specs.List.{All}
-use Rattle.std.specs.Map.{set_value, values_of}
+use Rattle.std.specs.Map.{keys_of, set_value, values_of}
 use Rattle.std.specs.Str.{bytes_eq}
 use Rattle.graphql_output_values.specs.DistinctKeys.{keys_in, HasDistinctKeysThroughout}
 use Rattle.graphql_output_values.specs.DistinctKeys.{ObjectHasDistinctKeysThroughout}
+use Rattle.graphql_output_values.specs.Lending.{set_value_at}
 use Rattle.graphql_output_values.specs.Objects.{Pair, field_value, with_fields}
 use Rattle.graphql_output_values.specs.Values.{map_scalars}
 use Rattle.graphql_output_values.specs.declared.object.Object.{Object}
@@ -36,6 +37,16 @@ module _ (S : Type 0) where
       ObjectHasDistinctKeysThroughout object → HasDistinctKeysThroughout written
       → ObjectHasDistinctKeysThroughout
       (record { fields = set_value (bytes_eq key) object.fields written })
+
+  -- a value that is written at a place leaves the keys as they are, and the object stays such where
+  -- the value is
+  abbrev pub KeysStayInPlace : Type 0
+  KeysStayInPlace =
+      (object : Object S) (place : ℕ) (written : Value S) →
+      let fields = set_value_at place written object.fields in
+      (keys_of fields ≡ keys_of object.fields)
+      × (ObjectHasDistinctKeysThroughout object → HasDistinctKeysThroughout written
+      → ObjectHasDistinctKeysThroughout (record { fields = fields }))
 
   -- an object of such values is such, whichever the pairs that it is made of
   abbrev pub MadeDistinctThroughout : Type 0

@@ -1,12 +1,18 @@
 -- What a value or an object ends as once a `&mut` into it ends.
 use Rattle.std.specs.Prelude.{ℕ, zero, suc, List, [], ◌∷◌, Option}
-use Rattle.std.specs.Borrow.{Lends, LendsIf, MutBor, Fml, RattleType}
+use Rattle.std.specs.Borrow.{Lends, LendsIf, MutBor, Fml, RattleType, follows}
 use Rattle.std.specs.Map.{set_value}
 use Rattle.std.specs.Str.{bytes_eq}
+use denote.Array.{Array}
+use denote.Struct.Tuple.{Tuple}
+use Rattle.graphql_text.specs.Lending.{with_items}
+use Rattle.graphql_output_values.specs.FieldsLent.{fields_name}
 use Rattle.graphql_output_values.specs.declared.object.Object.{Object}
+use Rattle.graphql_output_values.specs.declared.object.fields_mut.FieldsMut.{FieldsMut}
 use Rattle.graphql_output_values.specs.declared.value.Value.{Value}
 use Rattle.graphql_output_values.specs.declared.value.Value.TheVariants as value
 use Rattle.graphql_output_values.specs.Objects.{Pair}
+use Rattle.graphql_output_values.specs.contracts.key.Key as key
 use Rattle.graphql_output_values.specs.contracts.object.Object as object
 use Rattle.graphql_output_values.specs.contracts.value.Value as whole
 
@@ -31,3 +37,9 @@ module _ (S : RattleType) where
   abbrev pub LendsPlace : MutBor (Object S.Denot) → ℕ → MutBor (Value S.Denot) → Fml
   LendsPlace o place r = Lends (object.the_row S) (whole.the_row S) o r
       (λ w. record { fields = set_value_at place w o.now.fields })
+
+  -- the object ends with the fields as what lends their values leaves them
+  abbrev pub LendsFields : MutBor (Object S.Denot) → FieldsMut S.Denot → Fml
+  LendsFields o rest = follows (object.the_row S)
+      (Array (Tuple (key.the_row ∷ whole.the_row S ∷ [])) 0) o.ghost_name (fields_name rest)
+      (λ ws. record { fields = with_items o.now.fields ws })

@@ -4,6 +4,7 @@ pub mod Counts
 pub mod DistinctKeys
 pub mod Steps
 pub mod Pending
+pub mod FieldsLent
 pub mod Lending
 pub mod Equality
 pub mod ValueEquations

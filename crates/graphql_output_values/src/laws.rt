@@ -5,6 +5,7 @@ ghost use Rattle.graphql_output_values.specs.DistinctLaws.{
   DistinctByForms,
   DistinctOnceWritten,
   DistinctUnderKeys,
+  KeysStayInPlace,
   MadeDistinctThroughout,
   MappedKeepsKeys,
 };
@@ -58,6 +59,12 @@ pub fn distinct_under_keys<S>()
 /// `get_mut_field_value`.
 pub fn distinct_once_written<S>()
     ensures { DistinctOnceWritten S }
+{}
+
+/// A value that is written by `value_mut_at` leaves all keys in their places, and an object that has
+/// distinct keys throughout still has where the value has.
+pub fn keys_stay_in_place<S>()
+    ensures { KeysStayInPlace S }
 {}
 
 /// An object that is made of pairs has distinct keys throughout where the pairs' values have.

@@ -16,6 +16,6 @@ mod walk;
 pub use graphql_scalars::{DefaultScalarValue, ScalarValue};
 pub use into_value::IntoValue;
 pub use key::Key;
-pub use object::Object;
+pub use object::{FieldsMut, Object};
 pub use value::Value;
 pub use walk::{Step, Walk};

@@ -9,13 +9,16 @@ ghost use Rattle.std.specs.Slice.Iter.{iter_rest, iter_steps};
 ghost use Rattle.std.specs.Iterator.Runs.{EveryRun, ItemsMapTo};
 ghost use Rattle.graphql_output_values.specs.DistinctKeys.{HasDistinctKeysThroughout};
 ghost use Rattle.graphql_output_values.specs.DistinctKeys.{ObjectHasDistinctKeysThroughout};
-ghost use Rattle.graphql_output_values.specs.Lending.{LendsField, LendsPlace};
+ghost use Rattle.graphql_output_values.specs.FieldsLent.{fields_left};
+ghost use Rattle.graphql_output_values.specs.Lending.{LendsField, LendsFields, LendsPlace};
 ghost use Rattle.graphql_output_values.specs.Objects.{HasDistinctKeys, field_value, with_field};
 
+mod fields_mut;
 mod traits;
 
 use crate::key::Key;
 use crate::value::Value;
+pub use fields_mut::FieldsMut;
 use graphql_text::Items;
 use std::alloc::{AllocError, Global};
 use std::mem;
@@ -119,8 +122,9 @@ impl<S> Object<S> {
         }
     }
 
-    /// The value of the field at this place, to be written to.
-    fn value_mut_at(&mut self, place: usize) -> &mut Value<S>
+    /// The value of the field at this place, counted from zero, to be written to: the law
+    /// `keys_stay_in_place` speaks of the keys.
+    pub fn value_mut_at(&mut self, place: usize) -> &mut Value<S>
         requires { place < length self.old.fields }
         ensures* writes_back { sem 𝓛 (LendsPlace S.row self.entry place result) }
         ensures value { option_map (λ field. field.1) (slice_get self.old.fields place)
@@ -157,5 +161,18 @@ impl<S> Object<S> {
             (λ p. ItemsMapTo p (λ y. y.now) (iter_rest p.from)) }
     {
         self.fields.iter()
+    }
+
+    /// The fields in order, each key to be read and each value to be written to: keys are lent for
+    /// reading alone, so that they stay, and no field comes or goes. What a loop writes no contract
+    /// says: where it must be known, each value is lent by `value_mut_at`.
+    pub fn iter_mut(&mut self) -> FieldsMut<'_, S>
+        ensures* writes_back { sem 𝓛 (LendsFields S.row self.entry result) }
+        ensures rest { fields_left result ≡ self.old.fields }
+        ensures bound { length (fields_left result) < 2 ^ 64 }
+    {
+        FieldsMut {
+            rest: self.fields.iter_mut(),
+        }
     }
 }

@@ -2,7 +2,7 @@
 
 ghost use Rattle.std.specs.Prelude.{◌≡◌, ◌↔◌, ◌<◌, ◌^◌, [], length, IsTrue};
 ghost use Rattle.std.specs.Option.{option_copied};
-ghost use Rattle.std.specs.Slice.Iter.{iter_rest, iter_steps};
+ghost use Rattle.std.specs.Slice.Iter.{iter_rest, iter_steps, iter_mut_rest, iter_mut_steps};
 ghost use Rattle.std.specs.Iterator.Runs.{EveryRun, ItemsMapTo, ItemsAre};
 ghost use Rattle.std.specs.declared.alloc.Global.{Global};
 ghost use Rattle.std.specs.Vec.Iter.{into_iter_items, into_iter_len, into_iter_steps};
@@ -15,7 +15,7 @@ pub(crate) use clones::copy_of_directives;
 use graphql_text::{Items, Spanning, TextRef};
 use graphql_values::{DefaultScalarValue, InputValue};
 use std::alloc::Global;
-use std::slice::Iter;
+use std::slice::{Iter, IterMut};
 use std::vec::IntoIter;
 
 /// Arguments, in the order of the text (GraphQL October 2021, 2.6 Arguments).
@@ -47,6 +47,17 @@ impl<'a, S> Arguments<'a, S> {
             (λ p. ItemsMapTo p (λ y. y.now) (iter_rest p.from)) }
     {
         self.items.iter()
+    }
+
+    /// The names and the values in order, each pair lent to be written to. What is written no
+    /// contract says.
+    pub fn iter_mut(&mut self) -> IterMut<'_, (Spanning<TextRef<'a>>, Spanning<InputValue<S>>)>
+        ensures rest { iter_mut_rest result ≡ self.old.items }
+        ensures bound { length (iter_mut_rest result) < 2 ^ 64 }
+        ensures runs { EveryRun (iter_mut_steps {A = Argument S})
+            (λ p. ItemsMapTo p (λ y. y.now) (iter_mut_rest p.from)) }
+    {
+        self.items.iter_mut()
     }
 
     /// How many arguments there are.
