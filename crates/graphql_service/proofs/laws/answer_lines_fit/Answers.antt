@@ -8,10 +8,12 @@ returns g c = λ service line answered old new is. elim is [
   | not_executed refusal due e kept ↦ inl (inr (refusal, due, e))
   | executed_to found errors ex e ↦ inr (record {
     request = ex.request;
+    asks = ex.asks;
     document = ex.answers.document;
     operation = ex.answers.operation;
     executable = ex.answers.executable;
     root = ex.answers.yields.root;
+    served = ex.answers.yields.served;
     found = found;
     errors = errors;
     is = e;
