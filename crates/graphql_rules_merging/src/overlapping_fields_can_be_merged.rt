@@ -57,9 +57,12 @@ pub fn factory() -> OverlappingFieldsCanBeMerged
 }
 
 impl OverlappingFieldsCanBeMerged {
-    /// How many times two fields were compared: over a document at most twice the square of its
-    /// field nodes, as the law `visitor_counts_comparisons` says. The count stays at the greatest
-    /// number once it is there. After want of memory it says nothing.
+    /// How many times two fields were compared, where bundles are gone through and where pairs are:
+    /// over a document at most twice the square of its field nodes, as the law
+    /// `visitor_counts_comparisons` says, the one half for bundles and the other for pairs. Not
+    /// counted is how fields are put into classes before pairs are compared, each by at most 64
+    /// comparisons with heads of its response key and one more with that of its class. The count
+    /// stays at the greatest number once it is there. After want of memory it says nothing.
     pub fn comparisons(&self) -> u128
         ensures { result ≡ self.now.comparisons }
     {
