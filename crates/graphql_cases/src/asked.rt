@@ -8,6 +8,9 @@ pub enum Judge {
     /// The rules of the first stage.
     FirstStage,
 
+    /// Those of them that look at what all operations and fragments hold.
+    Definitions,
+
     /// All rules.
     AllRules,
 
@@ -72,6 +75,7 @@ pub enum Asked {
 fn judge_of(words: &str) -> Option<Judge> {
     match words {
         "errors of the first stage" => Some(Judge::FirstStage),
+        "errors of rules over definitions" => Some(Judge::Definitions),
         "errors of all rules" => Some(Judge::AllRules),
         "errors of all rules over a context" => Some(Judge::Context),
         "errors without introspection" => Some(Judge::RootNode),

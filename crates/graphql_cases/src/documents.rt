@@ -11,7 +11,7 @@ use graphql_tree::Definition;
 use graphql_validation::rules::overlapping_fields_can_be_merged::{
     self as merging, overlapping_fields_by_pairs, overlapping_fields_can_be_merged,
 };
-use graphql_validation::rules::{no_fragment_cycles, no_unused_fragments};
+use graphql_validation::rules::{document_errors, no_fragment_cycles, no_unused_fragments};
 use graphql_validation::{
     MultiVisitorNil, RuleError, ValidatorContext, first_stage_errors, root_node_errors,
     validation_errors, visit, visit_all_rules,
@@ -64,6 +64,7 @@ fn errors_of(
 ) -> Result<Items<RuleError>, AllocError> {
     match judge {
         Judge::FirstStage => first_stage_errors(alloc, root.schema(), document),
+        Judge::Definitions => document_errors(alloc, root.schema(), document),
         Judge::AllRules => validation_errors(alloc, root.schema(), document),
         Judge::Context => context_errors(alloc, root, document),
         Judge::RootNode => root_node_errors(alloc, root, document),

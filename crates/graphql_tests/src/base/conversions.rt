@@ -69,6 +69,16 @@ fn lists_are_read(rt: HostRuntime) {
     );
     check(
         &rt,
+        reads::<Vec<Option<i32>>>(alloc, numbers(alloc)),
+        "Err(Null); Err(Null); Ok([Some(1)]); Ok([Some(1), Some(2), Some(3)]); Ok([Some(1), Some(2), None])",
+    );
+    check(
+        &rt,
+        reads::<Option<Vec<i32>>>(alloc, numbers(alloc)),
+        "Ok(None); Ok(None); Ok(Some([1])); Ok(Some([1, 2, 3])); Err(Item(Message(\"Expected GraphQL scalar, found: null\")))",
+    );
+    check(
+        &rt,
         reads::<Option<Vec<Option<i32>>>>(alloc, numbers(alloc)),
         "Ok(None); Ok(None); Ok(Some([Some(1)])); Ok(Some([Some(1), Some(2), Some(3)])); Ok(Some([Some(1), Some(2), None]))",
     );
@@ -86,6 +96,41 @@ fn arrays_are_read(rt: HostRuntime) {
         &rt,
         reads::<[i32; 1]>(alloc, numbers(alloc)),
         "Err(Null); Err(Null); Ok([1]); Err(WrongCount { actual: 3, expected: 1 }); Err(WrongCount { actual: 3, expected: 1 })",
+    );
+    check(
+        &rt,
+        reads::<[i32; 0]>(alloc, numbers(alloc)),
+        "Err(Null); Err(Null); Err(WrongCount { actual: 1, expected: 0 }); Err(WrongCount { actual: 3, expected: 0 }); Err(WrongCount { actual: 3, expected: 0 })",
+    );
+    check(
+        &rt,
+        reads::<[i32; 2]>(alloc, numbers(alloc)),
+        "Err(Null); Err(Null); Err(WrongCount { actual: 1, expected: 2 }); Err(WrongCount { actual: 3, expected: 2 }); Err(WrongCount { actual: 3, expected: 2 })",
+    );
+}
+
+#[test]
+fn arrays_of_others_are_read(rt: HostRuntime) {
+    let alloc = rt.alloc();
+    check(
+        &rt,
+        reads::<[[i32; 1]; 1]>(alloc, numbers(alloc)),
+        "Err(Null); Err(Null); Ok([[1]]); Err(WrongCount { actual: 3, expected: 1 }); Err(WrongCount { actual: 3, expected: 1 })",
+    );
+    check(
+        &rt,
+        reads::<[Vec<i32>; 1]>(alloc, numbers(alloc)),
+        "Err(Null); Err(Null); Ok([[1]]); Err(WrongCount { actual: 3, expected: 1 }); Err(WrongCount { actual: 3, expected: 1 })",
+    );
+    check(
+        &rt,
+        reads::<[Option<i32>; 2]>(alloc, numbers(alloc)),
+        "Err(Null); Err(Null); Err(WrongCount { actual: 1, expected: 2 }); Err(WrongCount { actual: 3, expected: 2 }); Err(WrongCount { actual: 3, expected: 2 })",
+    );
+    check(
+        &rt,
+        reads::<[Option<i32>; 3]>(alloc, numbers(alloc)),
+        "Err(Null); Err(Null); Err(WrongCount { actual: 1, expected: 3 }); Ok([Some(1), Some(2), Some(3)]); Ok([Some(1), Some(2), None])",
     );
 }
 

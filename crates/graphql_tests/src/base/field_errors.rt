@@ -90,4 +90,8 @@ fn errors_are_compared_with_what_is_told_beside(rt: HostRuntime) {
     assert!(rt; error.tells_the_same(&seven(&rt, alloc, true)));
     let told = error_told(alloc, &ExecutionError::at_origin(alloc, error));
     check(&rt, told, "(0, 0) 7 true");
+    let counted = other.map_scalar_value(|_scalar: DefaultScalarValue| DefaultScalarValue::Int(1));
+    let counted = counted.expect(&rt, "memory");
+    let told = error_told(alloc, &ExecutionError::at_origin(alloc, counted));
+    check(&rt, told, "(0, 0) 7 1");
 }

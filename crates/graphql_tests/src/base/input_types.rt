@@ -21,15 +21,17 @@ fn turned(alloc: Global, given: Nullable<i32>) -> Result<String, AllocError> {
     format!(in alloc; "{is_one:?} {instead:?} {called}")
 }
 
-/// What stands after a write through what is lent, and after a replacement what was replaced.
+/// What stands after a write through what is lent, and a clone of it, and after a replacement what
+/// was replaced.
 fn written(alloc: Global, given: Nullable<i32>) -> Result<String, AllocError> {
     let mut lent = given;
     if let Nullable::Some(value) = lent.as_mut() {
         *value = 5;
     }
+    let copy = lent.as_mut().cloned()?;
     let mut other = given;
     let before = other.replace(9);
-    format!(in alloc; "{lent:?} {before:?} {other:?}")
+    format!(in alloc; "{lent:?} {copy:?} {before:?} {other:?}")
 }
 
 /// A value that may be null, and what is told of it, of what becomes of it and of what is written
@@ -41,25 +43,26 @@ const ROWS: &[Row] = &[
         Nullable::ImplicitNull,
         "((true, false), true, false) (None, None, 7)",
         "(ImplicitNull, false) (Some(7), Err(0)) 8",
-        "ImplicitNull ImplicitNull Some(9)",
+        "ImplicitNull ImplicitNull ImplicitNull Some(9)",
     ),
     (
         Nullable::ExplicitNull,
         "((false, true), true, false) (None, Some(None), 7)",
         "(ExplicitNull, false) (Some(7), Err(0)) 8",
-        "ExplicitNull ExplicitNull Some(9)",
+        "ExplicitNull ExplicitNull ExplicitNull Some(9)",
     ),
     (
         Nullable::Some(1),
         "((false, false), false, true) (Some(1), Some(Some(1)), 1)",
         "(Some(true), true) (Some(1), Ok(1)) 1",
-        "Some(5) Some(1) Some(9)",
+        "Some(5) Some(5) Some(1) Some(9)",
     ),
 ];
 
 #[test]
 fn nulls_are_told_apart(rt: HostRuntime) {
     let alloc = rt.alloc();
+    assert!(rt; matches!(Nullable::Some(&1).cloned(), Ok(Nullable::Some(1))));
     for row in ROWS {
         check(&rt, asked(alloc, row.0), row.1);
         check(&rt, turned(alloc, row.0), row.2);
