@@ -1,0 +1,3 @@
+pub mod AcceptLemmas
+pub mod CallLemmas
+pub mod PieceLemmas

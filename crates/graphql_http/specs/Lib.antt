@@ -1,0 +1,14 @@
+pub mod Accept
+pub mod AcceptLaws
+pub mod Answers
+pub mod ConnectionLaws
+pub mod Connections
+pub mod ContentType
+pub mod DraftRows
+pub mod Fields
+pub mod Media
+pub mod Pieces
+pub mod QueryLine
+pub mod Refusals
+pub mod Routes
+pub mod Weights
